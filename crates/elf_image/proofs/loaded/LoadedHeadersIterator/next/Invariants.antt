@@ -1,0 +1,16 @@
+use Rattle.std.proofs.Common.{◌≡◌, ◌+◌, ◌*◌, ◌-◌, ◌≤◌, length}
+use Rattle.elf_image.specs.Layout.{elf32}
+use Rattle.elf_image.specs.Segments.{loaded_from}
+use Rattle.elf_image.proofs.loaded.LoadedHeadersIterator.next.Given as goal
+
+abbrev pub invariant-loop-self : goal.invariant-loop-self
+invariant-loop-self l =
+    let now = l.self-inside in
+    let initial = l.initial.self-inside in
+    record {
+      table : now.header.program_table + 32 * now.header.program_count ≤ length now.bytes.now;
+      left : loaded_from elf32 now.header now.bytes.now now.next ≡ loaded_from elf32 initial.header initial.bytes.now initial.next;
+    }
+
+abbrev pub decreases-loop-self : goal.decreases-loop-self
+decreases-loop-self l = l.self-inside.header.program_count - l.self-inside.next

@@ -1,0 +1,76 @@
+ghost use Rattle.std.specs.Prelude.{◌≡◌, ◌+◌, ◌*◌, ◌≤◌, length};
+ghost use Rattle.std.specs.Result.{result_err};
+ghost use Rattle.elf_image.specs.Layout.{elf32};
+ghost use Rattle.elf_image.specs.Segments.{loaded_from, segments_fault};
+
+use crate::faults::ElfFault;
+use crate::headers::{FileHeader, NumberedHeader};
+use std::marker::Model;
+
+/// The program headers of loaded segments, in table order. Contracts see the list of those left.
+#[derive(Debug, Drop)]
+pub(crate) struct LoadedHeaders<'a> {
+    bytes: &'a [u8],
+    header: FileHeader,
+    next: u16,
+}
+
+impl<'a> Model for LoadedHeaders<'a> {
+    ghost use Rattle.std.specs.Prelude.{List, ◌+◌, ◌*◌, ◌≤◌, length};
+    ghost use Rattle.elf_image.specs.declared.headers.NumberedHeader.{NumberedHeader};
+
+    ghost Value = { List NumberedHeader };
+
+    ghost use Rattle.elf_image.specs.Layout.{elf32};
+    ghost use Rattle.elf_image.specs.Segments.{loaded_from};
+
+    ghost view = { λ l. loaded_from elf32 l.header l.bytes.now l.next };
+
+    ghost invariant = { λ l. l.header.program_table + 32 * l.header.program_count ≤ length l.bytes.now };
+}
+
+impl<'a> LoadedHeaders<'a> {
+    /// All of an image whose program headers lie in its bytes.
+    pub(crate) fn of(bytes: &'a [u8], header: FileHeader) -> LoadedHeaders<'a>
+        requires { header.program_table + 32 * header.program_count ≤ length bytes.now }
+        ensures { result ≡ loaded_from elf32 header bytes.now 0 }
+    {
+        LoadedHeaders {
+            bytes,
+            header,
+            next: 0,
+        }
+    }
+}
+
+impl Iterator for LoadedHeaders<'_> {
+    type Item = NumberedHeader;
+
+    ghost use Rattle.std.specs.Iterator.{YieldsFirst, item_count};
+
+    ghost next_gives = { YieldsFirst (λ l. l) };
+
+    ghost remaining = { item_count (λ l. l) };
+
+    fn next(&mut self) -> Option<NumberedHeader> {
+        while self.next < self.header.program_count {
+            let numbered = self.header.program_header(self.bytes, self.next);
+            self.next += 1;
+            if numbered.is_loaded() {
+                return Some(numbered);
+            }
+        }
+        None
+    }
+}
+
+/// Tests the loaded segments of an image, one after the other.
+pub(crate) fn test_segments(bytes: &[u8], header: FileHeader) -> Result<(), ElfFault>
+    requires { header.program_table + 32 * header.program_count ≤ length bytes.now }
+    ensures { result_err result ≡ segments_fault (length bytes.now) (loaded_from elf32 header bytes.now 0) }
+{
+    for numbered in LoadedHeaders::of(bytes, header) {
+        numbered.test(bytes.len())?;
+    }
+    Ok(())
+}

@@ -1,0 +1,4 @@
+pub mod Holdings
+pub mod GoesOn
+pub mod SoundLanes
+pub mod SoundKept

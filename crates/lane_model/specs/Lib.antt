@@ -1,0 +1,12 @@
+pub mod HeldBuffers
+pub mod BookLists
+pub mod Desks
+pub mod Lanes
+pub mod Sends
+pub mod Receives
+pub mod Links
+pub mod Conditions
+pub mod LanesInside
+pub mod PlainLinks
+pub mod WholeCalls
+pub mod Soundness

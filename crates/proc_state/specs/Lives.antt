@@ -1,0 +1,119 @@
+-- The life of a core, and what each call makes of it: a table of states and calls (the states and calls of the Linux remoteproc documentation; the counts are own).
+use Rattle.std.specs.Prelude.{◌≡◌, ℕ, ◌+◌, ◌-◌, ◌≤◌, ◌==◌, Bool, true, if◌then◌else◌, Result, Ok, Err, OnErr}
+use Rattle.proc_state.specs.declared.answers.LifeState.{LifeState}
+use Rattle.proc_state.specs.declared.answers.LifeState.TheVariants.{Offline, Running, Crashed}
+use Rattle.proc_state.specs.declared.answers.LifeFault.{LifeFault}
+use Rattle.proc_state.specs.declared.answers.LifeFault.TheVariants as fault
+use Rattle.proc_state.specs.declared.answers.Power.{Power}
+use Rattle.proc_state.specs.declared.answers.Power.TheVariants as power
+use Rattle.proc_state.specs.declared.answers.Left.{Left}
+use Rattle.proc_state.specs.declared.answers.Left.TheVariants as left
+use Rattle.proc_state.specs.declared.answers.Report.{Report}
+use Rattle.proc_state.specs.declared.answers.Report.TheVariants as report
+
+-- a life: the state, how many users there are, the number of the life, and whether a crash may be recovered
+pub record CoreLife : Type 0 where
+  pub state : LifeState
+  pub users : ℕ
+  pub incarnation : ℕ
+  pub recovery : Bool
+
+-- the life that a call leaves, and what it answers
+pub record Outcome (A : Type 0) : Type 0 where
+  pub life : CoreLife
+  pub answer : Result A LifeFault
+
+-- how far users and incarnations are counted, 2^32 - 1
+abbrev pub most : ℕ
+most = 4294967295
+
+-- the life of a core that was never booted
+abbrev pub new_life : CoreLife
+new_life = record { state = Offline; users = 0; incarnation = 0; recovery = true }
+
+-- a refusal: the life is as it was
+abbrev pub refused : {A : Type 0} → LifeFault → CoreLife → Outcome A
+refused reason life = record { life = life; answer = Err reason }
+
+-- the core runs in its next incarnation, for these users; there is none after the last
+abbrev pub started : {A : Type 0} → ℕ → A → CoreLife → Outcome A
+started users told life =
+    if life.incarnation == most then refused fault.IncarnationsSpent life
+    else record {
+      life = record life { state = Running; users = users; incarnation = life.incarnation + 1 };
+      answer = Ok told;
+    }
+
+-- one user more
+abbrev pub joined : CoreLife → Outcome Power
+joined life =
+    if life.users == most then refused fault.UsersFull life
+    else record {
+      life = record life { users = life.users + 1 };
+      answer = Ok (power.Counted (life.users + 1));
+    }
+
+-- one user fewer, and offline at none
+abbrev pub parted : CoreLife → Outcome Left
+parted life =
+    if life.users == 1 then record {
+      life = record life { state = Offline; users = 0 };
+      answer = Ok left.Last;
+    }
+    else record {
+      life = record life { users = life.users - 1 };
+      answer = Ok (left.Users (life.users - 1));
+    }
+
+-- a boot, `rproc_boot`: it starts a core without users, and else counts one more
+abbrev pub booted : CoreLife → Outcome Power
+booted life = if life.users == 0 then started 1 power.First life else joined life
+
+abbrev pub shut_down_in : LifeState → CoreLife → Outcome Left
+shut_down_in Offline life = refused fault.NotPowered life
+shut_down_in Running life = parted life
+shut_down_in Crashed life = refused fault.NotPowered life
+
+-- a shutdown, `rproc_shutdown`: only of a core that runs
+abbrev pub shut_down : CoreLife → Outcome Left
+shut_down life = shut_down_in life.state life
+
+abbrev pub crashed_in : LifeState → CoreLife → Outcome Report
+crashed_in Offline life = refused fault.NotPowered life
+crashed_in Running life = record { life = record life { state = Crashed }; answer = Ok report.First }
+crashed_in Crashed life = record { life = life; answer = Ok report.Already }
+
+-- a report of a crash, `rproc_report_crash`
+abbrev pub crashed : CoreLife → Outcome Report
+crashed life = crashed_in life.state life
+
+abbrev pub recovered_in : LifeState → CoreLife → Outcome (Unit {0})
+recovered_in Offline life = refused fault.NotCrashed life
+recovered_in Running life = refused fault.NotCrashed life
+recovered_in Crashed life = if life.recovery then started life.users tt life else refused fault.RecoveryOff life
+
+-- a recovery, `rproc_trigger_recovery`: only of a crashed core, while recovery is on
+abbrev pub recovered : CoreLife → Outcome (Unit {0})
+recovered life = recovered_in life.state life
+
+-- which users and incarnations there are in each state: a core is offline exactly where it has no
+-- users, and a core with users was started
+abbrev pub AreIn : LifeState → ℕ → ℕ → Type 0
+AreIn Offline users incarnation = users ≡ 0
+AreIn Running users incarnation = (1 ≤ users) × (1 ≤ incarnation)
+AreIn Crashed users incarnation = (1 ≤ users) × (1 ≤ incarnation)
+
+-- a life that calls lead to
+pub record IsReachable (life : CoreLife) : Type 0 where
+  pub counts : AreIn life.state life.users life.incarnation
+  pub users : life.users ≤ most
+  pub incarnation : life.incarnation ≤ most
+
+-- a life that a call leads to from this one: it is reachable, and its incarnation is no lower
+pub record Follows (before after : CoreLife) : Type 0 where
+  pub reachable : IsReachable after
+  pub incarnation : before.incarnation ≤ after.incarnation
+
+-- a refusal leaves the life as it was
+abbrev pub KeepsAtErr : {A : Type 0} → CoreLife → Outcome A → Type 0
+KeepsAtErr life outcome = OnErr outcome.answer (outcome.life ≡ life)

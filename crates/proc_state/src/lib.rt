@@ -1,0 +1,12 @@
+// The life of a remote core: its states, its users, and the number of the life that it is in.
+#![tactic(auto)]
+
+mod answers;
+mod laws;
+mod life;
+#[cfg(test)]
+mod tests;
+
+pub use answers::{Left, LifeFault, LifeState, Power, Report};
+pub use laws::{calls_keep_lives, crashes_keep_users, refusals_keep_lives};
+pub use life::Life;

@@ -1,0 +1,12 @@
+// The records of a worker's code, as they stand in the memory of a remote core.
+#![tactic(auto)]
+
+mod faults;
+mod laws;
+mod records;
+#[cfg(test)]
+mod tests;
+
+pub use faults::WorkerFault;
+pub use laws::records_read_back;
+pub use records::Record;

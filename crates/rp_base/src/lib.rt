@@ -1,0 +1,30 @@
+// The plain types that every crate of rproc shares: messages, names, endpoints, eras, and little-endian fields.
+#![tactic(auto)]
+
+mod fields;
+mod kinds;
+mod memory;
+mod messages;
+mod names;
+mod payloads;
+#[cfg(test)]
+mod tests;
+
+pub use fields::{put_u16, put_u32, u16_at, u32_at, u64_at};
+pub use kinds::{BindFault, CrashKind, End, Endpoint, Era, NsKind, Verdict};
+pub use memory::NoMemory;
+pub use messages::{Buffer, Message};
+pub use names::Name;
+pub use payloads::Data;
+
+/// An address in the memory of a remote core, as that core uses it (`da` of `remoteproc.h`).
+pub type Da = u32;
+
+/// An address in the physical memory of the host (`pa` of `remoteproc.h`).
+pub type Pa = u32;
+
+/// The number of one life of a link or a core, from 1.
+pub type Inc = u32;
+
+/// A user of a link, from 0 to 63. The manager of a link has the number 64.
+pub type CallerNo = u8;

@@ -1,0 +1,60 @@
+use std::alloc::AllocError;
+
+/// The device failed. Its count of faults rose.
+#[derive(Clone, Copy, Debug, PartialEq, Eq)]
+pub struct Failed;
+
+/// Why a fetch has no image.
+#[derive(Clone, Copy, Debug, PartialEq, Eq)]
+pub enum FetchFault {
+    /// There is no image of this name.
+    Missing,
+    /// The device failed. Its count of faults rose.
+    Failed,
+    /// The image is longer than [`IMAGE_LIMIT`](crate::IMAGE_LIMIT): its length in bytes.
+    TooLarge(u64),
+    /// Memory ran out.
+    NoMemory,
+}
+
+/// Why a source was not read.
+#[derive(Clone, Copy, Debug, PartialEq, Eq)]
+pub enum ReadFault {
+    /// The source failed. Its count of faults rose.
+    Failed,
+    /// Memory ran out.
+    NoMemory,
+}
+
+impl From<Failed> for ReadFault {
+    ghost use Rattle.std.specs.Prelude.{◌≡◌};
+    ghost use Rattle.rp_io.specs.declared.faults.ReadFault.TheVariants as fault;
+
+    ghost from_gives = { λ _ e. e ≡ fault.Failed };
+
+    fn from(_failed: Failed) -> ReadFault {
+        ReadFault::Failed
+    }
+}
+
+impl From<AllocError> for ReadFault {
+    ghost use Rattle.std.specs.Prelude.{◌≡◌};
+    ghost use Rattle.rp_io.specs.declared.faults.ReadFault.TheVariants as fault;
+
+    ghost from_gives = { λ _ e. e ≡ fault.NoMemory };
+
+    fn from(_error: AllocError) -> ReadFault {
+        ReadFault::NoMemory
+    }
+}
+
+impl From<AllocError> for FetchFault {
+    ghost use Rattle.std.specs.Prelude.{◌≡◌};
+    ghost use Rattle.rp_io.specs.declared.faults.FetchFault.TheVariants as fault;
+
+    ghost from_gives = { λ _ e. e ≡ fault.NoMemory };
+
+    fn from(_error: AllocError) -> FetchFault {
+        FetchFault::NoMemory
+    }
+}

@@ -1,0 +1,28 @@
+// The outside of rproc: sources and sinks of bytes and stores of firmware images, each with a count of its faults.
+#![tactic(auto)]
+
+mod adapters;
+mod calls;
+mod faults;
+mod folder;
+mod images;
+mod memory_sink;
+mod memory_source;
+mod memory_store;
+mod plain;
+mod sinks;
+mod sources;
+mod stores;
+#[cfg(test)]
+mod tests;
+
+pub use adapters::{ReaderSource, StdinSource, StdoutSink, WriterSink};
+pub use faults::{Failed, FetchFault, ReadFault};
+pub use folder::{FIRMWARE_FOLDER, FolderStore};
+pub use memory_sink::MemorySink;
+pub use memory_source::MemorySource;
+pub use memory_store::MemoryStore;
+pub use plain::{PlainSink, PlainSource, PlainStore};
+pub use sinks::{Sink, write_whole};
+pub use sources::{Source, read_front};
+pub use stores::{FirmwareStore, IMAGE_LIMIT};

@@ -1,0 +1,63 @@
+ghost use Rattle.std.specs.Prelude.{◌≡◌, ℕ, ◌+◌, ◌<◌, ◌≤◌, List, length, IfOk, OnErr, IsErrOf};
+ghost use Rattle.std.specs.declared.option.Option.{Option};
+ghost use Rattle.std.specs.Io.{ReadsAtMost};
+ghost use Rattle.std.specs.Io.KnownBytes.{Consumes, ReadConsumes};
+ghost use Rattle.rp_io.specs.Causes.{HasCause, Rose};
+ghost use Rattle.rp_io.specs.Contents.{EndsWhereEmpty, IsFrontOf, LosesFront};
+
+use crate::faults::{Failed, ReadFault};
+use std::alloc::Global;
+
+/// A source of bytes that counts its faults.
+///
+/// `left` is what reads will give from here on, where the source tells it. `faults` never falls.
+pub trait Source {
+    ghost left: { Self → Option (List ℕ) };
+
+    ghost faults: { Self → ℕ };
+
+    /// Moves some of the bytes that are left to the front of `into`, and says how many.
+    ///
+    /// # Errors
+    ///
+    /// [`Failed`] where the source failed. Nothing is lost then.
+    fn read(&mut self, into: &mut [u8]) -> Result<usize, Failed>
+        requires { 0 < length into.old }
+        ensures bound { ReadsAtMost result into.new }
+        ensures bytes { ReadConsumes (left self.old) (left self.new) result into.new }
+        ensures end { IfOk result (EndsWhereEmpty (left self.old)) }
+        ensures cause { HasCause (faults self.old) (faults self.new) result };
+}
+
+/// The bytes that a source has left, or the first `limit + 1` of them where there are more.
+///
+/// # Errors
+///
+/// [`ReadFault::Failed`] where the source failed, [`ReadFault::NoMemory`] where memory ran out.
+/// The source has then lost what was read.
+pub fn read_front<S: Source>(
+    alloc: Global,
+    source: &mut S,
+    limit: usize,
+) -> Result<Vec<u8>, ReadFault>
+    requires { limit < 1000000000 }
+    ensures bytes { IfOk result (λ bytes. IsFrontOf (S.left source.old) (limit + 1) bytes.items) }
+    ensures rest { IfOk result (λ bytes. Consumes (S.left source.old) (S.left source.new) bytes.items) }
+    ensures bound { IfOk result (λ bytes. length bytes.items ≤ limit + 1) }
+
+    ensures lost { OnErr result (LosesFront (S.left source.old) (S.left source.new)) }
+    ensures later { S.faults source.old ≤ S.faults source.new }
+    ensures failed { IsErrOf result ReadFault.Failed → Rose (S.faults source.old) (S.faults source.new) }
+{
+    let mut piece = [0; 4096];
+    let mut bytes = Vec::new(alloc);
+    while bytes.len() <= limit {
+        let room = (limit + 1 - bytes.len()).min(piece.len());
+        let count = source.read(&mut piece[..room])?;
+        if count == 0 {
+            break;
+        }
+        bytes.extend_from_slice(&piece[..count])?;
+    }
+    Ok(bytes)
+}

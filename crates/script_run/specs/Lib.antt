@@ -1,0 +1,10 @@
+pub mod SilentDesks
+pub mod Runs
+pub mod Writers
+pub mod Statuses
+pub mod Notices
+pub mod Reports
+pub mod Programs
+pub mod ImageReports
+pub mod Answers
+pub mod Asked

@@ -1,0 +1,3 @@
+pub mod Faults
+pub mod Rings
+pub mod Sizes
