@@ -30,6 +30,7 @@ hex_bytes bytes = if length bytes == 0 then codes "-" else flat_map hex_byte byt
 abbrev pub is_plain : ℕ → Bool
 is_plain byte = nat_le 33 byte && nat_le byte 126 && not (byte == 37)
 
+-- a byte as it is where it is plain, else `%` and its two digits
 abbrev pub escaped_byte : ℕ → List ℕ
 escaped_byte byte = if is_plain byte then byte ∷ [] else 37 ∷ hex_byte byte
 
@@ -37,6 +38,7 @@ escaped_byte byte = if is_plain byte then byte ∷ [] else 37 ∷ hex_byte byte
 abbrev pub escaped : List ℕ → List ℕ
 escaped text = if length text == 0 then codes "%" else flat_map escaped_byte text
 
+-- the end of a link
 abbrev pub end_text : End → List ℕ
 end_text side.Host = codes "host"
 end_text side.Remote = codes "remote"
@@ -45,9 +47,11 @@ end_text side.Remote = codes "remote"
 abbrev pub endpoint_text : Endpoint → List ℕ
 endpoint_text endpoint = decimal endpoint.address ++ codes "." ++ decimal endpoint.generation
 
+-- an incarnation, and whether it is open
 abbrev pub era_text : Era → List ℕ
 era_text era = decimal era.inc ++ codes " " ++ (if era.is_live then codes "open" else codes "closed")
 
+-- what the name service made of a message
 abbrev pub kind_text : NsKind → List ℕ
 kind_text kind.Created = codes "created"
 kind_text kind.Duplicate = codes "duplicate"

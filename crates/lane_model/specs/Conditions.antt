@@ -35,6 +35,7 @@ HasRoomAt stage.Buffer accepted returned capacity book = (accepted < returned + 
 HasRoomAt stage.Entry accepted returned capacity book = (accepted < returned + capacity) × (accepted < book)
 HasRoomAt (stage.Settled ended) accepted returned capacity book = Unit {0}
 
+-- the send that has the turn, if any, has the room that it found
 abbrev pub HasRoom : Turn Sending → ℕ → ℕ → ℕ → ℕ → Type 0
 HasRoom turn.Free accepted returned capacity book = Unit {0}
 HasRoom (turn.Taken s) accepted returned capacity book = HasRoomAt s.stage accepted returned capacity book
@@ -56,12 +57,14 @@ HasHeldAt give_stage.Turn held number caller = IsTrue (holds held number caller)
 HasHeldAt give_stage.Entry held number caller = IsTrue (holds held number caller)
 HasHeldAt give_stage.Settled held number caller = Unit {0}
 
+-- a take has the message that it found, and a give the buffer that it names
 abbrev pub IsFitCall : ReceiveCall → ℕ → List Holding → ℕ → ℕ → Type 0
 IsFitCall (call.Take stage) caller held handed accepted = HasMessageAt stage handed accepted
 IsFitCall (call.Give number stage) caller held handed accepted = HasHeldAt stage held number caller
 IsFitCall (call.Bind address stage) caller held handed accepted = Unit {0}
 IsFitCall (call.Unbind address stage) caller held handed accepted = Unit {0}
 
+-- the call that has the receiver's turn, if any, has what it found or names
 abbrev pub IsFitReceiver : Turn Receiving → List Holding → ℕ → ℕ → Type 0
 IsFitReceiver turn.Free held handed accepted = Unit {0}
 IsFitReceiver (turn.Taken r) held handed accepted = IsFitCall r.call r.caller held handed accepted
@@ -79,6 +82,7 @@ IsFitAsk held lane_no caller (ask.Unbind address) = Unit {0}
 abbrev pub is_in_call : {D : Type 0} → LaneState D → LaneState D → ℕ → Bool
 is_in_call outgoing incoming caller = is_sending outgoing.sender caller || is_receiving incoming.receiver caller
 
+-- the caller on this end has a call under way; a number that is not in use has none
 abbrev pub end_calling : {D : Type 0} → LinkState D → Option End → ℕ → Bool
 end_calling link (Some side.Host) caller = is_in_call link.to_remote link.to_host caller
 end_calling link (Some side.Remote) caller = is_in_call link.to_host link.to_remote caller
@@ -88,6 +92,7 @@ end_calling link None caller = false
 abbrev pub is_calling : {D : Type 0} → LinkState D → ℕ → Bool
 is_calling link caller = end_calling link (end_of link.callers caller) caller
 
+-- the caller on this end holds the buffer of this message; a number that is not in use holds none
 abbrev pub end_holding : {D : Type 0} → LinkState D → Option End → ℕ → ℕ → Bool
 end_holding link (Some side.Host) caller number = holds link.to_host.lane.held number caller
 end_holding link (Some side.Remote) caller number = holds link.to_remote.lane.held number caller
@@ -103,6 +108,7 @@ MayPairStep lane_no outgoing incoming caller (Some asked) =
     (is_in_call outgoing incoming caller ≡ false) × IsFitAsk incoming.lane.held lane_no caller asked
 MayPairStep lane_no outgoing incoming caller None = is_in_call outgoing incoming caller ≡ true
 
+-- the next step of a caller on this end; a number that is not in use has no step
 abbrev pub MayEndStep : {D : Type 0} → LinkState D → Option End → ℕ → Option Ask → Type 0
 MayEndStep link (Some side.Host) caller asked = MayPairStep 0 link.to_remote link.to_host caller asked
 MayEndStep link (Some side.Remote) caller asked = MayPairStep 1 link.to_host link.to_remote caller asked

@@ -21,6 +21,7 @@ HasRoomInside turn.Free accepted returned capacity book = Unit {0}
 HasRoomInside (turn.Taken s) accepted returned capacity book = HasRoomAt s.stage accepted returned capacity book
 HasRoomInside turn.Manager accepted returned capacity book = Unit {0}
 
+-- the lane that these parts stand for
 abbrev pub state_of : {D : Type 0} → Inside D → LaneState D
 state_of a = record {
   lane = record {
@@ -36,6 +37,7 @@ state_of a = record {
   desk = a.desk;
 }
 
+-- the parts are those of a lane, and there is room for what it can still take
 pub record IsSoundInside {D : Type 0} (a : Inside D) : Type 0 where
   pub counts : a.returned + length a.held.items ≤ length a.takers.items
   pub handed : length a.takers.items ≤ length a.accepted.entries

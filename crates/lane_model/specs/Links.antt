@@ -44,6 +44,7 @@ abbrev pub begun_progress : Option ℕ → (ℕ → Answer) → Progress
 begun_progress None busy = progress.At 1
 begun_progress (Some holder) busy = progress.Done (busy holder)
 
+-- what step 1 did to the turn word
 abbrev pub begun_event : Option ℕ → StepEvent
 begun_event None = event.TurnTaken
 begun_event (Some holder) = event.TurnBusy holder
@@ -74,9 +75,11 @@ pair_begun outgoing incoming caller follows (ask.Bind address) =
 pair_begun outgoing incoming caller follows (ask.Unbind address) =
     incoming_begun outgoing incoming caller follows (call.Unbind address desk_stage.Turn) answer.Busy
 
+-- a step on the lane that the caller sends on
 abbrev pub outgoing_stepped : {D : Type 0} → LaneState D → Stepped D → PairStepped D
 outgoing_stepped incoming step = record { outgoing = step.state; incoming = incoming; event = step.event; told = step.told }
 
+-- a step on the lane that the caller takes from
 abbrev pub incoming_stepped : {D : Type 0} → LaneState D → Stepped D → PairStepped D
 incoming_stepped outgoing step = record { outgoing = outgoing; incoming = step.state; event = step.event; told = step.told }
 
@@ -97,10 +100,12 @@ pair_step lane_no buffer era desk outgoing incoming caller follows None =
 abbrev pub end_of : List (Option End) → ℕ → Option End
 end_of callers caller = option_and_then (λ found. found) (slice_get callers caller)
 
+-- the link after a step of a host caller
 abbrev pub host_stepped : {D : Type 0} → LinkState D → PairStepped D → LinkStepped D
 host_stepped link step =
     record { state = record link { to_remote = step.outgoing; to_host = step.incoming }; event = step.event; told = step.told }
 
+-- the link after a step of a remote caller
 abbrev pub remote_stepped : {D : Type 0} → LinkState D → PairStepped D → LinkStepped D
 remote_stepped link step =
     record { state = record link { to_host = step.outgoing; to_remote = step.incoming }; event = step.event; told = step.told }
@@ -131,6 +136,7 @@ with_caller callers new None = callers
 abbrev pub capacity_of : ℕ → ℕ
 capacity_of entries = min entries 256
 
+-- a new lane: empty lists, nothing given back, free turns
 abbrev pub opened_lane : {D : Type 0} → ℕ → ℕ → D → LaneState D
 opened_lane capacity book desk = record {
   lane = record { capacity = capacity; book = book; accepted = []; takers = []; held = []; returned = 0 };

@@ -12,6 +12,7 @@ abbrev pub link_of : {L D : Type 0} → (L → LaneState D) → PlainLink L → 
 link_of state plain =
     record { era = plain.era; to_host = state plain.to_host; to_remote = state plain.to_remote; callers = plain.callers }
 
+-- the number of the buffer that is out on the lane that a caller of this end takes from
 abbrev pub buffer_at : {L : Type 0} → (L → ℕ) → PlainLink L → Option End → ℕ
 buffer_at taken plain (Some side.Host) = taken plain.to_host
 buffer_at taken plain (Some side.Remote) = taken plain.to_remote

@@ -97,24 +97,29 @@ give_step state r number give_stage.Entry =
     (event.Returned number (state.lane.returned + 1))
 give_step state r number give_stage.Settled = receive_left state (answer.Gave number)
 
+-- the answer of a binding, or of its end, that is settled
 abbrev pub desk_answer : DeskEnd → Answer
 desk_answer (desk_end.Bound endpoint) = answer.Bound endpoint
 desk_answer (desk_end.Unbound endpoint) = answer.Unbound endpoint
 desk_answer (desk_end.Refused fault) = answer.Refused fault
 desk_answer (desk_end.Dead era) = answer.Dead era
 
+-- how a binding ends, by what the desk says
 abbrev pub bind_end : Result Endpoint BindFault → DeskEnd
 bind_end (Ok endpoint) = desk_end.Bound endpoint
 bind_end (Err fault) = desk_end.Refused fault
 
+-- what a binding did at the desk
 abbrev pub bind_event : Result Endpoint BindFault → StepEvent
 bind_event (Ok endpoint) = event.Bound endpoint
 bind_event (Err fault) = event.DeskRefused
 
+-- how the end of a binding ends, by what the desk says
 abbrev pub unbind_end : Result Endpoint BindFault → DeskEnd
 unbind_end (Ok endpoint) = desk_end.Unbound endpoint
 unbind_end (Err fault) = desk_end.Refused fault
 
+-- what the end of a binding did at the desk
 abbrev pub unbind_event : Result Endpoint BindFault → StepEvent
 unbind_event (Ok endpoint) = event.Unbound endpoint
 unbind_event (Err fault) = event.DeskRefused

@@ -28,6 +28,7 @@ after_send_look lane =
     if length lane.accepted == lane.returned + lane.capacity then stage.Settled (end.NoBuffer (length lane.accepted) lane.returned)
     else (if length lane.accepted == lane.book then stage.Settled (end.BookFull (length lane.accepted)) else stage.Look)
 
+-- the answer of a send that is settled
 abbrev pub send_answer : SendEnd → Answer
 send_answer (end.Sent number) = answer.Sent number
 send_answer (end.Dead era) = answer.Dead era

@@ -44,6 +44,7 @@ IsSoundSender callers end turn.Free = Unit {0}
 IsSoundSender callers end (turn.Taken s) = IsUser callers end s.caller
 IsSoundSender callers end turn.Manager = Unit {0}
 
+-- who has the receiver's turn is in use on the receiving end
 abbrev pub IsSoundReceiver : List (Option End) → End → Turn Receiving → Type 0
 IsSoundReceiver callers end turn.Free = Unit {0}
 IsSoundReceiver callers end (turn.Taken r) = IsUser callers end r.caller

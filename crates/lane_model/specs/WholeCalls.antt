@@ -31,6 +31,7 @@ pub record Ended (D : Type 0) : Type 0 where
   pub state : LinkState D
   pub answer : Answer
 
+-- the end of a call where a step ended it, else what the later steps say
 abbrev pub ended_or : {D : Type 0} → LinkState D → Progress → Option (Ended D) → Option (Ended D)
 ended_or state (progress.At step) rest = rest
 ended_or state (progress.Done ended) rest = Some (record { state = state; answer = ended })
@@ -51,11 +52,13 @@ send_left stage.Buffer = 2
 send_left stage.Entry = 1
 send_left (stage.Settled ended) = 0
 
+-- how many steps of the send that has the turn may follow the next one
 abbrev pub sender_left : Turn Sending → ℕ
 sender_left turn.Free = 0
 sender_left (turn.Taken s) = send_left s.stage
 sender_left turn.Manager = 0
 
+-- how many steps of a take may follow the next one
 abbrev pub take_left : TakeStage → ℕ
 take_left take_stage.Turn = 4
 take_left take_stage.Era = 3
@@ -63,11 +66,13 @@ take_left take_stage.Look = 2
 take_left take_stage.Buffer = 1
 take_left (take_stage.Settled ended) = 0
 
+-- how many steps of a give may follow the next one
 abbrev pub give_left : GiveStage → ℕ
 give_left give_stage.Turn = 2
 give_left give_stage.Entry = 1
 give_left give_stage.Settled = 0
 
+-- how many steps of a binding, or of its end, may follow the next one
 abbrev pub desk_left : DeskStage → ℕ
 desk_left desk_stage.Turn = 1
 desk_left (desk_stage.Settled ended) = 0
@@ -79,11 +84,13 @@ receive_left_of (call.Give number stage) = give_left stage
 receive_left_of (call.Bind address stage) = desk_left stage
 receive_left_of (call.Unbind address stage) = desk_left stage
 
+-- how many steps of the call that has the receiver's turn may follow the next one
 abbrev pub receiver_left : Turn Receiving → ℕ
 receiver_left turn.Free = 0
 receiver_left (turn.Taken r) = receive_left_of r.call
 receiver_left turn.Manager = 0
 
+-- how many steps of the call under way may follow the next one: of the send, where there is one
 abbrev pub under_way_left : {D : Type 0} → LaneState D → LaneState D → Bool → ℕ
 under_way_left outgoing incoming true = sender_left outgoing.sender
 under_way_left outgoing incoming false = receiver_left incoming.receiver
@@ -93,11 +100,13 @@ abbrev pub pair_left : {D : Type 0} → LaneState D → LaneState D → ℕ → 
 pair_left outgoing incoming caller (Some asked) = 6
 pair_left outgoing incoming caller None = under_way_left outgoing incoming (is_sending outgoing.sender caller)
 
+-- how many steps of the call of a caller on this end may follow the next one
 abbrev pub end_left : {D : Type 0} → LinkState D → Option End → ℕ → Option Ask → ℕ
 end_left link (Some side.Host) caller asked = pair_left link.to_remote link.to_host caller asked
 end_left link (Some side.Remote) caller asked = pair_left link.to_host link.to_remote caller asked
 end_left link None caller asked = 0
 
+-- how many steps of a caller's call may follow the next one
 abbrev pub left_of : {D : Type 0} → LinkState D → ℕ → Option Ask → ℕ
 left_of link caller asked = end_left link (end_of link.callers caller) caller asked
 

@@ -69,6 +69,7 @@ parted life =
 abbrev pub booted : CoreLife → Outcome Power
 booted life = if life.users == 0 then started 1 power.First life else joined life
 
+-- a shutdown, by the state of the core
 abbrev pub shut_down_in : LifeState → CoreLife → Outcome Left
 shut_down_in Offline life = refused fault.NotPowered life
 shut_down_in Running life = parted life
@@ -78,6 +79,7 @@ shut_down_in Crashed life = refused fault.NotPowered life
 abbrev pub shut_down : CoreLife → Outcome Left
 shut_down life = shut_down_in life.state life
 
+-- a report of a crash, by the state of the core
 abbrev pub crashed_in : LifeState → CoreLife → Outcome Report
 crashed_in Offline life = refused fault.NotPowered life
 crashed_in Running life = record { life = record life { state = Crashed }; answer = Ok report.First }
@@ -87,6 +89,7 @@ crashed_in Crashed life = record { life = life; answer = Ok report.Already }
 abbrev pub crashed : CoreLife → Outcome Report
 crashed life = crashed_in life.state life
 
+-- a recovery, by the state of the core
 abbrev pub recovered_in : LifeState → CoreLife → Outcome (Unit {0})
 recovered_in Offline life = refused fault.NotCrashed life
 recovered_in Running life = refused fault.NotCrashed life

@@ -10,15 +10,19 @@ use Rattle.remote_code.specs.declared.records.Record.TheVariants.{Halt, Announce
 abbrev pub op_of : List ℕ → ℕ
 op_of bytes = number_at 2 0 bytes
 
+-- the field n: 2 bytes from 2
 abbrev pub n_of : List ℕ → ℕ
 n_of bytes = number_at 2 2 bytes
 
+-- the field a: 4 bytes from 4
 abbrev pub a_of : List ℕ → ℕ
 a_of bytes = number_at 4 4 bytes
 
+-- the field b: 4 bytes from 8
 abbrev pub b_of : List ℕ → ℕ
 b_of bytes = number_at 4 8 bytes
 
+-- the field c: 4 bytes from 12
 abbrev pub c_of : List ℕ → ℕ
 c_of bytes = number_at 4 12 bytes
 

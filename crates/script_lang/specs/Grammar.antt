@@ -13,10 +13,12 @@ use Rattle.script_lang.specs.declared.commands.ParseFault.TheVariants as fault
 use Rattle.script_lang.specs.Words.{lines_of, words_of, name_of, number_of, caller_of, book_of, ring_of, data_of}
 
 infixl 10 ◌>>=◌
+-- a kind of word after another: none where one of them is none
 abbrev pub ◌>>=◌ : {A B : Type 0} → Option A → (A → Option B) → Option B
 (Some x) >>= f = f x
 None >>= f = None
 
+-- the words `host` and `remote`
 abbrev pub end_named : List ℕ → Option End
 end_named word = if bytes_eq word (codes "host") then Some side.Host else (if bytes_eq word (codes "remote") then Some side.Remote else None)
 
@@ -73,6 +75,7 @@ command_of (w ∷ x ∷ a ∷ b ∷ c ∷ []) = if bytes_eq w (codes "link") the
 command_of (w ∷ x ∷ a ∷ b ∷ c ∷ d ∷ []) = if bytes_eq w (codes "send") then send_command x a b c d else None
 command_of (w ∷ x ∷ a ∷ b ∷ c ∷ d ∷ e ∷ more) = None
 
+-- the command makes a link
 abbrev pub is_link : Command → Bool
 is_link (command.Link name to_host to_remote book) = true
 is_link (command.Caller name end) = false
@@ -85,9 +88,11 @@ pub record Refusal : Type 0 where
   pub line : ℕ
   pub cause : Cause
 
+-- the refusal of a line
 abbrev pub bad_line : ℕ → Refusal
 bad_line line = record { line = line; cause = cause.Command }
 
+-- a command before those of the later lines, or the refusal of one of these
 abbrev pub with_command : Command → Result (List Command) Refusal → Result (List Command) Refusal
 with_command first (Ok more) = Ok (first ∷ more)
 with_command first (Err refusal) = Err refusal

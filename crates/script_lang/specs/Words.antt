@@ -9,6 +9,7 @@ without_empty_end [] = []
 without_empty_end (line ∷ []) = if length line == 0 then [] else line ∷ []
 without_empty_end (line ∷ next ∷ more) = line ∷ without_empty_end (next ∷ more)
 
+-- the lines of a text, without their line feeds
 abbrev pub lines_of : List ℕ → List (List ℕ)
 lines_of bytes = without_empty_end (slice_split (λ byte. byte == 10) bytes)
 
@@ -33,6 +34,7 @@ abbrev pub is_name : List ℕ → Bool
 is_name [] = false
 is_name (first ∷ more) = (is_letter first || is_digit first) && list_all is_name_byte more && nat_le (length more) 30
 
+-- the name that a word is
 abbrev pub name_of : List ℕ → Option (List ℕ)
 name_of word = if is_name word then Some word else None
 
@@ -73,6 +75,7 @@ nibble_of byte =
     else (if nat_le 97 byte && nat_le byte 102 then Some (byte - 87)
     else (if nat_le 65 byte && nat_le byte 70 then Some (byte - 55) else None))
 
+-- a byte of two digits before the bytes that follow; none where a digit is none
 abbrev pub paired : Option ℕ → Option ℕ → Option (List ℕ) → Option (List ℕ)
 paired (Some high) (Some low) (Some rest) = Some ((16 * high + low) ∷ rest)
 paired (Some high) (Some low) None = None

@@ -4,6 +4,7 @@ use Rattle.script_run.specs.declared.words.Asked.{Asked}
 use Rattle.script_run.specs.declared.words.Asked.TheVariants as asked
 use Rattle.script_run.specs.Programs.{Form, other, run, check}
 
+-- what the words ask for, as the definitions have it
 abbrev pub asked_form : Asked → Form
 asked_form asked.Other = other
 asked_form asked.Run = run

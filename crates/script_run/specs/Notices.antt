@@ -13,10 +13,12 @@ abbrev pub cause_text : Cause → List ℕ
 cause_text cause.Size = codes " size\n"
 cause_text cause.Command = codes " command\n"
 
+-- the end of a line that may name a segment
 abbrev pub index_text : Option ℕ → List ℕ
 index_text None = codes "\n"
 index_text (Some index) = codes " " ++ decimal index ++ codes "\n"
 
+-- the line of each notice
 unfoldable pub notice_line : Notice → List ℕ
 notice_line notice.Usage = codes "usage: rproc run | check NAME | demo N | storm H R N K\n"
 notice_line notice.ReadFault = codes "* read fault\n"

@@ -24,10 +24,12 @@ pub data Form : Type 0 where
   run : Form
   check : List ℕ → Form
 
+-- `check` with a name; a word that is no name is none of the forms
 abbrev pub named_form : Option (List ℕ) → Form
 named_form (Some name) = check name
 named_form None = other
 
+-- what these words behind the program's name ask for
 abbrev pub form_of : List (List ℕ) → Form
 form_of [] = other
 form_of (word ∷ []) = if bytes_eq word (codes "run") then run else other
@@ -39,6 +41,7 @@ pub record Output : Type 0 where
   pub status : Status
   pub text : List ℕ
 
+-- the usage line, with its status
 abbrev pub usage_output : Output
 usage_output = record { status = status.Usage; text = report_text (notice.Usage ∷ []) }
 
@@ -47,9 +50,11 @@ abbrev pub said_output : Result (List Command) Refusal → Output
 said_output (Ok commands) = record { status = status.Done; text = transcript (run_of commands) }
 said_output (Err refusal) = record { status = status.Refused; text = report_text (notice.Refused refusal.line refusal.cause ∷ []) }
 
+-- the output of a run, by the bytes of the script
 unfoldable pub run_output : List ℕ → Output
 run_output bytes = said_output (script_of bytes)
 
+-- the lines of a report, with its status
 abbrev pub report_output : Report → Output
 report_output report = record { status = report.status; text = report_text report.notices }
 

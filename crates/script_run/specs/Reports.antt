@@ -32,6 +32,7 @@ abbrev pub first_unmapped : List SegmentAt → Option ℕ
 first_unmapped [] = None
 first_unmapped (segment ∷ more) = if is_mapped segment.da segment.memory_len then first_unmapped more else Some segment.index
 
+-- the line of a loaded segment
 abbrev pub segment_notice : SegmentAt → Notice
 segment_notice segment = notice.Segment segment.index segment.da (length segment.file) segment.memory_len
 
@@ -59,6 +60,7 @@ abbrev pub good_report : Option ElfFault → List ℕ → Report
 good_report None image = table_report (section_of image (codes ".resource_table")) (entry_of image) (segments_of image)
 good_report (Some fault) image = refusal (notice.Fault (fault_number fault) (fault_index fault))
 
+-- the report of an image, by its bytes
 unfoldable pub image_report : List ℕ → Report
 image_report image = good_report (image_fault image) image
 

@@ -43,6 +43,7 @@ took_event name caller number message (verdict.Service what channel address endp
     event.TookService name caller number what channel address
 took_event name caller number message verdict.ServiceMalformed = event.TookServiceMalformed name caller number
 
+-- why an endpoint was not bound or unbound
 abbrev pub refused_event : List ℕ → ℕ → BindFault → Event
 refused_event name caller (bind_fault.AddressTaken address) = event.AddressTaken name caller address
 refused_event name caller bind_fault.EndpointsFull = event.EndpointsFull name caller
@@ -68,9 +69,11 @@ pub record BenchRan : Type 0 where
   pub bench : Bench
   pub events : List Event
 
+-- one event, and the link as it was
 abbrev pub told : Bench → Event → BenchRan
 told bench event = record { bench = bench; events = event ∷ [] }
 
+-- the link that a call leaves, and the event of its answer
 abbrev pub ended_ran : Bench → ℕ → Option (Ended SilentDesk) → BenchRan
 ended_ran bench caller (Some ended) = told (record bench { link = ended.state }) (answer_event bench.name caller ended.answer)
 ended_ran bench caller None = record { bench = bench; events = [] }
@@ -91,6 +94,7 @@ tested_ran bench caller None calling ran = told bench (event.NoCaller bench.name
 tested_ran bench caller (Some end) true ran = told bench (event.InCall bench.name caller)
 tested_ran bench caller (Some end) false ran = ran
 
+-- what this caller's call does, where the caller is in use and in no call
 abbrev pub caller_ran : Bench → ℕ → BenchRan → BenchRan
 caller_ran bench caller ran = tested_ran bench caller (end_of bench.link.callers caller) (is_calling bench.link caller) ran
 
@@ -100,6 +104,7 @@ incoming_lane (Some side.Host) = 0
 incoming_lane (Some side.Remote) = 1
 incoming_lane None = 0
 
+-- a new caller under this number, where one is free
 abbrev pub made_ran : Bench → End → Option ℕ → BenchRan
 made_ran bench end None = told bench (event.CallersFull bench.name)
 made_ran bench end (Some number) =
@@ -126,6 +131,7 @@ bench_ran bench (command.Send name caller src dst payload) = caller_ran bench ca
 bench_ran bench (command.Take name caller) = caller_ran bench caller (call_ran bench caller ask.Take)
 bench_ran bench (command.Give name caller number) = caller_ran bench caller (give_ran bench caller number)
 
+-- the name of the link that a command is about
 abbrev pub name_of : Command → List ℕ
 name_of (command.Link name to_host to_remote book) = name
 name_of (command.Caller name end) = name
@@ -159,13 +165,16 @@ unnamed_ran benches (command.Send name caller src dst payload) = record { benche
 unnamed_ran benches (command.Take name caller) = record { benches = benches; events = event.Unknown name ∷ [] }
 unnamed_ran benches (command.Give name caller number) = record { benches = benches; events = event.Unknown name ∷ [] }
 
+-- the links, with what a command leaves of the one at this place
 abbrev pub bench_ran_in : List Bench → ℕ → BenchRan → Ran
 bench_ran_in benches place ran = record { benches = slice_set benches place ran.bench; events = ran.events }
 
+-- a command on the link at this place
 abbrev pub found_ran : List Bench → ℕ → Option Bench → Command → Ran
 found_ran benches place None command = record { benches = benches; events = [] }
 found_ran benches place (Some bench) command = bench_ran_in benches place (bench_ran bench command)
 
+-- a command on the link of its name, or one whose name no link has
 abbrev pub placed_ran : List Bench → Option ℕ → Command → Ran
 placed_ran benches None command = unnamed_ran benches command
 placed_ran benches (Some place) command = found_ran benches place (slice_get benches place) command
@@ -179,6 +188,7 @@ abbrev pub events_from : List Bench → List Command → List Event
 events_from benches [] = []
 events_from benches (first ∷ more) = (ran benches first).events ++ events_from (ran benches first).benches more
 
+-- the links that these commands leave
 abbrev pub benches_after : List Bench → List Command → List Bench
 benches_after benches [] = benches
 benches_after benches (first ∷ more) = benches_after (ran benches first).benches more

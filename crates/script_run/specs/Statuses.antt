@@ -3,6 +3,7 @@ use Rattle.std.specs.Prelude.{ℕ}
 use Rattle.script_run.specs.declared.statuses.Status.{Status}
 use Rattle.script_run.specs.declared.statuses.Status.TheVariants as status
 
+-- the number of each status
 abbrev pub number_of : Status → ℕ
 number_of status.Done = 0
 number_of status.NoImage = 1
