@@ -4,12 +4,6 @@ use rp_io::{MemorySink, MemorySource, MemoryStore, PlainSink, PlainSource, Plain
 use std::alloc::Global;
 use std::test::Fail;
 
-/// Two callers of one link of four buffers.
-const LINK: &str = "link L 4 4 16\ncaller L remote\ncaller L host\n";
-
-/// The lines that those three tell.
-const OPENED: &str = "L open 1\nL caller 0 remote\nL caller 1 host\n";
-
 /// An image of 84 bytes: one program header with 16 bytes of memory and none of the file.
 const TINY: [u8; 84] = [
     0x7f, 0x45, 0x4c, 0x46, 1, 1, 1, 0, 0, 0, 0, 0, 0, 0, 0, 0, 2, 0, 0x28, 0, 1, 0, 0, 0, 0, 0, 0,
@@ -43,53 +37,49 @@ fn outcome(
 
 #[test]
 fn scripts_give_their_transcripts(rt: HostRuntime) -> Result<(), Fail> {
-    let alloc = rt.alloc();
-    let send = "send L 0 1 1024 aa\n";
     let cases = [
-        ("", ""),
         (
-            "send L 0 1 1024 6869\nsend L 0 1 1024 -\ntake L 1\ntake L 1\ngive L 1 0\n",
-            "L 0 sent 0\nL 0 sent 1\nL 1 took 0 from 1 dropped 1024 6869\nL 1 took 1 from 1 dropped 1024 -\nL 1 gave 0\n",
-        ),
-        ("take L 1\n", "L 1 empty 0\n"),
-        ("take L 1", "L 1 empty 0\n"),
-        ("take M 1\ntake L 2\n", "* unknown M\nL no-caller 2\n"),
-        (
-            "give L 1 0\ngive L 0 5\n",
-            "L 1 not-held 0\nL 0 not-held 5\n",
+            "link L 4 4 16\ncaller L remote\ncaller L host\n",
+            "L open 1\nL caller 0 remote\nL caller 1 host\n",
         ),
         (
-            "send L 1 7 8 00ff\ntake L 0\ngive L 1 0\ngive L 0 0\ngive L 0 0\n",
-            "L 1 sent 0\nL 0 took 0 from 7 dropped 8 00ff\nL 1 not-held 0\nL 0 gave 0\nL 0 not-held 0\n",
+            "link L 4 4 16\ncaller L remote\ncaller L host\nsend L 0 1 1024 6869\nsend L 0 1 1024 -\ntake L 1\ntake L 1\ngive L 1 0\n",
+            "L open 1\nL caller 0 remote\nL caller 1 host\nL 0 sent 0\nL 0 sent 1\nL 1 took 0 from 1 dropped 1024 6869\nL 1 took 1 from 1 dropped 1024 -\nL 1 gave 0\n",
+        ),
+        (
+            "link L 4 4 16\ncaller L remote\ncaller L host\ntake L 1\n",
+            "L open 1\nL caller 0 remote\nL caller 1 host\nL 1 empty 0\n",
+        ),
+        (
+            "link L 4 4 16\ncaller L remote\ncaller L host\ntake L 1",
+            "L open 1\nL caller 0 remote\nL caller 1 host\nL 1 empty 0\n",
+        ),
+        (
+            "link L 4 4 16\ncaller L remote\ncaller L host\ntake M 1\ntake L 2\n",
+            "L open 1\nL caller 0 remote\nL caller 1 host\n* unknown M\nL no-caller 2\n",
+        ),
+        (
+            "link L 4 4 16\ncaller L remote\ncaller L host\ngive L 1 0\ngive L 0 5\n",
+            "L open 1\nL caller 0 remote\nL caller 1 host\nL 1 not-held 0\nL 0 not-held 5\n",
+        ),
+        (
+            "link L 4 4 16\ncaller L remote\ncaller L host\nsend L 1 7 8 00ff\ntake L 0\ngive L 1 0\ngive L 0 0\ngive L 0 0\n",
+            "L open 1\nL caller 0 remote\nL caller 1 host\nL 1 sent 0\nL 0 took 0 from 7 dropped 8 00ff\nL 1 not-held 0\nL 0 gave 0\nL 0 not-held 0\n",
+        ),
+        (
+            "link L 4 4 16\ncaller L remote\ncaller L host\nsend L 0 1 1024 aa\nsend L 0 1 1024 aa\nsend L 0 1 1024 aa\nsend L 0 1 1024 aa\nsend L 0 1 1024 aa\ntake L 1\ngive L 1 0\nsend L 0 1 1024 bb\n",
+            "L open 1\nL caller 0 remote\nL caller 1 host\nL 0 sent 0\nL 0 sent 1\nL 0 sent 2\nL 0 sent 3\nL 0 no-buffer 4 0\nL 1 took 0 from 1 dropped 1024 aa\nL 1 gave 0\nL 0 sent 4\n",
+        ),
+        (
+            "link L 256 256 1\ncaller L remote\nsend L 0 0 0 -\nsend L 0 0 0 -\n",
+            "L open 1\nL caller 0 remote\nL 0 sent 0\nL 0 book-full 1\n",
         ),
     ];
     for (script, lines) in cases {
-        let script = format!(in alloc; "{LINK}{script}")?;
-        let lines = format!(in alloc; "{OPENED}{lines}")?;
-        let (status, text) = outcome(alloc, &["run"], script.as_str(), &TINY)?;
+        let (status, text) = outcome(rt.alloc(), &["run"], script, &TINY)?;
         assert_eq!(rt; status, 0);
-        assert_eq!(rt; text.as_str(), lines.as_str());
+        assert_eq!(rt; text.as_str(), lines);
     }
-    let full = format!(in alloc;
-        "{LINK}{send}{send}{send}{send}{send}take L 1\ngive L 1 0\nsend L 0 1 1024 bb\n"
-    )?;
-    let (status, text) = outcome(alloc, &["run"], full.as_str(), &TINY)?;
-    let lines = format!(in alloc;
-        "{OPENED}L 0 sent 0\nL 0 sent 1\nL 0 sent 2\nL 0 sent 3\nL 0 no-buffer 4 0\nL 1 took 0 from 1 dropped 1024 aa\nL 1 gave 0\nL 0 sent 4\n"
-    )?;
-    assert_eq!(rt; status, 0);
-    assert_eq!(rt; text.as_str(), lines.as_str());
-    let (status, text) = outcome(
-        alloc,
-        &["run"],
-        "link L 256 256 1\ncaller L remote\nsend L 0 0 0 -\nsend L 0 0 0 -\n",
-        &TINY,
-    )?;
-    assert_eq!(rt; status, 0);
-    assert_eq!(rt;
-        text.as_str(),
-        "L open 1\nL caller 0 remote\nL 0 sent 0\nL 0 book-full 1\n"
-    );
     Ok(())
 }
 
@@ -162,55 +152,71 @@ fn words_scripts_and_images_have_their_statuses(rt: HostRuntime) -> Result<(), F
     Ok(())
 }
 
+/// A script of three lines.
+const SCRIPT: &[u8] = b"link L 4 4 16\ncaller L host\ntake L 0\n";
+
+/// What a sink was given, as text.
+fn text_of(alloc: Global, sink: &MemorySink) -> Result<String, Fail> {
+    let text = str::from_utf8(sink.bytes()).map_err(|_| "no text")?;
+    Ok(String::from_str(alloc, text)?)
+}
+
+/// A run whose first read fails.
+fn failing_source(alloc: Global) -> Result<(u8, String), Fail> {
+    let mut source = MemorySource::new(Vec::from_slice(alloc, SCRIPT)?, 7, [0u64].to_vec(alloc)?);
+    let mut store = PlainStore::new(Vec::new(alloc));
+    let mut sink = MemorySink::new(alloc, 4096, 5, Vec::new(alloc)).map_err(|_| "no memory")?;
+    let status = run_program(alloc, &["run"], &mut source, &mut store, &mut sink);
+    Ok((status, text_of(alloc, &sink)?))
+}
+
+/// A check whose fetch fails.
+fn failing_store(alloc: Global) -> Result<(u8, String), Fail> {
+    let mut source = PlainSource::new(Vec::new(alloc));
+    let mut store = MemoryStore::new(Vec::new(alloc), [0u64].to_vec(alloc)?);
+    let mut sink = MemorySink::new(alloc, 4096, 5, Vec::new(alloc)).map_err(|_| "no memory")?;
+    let status = run_program(
+        alloc,
+        &["check", "tiny"],
+        &mut source,
+        &mut store,
+        &mut sink,
+    );
+    Ok((status, text_of(alloc, &sink)?))
+}
+
+/// A run whose first write fails.
+fn failing_sink(alloc: Global) -> Result<(u8, String), Fail> {
+    let mut source = PlainSource::new(Vec::from_slice(alloc, SCRIPT)?);
+    let mut store = PlainStore::new(Vec::new(alloc));
+    let fails = [0u64].to_vec(alloc)?;
+    let mut sink = MemorySink::new(alloc, 4096, 5, fails).map_err(|_| "no memory")?;
+    let status = run_program(alloc, &["run"], &mut source, &mut store, &mut sink);
+    Ok((status, text_of(alloc, &sink)?))
+}
+
+/// A run whose sink has room for 20 bytes.
+fn full_sink(alloc: Global) -> Result<(u8, String), Fail> {
+    let mut source = PlainSource::new(Vec::from_slice(alloc, SCRIPT)?);
+    let mut store = PlainStore::new(Vec::new(alloc));
+    let mut sink = MemorySink::new(alloc, 20, 64, Vec::new(alloc)).map_err(|_| "no memory")?;
+    let status = run_program(alloc, &["run"], &mut source, &mut store, &mut sink);
+    Ok((status, text_of(alloc, &sink)?))
+}
+
 #[test]
 fn faults_of_devices_have_their_statuses(rt: HostRuntime) -> Result<(), Fail> {
-    let alloc = rt.alloc();
-    let first = || [0u64].to_vec(alloc);
-    let script = Vec::from_slice(alloc, b"link L 4 4 16\ncaller L host\ntake L 0\n")?;
-    let mut source = MemorySource::new(script, 7, first()?);
-    let mut store = MemoryStore::new(Vec::new(alloc), first()?);
-    let mut sink = MemorySink::new(alloc, 4096, 5, Vec::new(alloc)).map_err(|_| "no memory")?;
-    assert_eq!(rt;
-        run_program(alloc, &["run"], &mut source, &mut store, &mut sink),
-        3
-    );
-    assert_eq!(rt; sink.bytes(), b"* read fault\n".as_slice());
-    let mut sink = MemorySink::new(alloc, 4096, 5, Vec::new(alloc)).map_err(|_| "no memory")?;
-    assert_eq!(rt;
-        run_program(
-            alloc,
-            &["check", "tiny"],
-            &mut source,
-            &mut store,
-            &mut sink
-        ),
-        8
-    );
-    assert_eq!(rt; sink.bytes(), b"* store fault\n".as_slice());
-    let mut sink = MemorySink::new(alloc, 4096, 5, first()?).map_err(|_| "no memory")?;
-    assert_eq!(rt;
-        run_program(alloc, &["run"], &mut source, &mut store, &mut sink),
-        4
-    );
-    assert_eq!(rt; sink.bytes(), b"".as_slice());
-    let script = Vec::from_slice(alloc, b"link L 4 4 16\ncaller L host\ntake L 0\n")?;
-    let mut source = PlainSource::new(script);
-    let mut sink = MemorySink::new(alloc, 20, 64, Vec::new(alloc)).map_err(|_| "no memory")?;
-    assert_eq!(rt;
-        run_program(alloc, &["run"], &mut source, &mut store, &mut sink),
-        4
-    );
-    assert_eq!(rt; sink.bytes(), b"L open 1\nL caller 0 ".as_slice());
-    let mut plain = PlainStore::new(Vec::new(alloc));
-    assert_eq!(rt;
-        run_program(
-            alloc,
-            &["check", "tiny"],
-            &mut source,
-            &mut plain,
-            &mut PlainSink::new()
-        ),
-        1
-    );
+    let (status, text) = failing_source(rt.alloc())?;
+    assert_eq!(rt; status, 3);
+    assert_eq!(rt; text.as_str(), "* read fault\n");
+    let (status, text) = failing_store(rt.alloc())?;
+    assert_eq!(rt; status, 8);
+    assert_eq!(rt; text.as_str(), "* store fault\n");
+    let (status, text) = failing_sink(rt.alloc())?;
+    assert_eq!(rt; status, 4);
+    assert_eq!(rt; text.as_str(), "");
+    let (status, text) = full_sink(rt.alloc())?;
+    assert_eq!(rt; status, 4);
+    assert_eq!(rt; text.as_str(), "L open 1\nL caller 0 ");
     Ok(())
 }
