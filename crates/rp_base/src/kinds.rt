@@ -1,28 +1,28 @@
 use crate::names::Name;
 
 /// One of the two processors that a link joins. The host boots the remote.
-#[derive(Clone, Copy, Debug, PartialEq, Eq, PartialOrd, Ord, Hash)]
+#[derive(Clone, Copy, Debug, PartialEq, Eq)]
 pub enum End {
     Host,
     Remote,
 }
 
 /// The life that a link is in: its incarnation, from 1, and whether it is live.
-#[derive(Clone, Copy, Debug, PartialEq, Eq, PartialOrd, Ord, Hash)]
+#[derive(Clone, Copy, Debug, PartialEq, Eq)]
 pub struct Era {
     pub inc: u32,
     pub is_live: bool,
 }
 
 /// An address with the number of its binding in this incarnation, from 1.
-#[derive(Clone, Copy, Debug, PartialEq, Eq, PartialOrd, Ord, Hash)]
+#[derive(Clone, Copy, Debug, PartialEq, Eq)]
 pub struct Endpoint {
     pub address: u32,
     pub generation: u64,
 }
 
 /// What a name service message did (Linux `rpmsg/ns.h`).
-#[derive(Clone, Copy, Debug, PartialEq, Eq, PartialOrd, Ord, Hash)]
+#[derive(Clone, Copy, Debug, PartialEq, Eq)]
 pub enum NsKind {
     /// A channel was made.
     Created,
@@ -37,7 +37,7 @@ pub enum NsKind {
 }
 
 /// What became of a message that was handed over (Linux `virtio_rpmsg_bus.c`).
-#[derive(Clone, Copy, Debug, PartialEq, Eq, PartialOrd, Ord, Hash)]
+#[derive(Clone, Copy, Debug, PartialEq, Eq)]
 pub enum Verdict {
     /// It goes to the endpoint that is bound at its destination.
     To(Endpoint),
@@ -53,7 +53,7 @@ pub enum Verdict {
 }
 
 /// Why an endpoint was not bound or unbound.
-#[derive(Clone, Copy, Debug, PartialEq, Eq, PartialOrd, Ord, Hash)]
+#[derive(Clone, Copy, Debug, PartialEq, Eq)]
 pub enum BindFault {
     /// The address is bound already.
     AddressTaken(u32),
@@ -64,7 +64,7 @@ pub enum BindFault {
 }
 
 /// What a crash report says (`enum rproc_crash_type` of `remoteproc.h`).
-#[derive(Clone, Copy, Debug, PartialEq, Eq, PartialOrd, Ord, Hash)]
+#[derive(Clone, Copy, Debug, PartialEq, Eq)]
 pub enum CrashKind {
     Mmufault,
     Watchdog,

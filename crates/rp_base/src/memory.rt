@@ -2,7 +2,8 @@ use std::alloc::{AllocError, AllocFailed};
 use std::error::Error;
 use std::fmt;
 
-/// Memory ran out. What the call was to change is as it was before.
+/// Memory ran out. What a call that answers so was to change is as it was before, unless the call
+/// says otherwise.
 #[derive(Clone, Copy, Debug, PartialEq, Eq)]
 pub struct NoMemory;
 

@@ -1,5 +1,6 @@
-ghost use Rattle.std.specs.Prelude.{◌≡◌, ℕ, ◌≤◌, ◌<◌, length, IfSome, IfNone};
+ghost use Rattle.std.specs.Prelude.{◌≡◌, ℕ, ◌+◌, ◌≤◌, ◌<◌, ◌++◌, [], length, IfSome, IfNone};
 
+use crate::limits::MESSAGE_MOST;
 use std::marker::Model;
 
 /// The bytes of one message, at most 512. Contracts see it as the list of its bytes.
@@ -20,16 +21,24 @@ impl Model for Message {
 }
 
 impl Message {
-    /// The most bytes that a message has, which is the size of a buffer.
-    pub const MOST: usize = 512;
+    /// The message of no bytes.
+    pub fn empty() -> Message
+        ensures { result ≡ [] }
+    {
+        Message {
+            bytes: [0; 512],
+            len: 0,
+        }
+    }
 
-    /// The message of these bytes. There is none exactly where there are more than 512.
+    /// The message of these bytes. There is none exactly where there are more than
+    /// [`MESSAGE_MOST`].
     pub fn of(bytes: &[u8]) -> Option<Message>
         ensures some { IfSome result (λ message. message ≡ bytes.now) }
-        ensures fits { IfSome result (λ message. length bytes.now ≤ 512) }
-        ensures none { IfNone result (512 < length bytes.now) }
+        ensures fits { IfSome result (λ message. length bytes.now ≤ MESSAGE_MOST) }
+        ensures none { IfNone result (MESSAGE_MOST < length bytes.now) }
     {
-        if bytes.len() > 512 {
+        if bytes.len() > MESSAGE_MOST {
             return None;
         }
         let mut filled = [0; 512];
@@ -38,6 +47,18 @@ impl Message {
             bytes: filled,
             len: bytes.len() as u16,
         })
+    }
+
+    /// Makes it the message of these bytes, those of `head` before those of `body`. It writes as
+    /// many bytes as these have.
+    pub fn set(&mut self, head: &[u8], body: &[u8])
+        requires { length head.now + length body.now ≤ MESSAGE_MOST }
+        ensures { self.new ≡ head.now ++ body.now }
+    {
+        let len = head.len() + body.len();
+        self.bytes[..head.len()].copy_from_slice(head);
+        self.bytes[head.len()..len].copy_from_slice(body);
+        self.len = len as u16;
     }
 
     /// The bytes of the message.

@@ -1,6 +1,7 @@
 ghost use Rattle.std.specs.Prelude.{◌≡◌, ℕ, ◌≤◌, ◌<◌, ◌⊎◌, length, IfSome, IfNone, Contains};
 ghost use Rattle.rp_base.specs.Texts.{text_before_zero};
 
+use crate::limits::NAME_MOST;
 use std::marker::Model;
 
 /// A name of a channel, a driver, a link or an image: at most 31 bytes, none of them zero.
@@ -24,17 +25,14 @@ impl Model for Name {
 }
 
 impl Name {
-    /// The most bytes that a name has.
-    pub const MOST: usize = 31;
-
-    /// The name of this text. There is none exactly where the text is longer than 31 bytes or
-    /// holds a zero.
+    /// The name of this text. There is none exactly where the text is longer than [`NAME_MOST`]
+    /// bytes or holds a zero.
     pub fn of(text: &[u8]) -> Option<Name>
         ensures some { IfSome result (λ name. name ≡ text.now) }
-        ensures fits { IfSome result (λ name. (length text.now ≤ 31) × (text_before_zero text.now ≡ text.now)) }
-        ensures none { IfNone result ((31 < length text.now) ⊎ Contains text.now 0) }
+        ensures fits { IfSome result (λ name. (length text.now ≤ NAME_MOST) × (text_before_zero text.now ≡ text.now)) }
+        ensures none { IfNone result ((NAME_MOST < length text.now) ⊎ Contains text.now 0) }
     {
-        if text.len() > 31 || text.contains(&0) {
+        if text.len() > NAME_MOST || text.contains(&0) {
             return None;
         }
         let mut bytes = [0; 32];
@@ -45,7 +43,7 @@ impl Name {
     /// The text of the name.
     pub fn bytes(&self) -> &[u8]
         ensures bytes { result.now ≡ self.now }
-        ensures short { length self.now ≤ 31 }
+        ensures short { length self.now ≤ NAME_MOST }
         ensures nonzero { text_before_zero self.now ≡ self.now }
     {
         let len = self.bytes.iter().take_while(|byte| **byte != 0).count();
