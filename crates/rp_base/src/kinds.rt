@@ -21,6 +21,14 @@ pub struct Endpoint {
     pub generation: u64,
 }
 
+/// An endpoint that is bound, and how many messages had been handed over when it was bound.
+/// Contracts speak of it.
+#[derive(Clone, Copy)]
+pub struct BoundEndpoint {
+    pub endpoint: Endpoint,
+    pub since: u64,
+}
+
 /// What a name service message did (Linux `rpmsg/ns.h`).
 #[derive(Clone, Copy, Debug, PartialEq, Eq)]
 pub enum NsKind {
