@@ -1,3 +1,2 @@
-pub mod Fields
-pub mod Framing
+pub mod NameInFront
 pub mod ReadBack

@@ -7,8 +7,5 @@ pub mod laws;
 mod services;
 
 pub use faults::HeaderFault;
-pub use headers::{Header, read, write};
+pub use headers::{Header, fields, head, read, write};
 pub use services::{NsMessage, ns_read, ns_write};
-
-#[cfg(test)]
-mod tests;

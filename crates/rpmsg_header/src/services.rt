@@ -2,7 +2,7 @@ ghost use Rattle.std.specs.Prelude.{◌≡◌, ℕ, ◌≤◌, length};
 ghost use Rattle.rp_base.specs.Texts.{text_before_zero};
 ghost use Rattle.rpmsg_header.specs.Services.{service_bytes, service_of};
 
-use rp_base::{Name, put_u32, u32_at};
+use rp_base::{NAME_MOST, Name, put_u32, u32_at};
 
 const PAYLOAD_SIZE: usize = 40;
 
@@ -40,7 +40,7 @@ pub fn ns_read(payload: &[u8]) -> Option<NsMessage>
         return None;
     }
     Some(NsMessage {
-        name: name_in(&payload[..Name::MOST]),
+        name: name_in(&payload[..NAME_MOST]),
         address: u32_at(payload, 32),
         destroy: u32_at(payload, 36) & 1 == 1,
     })

@@ -1,5 +1,5 @@
 use Rattle.std.proofs.Common.{◌≡◌, cond, rules}
-use Rattle.rpmsg_header.proofs.Fields.{name_in_front}
+use Rattle.rpmsg_header.proofs.NameInFront.{name_in_front}
 use Rattle.rpmsg_header.proofs.services.ns_write.Goals as goal
 
 pub returns : goal.returns
