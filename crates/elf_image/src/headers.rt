@@ -34,7 +34,7 @@ const EXTENDED: u16 = 0xffff;
 const PT_LOAD: u32 = 1;
 
 /// What is read of an ELF header (TIS ELF 1.2, "ELF Header").
-#[derive(Clone, Copy, Debug)]
+#[derive(Clone, Copy)]
 pub(crate) struct FileHeader {
     /// `e_entry`, the address of the first instruction.
     pub(crate) entry: u32,
@@ -55,7 +55,7 @@ pub(crate) struct FileHeader {
 }
 
 /// What is read of a program header (TIS ELF 1.2, "Program Header").
-#[derive(Clone, Copy, Debug)]
+#[derive(Clone, Copy)]
 pub(crate) struct ProgramHeader {
     /// `p_type`, what the header describes.
     pub(crate) kind: u32,
@@ -70,14 +70,14 @@ pub(crate) struct ProgramHeader {
 }
 
 /// A program header and its number among all program headers of its image.
-#[derive(Clone, Copy, Debug)]
+#[derive(Clone, Copy)]
 pub(crate) struct NumberedHeader {
     pub(crate) index: u16,
     pub(crate) header: ProgramHeader,
 }
 
 /// What is read of a section header (TIS ELF 1.2, "Sections").
-#[derive(Clone, Copy, Debug)]
+#[derive(Clone, Copy)]
 pub(crate) struct SectionHeader {
     /// `sh_name`, where the name begins in the section of names.
     pub(crate) name: u32,

@@ -12,6 +12,3 @@ pub use faults::ElfFault;
 pub use program::{Segment, Segments};
 pub use reader::Image;
 pub use sections::Section;
-
-#[cfg(test)]
-mod tests;

@@ -8,7 +8,7 @@ use crate::headers::{FileHeader, NumberedHeader};
 use std::marker::Model;
 
 /// The program headers of loaded segments, in table order. Contracts see the list of those left.
-#[derive(Debug, Drop)]
+#[derive(Drop)]
 pub(crate) struct LoadedHeaders<'a> {
     bytes: &'a [u8],
     header: FileHeader,

@@ -6,7 +6,7 @@ use rp_base::Da;
 use std::marker::Model;
 
 /// A loaded segment: a program header of type `PT_LOAD` with memory.
-#[derive(Clone, Copy, Debug)]
+#[derive(Clone, Copy)]
 pub struct Segment<'a> {
     /// The number of its program header among all of the image, from 0.
     pub index: u16,
@@ -20,7 +20,7 @@ pub struct Segment<'a> {
 }
 
 /// The loaded segments of an image, in table order. Contracts see it as the list of those left.
-#[derive(Debug, Drop)]
+#[derive(Drop)]
 pub struct Segments<'a> {
     bytes: &'a [u8],
     loaded: LoadedHeaders<'a>,

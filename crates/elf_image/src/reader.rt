@@ -8,7 +8,7 @@ use std::marker::Model;
 
 /// An image that passed all tests: a firmware file of the format ELF32, little-endian. Contracts see
 /// it as the list of its bytes.
-#[derive(Debug, Drop)]
+#[derive(Drop)]
 pub struct Image<'a> {
     bytes: &'a [u8],
     header: FileHeader,

@@ -4,8 +4,6 @@
 mod answers;
 mod laws;
 mod life;
-#[cfg(test)]
-mod tests;
 
 pub use answers::{Left, LifeFault, LifeState, Power, Report};
 pub use laws::{calls_keep_lives, crashes_keep_users, refusals_keep_lives};

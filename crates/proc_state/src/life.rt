@@ -7,7 +7,7 @@ use std::marker::Model;
 
 /// The life of a remote core. A core is booted by its first user and runs until its last user
 /// shuts it down. Where it crashes it keeps its users, until it is recovered.
-#[derive(Debug, Drop)]
+#[derive(Drop)]
 pub struct Life {
     state: LifeState,
     users: u32,

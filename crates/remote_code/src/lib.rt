@@ -4,8 +4,6 @@
 mod faults;
 mod laws;
 mod records;
-#[cfg(test)]
-mod tests;
 
 pub use faults::WorkerFault;
 pub use laws::records_read_back;

@@ -1,4 +1,4 @@
-use super::*;
+use elf_image::{ElfFault, Image, Section};
 use std::alloc::{AllocError, Global};
 use std::test::Fail;
 
@@ -139,7 +139,11 @@ fn the_tiny_image_and_its_faults(rt: HostRuntime) -> Result<(), Fail> {
             }
         }
     }
-    assert_eq!(rt; Image::read(&TINY[..51]).err(), Some(ElfFault::Short));
+    let short = Image::read(&TINY[..51]).err().ok_or("51 bytes")?;
+    assert_eq!(rt; short, ElfFault::Short);
+    assert_eq!(rt; format!(in rt.alloc(); "{short}")?.as_str(), "fault 1");
+    let headers = format!(in rt.alloc(); "{}", ElfFault::HeadersPastEnd)?;
+    assert_eq!(rt; headers.as_str(), "fault 7");
     assert_eq!(rt;
         Image::read(&TINY[..83]).err(),
         Some(ElfFault::HeadersPastEnd)

@@ -1,4 +1,4 @@
-use super::*;
+use remote_code::{Record, WorkerFault};
 use std::test::Fail;
 
 #[test]

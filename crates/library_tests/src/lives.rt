@@ -1,4 +1,4 @@
-use super::*;
+use proc_state::{Left, Life, LifeFault, LifeState, Power, Report};
 use std::test::Fail;
 
 #[test]
