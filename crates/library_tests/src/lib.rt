@@ -10,4 +10,6 @@ mod header;
 #[cfg(test)]
 mod lives;
 #[cfg(test)]
+mod outside;
+#[cfg(test)]
 mod records;

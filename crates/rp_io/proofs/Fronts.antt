@@ -1,5 +1,5 @@
 -- Fronts of what is read and written, one piece after another.
-use Rattle.std.proofs.Common.{◌≡◌, ℕ, ◌+◌, ◌-◌, List, ◌++◌, length, take, drop, Option, Some, None, sym, ap, ◌∙◌, append_assoc, length-drop, arith}
+use Rattle.std.proofs.Common.{◌≡◌, ℕ, ◌+◌, ◌-◌, ◌≤◌, List, [], ◌++◌, length, take, drop, Option, Some, None, sym, ap, ◌∙◌, append_assoc, length-drop, length-append, arith}
 use Rattle.std.proofs.lemmas.List.{take-append-drop, take-take, take_all, drop-take}
 use Rattle.std.specs.Io.KnownBytes.{Appends, Consumes}
 use Rattle.rp_io.specs.Contents.{LosesFront}
@@ -26,9 +26,12 @@ Appends_take_more (Some xs) (Some ys) (Some zs) bytes done n first second =
     ∙ ap (λ more. xs ++ more) (sym (take-add bytes done n))
 
 -- what was left lost some bytes, and then some more
-pub LosesFront-more : (old mid new : Option (List ℕ)) (first second : List ℕ) → Consumes old mid first → Consumes mid new second → LosesFront old new
-LosesFront-more None mid new first second before now = record { lost = first; consumed = tt }
-LosesFront-more (Some xs) None new first second before now = absurd before
-LosesFront-more (Some xs) (Some ys) None first second before now = absurd now
-LosesFront-more (Some xs) (Some ys) (Some zs) first second before now =
-    record { lost = first ++ second; consumed = before ∙ ap (λ left. first ++ left) now ∙ sym (append_assoc first second zs) }
+pub LosesFront-more : (old mid new : Option (List ℕ)) (first second : List ℕ) (most : ℕ) → length first + length second ≤ most → Consumes old mid first → Consumes mid new second → LosesFront old new most
+LosesFront-more None mid new first second most within before now = record { lost = []; consumed = tt; within = omega arith }
+LosesFront-more (Some xs) None new first second most within before now = absurd before
+LosesFront-more (Some xs) (Some ys) None first second most within before now = absurd now
+LosesFront-more (Some xs) (Some ys) (Some zs) first second most within before now = record {
+  lost = first ++ second;
+  consumed = before ∙ ap (λ left. first ++ left) now ∙ sym (append_assoc first second zs);
+  within = omega (arith, length-append first second);
+}

@@ -2,6 +2,6 @@
 use Rattle.std.specs.Prelude.{ℕ, List, Option}
 
 -- what the reader has left or the writer holds, where std tells it, and the count of faults (own)
-pub record Adapted : Type 0 where
-  pub known : Option (List ℕ)
+pub record AdapterState : Type 0 where
+  pub content : Option (List ℕ)
   pub faults : ℕ

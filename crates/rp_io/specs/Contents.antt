@@ -1,5 +1,5 @@
 -- What is left to read and what is written, where a device tells it (own; after the words of std's `Io.KnownBytes`).
-use Rattle.std.specs.Prelude.{◌≡◌, ◌↔◌, ℕ, List, [], take, Some, None}
+use Rattle.std.specs.Prelude.{◌≡◌, ◌↔◌, ◌<◌, ◌≤◌, ℕ, List, [], length, take, Some, None}
 use Rattle.std.specs.declared.option.Option.{Option}
 use Rattle.std.specs.Io.KnownBytes.{Appends, Consumes}
 
@@ -13,10 +13,21 @@ abbrev pub IsFrontOf : Option (List ℕ) → ℕ → List ℕ → Type 0
 IsFrontOf None most bytes = Unit {0}
 IsFrontOf (Some left) most bytes = bytes ≡ take most left
 
--- some front of what was left is gone (own)
-pub record LosesFront (old new : Option (List ℕ)) : Type 0 where
+-- where told: the bytes are all that was left (own)
+abbrev pub IsAllOf : Option (List ℕ) → List ℕ → Type 0
+IsAllOf None bytes = Unit {0}
+IsAllOf (Some left) bytes = bytes ≡ left
+
+-- where told: more bytes than so many were left (own)
+abbrev pub IsLonger : Option (List ℕ) → ℕ → Type 0
+IsLonger None most = Unit {0}
+IsLonger (Some left) most = most < length left
+
+-- some front of what was left, of at most so many bytes, is gone (own)
+pub record LosesFront (old new : Option (List ℕ)) (most : ℕ) : Type 0 where
   pub lost : List ℕ
   pub consumed : Consumes old new lost
+  pub within : length lost ≤ most
 
 -- the first `count` of the bytes were appended (own)
 pub record AppendsFront (old new : Option (List ℕ)) (bytes : List ℕ) : Type 0 where

@@ -1,6 +1,7 @@
 -- A store of firmware images, by name (own).
 use Rattle.std.specs.Prelude.{◌≡◌, ℕ, nat_le, List, length, map, find, Option, Some, None, Result, Ok, Err, Vec, if◌then◌else◌, bytes_eq}
 use Rattle.std.specs.declared.alloc.Global.{Global}
+use Rattle.rp_base.specs.declared.limits.TheConstants.{IMAGE_MOST}
 use Rattle.rp_io.specs.declared.faults.FetchFault.{FetchFault}
 use Rattle.rp_io.specs.declared.faults.FetchFault.TheVariants as fault
 
@@ -12,20 +13,20 @@ named_images images = map (λ image. (image.0, image.1.items)) images
 abbrev pub image_named : List (List ℕ × List ℕ) → List ℕ → Option (List ℕ × List ℕ)
 image_named images name = find (λ image. bytes_eq image.0 name) images
 
--- an image that was found, unless it is longer than 4,194,304 bytes (own)
+-- an image that was found, unless it is longer than an image may be (own)
 abbrev pub image_within_limit : Option (List ℕ × List ℕ) → Result (List ℕ) FetchFault
 image_within_limit None = Err fault.Missing
-image_within_limit (Some image) = if nat_le (length image.1) 4194304 then Ok image.1 else Err (fault.TooLarge (length image.1))
+image_within_limit (Some image) = if nat_le (length image.1) IMAGE_MOST then Ok image.1 else Err (fault.TooLarge (length image.1))
 
 -- what a store of these images has under this name (own)
-abbrev pub fetched : List (List ℕ × List ℕ) → List ℕ → Result (List ℕ) FetchFault
-fetched images name = image_within_limit (image_named images name)
+abbrev pub fetch_answer : List (List ℕ × List ℕ) → List ℕ → Result (List ℕ) FetchFault
+fetch_answer images name = image_within_limit (image_named images name)
 
 -- where told: an answer that is neither a failure nor want of memory is what the store has (own)
 abbrev pub IsFetched : Option (List (List ℕ × List ℕ)) → List ℕ → Result (Vec ℕ Global) FetchFault → Type 0
 IsFetched None name answer = Unit {0}
-IsFetched (Some images) name (Ok image) = fetched images name ≡ Ok image.items
-IsFetched (Some images) name (Err fault.Missing) = fetched images name ≡ Err fault.Missing
+IsFetched (Some images) name (Ok image) = fetch_answer images name ≡ Ok image.items
+IsFetched (Some images) name (Err fault.Missing) = fetch_answer images name ≡ Err fault.Missing
 IsFetched (Some images) name (Err fault.Failed) = Unit {0}
-IsFetched (Some images) name (Err (fault.TooLarge bytes)) = fetched images name ≡ Err (fault.TooLarge bytes)
+IsFetched (Some images) name (Err (fault.TooLarge bytes)) = fetch_answer images name ≡ Err (fault.TooLarge bytes)
 IsFetched (Some images) name (Err fault.NoMemory) = Unit {0}

@@ -3,12 +3,12 @@ ghost use Rattle.rp_io.specs.Calls.{Calls, ascends, fails_next, no_calls, with_c
 
 use std::marker::Model;
 
-/// The calls of a device in memory: the numbers of those that fail, from 0 and ascending, and
-/// counts of the calls and of the faults. A count that has reached 2^64 - 1 stays there.
-#[derive(Debug, Drop)]
+/// The calls of a device in memory: the numbers of those that fail, from 0 and ascending, the
+/// number of the next call, and the count of the faults. Either stays at 2^64 - 1 once it is there.
+#[derive(Drop)]
 pub struct CallPlan {
     fails: Vec<u64>,
-    made: u64,
+    next: u64,
     faults: u64,
 }
 
@@ -18,7 +18,7 @@ impl Model for CallPlan {
 
     ghost Value = { Calls };
 
-    ghost view = { λ plan. record { fails = plan.fails.items; made = plan.made; faults = plan.faults } };
+    ghost view = { λ plan. record { fails = plan.fails.items; next = plan.next; faults = plan.faults } };
 
     ghost invariant = { λ plan. IsTrue (ascends plan.fails.items) };
 }
@@ -31,7 +31,7 @@ impl CallPlan {
     {
         CallPlan {
             fails,
-            made: 0,
+            next: 0,
             faults: 0,
         }
     }
@@ -40,7 +40,7 @@ impl CallPlan {
     pub fn fails_next(&self) -> bool
         ensures { result ≡ fails_next self.now }
     {
-        self.fails.binary_search(&self.made).is_ok()
+        self.fails.binary_search(&self.next).is_ok()
     }
 
     /// Counts a call, and a fault where it failed.
@@ -48,7 +48,7 @@ impl CallPlan {
         ensures counted { self.new ≡ with_call self.old failed }
         ensures later { self.old.faults ≤ self.new.faults }
     {
-        self.made = self.made.saturating_add(1);
+        self.next = self.next.saturating_add(1);
         if failed {
             self.faults = self.faults.saturating_add(1);
         }

@@ -1,24 +1,24 @@
 use std::alloc::AllocError;
 
 /// The device failed. Its count of faults rose.
-#[derive(Clone, Copy, Debug, PartialEq, Eq)]
+#[derive(Debug, Drop, PartialEq)]
 pub struct Failed;
 
 /// Why a fetch has no image.
-#[derive(Clone, Copy, Debug, PartialEq, Eq)]
+#[derive(Debug, Drop, PartialEq)]
 pub enum FetchFault {
     /// There is no image of this name.
     Missing,
     /// The device failed. Its count of faults rose.
     Failed,
-    /// The image is longer than [`IMAGE_LIMIT`](crate::IMAGE_LIMIT): its length in bytes.
+    /// The image is longer than [`IMAGE_MOST`](rp_base::IMAGE_MOST): its length in bytes.
     TooLarge(u64),
     /// Memory ran out.
     NoMemory,
 }
 
 /// Why a source was not read.
-#[derive(Clone, Copy, Debug, PartialEq, Eq)]
+#[derive(Debug, Drop, PartialEq)]
 pub enum ReadFault {
     /// The source failed. Its count of faults rose.
     Failed,

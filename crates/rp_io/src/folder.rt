@@ -1,23 +1,26 @@
 ghost use Rattle.std.specs.Prelude.{◌≡◌, ◌≢◌, ◌≤◌, length, IfOk, IsErrOf, Err};
-ghost use Rattle.rp_io.specs.Calls.{counted};
 ghost use Rattle.rp_io.specs.Causes.{Rose};
 
 use crate::adapters::ReaderSource;
-use crate::faults::{FetchFault, ReadFault};
-use crate::sources::read_front;
-use crate::stores::{FirmwareStore, IMAGE_LIMIT};
+use crate::faults::FetchFault;
+use crate::sources::read_image;
+use crate::stores::FirmwareStore;
+use rp_base::IMAGE_MOST;
 use std::alloc::Global;
 use std::fs;
-use std::io::{Error, ErrorKind};
+use std::io::{self, ErrorKind, Read};
 use std::marker::Model;
 use std::rt::Files;
 
 /// The images are the plain files of this folder under the current one.
 pub const FIRMWARE_FOLDER: &str = "firmware";
 
-/// The images in the folder [`FIRMWARE_FOLDER`], each in a plain file of its name. Contracts see
-/// it as the count of its faults, which stays at 2^64 - 1 once it is there. It tells nothing of
-/// the images.
+/// The images in the folder [`FIRMWARE_FOLDER`], each in a plain file of its name. A call that the
+/// system interrupted is made again, and is no fault. What is no plain file is a fault, and so is
+/// each other error, except that there is no such file or folder.
+///
+/// Contracts see it as the count of its faults, which stays at 2^64 - 1 once it is there. It tells
+/// nothing of the images.
 #[derive(Drop)]
 pub struct FolderStore<R: Files + Drop> {
     files: R,
@@ -32,6 +35,35 @@ impl<R: Files + Drop> Model for FolderStore<R> {
     ghost view = { λ store. store.faults };
 }
 
+/// What stands under a path.
+#[derive(Drop)]
+enum Entry<F: Drop> {
+    /// A plain file of so many bytes, opened.
+    Plain(F, u64),
+    /// Something else.
+    Other,
+}
+
+/// Looks what stands under a path, and opens it where it is a plain file.
+fn look<R: Files>(files: &R, path: &str) -> io::Result<Entry<R::File>> {
+    let metadata = fs::metadata(files, path)?;
+    if !metadata.is_file() {
+        return Ok(Entry::Other);
+    }
+    Ok(Entry::Plain(fs::open(files, path)?, metadata.len()))
+}
+
+/// The same, and again as long as the system interrupts it.
+fn look_whole<R: Files>(files: &R, path: &str) -> io::Result<Entry<R::File>> {
+    for _ in 0..u64::MAX {
+        match look(files, path) {
+            Err(error) if error.kind() == ErrorKind::Interrupted => {}
+            entry => return entry,
+        }
+    }
+    Err(ErrorKind::Interrupted.into())
+}
+
 impl<R: Files + Drop> FolderStore<R> {
     /// A store over the files of this runtime, as `FolderStore::new(&rt)`.
     pub fn new(files: R) -> FolderStore<R>
@@ -39,38 +71,35 @@ impl<R: Files + Drop> FolderStore<R> {
     {
         FolderStore { files, faults: 0 }
     }
-}
 
-/// What an error of the file system says of a fetch.
-fn fault_of(error: Error) -> FetchFault {
-    match error.kind() {
-        ErrorKind::NotFound | ErrorKind::NotADirectory => FetchFault::Missing,
-        _ => FetchFault::Failed,
+    /// How many faults were counted.
+    pub fn faults(&self) -> u64
+        ensures { result ≡ self.now }
+    {
+        self.faults
     }
-}
 
-/// Reads the file of this name in the firmware folder. A name with a slash is not one of a file
-/// there. What is no plain file, and a file that grows past the limit while it is read, is a
-/// failure.
-fn load<R: Files>(files: &R, alloc: Global, name: &str) -> Result<Vec<u8>, FetchFault>
-    ensures { IfOk result (λ image. length image.items ≤ IMAGE_LIMIT) }
-{
-    if name.as_bytes().contains(&b'/') {
-        return Err(FetchFault::Missing);
+    /// Counts a fault, and answers it.
+    fn fail(&mut self) -> Result<Vec<u8>, FetchFault>
+        ensures later { self.old ≤ self.new }
+        ensures failed { Rose self.old self.new }
+        ensures fault { result ≡ Err FetchFault.Failed }
+    {
+        self.faults = self.faults.saturating_add(1);
+        Err(FetchFault::Failed)
     }
-    let path = format!(in alloc; "{FIRMWARE_FOLDER}/{name}")?;
-    let metadata = fs::metadata(files, path.as_str()).map_err(fault_of)?;
-    if !metadata.is_file() {
-        return Err(FetchFault::Failed);
-    }
-    if metadata.len() > IMAGE_LIMIT as u64 {
-        return Err(FetchFault::TooLarge(metadata.len()));
-    }
-    let file = fs::open(files, path.as_str()).map_err(fault_of)?;
-    match read_front(alloc, &mut ReaderSource::new(file), IMAGE_LIMIT) {
-        Ok(image) if image.len() <= IMAGE_LIMIT => Ok(image),
-        Err(ReadFault::NoMemory) => Err(FetchFault::NoMemory),
-        Ok(_) | Err(ReadFault::Failed) => Err(FetchFault::Failed),
+
+    /// The bytes of a file that was opened. Its faults are the store's.
+    fn load<F: Read + Drop>(&mut self, alloc: Global, file: F) -> Result<Vec<u8>, FetchFault>
+        ensures bound { IfOk result (λ image. length image.items ≤ IMAGE_MOST) }
+        ensures later { self.old ≤ self.new }
+        ensures failed { IsErrOf result FetchFault.Failed → Rose self.old self.new }
+        ensures same { result ≢ Err FetchFault.Failed → self.new ≡ self.old }
+    {
+        let mut source = ReaderSource::after(file, self.faults);
+        let image = read_image(alloc, &mut source);
+        self.faults = source.faults();
+        image
     }
 }
 
@@ -81,18 +110,21 @@ impl<R: Files + Drop> FirmwareStore for FolderStore<R> {
 
     ghost faults = { λ store. store };
 
-    fn fetch(&mut self, alloc: Global, name: &str) -> Result<Vec<u8>, FetchFault>
-        ensures counts { IsErrOf result FetchFault.Failed → self.new ≡ counted self.old }
-        ensures same { result ≢ Err FetchFault.Failed → self.new ≡ self.old }
-
-        ensures bound { IfOk result (λ image. length image.items ≤ IMAGE_LIMIT) }
-        ensures later { self.old ≤ self.new }
-        ensures failed { IsErrOf result FetchFault.Failed → Rose self.old self.new }
-    {
-        let answer = load(&self.files, alloc, name);
-        if let Err(FetchFault::Failed) = answer {
-            self.faults = self.faults.saturating_add(1);
+    fn fetch(&mut self, alloc: Global, name: &str) -> Result<Vec<u8>, FetchFault> {
+        if name.as_bytes().contains(&b'/') {
+            return Err(FetchFault::Missing);
         }
-        answer
+        let path = format!(in alloc; "{FIRMWARE_FOLDER}/{name}")?;
+        match look_whole(&self.files, path.as_str()) {
+            Ok(Entry::Plain(_, length)) if length > IMAGE_MOST as u64 => {
+                Err(FetchFault::TooLarge(length))
+            }
+            Ok(Entry::Plain(file, _)) => self.load(alloc, file),
+            Ok(Entry::Other) => self.fail(),
+            Err(error) => match error.kind() {
+                ErrorKind::NotFound | ErrorKind::NotADirectory => Err(FetchFault::Missing),
+                _ => self.fail(),
+            },
+        }
     }
 }

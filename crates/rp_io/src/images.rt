@@ -2,13 +2,12 @@ ghost use Rattle.std.specs.Prelude.{◌≡◌, ◌≢◌, ◌≤◌, length, IfO
 ghost use Rattle.rp_io.specs.Images.{IsFetched, image_named, named_images};
 
 use crate::faults::FetchFault;
-use crate::stores::IMAGE_LIMIT;
-use rp_base::Name;
+use rp_base::{IMAGE_MOST, Name};
 use std::alloc::Global;
 use std::marker::Model;
 
 /// Firmware images with their names. Contracts see them as the list of the names and the bytes.
-#[derive(Debug, Drop)]
+#[derive(Drop)]
 pub struct ImageList {
     images: Vec<(Name, Vec<u8>)>,
 }
@@ -43,16 +42,16 @@ impl ImageList {
     /// # Errors
     ///
     /// [`FetchFault::Missing`] where there is none, [`FetchFault::TooLarge`] with its length where
-    /// it is longer than [`IMAGE_LIMIT`], [`FetchFault::NoMemory`] where memory ran out.
+    /// it is longer than [`IMAGE_MOST`], [`FetchFault::NoMemory`] where memory ran out.
     pub fn fetch(&self, alloc: Global, name: &str) -> Result<Vec<u8>, FetchFault>
         ensures fetched { IsFetched (Some self.now) name.now result }
-        ensures bound { IfOk result (λ image. length image.items ≤ IMAGE_LIMIT) }
+        ensures bound { IfOk result (λ image. length image.items ≤ IMAGE_MOST) }
         ensures no_failure { result ≢ Err FetchFault.Failed }
     {
         let Some(image) = self.find(name.as_bytes()) else {
             return Err(FetchFault::Missing);
         };
-        if image.len() > IMAGE_LIMIT {
+        if image.len() > IMAGE_MOST {
             return Err(FetchFault::TooLarge(image.len() as u64));
         }
         Ok(Vec::from_slice(alloc, image)?)

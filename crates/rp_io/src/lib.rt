@@ -13,8 +13,6 @@ mod plain;
 mod sinks;
 mod sources;
 mod stores;
-#[cfg(test)]
-mod tests;
 
 pub use adapters::{ReaderSource, StdinSource, StdoutSink, WriterSink};
 pub use faults::{Failed, FetchFault, ReadFault};
@@ -24,5 +22,5 @@ pub use memory_source::MemorySource;
 pub use memory_store::MemoryStore;
 pub use plain::{PlainSink, PlainSource, PlainStore};
 pub use sinks::{Sink, write_whole};
-pub use sources::{Source, read_front};
-pub use stores::{FirmwareStore, IMAGE_LIMIT};
+pub use sources::{Source, read_front, read_image};
+pub use stores::FirmwareStore;

@@ -13,7 +13,7 @@ use crate::sources::Source;
 use std::marker::Model;
 
 /// A source of the bytes of a list, of which chosen reads fail.
-#[derive(Debug, Drop)]
+#[derive(Drop)]
 pub struct MemorySource {
     bytes: PlainSource,
     most: usize,

@@ -1,4 +1,4 @@
-ghost use Rattle.std.specs.Prelude.{◌≡◌, ◌≤◌, ◌↔◌, length, Err, IfOk, IsErrOf, IsTrue};
+ghost use Rattle.std.specs.Prelude.{◌≡◌, ◌≢◌, ◌≤◌, ◌↔◌, length, Err, IfOk, IsErrOf, IsTrue};
 ghost use Rattle.rp_io.specs.Calls.{ascends, fails_next, no_calls, with_call};
 ghost use Rattle.rp_io.specs.Causes.{Rose};
 ghost use Rattle.rp_io.specs.Images.{IsFetched, named_images};
@@ -6,13 +6,13 @@ ghost use Rattle.rp_io.specs.Images.{IsFetched, named_images};
 use crate::calls::CallPlan;
 use crate::faults::FetchFault;
 use crate::images::ImageList;
-use crate::stores::{FirmwareStore, IMAGE_LIMIT};
-use rp_base::Name;
+use crate::stores::FirmwareStore;
+use rp_base::{IMAGE_MOST, Name};
 use std::alloc::Global;
 use std::marker::Model;
 
 /// A store of images in memory, of which chosen fetches fail.
-#[derive(Debug, Drop)]
+#[derive(Drop)]
 pub struct MemoryStore {
     images: ImageList,
     calls: CallPlan,
@@ -59,9 +59,10 @@ impl FirmwareStore for MemoryStore {
         ensures after { self.new ≡ record self.old { calls = with_call self.old.calls (fails_next self.old.calls) } }
 
         ensures fetched { IsFetched (Some self.old.images) name.now result }
-        ensures bound { IfOk result (λ image. length image.items ≤ IMAGE_LIMIT) }
+        ensures bound { IfOk result (λ image. length image.items ≤ IMAGE_MOST) }
         ensures later { self.old.calls.faults ≤ self.new.calls.faults }
         ensures failed { IsErrOf result FetchFault.Failed → Rose self.old.calls.faults self.new.calls.faults }
+        ensures same { result ≢ Err FetchFault.Failed → self.new.calls.faults ≡ self.old.calls.faults }
     {
         let fails = self.calls.fails_next();
         self.calls.count(fails);

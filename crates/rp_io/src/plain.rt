@@ -15,7 +15,7 @@ use std::alloc::Global;
 use std::marker::Model;
 
 /// A source of the bytes of a list that never fails. Contracts see it as what is left.
-#[derive(Debug, Drop)]
+#[derive(Drop)]
 pub struct PlainSource {
     bytes: Vec<u8>,
     read: usize,
@@ -78,7 +78,7 @@ impl Source for PlainSource {
 
 /// A sink that takes everything, counts the bytes and never fails. Contracts see it as the count,
 /// which stays at 2^64 - 1 once it is there.
-#[derive(Debug, Drop)]
+#[derive(Drop)]
 pub struct PlainSink {
     count: u64,
 }
@@ -129,7 +129,7 @@ impl Sink for PlainSink {
 }
 
 /// A store of images that never fails. Contracts see it as the list of the names and the bytes.
-#[derive(Debug, Drop)]
+#[derive(Drop)]
 pub struct PlainStore {
     images: ImageList,
 }

@@ -3,7 +3,7 @@ use Rattle.std.proofs.Common.{◌≡◌, ◌⊎◌, inl, inr, ℕ, ◌==◌, if�
 use Rattle.std.specs.Io.KnownBytes.{Appends}
 use Rattle.rp_io.specs.Causes.{Rose}
 use Rattle.rp_io.specs.Contents.{AppendsFront}
-use Rattle.rp_io.specs.Images.{fetched}
+use Rattle.rp_io.specs.Images.{fetch_answer}
 use Rattle.rp_io.specs.declared.faults.FetchFault.{FetchFault}
 use Rattle.rp_io.specs.declared.faults.FetchFault.TheVariants as fetch_fault
 use Rattle.script_lang.specs.Grammar.{script_of}
@@ -165,7 +165,7 @@ unfolding report_ends
 report_status None name report is =
     subst (λ (r : Report). (r.status ≡ status.Done) ⊎ (r.status ≡ status.NoImage)) (sym is.2) (fetched_ends name is.0)
 report_status (Some images) name report is =
-    subst (λ (r : Report). (r.status ≡ status.Done) ⊎ (r.status ≡ status.NoImage)) (sym is) (fetched_ends name (fetched images name))
+    subst (λ (r : Report). (r.status ≡ status.Done) ⊎ (r.status ≡ status.NoImage)) (sym is) (fetched_ends name (fetch_answer images name))
 
 run_at_end : (P : Type 0) (final : Status) → (final ≡ status.Done) ⊎ (final ≡ status.Refused) → RunAt P final
 run_at_end P final (inl is) = subst (RunAt P) (sym is) tt

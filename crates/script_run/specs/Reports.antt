@@ -8,7 +8,7 @@ use Rattle.elf_image.specs.Segments.{SegmentAt, segments_of}
 use Rattle.elf_image.specs.Sections.{section_of}
 use Rattle.rp_io.specs.declared.faults.FetchFault.{FetchFault}
 use Rattle.rp_io.specs.declared.faults.FetchFault.TheVariants as fetch_fault
-use Rattle.rp_io.specs.Images.{fetched}
+use Rattle.rp_io.specs.Images.{fetch_answer}
 use Rattle.script_run.specs.declared.statuses.Status.{Status}
 use Rattle.script_run.specs.declared.statuses.Status.TheVariants as status
 use Rattle.script_run.specs.declared.notices.Notice.{Notice}
@@ -74,4 +74,4 @@ fetched_report name (Err fetch_fault.NoMemory) = refusal notice.StoreFault
 
 -- the report of `check` over a store of these images, each with its name
 abbrev pub check_report : List (List ℕ × List ℕ) → List ℕ → Report
-check_report images name = fetched_report name (fetched images name)
+check_report images name = fetched_report name (fetch_answer images name)

@@ -1,4 +1,4 @@
-use Rattle.std.proofs.Common.{◌≤◌, ◌+◌, ◌-◌, length}
+use Rattle.std.proofs.Common.{◌≡◌, ◌≤◌, ◌+◌, ◌-◌, length}
 use Rattle.std.specs.Io.KnownBytes.{Consumes}
 use Rattle.rp_io.proofs.sources.read_front.Given as goal
 
@@ -6,7 +6,7 @@ abbrev pub invariant-loop-piece : goal.invariant-loop-piece
 invariant-loop-piece g l = record {
   bound : length l.bytes.items ≤ l.limit + 1;
   rest : Consumes (g.S.Source.left l.fn.source) (g.S.Source.left l.source) l.bytes.items;
-  later : g.S.Source.faults l.fn.source ≤ g.S.Source.faults l.source;
+  same : g.S.Source.faults l.source ≡ g.S.Source.faults l.fn.source;
 }
 
 abbrev pub decreases-loop-piece : goal.decreases-loop-piece

@@ -1,0 +1,6 @@
+pub mod Layout
+pub mod Faults
+pub mod Entries
+pub mod Tables
+pub mod Patches
+pub mod Walks
