@@ -1,60 +1,61 @@
 -- The line of each event, and the transcript of a list of them (own).
-use Rattle.std.specs.Prelude.{ℕ, List, [], ◌∷◌, ◌++◌, codes}
+use Rattle.std.specs.Prelude.{ℕ, List, [], ◌∷◌, codes}
 use Rattle.std.specs.List.{flat_map}
-use Rattle.std.specs.Fmt.{decimal}
+use Rattle.word_kinds.specs.Texts.{Word, Fixed, Name, Number, Offset, Bytes, Escaped, Bound, Side, Open, Service}
+use Rattle.word_kinds.specs.Lines.{line_of}
 use Rattle.journal.specs.declared.events.Event.{Event}
 use Rattle.journal.specs.declared.events.Event.TheVariants as event
-use Rattle.journal.specs.Pieces.{hex_bytes, escaped, end_text, endpoint_text, era_text, kind_text}
 
--- the end of a line
-abbrev pub line_end : List ℕ
-line_end = 10 ∷ []
-
--- the name of a link and the number of a caller, with which most lines begin
-abbrev pub caller_head : List ℕ → ℕ → List ℕ
-caller_head name caller = name ++ codes " " ++ decimal caller
-
--- name, caller, a word and a number
-abbrev pub number_line : List ℕ → ℕ → List ℕ → ℕ → List ℕ
-number_line name caller word number = caller_head name caller ++ word ++ decimal number ++ line_end
-
--- how the line of a take begins
-abbrev pub took_head : List ℕ → ℕ → ℕ → List ℕ
-took_head name caller number = caller_head name caller ++ codes " took " ++ decimal number
+-- the words of each event, with the values of its fields
+abbrev pub words_of : Event → List Word
+words_of (event.Unknown x) = Fixed (codes "*") ∷ Fixed (codes "unknown") ∷ Name x ∷ []
+words_of (event.Exists x) = Name x ∷ Fixed (codes "exists") ∷ []
+words_of event.ObjectsFull = Fixed (codes "*") ∷ Fixed (codes "objects-full") ∷ []
+words_of (event.Open x i) = Name x ∷ Fixed (codes "open") ∷ Number i ∷ []
+words_of (event.Caller x c end) = Name x ∷ Fixed (codes "caller") ∷ Number c ∷ Side end ∷ []
+words_of (event.CallersFull x) = Name x ∷ Fixed (codes "callers-full") ∷ []
+words_of (event.NoCaller x c) = Name x ∷ Fixed (codes "no-caller") ∷ Number c ∷ []
+words_of (event.InCall x c) = Name x ∷ Number c ∷ Fixed (codes "in-call") ∷ []
+words_of (event.NoCall x c) = Name x ∷ Number c ∷ Fixed (codes "no-call") ∷ []
+words_of (event.NotHeld x c k) = Name x ∷ Number c ∷ Fixed (codes "not-held") ∷ Number k ∷ []
+words_of (event.TooLong x c n) = Name x ∷ Number c ∷ Fixed (codes "too-long") ∷ Number n ∷ []
+words_of (event.Begun x c) = Name x ∷ Number c ∷ Fixed (codes "begun") ∷ []
+words_of (event.At x c step) = Name x ∷ Number c ∷ Fixed (codes "at") ∷ Number step ∷ []
+words_of (event.Sent x c k) = Name x ∷ Number c ∷ Fixed (codes "sent") ∷ Number k ∷ []
+words_of (event.Gave x c k) = Name x ∷ Number c ∷ Fixed (codes "gave") ∷ Number k ∷ []
+words_of (event.Bound x c endpoint) = Name x ∷ Number c ∷ Fixed (codes "bound") ∷ Bound endpoint ∷ []
+words_of (event.Unbound x c endpoint) = Name x ∷ Number c ∷ Fixed (codes "unbound") ∷ Bound endpoint ∷ []
+words_of (event.Busy x c holder) = Name x ∷ Number c ∷ Fixed (codes "busy") ∷ Number holder ∷ []
+words_of (event.Dead x c era) = Name x ∷ Number c ∷ Fixed (codes "dead") ∷ Number era.inc ∷ Open era.is_live ∷ []
+words_of (event.NoBuffer x c accepted returned) =
+    Name x ∷ Number c ∷ Fixed (codes "no-buffer") ∷ Number accepted ∷ Number returned ∷ []
+words_of (event.BookFull x c accepted) = Name x ∷ Number c ∷ Fixed (codes "book-full") ∷ Number accepted ∷ []
+words_of (event.Empty x c accepted) = Name x ∷ Number c ∷ Fixed (codes "empty") ∷ Number accepted ∷ []
+words_of (event.AddressTaken x c a) = Name x ∷ Number c ∷ Fixed (codes "address-taken") ∷ Number a ∷ []
+words_of (event.EndpointsFull x c) = Name x ∷ Number c ∷ Fixed (codes "endpoints-full") ∷ []
+words_of (event.NotBound x c a) = Name x ∷ Number c ∷ Fixed (codes "not-bound") ∷ Number a ∷ []
+words_of (event.TookFromTo x c k src endpoint payload) =
+    Name x ∷ Number c ∷ Fixed (codes "took") ∷ Number k ∷ Fixed (codes "from") ∷ Number src ∷ Fixed (codes "to") ∷ Bound endpoint ∷ Bytes payload ∷ []
+words_of (event.TookFromDropped x c k src dst payload) =
+    Name x ∷ Number c ∷ Fixed (codes "took") ∷ Number k ∷ Fixed (codes "from") ∷ Number src ∷ Fixed (codes "dropped") ∷ Number dst ∷ Bytes payload ∷ []
+words_of (event.TookMalformed x c k) = Name x ∷ Number c ∷ Fixed (codes "took") ∷ Number k ∷ Fixed (codes "malformed") ∷ []
+words_of (event.TookNs x c k what name a) =
+    Name x ∷ Number c ∷ Fixed (codes "took") ∷ Number k ∷ Fixed (codes "ns") ∷ Service what ∷ Escaped name ∷ Number a ∷ []
+words_of (event.TookNsMalformed x c k) =
+    Name x ∷ Number c ∷ Fixed (codes "took") ∷ Number k ∷ Fixed (codes "ns") ∷ Fixed (codes "malformed") ∷ []
+words_of (event.LaneAcceptedHandedReturned x lane accepted handed returned) =
+    Name x ∷ Fixed (codes "lane") ∷ Number lane ∷ Fixed (codes "accepted") ∷ Number accepted ∷ Fixed (codes "handed") ∷ Number handed ∷ Fixed (codes "returned") ∷ Number returned ∷ []
+words_of (event.Pumped x turns) = Name x ∷ Fixed (codes "pumped") ∷ Number turns ∷ []
+words_of (event.Image name len) = Fixed (codes "*") ∷ Fixed (codes "image") ∷ Name name ∷ Number len ∷ []
+words_of (event.ImageExists name) = Fixed (codes "*") ∷ Fixed (codes "image-exists") ∷ Name name ∷ []
+words_of (event.Ring x lane len) = Name x ∷ Fixed (codes "ring") ∷ Number lane ∷ Number len ∷ []
+words_of (event.Dump x offset bytes) = Name x ∷ Fixed (codes "dump") ∷ Offset offset ∷ Bytes bytes ∷ []
+words_of (event.StillTurn x c) = Name x ∷ Fixed (codes "still-turn") ∷ Number c ∷ []
+words_of (event.WrongSide x c) = Name x ∷ Number c ∷ Fixed (codes "wrong-side") ∷ []
 
 -- the line of an event
-abbrev pub line : Event → List ℕ
-line (event.Unknown name) = codes "* unknown " ++ name ++ line_end
-line (event.Exists name) = name ++ codes " exists" ++ line_end
-line event.ObjectsFull = codes "* objects-full" ++ line_end
-line (event.Opened name inc) = name ++ codes " open " ++ decimal inc ++ line_end
-line (event.CallerMade name caller end) = name ++ codes " caller " ++ decimal caller ++ codes " " ++ end_text end ++ line_end
-line (event.CallersFull name) = name ++ codes " callers-full" ++ line_end
-line (event.NoCaller name caller) = name ++ codes " no-caller " ++ decimal caller ++ line_end
-line (event.InCall name caller) = caller_head name caller ++ codes " in-call" ++ line_end
-line (event.NotHeld name caller number) = number_line name caller (codes " not-held ") number
-line (event.TooLong name caller len) = number_line name caller (codes " too-long ") len
-line (event.Sent name caller number) = number_line name caller (codes " sent ") number
-line (event.Gave name caller number) = number_line name caller (codes " gave ") number
-line (event.Bound name caller endpoint) = caller_head name caller ++ codes " bound " ++ endpoint_text endpoint ++ line_end
-line (event.Unbound name caller endpoint) = caller_head name caller ++ codes " unbound " ++ endpoint_text endpoint ++ line_end
-line (event.Busy name caller holder) = number_line name caller (codes " busy ") holder
-line (event.Dead name caller era) = caller_head name caller ++ codes " dead " ++ era_text era ++ line_end
-line (event.NoBuffer name caller accepted returned) =
-    caller_head name caller ++ codes " no-buffer " ++ decimal accepted ++ codes " " ++ decimal returned ++ line_end
-line (event.BookFull name caller accepted) = number_line name caller (codes " book-full ") accepted
-line (event.Empty name caller accepted) = number_line name caller (codes " empty ") accepted
-line (event.AddressTaken name caller address) = number_line name caller (codes " address-taken ") address
-line (event.EndpointsFull name caller) = caller_head name caller ++ codes " endpoints-full" ++ line_end
-line (event.NotBound name caller address) = number_line name caller (codes " not-bound ") address
-line (event.TookTo name caller number src endpoint payload) =
-    took_head name caller number ++ codes " from " ++ decimal src ++ codes " to " ++ endpoint_text endpoint ++ codes " " ++ hex_bytes payload ++ line_end
-line (event.TookDropped name caller number src dst payload) =
-    took_head name caller number ++ codes " from " ++ decimal src ++ codes " dropped " ++ decimal dst ++ codes " " ++ hex_bytes payload ++ line_end
-line (event.TookMalformed name caller number) = took_head name caller number ++ codes " malformed" ++ line_end
-line (event.TookService name caller number what channel address) =
-    took_head name caller number ++ codes " ns " ++ kind_text what ++ codes " " ++ escaped channel ++ codes " " ++ decimal address ++ line_end
-line (event.TookServiceMalformed name caller number) = took_head name caller number ++ codes " ns malformed" ++ line_end
+unfoldable pub line : Event → List ℕ
+line event = line_of (words_of event)
 
 -- the lines of events, one after the other
 abbrev pub transcript : List Event → List ℕ

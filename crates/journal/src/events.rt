@@ -1,7 +1,8 @@
 use rp_base::{Data, End, Endpoint, Era, Name, NsKind};
 
-/// What a run tells: one line of the transcript. The first field of most is the name of the link.
-#[derive(Debug, Drop)]
+/// What a run tells: one line of the transcript. The first field of most is the name of the link,
+/// and the second the number of a caller.
+#[derive(Drop)]
 pub enum Event {
     /// There is no link of this name.
     Unknown(Name),
@@ -10,19 +11,25 @@ pub enum Event {
     /// There are as many links as there may be.
     ObjectsFull,
     /// The link is live in this incarnation.
-    Opened(Name, u64),
+    Open(Name, u64),
     /// A caller was made: its number and its end.
-    CallerMade(Name, u64, End),
+    Caller(Name, u64, End),
     /// As many callers are in use as there may be.
     CallersFull(Name),
     /// No caller of this number is in use.
     NoCaller(Name, u64),
     /// The caller has a call under way.
     InCall(Name, u64),
+    /// The caller has no call under way.
+    NoCall(Name, u64),
     /// The caller does not hold the buffer of this message.
     NotHeld(Name, u64, u64),
     /// The payload has too many bytes.
     TooLong(Name, u64, u64),
+    /// A call was begun.
+    Begun(Name, u64),
+    /// A call goes on: the number of its last step.
+    At(Name, u64, u64),
     /// A message was accepted: caller, number.
     Sent(Name, u64, u64),
     /// A buffer came back: caller, number of the message.
@@ -48,13 +55,29 @@ pub enum Event {
     /// Nothing is bound at the address.
     NotBound(Name, u64, u64),
     /// A message went to an endpoint: caller, number, source address, endpoint, payload.
-    TookTo(Name, u64, u64, u64, Endpoint, Data),
+    TookFromTo(Name, u64, u64, u64, Endpoint, Data),
     /// A message went nowhere: caller, number, source and destination address, payload.
-    TookDropped(Name, u64, u64, u64, u64, Data),
+    TookFromDropped(Name, u64, u64, u64, u64, Data),
     /// A message without a whole header: caller, number.
     TookMalformed(Name, u64, u64),
     /// A name service message: caller, number, what it did, the channel's name and address.
-    TookService(Name, u64, u64, NsKind, Name, u64),
+    TookNs(Name, u64, u64, NsKind, Name, u64),
     /// A message to the name service that is none of its messages: caller, number.
-    TookServiceMalformed(Name, u64, u64),
+    TookNsMalformed(Name, u64, u64),
+    /// The counts of a lane: its number, messages accepted and handed over, buffers returned.
+    LaneAcceptedHandedReturned(Name, u64, u64, u64, u64),
+    /// A pump ended: the turns whose give was done.
+    Pumped(Name, u64),
+    /// An image was made: its bytes.
+    Image(Name, u64),
+    /// An image of this name was made already.
+    ImageExists(Name),
+    /// The ring of a lane: the lane, and how many bytes the ring has.
+    Ring(Name, u64, u64),
+    /// Up to sixteen bytes of a ring that aren't all zero: where they begin, and the bytes.
+    Dump(Name, u32, Data),
+    /// A turn of the link is out: its caller.
+    StillTurn(Name, u64),
+    /// The receiver of a pump is on the sender's end.
+    WrongSide(Name, u64),
 }

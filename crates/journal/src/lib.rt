@@ -1,12 +1,11 @@
-// The transcript: the events of a run, and the one line of text that each of them is.
+// The transcript: the events of a run and the notices of the program, and the one line of text that each of them is.
 #![tactic(auto)]
 
 mod events;
 mod lines;
-mod pieces;
-#[cfg(test)]
-mod tests;
+mod notices;
+mod shapes;
 
 pub use events::Event;
-pub use lines::line;
-pub use pieces::{push_digits, push_number, push_text};
+pub use lines::{line, push_notice};
+pub use notices::Notice;

@@ -1,238 +1,106 @@
-ghost use Rattle.std.specs.Prelude.{◌≡◌, ◌++◌, ◌∷◌, [], OnOk, codes};
-ghost use Rattle.std.specs.Fmt.{decimal};
-ghost use Rattle.journal.specs.Lines.{line, caller_head, number_line, took_head};
-ghost use Rattle.journal.specs.Pieces.{end_text, kind_text};
+ghost use Rattle.std.specs.Prelude.{◌≡◌, ◌++◌, OnOk, OnErr};
+ghost use Rattle.journal.specs.Lines.{line};
+ghost use Rattle.journal.specs.Notices.{notice_line};
 
 use crate::events::Event;
-use crate::pieces::{push_endpoint, push_era, push_escaped, push_hex, push_number, push_text};
-use rp_base::{End, Name, NoMemory, NsKind};
-use std::alloc::{AllocError, Global};
+use crate::notices::Notice;
+use crate::shapes::{
+    called, called_bound, called_with, called_with_two, caller_made, counted, counted_two, dead,
+    dumped, fixed, lane, named, numbered, numbered_two, refused, segment, start, took,
+    took_dropped, took_service, took_to, worded, worded_with,
+};
+use rp_base::NoMemory;
+use std::alloc::Global;
 
-/// Appends the line of an event, with its line feed. After want of memory a part of the line may
-/// have been appended.
-pub fn line(alloc: Global, event: &Event, out: &mut Vec<u8>) -> Result<(), NoMemory>
-    ensures { OnOk result (out.new.items ≡ out.old.items ++ line event.now) }
-{
-    push_line(alloc, event, out)?;
-    Ok(())
-}
-
-fn push_line(alloc: Global, event: &Event, out: &mut Vec<u8>) -> Result<(), AllocError>
-    ensures { OnOk result (out.new.items ≡ out.old.items ++ line event.now) }
+/// Appends the line of an event, with its line feed. Where memory is wanting, the text stays as it
+/// was.
+#[tactic(auto, unfolding(crate::specs::Lines::line))]
+pub fn line(_alloc: Global, event: &Event, out: &mut Vec<u8>) -> Result<(), NoMemory>
+    ensures whole { OnOk result (out.new.items ≡ out.old.items ++ line event.now) }
+    ensures same { OnErr result (out.new.items ≡ out.old.items) }
 {
     match event {
-        Event::Unknown(name) => {
-            push_text(out, "* unknown ")?;
-            named(out, name, "")
+        Event::Unknown(x) => worded(out, "* unknown", x),
+        Event::Exists(x) => named(out, x, "exists"),
+        Event::ObjectsFull => fixed(out, "* objects-full"),
+        Event::Open(x, inc) => counted(out, x, "open", *inc),
+        Event::Caller(x, c, end) => caller_made(out, x, *c, *end),
+        Event::CallersFull(x) => named(out, x, "callers-full"),
+        Event::NoCaller(x, c) => counted(out, x, "no-caller", *c),
+        Event::InCall(x, c) => called(out, x, *c, "in-call"),
+        Event::NoCall(x, c) => called(out, x, *c, "no-call"),
+        Event::NotHeld(x, c, number) => called_with(out, x, *c, "not-held", *number),
+        Event::TooLong(x, c, len) => called_with(out, x, *c, "too-long", *len),
+        Event::Begun(x, c) => called(out, x, *c, "begun"),
+        Event::At(x, c, step) => called_with(out, x, *c, "at", *step),
+        Event::Sent(x, c, number) => called_with(out, x, *c, "sent", *number),
+        Event::Gave(x, c, number) => called_with(out, x, *c, "gave", *number),
+        Event::Bound(x, c, endpoint) => called_bound(out, x, *c, "bound", *endpoint),
+        Event::Unbound(x, c, endpoint) => called_bound(out, x, *c, "unbound", *endpoint),
+        Event::Busy(x, c, holder) => called_with(out, x, *c, "busy", *holder),
+        Event::Dead(x, c, era) => dead(out, x, *c, *era),
+        Event::NoBuffer(x, c, accepted, returned) => {
+            called_with_two(out, x, *c, "no-buffer", *accepted, *returned)
         }
-        Event::Exists(name) => named(out, name, " exists"),
-        Event::ObjectsFull => push_text(out, "* objects-full\n"),
-        Event::Opened(name, inc) => named_number(alloc, out, name, " open ", *inc),
-        Event::CallerMade(name, caller, end) => {
-            out.extend_from_slice(name.bytes())?;
-            push_text(out, " caller ")?;
-            push_number(alloc, out, *caller)?;
-            push_text(out, end_words(*end))
+        Event::BookFull(x, c, accepted) => called_with(out, x, *c, "book-full", *accepted),
+        Event::Empty(x, c, accepted) => called_with(out, x, *c, "empty", *accepted),
+        Event::AddressTaken(x, c, address) => called_with(out, x, *c, "address-taken", *address),
+        Event::EndpointsFull(x, c) => called(out, x, *c, "endpoints-full"),
+        Event::NotBound(x, c, address) => called_with(out, x, *c, "not-bound", *address),
+        Event::TookFromTo(x, c, number, source, endpoint, payload) => {
+            took_to(out, x, *c, *number, *source, *endpoint, payload)
         }
-        Event::CallersFull(name) => named(out, name, " callers-full"),
-        Event::NoCaller(name, caller) => named_number(alloc, out, name, " no-caller ", *caller),
-        Event::InCall(name, caller) => called(alloc, out, name, *caller, " in-call"),
-        Event::NotHeld(name, caller, number) => {
-            called_number(alloc, out, name, *caller, " not-held ", *number)
+        Event::TookFromDropped(x, c, number, source, destination, payload) => {
+            took_dropped(out, x, *c, *number, *source, *destination, payload)
         }
-        Event::TooLong(name, caller, len) => {
-            called_number(alloc, out, name, *caller, " too-long ", *len)
+        Event::TookMalformed(x, c, number) => took(out, x, *c, *number, "malformed"),
+        Event::TookNs(x, c, number, what, channel, address) => {
+            took_service(out, x, *c, *number, *what, channel, *address)
         }
-        Event::Sent(name, caller, number) => {
-            called_number(alloc, out, name, *caller, " sent ", *number)
+        Event::TookNsMalformed(x, c, number) => took(out, x, *c, *number, "ns malformed"),
+        Event::LaneAcceptedHandedReturned(x, lane_no, accepted, handed, returned) => {
+            lane(out, x, *lane_no, *accepted, *handed, *returned)
         }
-        Event::Gave(name, caller, number) => {
-            called_number(alloc, out, name, *caller, " gave ", *number)
-        }
-        Event::Bound(name, caller, endpoint) => {
-            head(alloc, out, name, *caller)?;
-            push_text(out, " bound ")?;
-            push_endpoint(alloc, out, *endpoint)?;
-            push_text(out, "\n")
-        }
-        Event::Unbound(name, caller, endpoint) => {
-            head(alloc, out, name, *caller)?;
-            push_text(out, " unbound ")?;
-            push_endpoint(alloc, out, *endpoint)?;
-            push_text(out, "\n")
-        }
-        Event::Busy(name, caller, holder) => {
-            called_number(alloc, out, name, *caller, " busy ", *holder)
-        }
-        Event::Dead(name, caller, era) => {
-            head(alloc, out, name, *caller)?;
-            push_text(out, " dead ")?;
-            push_era(alloc, out, *era)?;
-            push_text(out, "\n")
-        }
-        Event::NoBuffer(name, caller, accepted, returned) => {
-            head(alloc, out, name, *caller)?;
-            push_text(out, " no-buffer ")?;
-            push_number(alloc, out, *accepted)?;
-            push_text(out, " ")?;
-            push_number(alloc, out, *returned)?;
-            push_text(out, "\n")
-        }
-        Event::BookFull(name, caller, accepted) => {
-            called_number(alloc, out, name, *caller, " book-full ", *accepted)
-        }
-        Event::Empty(name, caller, accepted) => {
-            called_number(alloc, out, name, *caller, " empty ", *accepted)
-        }
-        Event::AddressTaken(name, caller, address) => {
-            called_number(alloc, out, name, *caller, " address-taken ", *address)
-        }
-        Event::EndpointsFull(name, caller) => {
-            called(alloc, out, name, *caller, " endpoints-full")
-        }
-        Event::NotBound(name, caller, address) => {
-            called_number(alloc, out, name, *caller, " not-bound ", *address)
-        }
-        Event::TookTo(name, caller, number, src, endpoint, payload) => {
-            took(alloc, out, name, *caller, *number)?;
-            push_text(out, " from ")?;
-            push_number(alloc, out, *src)?;
-            push_text(out, " to ")?;
-            push_endpoint(alloc, out, *endpoint)?;
-            push_text(out, " ")?;
-            push_hex(out, payload.bytes())?;
-            push_text(out, "\n")
-        }
-        Event::TookDropped(name, caller, number, src, dst, payload) => {
-            took(alloc, out, name, *caller, *number)?;
-            push_text(out, " from ")?;
-            push_number(alloc, out, *src)?;
-            push_text(out, " dropped ")?;
-            push_number(alloc, out, *dst)?;
-            push_text(out, " ")?;
-            push_hex(out, payload.bytes())?;
-            push_text(out, "\n")
-        }
-        Event::TookMalformed(name, caller, number) => {
-            took(alloc, out, name, *caller, *number)?;
-            push_text(out, " malformed\n")
-        }
-        Event::TookService(name, caller, number, what, channel, address) => {
-            took(alloc, out, name, *caller, *number)?;
-            push_text(out, " ns ")?;
-            push_text(out, kind_words(*what))?;
-            push_text(out, " ")?;
-            push_escaped(out, channel.bytes())?;
-            push_text(out, " ")?;
-            push_number(alloc, out, *address)?;
-            push_text(out, "\n")
-        }
-        Event::TookServiceMalformed(name, caller, number) => {
-            took(alloc, out, name, *caller, *number)?;
-            push_text(out, " ns malformed\n")
-        }
+        Event::Pumped(x, turns) => counted(out, x, "pumped", *turns),
+        Event::Image(x, len) => worded_with(out, "* image", x, *len),
+        Event::ImageExists(x) => worded(out, "* image-exists", x),
+        Event::Ring(x, lane_no, len) => counted_two(out, x, "ring", *lane_no, *len),
+        Event::Dump(x, offset, bytes) => dumped(out, x, *offset, bytes),
+        Event::StillTurn(x, c) => counted(out, x, "still-turn", *c),
+        Event::WrongSide(x, c) => called(out, x, *c, "wrong-side"),
     }
 }
 
-/// A name, some words and the end of the line.
-fn named(out: &mut Vec<u8>, name: &Name, words: &str) -> Result<(), AllocError>
-    ensures { OnOk result (out.new.items ≡ out.old.items ++ (name.now ++ words.now ++ 10 ∷ [])) }
+/// Appends the line of a notice. Where memory is wanting, the text stays as it was.
+#[tactic(auto, unfolding(crate::specs::Notices::notice_line))]
+pub fn push_notice(_alloc: Global, notice: &Notice, out: &mut Vec<u8>) -> Result<(), NoMemory>
+    ensures whole { OnOk result (out.new.items ≡ out.old.items ++ notice_line notice.now) }
+    ensures same { OnErr result (out.new.items ≡ out.old.items) }
 {
-    out.extend_from_slice(name.bytes())?;
-    push_text(out, words)?;
-    push_text(out, "\n")
-}
-
-/// A name, some words, a number and the end of the line.
-fn named_number(
-    alloc: Global,
-    out: &mut Vec<u8>,
-    name: &Name,
-    words: &str,
-    number: u64,
-) -> Result<(), AllocError>
-    ensures { OnOk result (out.new.items ≡ out.old.items ++ (name.now ++ words.now ++ decimal number ++ 10 ∷ [])) }
-{
-    out.extend_from_slice(name.bytes())?;
-    push_text(out, words)?;
-    push_number(alloc, out, number)?;
-    push_text(out, "\n")
-}
-
-/// The name of a link and the number of a caller.
-fn head(alloc: Global, out: &mut Vec<u8>, name: &Name, caller: u64) -> Result<(), AllocError>
-    ensures { OnOk result (out.new.items ≡ out.old.items ++ caller_head name.now caller) }
-{
-    out.extend_from_slice(name.bytes())?;
-    push_text(out, " ")?;
-    push_number(alloc, out, caller)
-}
-
-/// A name, a caller, some words and the end of the line.
-fn called(
-    alloc: Global,
-    out: &mut Vec<u8>,
-    name: &Name,
-    caller: u64,
-    words: &str,
-) -> Result<(), AllocError>
-    ensures { OnOk result (out.new.items ≡ out.old.items ++ (caller_head name.now caller ++ words.now ++ 10 ∷ [])) }
-{
-    head(alloc, out, name, caller)?;
-    push_text(out, words)?;
-    push_text(out, "\n")
-}
-
-/// A name, a caller, some words, a number and the end of the line.
-fn called_number(
-    alloc: Global,
-    out: &mut Vec<u8>,
-    name: &Name,
-    caller: u64,
-    words: &str,
-    number: u64,
-) -> Result<(), AllocError>
-    ensures { OnOk result (out.new.items ≡ out.old.items ++ number_line name.now caller words.now number) }
-{
-    head(alloc, out, name, caller)?;
-    push_text(out, words)?;
-    push_number(alloc, out, number)?;
-    push_text(out, "\n")
-}
-
-/// How the line of a take begins.
-fn took(
-    alloc: Global,
-    out: &mut Vec<u8>,
-    name: &Name,
-    caller: u64,
-    number: u64,
-) -> Result<(), AllocError>
-    ensures { OnOk result (out.new.items ≡ out.old.items ++ took_head name.now caller number) }
-{
-    head(alloc, out, name, caller)?;
-    push_text(out, " took ")?;
-    push_number(alloc, out, number)
-}
-
-/// The end of a line that names an end.
-fn end_words(end: End) -> &'static str
-    ensures { result.now ≡ codes " " ++ end_text end ++ 10 ∷ [] }
-{
-    match end {
-        End::Host => " host\n",
-        End::Remote => " remote\n",
-    }
-}
-
-fn kind_words(what: NsKind) -> &'static str
-    ensures { result.now ≡ kind_text what }
-{
-    match what {
-        NsKind::Created => "created",
-        NsKind::Duplicate => "duplicate",
-        NsKind::Destroyed => "destroyed",
-        NsKind::Unknown => "unknown",
-        NsKind::ChannelsFull => "full",
+    match notice {
+        Notice::Usage => fixed(
+            out,
+            "usage: rproc run | check NAME | demo N | storm H R N K",
+        ),
+        Notice::ReadFault => fixed(out, "* read fault"),
+        Notice::StoreFault => fixed(out, "* store fault"),
+        Notice::StepLimit => fixed(out, "* step limit"),
+        Notice::Refused(line_no, why) => refused(out, *line_no, *why),
+        Notice::Missing(name) => worded(out, "missing", name),
+        Notice::TooLarge(name) => worded(out, "too-large", name),
+        Notice::Fault(number, None) => numbered(out, "fault", u64::from(*number)),
+        Notice::Fault(number, Some(index)) => {
+            numbered_two(out, "fault", u64::from(*number), u64::from(*index))
+        }
+        Notice::TableUnread => fixed(out, "table unread"),
+        Notice::Start(entry) => start(out, *entry),
+        Notice::Segment(index, da, file_len, memory_len) => segment(
+            out,
+            u64::from(*index),
+            *da,
+            *file_len,
+            u64::from(*memory_len),
+        ),
+        Notice::Loads => fixed(out, "ok"),
     }
 }

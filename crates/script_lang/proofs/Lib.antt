@@ -1,5 +1,5 @@
-pub mod Pieces
-pub mod Spellings
-pub mod Counts
+pub mod Cuts
+pub mod Front
 pub mod Walk
+pub mod Meanings
 pub mod Runnable

@@ -1,138 +1,167 @@
 -- What a script says can be run.
-use Rattle.std.proofs.Common.{◌≡◌, ℕ, ◌≤◌, ◌+◌, ◌-◌, ◌*◌, Bool, true, false, ◌&&◌, cond, nat_le, nat_lt, length, List, [], ◌∷◌, Option, Some, None, Result, Ok, Err, refl, subst, arith}
-use Rattle.std.specs.Int.{is_power_of_two}
-use Rattle.std.proofs.lemmas.Bool.{leb-true}
-use Rattle.std.proofs.lemmas.Option.{same_Some, option_and_then_some}
-use Rattle.rp_base.specs.declared.kinds.End.{End}
+use Rattle.std.proofs.Common.{◌≡◌, ℕ, ◌+◌, ◌==◌, Bool, true, false, not, cond, length, List, [], ◌∷◌, ◌++◌, Option, Some, None, Result, Ok, Err, refl, subst, bytes_eq, codes}
+use lib.Dec.{ltb as nat_lt}
+use Rattle.std.specs.List.{list_all}
+use Rattle.rp_base.specs.declared.limits.TheConstants.{SCRIPT_MOST, SCRIPT_LINES_MOST}
+use Rattle.word_kinds.specs.declared.causes.Cause.{Cause}
+use Rattle.word_kinds.specs.declared.causes.Cause.TheVariants as cause
+use Rattle.word_kinds.specs.declared.kinds.Kind.{Kind}
+use Rattle.word_kinds.specs.Kinds.{are_of}
+use Rattle.word_kinds.specs.Places.{word_at}
+use Rattle.word_kinds.specs.Spellings.{words_of}
 use Rattle.script_lang.specs.declared.commands.Command.{Command}
-use Rattle.script_lang.specs.declared.commands.Command.TheVariants as command
-use Rattle.script_lang.specs.declared.commands.Cause.TheVariants as cause
-use Rattle.script_lang.specs.Grammar.{Refusal, ◌>>=◌, IsScript, IsRing, IsRunnable, AreRunnable, script_of, commands_from, line_and_more, with_command, linked_by, bad_line, is_link, command_of, end_named}
-use Rattle.script_lang.specs.Words.{lines_of, words_of, name_of, ring_of, book_of, caller_of, number_of, data_of, digits_from, is_digit}
+use Rattle.script_lang.specs.declared.forms.Form.{Form}
+use Rattle.script_lang.specs.declared.forms.Form.TheVariants as form
+use Rattle.script_lang.specs.declared.recipes.RecipeLine.{RecipeLine}
+use Rattle.script_lang.specs.declared.recipe_forms.RecipeForm.{RecipeForm}
+use Rattle.script_lang.specs.declared.recipe_forms.RecipeForm.TheVariants as recipe_form
+use Rattle.script_lang.specs.declared.recipe_forms.Context.{Context}
+use Rattle.script_lang.specs.Forms.{kinds, made}
+use Rattle.script_lang.specs.Recipes.{recipe_kinds, recipe_line, recipe_form_named, is_allowed}
+use Rattle.script_lang.specs.Lines.{is_skipped, is_printable, form_of, misfit, unless_misfit, fitting_form, judged, fitting_line, recipe_judged}
+use Rattle.script_lang.specs.Steps.{OpenImage, Step, image_kinds, end_kinds, opened_step, command_step, closed_step, added_step, words_step, line_step}
+use Rattle.script_lang.specs.Grammar.{Refusal, bad_line, onto, step_and_more, image_behind, at_end, commands_from, lines_of, script_of, IsScript}
+use Rattle.script_lang.specs.Runnable.{IsLine, IsRecipe, IsRunnable, AreRunnable}
+use Rattle.script_lang.proofs.Meanings.{AllMeant, all_meant}
 
-both : (a b : Bool) → (a && b) ≡ true → (a ≡ true) × (b ≡ true)
-both true b e = (refl, e)
-both false b e = absurd (cc)
+-- the command of a form: its numbers, place by place
+form_runs : (f : Form) (w : List (List ℕ)) → AllMeant (kinds f) w 0 → IsRunnable (made f w)
+form_runs form.Link w m = (m.1.1.0, m.1.1.1.0, m.1.1.1.1.0)
+form_runs form.Caller w m = tt
+form_runs form.Send w m = (m.1.1.0, m.1.1.1.0, m.1.1.1.1.0, m.1.1.1.1.1.0)
+form_runs form.Take w m = m.1.1.0
+form_runs form.Give w m = (m.1.1.0, m.1.1.1.0)
+form_runs form.BeginSend w m = (m.1.1.0, m.1.1.1.1.0, m.1.1.1.1.1.0, m.1.1.1.1.1.1.0)
+form_runs form.BeginTake w m = m.1.1.0
+form_runs form.BeginGive w m = (m.1.1.0, m.1.1.1.1.0)
+form_runs form.Step w m = (m.1.1.0, m.1.1.1.0)
+form_runs form.Finish w m = m.1.1.0
+form_runs form.Pump w m = (m.1.1.0, m.1.1.1.0, m.1.1.1.1.0)
+form_runs form.Books w m = tt
+form_runs form.Ring w m = m.1.1.0
 
--- a value that was given under a test
-given : {A : Type 0} (test : Bool) (o : Option A) (y : A) → cond test o None ≡ Some y → (test ≡ true) × (o ≡ Some y)
-given true o y e = (refl, e)
-given false o y e = absurd (cc)
+same_Ok : {A E : Type 0} (x y : A) → ◌≡◌ {A = Result A E} (Ok x) (Ok y) → x ≡ y
+same_Ok x y e = cc
 
--- a value of one of two choices
-either : {A P : Type 0} (test : Bool) (o p : Option A) (y : A) → (o ≡ Some y → P) → (p ≡ Some y → P) → cond test o p ≡ Some y → P
-either true o p y f g e = f e
-either false o p y f g e = g e
+-- a recipe line likewise
+line_runs : (f : RecipeForm) (w : List (List ℕ)) → AllMeant (recipe_kinds f) w 0 → IsLine (recipe_line f w)
+line_runs recipe_form.Entry w m = m.1.0
+line_runs recipe_form.Load w m = (m.1.0, m.1.1.0, m.1.1.1.0)
+line_runs recipe_form.Table w m = m.1.0
+line_runs recipe_form.Carveout w m = (m.1.0, m.1.1.0, m.1.1.1.0)
+line_runs recipe_form.Devmem w m = (m.1.0, m.1.1.0, m.1.1.1.0, m.1.1.1.1.0)
+line_runs recipe_form.Trace w m = (m.1.0, m.1.1.0, m.1.1.1.0)
+line_runs recipe_form.Vdev w m = (m.1.0, m.1.1.0)
+line_runs recipe_form.Vring w m = (m.1.0, m.1.1.0, m.1.1.1.0)
+line_runs recipe_form.Vendor w m = m.1.0
 
-digits_small : (value : ℕ) (digits : List ℕ) (n : ℕ) → value ≤ 4294967295 → digits_from value digits ≡ Some n → n ≤ 4294967295
-digits_small value [] n h e = let same = same_Some value n e in omega arith
-digits_small value (digit ∷ more) n h e =
-    let next = 10 * value + (digit - 48) in
-    let g = given (is_digit digit && nat_le next 4294967295) (digits_from next more) n e in
-    digits_small next more n (leb-true next 4294967295 (both (is_digit digit) (nat_le next 4294967295) g.0).1) g.1
+-- words that fit their kinds
+fits : (ks : List Kind) (words : List (List ℕ)) (count kept : Bool) → are_of ks words ≡ kept → cond (not count) (Some cause.Words) (cond kept None (Some cause.Value)) ≡ None → AllMeant ks words 0
+fits ks words false kept h e = absurd (cc)
+fits ks words true false h e = absurd (cc)
+fits ks words true true h e = all_meant ks words 0 h
 
-number_small : (word : List ℕ) (n : ℕ) → number_of word ≡ Some n → n ≤ 4294967295
-number_small [] n e = absurd (cc)
-number_small (digit ∷ []) n e = digits_small 0 (digit ∷ []) n (omega arith) e
-number_small (digit ∷ next ∷ more) n e =
-    either _ None (digits_from 0 (digit ∷ next ∷ more)) n (λ (g : None ≡ Some n). absurd (cc)) (digits_small 0 (digit ∷ next ∷ more) n (omega arith)) e
+fitting : {F : Type 0} (ks : List Kind) (words : List (List ℕ)) (g f : F) (found : Option Cause) → misfit ks words ≡ found → unless_misfit g found ≡ Ok f → (g ≡ f) × AllMeant ks words 0
+fitting ks words g f None h e = (cc, fits ks words (length words == length ks) (are_of ks words) refl h)
+fitting ks words g f (Some why) h e = absurd (cc)
 
-ring_read : (word : List ℕ) (n : ℕ) → ring_of word ≡ Some n → IsRing n
-ring_read word n e = option_and_then_some _ (number_of word) n e (λ x p q.
-    let g = given (is_power_of_two x && nat_le x 32768) (Some x) n q in
-    let b = both (is_power_of_two x) (nat_le x 32768) g.0 in
-    subst IsRing (same_Some x n g.1) (b.0, leb-true x 32768 b.1))
+judged_runs : (words : List (List ℕ)) (found : Result Form Cause) (f : Form) → fitting_form words found ≡ Ok f → IsRunnable (made f words)
+judged_runs words (Ok g) f e =
+    let both = fitting (kinds g) words g f (misfit (kinds g) words) refl e in
+    subst (λ x. IsRunnable (made x words)) both.0 (form_runs g words both.1)
+judged_runs words (Err why) f e = absurd (cc)
 
-book_read : (word : List ℕ) (n : ℕ) → book_of word ≡ Some n → (1 ≤ n) × (n ≤ 262144)
-book_read word n e = option_and_then_some _ (number_of word) n e (λ x p q.
-    let g = given (nat_le 1 x && nat_le x 262144) (Some x) n q in
-    let b = both (nat_le 1 x) (nat_le x 262144) g.0 in
-    let same = same_Some x n g.1 in
-    let least = leb-true 1 x b.0 in
-    let most = leb-true x 262144 b.1 in
-    (omega arith, omega arith))
+fitting_runs : (words : List (List ℕ)) (g f : RecipeForm) (allowed : Bool) → cond allowed (unless_misfit g (misfit (recipe_kinds g) words)) (Err cause.Block) ≡ Ok f → IsLine (recipe_line f words)
+fitting_runs words g f false e = absurd (cc)
+fitting_runs words g f true e =
+    let both = fitting (recipe_kinds g) words g f (misfit (recipe_kinds g) words) refl e in
+    subst (λ x. IsLine (recipe_line x words)) both.0 (line_runs g words both.1)
 
-link_runs : (name : Option (List ℕ)) (a b c : Option ℕ) (y : Command)
-    → ((n : ℕ) → a ≡ Some n → IsRing n) → ((n : ℕ) → b ≡ Some n → IsRing n) → ((n : ℕ) → c ≡ Some n → (1 ≤ n) × (n ≤ 262144))
-    → (name >>= (λ x. a >>= (λ to_host. b >>= (λ to_remote. c >>= (λ book. Some (command.Link x to_host to_remote book)))))) ≡ Some y → IsRunnable y
-link_runs None a b c y f g h e = absurd (cc)
-link_runs (Some x) None b c y f g h e = absurd (cc)
-link_runs (Some x) (Some a) None c y f g h e = absurd (cc)
-link_runs (Some x) (Some a) (Some b) None y f g h e = absurd (cc)
-link_runs (Some x) (Some a) (Some b) (Some c) y f g h e =
-    subst IsRunnable (same_Some (command.Link x a b c) y e) (f a refl, g b refl, (h c refl).0, (h c refl).1)
+line_judged_runs : (context : Context) (words : List (List ℕ)) (found : Option RecipeForm) (f : RecipeForm) → fitting_line context words found ≡ Ok f → IsLine (recipe_line f words)
+line_judged_runs context words None f e = absurd (cc)
+line_judged_runs context words (Some g) f e = fitting_runs words g f (is_allowed context g) e
 
-caller_runs : (name : Option (List ℕ)) (a : Option End) (y : Command) → (name >>= (λ x. a >>= (λ end. Some (command.Caller x end)))) ≡ Some y → IsRunnable y
-caller_runs None a y e = absurd (cc)
-caller_runs (Some x) None y e = absurd (cc)
-caller_runs (Some x) (Some a) y e = subst IsRunnable (same_Some (command.Caller x a) y e) tt
+recipe_more : (lines : List RecipeLine) (line : RecipeLine) → IsRecipe lines → IsLine line → IsRecipe (lines ++ line ∷ [])
+recipe_more [] line h l = (l, tt)
+recipe_more (first ∷ more) line h l = (h.0, recipe_more more line h.1 l)
 
-send_runs : (name : Option (List ℕ)) (a b c : Option ℕ) (d : Option (List ℕ)) (y : Command)
-    → ((n : ℕ) → b ≡ Some n → n ≤ 4294967295) → ((n : ℕ) → c ≡ Some n → n ≤ 4294967295)
-    → (name >>= (λ x. a >>= (λ caller. b >>= (λ src. c >>= (λ dst. d >>= (λ payload. Some (command.Send x caller src dst payload))))))) ≡ Some y → IsRunnable y
-send_runs None a b c d y f g e = absurd (cc)
-send_runs (Some x) None b c d y f g e = absurd (cc)
-send_runs (Some x) (Some a) None c d y f g e = absurd (cc)
-send_runs (Some x) (Some a) (Some b) None d y f g e = absurd (cc)
-send_runs (Some x) (Some a) (Some b) (Some c) None y f g e = absurd (cc)
-send_runs (Some x) (Some a) (Some b) (Some c) (Some d) y f g e =
-    subst IsRunnable (same_Some (command.Send x a b c d) y e) (f b refl, g c refl)
+-- the lines of an image that is open
+abbrev IsOpen : Option OpenImage → Type 0
+IsOpen None = Unit {0}
+IsOpen (Some image) = IsRecipe image.lines
 
-take_runs : (name : Option (List ℕ)) (a : Option ℕ) (y : Command) → (name >>= (λ x. a >>= (λ caller. Some (command.Take x caller)))) ≡ Some y → IsRunnable y
-take_runs None a y e = absurd (cc)
-take_runs (Some x) None y e = absurd (cc)
-take_runs (Some x) (Some a) y e = subst IsRunnable (same_Some (command.Take x a) y e) tt
+abbrev Runs : Step → Type 0
+Runs step = AreRunnable step.commands × IsOpen step.image
 
-give_runs : (name : Option (List ℕ)) (a b : Option ℕ) (y : Command) → (name >>= (λ x. a >>= (λ caller. b >>= (λ number. Some (command.Give x caller number))))) ≡ Some y → IsRunnable y
-give_runs None a b y e = absurd (cc)
-give_runs (Some x) None b y e = absurd (cc)
-give_runs (Some x) (Some a) None y e = absurd (cc)
-give_runs (Some x) (Some a) (Some b) y e = subst IsRunnable (same_Some (command.Give x a b) y e) tt
+opened_runs : (words : List (List ℕ)) (why : Option Cause) (step : Step) → opened_step words why ≡ Ok step → Runs step
+opened_runs words None step e = let same = same_Ok _ step e in subst Runs same (tt, tt)
+opened_runs words (Some why) step e = absurd (cc)
 
-nothing : (y : Command) → None ≡ Some y → IsRunnable y
-nothing y e = absurd (cc)
+command_runs : (words : List (List ℕ)) (found : Result Form Cause) (step : Step) → judged words ≡ found → command_step words found ≡ Ok step → Runs step
+command_runs words (Ok f) step h e = subst Runs (same_Ok _ step e) ((judged_runs words (form_of words) f h, tt), tt)
+command_runs words (Err why) step h e = absurd (cc)
 
-command_runs : (words : List (List ℕ)) (y : Command) → command_of words ≡ Some y → IsRunnable y
-command_runs [] y e = nothing y e
-command_runs (w ∷ []) y e = nothing y e
-command_runs (w ∷ x ∷ []) y e = nothing y e
-command_runs (w ∷ x ∷ a ∷ []) y e =
-    either _ _ _ y (caller_runs (name_of x) (end_named a) y) (either _ _ _ y (take_runs (name_of x) (caller_of a) y) (nothing y)) e
-command_runs (w ∷ x ∷ a ∷ b ∷ []) y e = either _ _ _ y (give_runs (name_of x) (caller_of a) (number_of b) y) (nothing y) e
-command_runs (w ∷ x ∷ a ∷ b ∷ c ∷ []) y e =
-    either _ _ _ y (link_runs (name_of x) (ring_of a) (ring_of b) (book_of c) y (ring_read a) (ring_read b) (book_read c)) (nothing y) e
-command_runs (w ∷ x ∷ a ∷ b ∷ c ∷ d ∷ []) y e =
-    either _ _ _ y (send_runs (name_of x) (caller_of a) (number_of b) (number_of c) (data_of d) y (number_small b) (number_small c)) (nothing y) e
-command_runs (w ∷ x ∷ a ∷ b ∷ c ∷ d ∷ f ∷ more) y e = nothing y e
+closed_runs : (image : OpenImage) (why : Option Cause) (step : Step) → IsRecipe image.lines → closed_step image why ≡ Ok step → Runs step
+closed_runs image None step h e = subst Runs (same_Ok _ step e) ((h, tt), tt)
+closed_runs image (Some why) step h e = absurd (cc)
 
-kept_runs : (test : Bool) (refusal : Refusal) (y : Command) (more : Result (List Command) Refusal) (commands : List Command)
-    → IsRunnable y → ((ys : List Command) → more ≡ Ok ys → AreRunnable ys) → cond test (Err refusal) (with_command y more) ≡ Ok commands → AreRunnable commands
-kept_runs true refusal y more commands f g e = absurd (cc)
-kept_runs false refusal y (Err other) commands f g e = absurd (cc)
-kept_runs false refusal y (Ok ys) commands f g e =
-    let same : (y ∷ ys) ≡ commands = cc in
-    subst AreRunnable same (f, g ys refl)
+added_runs : (image : OpenImage) (words : List (List ℕ)) (found : Result RecipeForm Cause) (step : Step) → IsRecipe image.lines → recipe_judged image.context words ≡ found → added_step image words found ≡ Ok step → Runs step
+added_runs image words (Ok f) step h j e =
+    subst Runs (same_Ok _ step e) (tt, recipe_more image.lines (recipe_line f words) h (line_judged_runs image.context words (recipe_form_named (word_at words 0)) f j))
+added_runs image words (Err why) step h j e = absurd (cc)
 
-line_runs : (line : ℕ) (linked : Bool) (found : Option Command) (more : Result (List Command) Refusal) (commands : List Command)
-    → ((y : Command) → found ≡ Some y → IsRunnable y) → ((ys : List Command) → more ≡ Ok ys → AreRunnable ys) → line_and_more line linked found more ≡ Ok commands → AreRunnable commands
-line_runs line linked None more commands f g e = absurd (cc)
-line_runs line linked (Some y) more commands f g e = kept_runs (linked && is_link y) (bad_line line) y more commands (f y refl) g e
+outside_runs : (words : List (List ℕ)) (test : Bool) (step : Step) → cond test (opened_step words (misfit image_kinds words)) (command_step words (judged words)) ≡ Ok step → Runs step
+outside_runs words true step e = opened_runs words (misfit image_kinds words) step e
+outside_runs words false step e = command_runs words (judged words) step refl e
 
-lines_run : (line : ℕ) (linked : Bool) (lines : List (List ℕ)) (commands : List Command) → commands_from line linked lines ≡ Ok commands → AreRunnable commands
-lines_run line linked [] commands e =
-    let none : ◌≡◌ {A = List Command} [] commands = cc in
-    subst AreRunnable none tt
-lines_run line linked (text ∷ more) commands e =
-    let found = command_of (words_of text) in
-    line_runs line linked found (commands_from (line + 1) (linked_by linked found) more) commands (command_runs (words_of text)) (lines_run (line + 1) (linked_by linked found) more) e
+inside_runs : (image : OpenImage) (words : List (List ℕ)) (test : Bool) (step : Step) → IsRecipe image.lines
+    → cond test (closed_step image (misfit end_kinds words)) (added_step image words (recipe_judged image.context words)) ≡ Ok step → Runs step
+inside_runs image words true step h e = closed_runs image (misfit end_kinds words) step h e
+inside_runs image words false step h e = added_runs image words (recipe_judged image.context words) step h refl e
 
-said : (test : Bool) (refusal : Refusal) (more : Result (List Command) Refusal) (commands : List Command) → cond test (Err refusal) more ≡ Ok commands → more ≡ Ok commands
-said true refusal more commands e = absurd (cc)
-said false refusal more commands e = e
+words_run : (image : Option OpenImage) (words : List (List ℕ)) (step : Step) → IsOpen image → words_step image words ≡ Ok step → Runs step
+words_run None words step h e = outside_runs words (bytes_eq (word_at words 0) (codes "image")) step e
+words_run (Some image) words step h e = inside_runs image words (bytes_eq (word_at words 0) (codes "end")) step h e
+
+step_runs : (image : Option OpenImage) (line : List ℕ) (skip print : Bool) (step : Step) → IsOpen image
+    → cond skip (Ok (record { commands = []; image = image })) (cond print (words_step image (words_of line)) (Err cause.Byte)) ≡ Ok step → Runs step
+step_runs image line true print step h e = subst Runs (same_Ok _ step e) (tt, h)
+step_runs image line false false step h e = absurd (cc)
+step_runs image line false true step h e = words_run image (words_of line) step h e
+
+append_runs : (front more : List Command) → AreRunnable front → AreRunnable more → AreRunnable (front ++ more)
+append_runs [] more f m = m
+append_runs (first ∷ front) more f m = (f.0, append_runs front more f.1 m)
+
+onto_runs : (front : List Command) (more : Result (List Command) Refusal) (commands : List Command) → AreRunnable front → ((ys : List Command) → more ≡ Ok ys → AreRunnable ys) → onto front more ≡ Ok commands → AreRunnable commands
+onto_runs front (Ok ys) commands f g e = subst AreRunnable (same_Ok (front ++ ys) commands e) (append_runs front ys f (g ys refl))
+onto_runs front (Err refusal) commands f g e = absurd (cc)
+
+here_runs : (number : ℕ) (image : Option OpenImage) (line : List ℕ) (said : Result Step Cause) (more : Option OpenImage → Result (List Command) Refusal) (commands : List Command) → IsOpen image → line_step image line ≡ said
+    → ((next : Option OpenImage) (ys : List Command) → IsOpen next → more next ≡ Ok ys → AreRunnable ys) → step_and_more number said (more (image_behind said)) ≡ Ok commands → AreRunnable commands
+here_runs number image line (Ok step) more commands h f rest e =
+    let runs = step_runs image line (is_skipped (words_of line)) (list_all is_printable line) step h f in
+    onto_runs step.commands (more step.image) commands runs.0 (λ ys. rest step.image ys runs.1) e
+here_runs number image line (Err why) more commands h f rest e = absurd (cc)
+
+end_runs : (number : ℕ) (image : Option OpenImage) (commands : List Command) → at_end number image ≡ Ok commands → AreRunnable commands
+end_runs number None commands e = subst AreRunnable (same_Ok [] commands e) tt
+end_runs number (Some image) commands e = absurd (cc)
+
+lines_run : (number : ℕ) (image : Option OpenImage) (lines : List (List ℕ)) (commands : List Command) → IsOpen image → commands_from number image lines ≡ Ok commands → AreRunnable commands
+lines_run number image [] commands h e = end_runs number image commands e
+lines_run number image (line ∷ more) commands h e =
+    here_runs number image line (line_step image line) (λ next. commands_from (number + 1) next more) commands h refl (λ next ys. lines_run (number + 1) next more ys) e
+
+past : (test : Bool) (refusal : Refusal) (more : Result (List Command) Refusal) (commands : List Command) → cond test (Err refusal) more ≡ Ok commands → more ≡ Ok commands
+past true refusal more commands e = absurd (cc)
+past false refusal more commands e = e
 
 pub are_runnable : (commands : List Command) → IsScript commands → AreRunnable commands
 unfolding script_of
 are_runnable commands script =
     let lines = lines_of script.text in
-    let size : Refusal = record { line = 0; cause = cause.Size } in
-    lines_run 1 false lines commands (said (nat_lt 1048576 (length script.text)) size (commands_from 1 false lines) commands script.says)
+    let rest = commands_from 1 None lines in
+    lines_run 1 None lines commands tt
+    (past (nat_lt SCRIPT_LINES_MOST (length lines)) (bad_line (SCRIPT_LINES_MOST + 1) cause.Lines) rest commands
+    (past (nat_lt SCRIPT_MOST (length script.text)) (bad_line 0 cause.Size) (cond (nat_lt SCRIPT_LINES_MOST (length lines)) (Err (bad_line (SCRIPT_LINES_MOST + 1) cause.Lines)) rest) commands script.says))

@@ -1,53 +1,54 @@
--- The walk over the lines of a script: the commands so far, and then those of the lines that are left.
-use Rattle.std.proofs.Common.{◌≡◌, ℕ, ◌+◌, ◌<◌, Bool, true, false, ◌&&◌, ◌||◌, cond, List, [], ◌∷◌, ◌++◌, length, get_or, drop, map, Option, Some, None, Result, Ok, Err, refl, sym, ◌∙◌, ap, append_assoc}
-use Rattle.std.proofs.lemmas.List.{at_drop_more}
+-- The walk over the lines of a script: the commands so far, and then those of the rest.
+use Rattle.std.proofs.Common.{◌≡◌, ℕ, ◌+◌, List, [], ◌∷◌, ◌++◌, Option, Some, None, Result, Ok, Err, refl, sym, ◌∙◌, ap, append_assoc, append-nil}
+use Rattle.word_kinds.specs.declared.causes.Cause.{Cause}
+use Rattle.word_kinds.specs.declared.causes.Cause.TheVariants as cause
 use Rattle.script_lang.specs.declared.commands.Command.{Command}
-use Rattle.script_lang.specs.Grammar.{Refusal, bad_line, with_command, line_and_more, linked_by, is_link, commands_from, command_of}
-use Rattle.script_lang.specs.Words.{words_of}
+use Rattle.script_lang.specs.declared.progress.Progress.{Progress}
+use Rattle.script_lang.specs.declared.progress.LineFault.TheVariants as fault
+use Rattle.script_lang.specs.Steps.{OpenImage, Step, line_step, image_of, IsStepped}
+use Rattle.script_lang.specs.Grammar.{Refusal, bad_line, onto, step_and_more, image_behind, at_end, commands_from, lines_of}
 
-abbrev pub onto : List Command → Result (List Command) Refusal → Result (List Command) Refusal
-onto front (Ok more) = Ok (front ++ more)
-onto front (Err refusal) = Err refusal
+onto_onto : (front more : List Command) (said : Result (List Command) Refusal) → onto front (onto more said) ≡ onto (front ++ more) said
+onto_onto front more (Ok rest) = ap Ok (sym (append_assoc front more rest))
+onto_onto front more (Err refusal) = refl
 
-pub onto_nothing : (said : Result (List Command) Refusal) → onto [] said ≡ said
-onto_nothing (Ok more) = refl
-onto_nothing (Err refusal) = refl
+-- what the lines of a text say, from this line number on, where this image is open
+abbrev pub left : ℕ → Option OpenImage → List ℕ → Result (List Command) Refusal
+left number image rest = commands_from number image (lines_of rest)
 
-onto_with : (front : List Command) (first : Command) (said : Result (List Command) Refusal) → onto front (with_command first said) ≡ onto (front ++ first ∷ []) said
-onto_with front first (Ok more) = ap Ok (sym (append_assoc front (first ∷ []) more))
-onto_with front first (Err refusal) = refl
+left_here : (number : ℕ) (image : Option OpenImage) (rest line more : List ℕ) (said : Result Step Cause) → lines_of rest ≡ line ∷ lines_of more → line_step image line ≡ said
+    → left number image rest ≡ step_and_more number said (left (number + 1) (image_behind said) more)
+left_here number image rest line more said e f =
+    ap (commands_from number image) e ∙ ap (λ o. step_and_more number o (left (number + 1) (image_behind o) more)) f
 
--- what the lines from place i say, line by line; v reads a line
-abbrev pub left : {X : Type 0} → (X → List ℕ) → List X → ℕ → Bool → Result (List Command) Refusal
-left v lines i linked = commands_from (i + 1) linked (map v (drop i lines))
+taken : (old new : Progress) (number : ℕ) (rest line more : List ℕ) (all : Result (List Command) Refusal) (said : Result Step Cause) → onto old.commands.items (left number (image_of old) rest) ≡ all
+    → lines_of rest ≡ line ∷ lines_of more → line_step (image_of old) line ≡ said → IsStepped said old new (Ok tt) → onto new.commands.items (left (number + 1) (image_of new) more) ≡ all
+taken old new number rest line more all (Ok step) so_far e f h =
+    ap (λ xs. onto xs (left (number + 1) (image_of new) more)) h.0
+    ∙ ap (λ o. onto (old.commands.items ++ step.commands) (left (number + 1) o more)) h.1
+    ∙ sym (onto_onto old.commands.items step.commands (left (number + 1) step.image more))
+    ∙ ap (onto old.commands.items) (sym (left_here number (image_of old) rest line more (Ok step) e f)) ∙ so_far
+taken old new number rest line more all (Err why) so_far e f h = absurd h
 
-abbrev here : {X : Type 0} → (X → List ℕ) → List X → ℕ → Bool → Option Command → Result (List Command) Refusal
-here v lines i linked found = line_and_more (i + 1) linked found (left v lines (i + 1) (linked_by linked found))
+-- a line that was taken
+pub taken_here : (old new : Progress) (number : ℕ) (rest line more : List ℕ) (all : Result (List Command) Refusal) → onto old.commands.items (left number (image_of old) rest) ≡ all
+    → lines_of rest ≡ line ∷ lines_of more → IsStepped (line_step (image_of old) line) old new (Ok tt) → onto new.commands.items (left (number + 1) (image_of new) more) ≡ all
+taken_here old new number rest line more all so_far e h = taken old new number rest line more all (line_step (image_of old) line) so_far e refl h
 
-left_here : {X : Type 0} (v : X → List ℕ) (lines : List X) (i : ℕ) (linked : Bool) (d : X) → i < length lines → (found : Option Command) → found ≡ command_of (words_of (v (get_or lines i d))) → left v lines i linked ≡ here v lines i linked found
-left_here v lines i linked d h found e =
-    at_drop_more (λ rest. commands_from (i + 1) linked (map v rest)) lines i d h ∙ ap (here v lines i linked) (sym e)
+bad : (old new : Progress) (said : Result Step Cause) (why : Cause) → IsStepped said old new (Err (fault.Bad why)) → said ≡ Err why
+bad old new (Ok step) why h = h
+bad old new (Err other) why h = h
 
--- a line of none of the forms
-pub none_here : {X : Type 0} (v : X → List ℕ) (lines : List X) (i : ℕ) (linked : Bool) (d : X) (front : List Command) (all : Result (List Command) Refusal) → onto front (left v lines i linked) ≡ all → i < length lines → None ≡ command_of (words_of (v (get_or lines i d))) → all ≡ Err (bad_line (i + 1))
-none_here v lines i linked d front all told h e = sym told ∙ ap (onto front) (left_here v lines i linked d h None e)
+-- a bad line
+pub bad_here : (old new : Progress) (number : ℕ) (rest line more : List ℕ) (all : Result (List Command) Refusal) (why : Cause) → onto old.commands.items (left number (image_of old) rest) ≡ all
+    → lines_of rest ≡ line ∷ lines_of more → IsStepped (line_step (image_of old) line) old new (Err (fault.Bad why)) → all ≡ Err (bad_line number why)
+bad_here old new number rest line more all why so_far e h =
+    sym so_far ∙ ap (onto old.commands.items) (left_here number (image_of old) rest line more (Err why) e (bad old new (line_step (image_of old) line) why h))
 
--- a second `link`
-pub link_here : {X : Type 0} (v : X → List ℕ) (lines : List X) (i : ℕ) (d : X) (front : List Command) (all : Result (List Command) Refusal) (first : Command) → onto front (left v lines i true) ≡ all → i < length lines → Some first ≡ command_of (words_of (v (get_or lines i d))) → true ≡ is_link first → all ≡ Err (bad_line (i + 1))
-link_here v lines i d front all first told h e f =
-    let more = left v lines (i + 1) true in
-    sym told ∙ ap (onto front) (left_here v lines i true d h (Some first) e ∙ ap (λ b. cond b (Err (bad_line (i + 1))) (with_command first more)) (sym f))
+-- no line is left
+pub end_here : (front : List Command) (number : ℕ) (image : Option OpenImage) (all : Result (List Command) Refusal) → onto front (left number image []) ≡ all → image ≡ None → all ≡ Ok front
+end_here front number image all so_far none = sym so_far ∙ ap (λ o. onto front (at_end number o)) none ∙ ap Ok (append-nil front)
 
--- the first `link`, or a command that is none
-pub command_here : {X : Type 0} (v : X → List ℕ) (lines : List X) (i : ℕ) (linked next : Bool) (d : X) (front : List Command) (all : Result (List Command) Refusal) (first : Command) → onto front (left v lines i linked) ≡ all → i < length lines → Some first ≡ command_of (words_of (v (get_or lines i d))) → (linked && is_link first) ≡ false → next ≡ (linked || is_link first) → onto (front ++ first ∷ []) (left v lines (i + 1) next) ≡ all
-command_here v lines i linked next d front all first told h e f g =
-    let more = left v lines (i + 1) (linked || is_link first) in
-    ap (λ b. onto (front ++ first ∷ []) (left v lines (i + 1) b)) g ∙ sym (onto_with front first more) ∙ ap (onto front) (sym (left_here v lines i linked d h (Some first) e ∙ ap (λ b. cond b (Err (bad_line (i + 1))) (with_command first more)) f)) ∙ told
-
--- whether there is a second `link`, and whether there was one by now
-pub first_link : (linked is next : Bool) → linked ≡ false → true ≡ is → next ≡ true → ((linked && is) ≡ false) × (next ≡ (linked || is))
-first_link linked is next e f g = (ap (λ b. b && is) e, g ∙ f ∙ sym (ap (λ b. b || is) e))
-
-pub no_link : (linked is next : Bool) → false ≡ is → next ≡ linked → ((linked && is) ≡ false) × (next ≡ (linked || is))
-no_link true is next f g = (sym f, g)
-no_link false is next f g = (refl, g ∙ f)
+-- no line is left, and an image is open
+pub open_here : (front : List Command) (number : ℕ) (image : Option OpenImage) (found : OpenImage) (all : Result (List Command) Refusal) → onto front (left number image []) ≡ all → image ≡ Some found → all ≡ Err (bad_line number cause.Block)
+open_here front number image found all so_far some = sym so_far ∙ ap (λ o. onto front (at_end number o)) some

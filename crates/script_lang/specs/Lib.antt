@@ -1,2 +1,6 @@
-pub mod Words
+pub mod Forms
+pub mod Recipes
+pub mod Lines
+pub mod Steps
 pub mod Grammar
+pub mod Runnable

@@ -1,117 +1,166 @@
 ghost use Rattle.std.specs.Prelude.{◌≡◌, IfOk, map};
-ghost use Rattle.script_lang.specs.Grammar.{end_named, link_command, caller_command, send_command, take_command, give_command, command_of, is_link};
-ghost use Rattle.script_lang.specs.Words.{caller_of};
+ghost use Rattle.script_lang.specs.Forms.{keyword, kinds, made};
+ghost use Rattle.script_lang.specs.Lines.{form_named};
 
 use crate::commands::Command;
-use crate::texts;
-use rp_base::End;
 use std::alloc::{AllocError, Global};
+use word_kinds::{Kind, bytes_at, end_at, name_at, number_at};
 
-/// The command that these words are, if they are of one of the forms.
-pub(crate) fn command_from(alloc: Global, words: &[&[u8]]) -> Result<Option<Command>, AllocError>
-    ensures { IfOk result (λ found. found ≡ command_of (map (λ word. word.now) words.now)) }
+/// The form of a command: its keyword, and the kinds of its words.
+#[derive(Clone, Copy, Drop)]
+pub(crate) enum Form {
+    Link,
+    Caller,
+    Send,
+    Take,
+    Give,
+    BeginSend,
+    BeginTake,
+    BeginGive,
+    Step,
+    Finish,
+    Pump,
+    Books,
+    Ring,
+}
+
+/// The forms that are told by their first word.
+pub(crate) const FORMS: [Form; 10] = [
+    Form::Send,
+    Form::Take,
+    Form::Give,
+    Form::Step,
+    Form::Finish,
+    Form::Link,
+    Form::Caller,
+    Form::Pump,
+    Form::Books,
+    Form::Ring,
+];
+
+/// The forms that begin with `begin` and are told by their fourth word.
+pub(crate) const BEGUN: [Form; 3] = [Form::BeginSend, Form::BeginTake, Form::BeginGive];
+
+/// The word by which a form is told.
+fn keyword(form: Form) -> &'static str
+    ensures { result.now ≡ keyword form }
 {
-    match words {
-        [word, name, end] if *word == b"caller".as_slice() => Ok(caller_command(name, end)),
-        [word, name, caller] if *word == b"take".as_slice() => Ok(take_command(name, caller)),
-        [word, name, caller, number] if *word == b"give".as_slice() => {
-            Ok(give_command(name, caller, number))
-        }
-        [word, name, to_host, to_remote, book] if *word == b"link".as_slice() => {
-            Ok(link_command(name, to_host, to_remote, book))
-        }
-        [word, name, caller, source, destination, payload] if *word == b"send".as_slice() => {
-            send_command(alloc, name, caller, source, destination, payload)
-        }
-        _ => Ok(None),
+    match form {
+        Form::Link => "link",
+        Form::Caller => "caller",
+        Form::Send | Form::BeginSend => "send",
+        Form::Take | Form::BeginTake => "take",
+        Form::Give | Form::BeginGive => "give",
+        Form::Step => "step",
+        Form::Finish => "finish",
+        Form::Pump => "pump",
+        Form::Books => "books",
+        Form::Ring => "ring",
     }
 }
 
-/// Whether a command makes a link.
-pub(crate) fn is_link(command: &Command) -> bool
-    ensures { result ≡ is_link command.now }
+/// The kinds of the words of a form.
+pub(crate) fn kinds(form: Form) -> &'static [Kind]
+    ensures { result.now ≡ kinds form }
 {
-    matches!(command, Command::Link(..))
-}
-
-/// `link NAME RING RING BOOK`: the ring to the host before the ring to the remote.
-fn link_command(name: &[u8], to_host: &[u8], to_remote: &[u8], book: &[u8]) -> Option<Command>
-    ensures { result ≡ link_command name.now to_host.now to_remote.now book.now }
-{
-    let name = texts::name(name)?;
-    let to_host = texts::ring(to_host)?;
-    let to_remote = texts::ring(to_remote)?;
-    let book = texts::number_within(1, 262_144, book)?;
-    Some(Command::Link(name, to_host, to_remote, book))
-}
-
-/// `caller NAME host` or `caller NAME remote`.
-fn caller_command(name: &[u8], end: &[u8]) -> Option<Command>
-    ensures { result ≡ caller_command name.now end.now }
-{
-    let name = texts::name(name)?;
-    let end = end_named(end)?;
-    Some(Command::Caller(name, end))
-}
-
-fn end_named(word: &[u8]) -> Option<End>
-    ensures { result ≡ end_named word.now }
-{
-    if word == b"host".as_slice() {
-        Some(End::Host)
-    } else if word == b"remote".as_slice() {
-        Some(End::Remote)
-    } else {
-        None
+    match form {
+        Form::Link => &[
+            Kind::Keyword,
+            Kind::Name,
+            Kind::Ring,
+            Kind::Ring,
+            Kind::Book,
+        ],
+        Form::Caller => &[Kind::Keyword, Kind::Name, Kind::End],
+        Form::Send => &[
+            Kind::Keyword,
+            Kind::Name,
+            Kind::Caller,
+            Kind::Number,
+            Kind::Number,
+            Kind::Payload,
+        ],
+        Form::Take | Form::Finish => &[Kind::Keyword, Kind::Name, Kind::Caller],
+        Form::Give => &[Kind::Keyword, Kind::Name, Kind::Caller, Kind::Number],
+        Form::BeginSend => &[
+            Kind::Keyword,
+            Kind::Name,
+            Kind::Caller,
+            Kind::Keyword,
+            Kind::Number,
+            Kind::Number,
+            Kind::Payload,
+        ],
+        Form::BeginTake => &[Kind::Keyword, Kind::Name, Kind::Caller, Kind::Keyword],
+        Form::BeginGive => &[
+            Kind::Keyword,
+            Kind::Name,
+            Kind::Caller,
+            Kind::Keyword,
+            Kind::Number,
+        ],
+        Form::Step => &[Kind::Keyword, Kind::Name, Kind::Caller, Kind::Count],
+        Form::Pump => &[
+            Kind::Keyword,
+            Kind::Name,
+            Kind::Caller,
+            Kind::Caller,
+            Kind::Count,
+        ],
+        Form::Books => &[Kind::Keyword, Kind::Name],
+        Form::Ring => &[Kind::Keyword, Kind::Name, Kind::Lane],
     }
 }
 
-/// `send NAME CALLER SOURCE DESTINATION DATA`.
-fn send_command(
-    alloc: Global,
-    name: &[u8],
-    caller: &[u8],
-    source: &[u8],
-    destination: &[u8],
-    payload: &[u8],
-) -> Result<Option<Command>, AllocError>
-    ensures { IfOk result (λ found. found ≡ send_command name.now caller.now source.now destination.now payload.now) }
+/// The command of this form that the words say.
+pub(crate) fn made(alloc: Global, form: Form, words: &[&[u8]]) -> Result<Command, AllocError>
+    ensures { IfOk result (λ command. command ≡ made form (map (λ word. word.now) words.now)) }
 {
-    let (Some(name), Some(caller), Some(source), Some(destination)) = (
-        texts::name(name),
-        caller_number(caller),
-        texts::number(source),
-        texts::number(destination),
-    ) else {
-        return Ok(None);
-    };
-    let Some(payload) = texts::data(alloc, payload)? else {
-        return Ok(None);
-    };
-    Ok(Some(Command::Send(name, caller, source, destination, payload)))
+    let name = name_at(words, 1);
+    match form {
+        Form::Link => {
+            let to_host = number_at(words, 2);
+            let to_remote = number_at(words, 3);
+            let book = number_at(words, 4);
+            Ok(Command::Link(name, to_host, to_remote, book))
+        }
+        Form::Caller => Ok(Command::Caller(name, end_at(words, 2))),
+        Form::Send => {
+            let caller = number_at(words, 2);
+            let source = number_at(words, 3);
+            let destination = number_at(words, 4);
+            let payload = bytes_at(alloc, words, 5)?;
+            Ok(Command::Send(name, caller, source, destination, payload))
+        }
+        Form::Take => Ok(Command::Take(name, number_at(words, 2))),
+        Form::Give => Ok(Command::Give(name, number_at(words, 2), number_at(words, 3))),
+        Form::BeginSend => {
+            let caller = number_at(words, 2);
+            let source = number_at(words, 4);
+            let destination = number_at(words, 5);
+            let payload = bytes_at(alloc, words, 6)?;
+            Ok(Command::BeginSend(name, caller, source, destination, payload))
+        }
+        Form::BeginTake => Ok(Command::BeginTake(name, number_at(words, 2))),
+        Form::BeginGive => Ok(Command::BeginGive(name, number_at(words, 2), number_at(words, 4))),
+        Form::Step => Ok(Command::Step(name, number_at(words, 2), number_at(words, 3))),
+        Form::Finish => Ok(Command::Finish(name, number_at(words, 2))),
+        Form::Pump => {
+            let sender = number_at(words, 2);
+            let receiver = number_at(words, 3);
+            Ok(Command::Pump(name, sender, receiver, number_at(words, 4)))
+        }
+        Form::Books => Ok(Command::Books(name)),
+        Form::Ring => Ok(Command::Ring(name, number_at(words, 2))),
+    }
 }
 
-/// `take NAME CALLER`.
-fn take_command(name: &[u8], caller: &[u8]) -> Option<Command>
-    ensures { result ≡ take_command name.now caller.now }
+/// The first of these forms that is told by this word.
+pub(crate) fn form_named(forms: &[Form], word: &[u8]) -> Option<Form>
+    ensures { result ≡ form_named forms.now word.now }
 {
-    let name = texts::name(name)?;
-    let caller = caller_number(caller)?;
-    Some(Command::Take(name, caller))
-}
-
-/// `give NAME CALLER NUMBER`.
-fn give_command(name: &[u8], caller: &[u8], number: &[u8]) -> Option<Command>
-    ensures { result ≡ give_command name.now caller.now number.now }
-{
-    let name = texts::name(name)?;
-    let caller = caller_number(caller)?;
-    let number = texts::number(number)?;
-    Some(Command::Give(name, caller, number))
-}
-
-fn caller_number(word: &[u8]) -> Option<u64>
-    ensures { result ≡ caller_of word.now }
-{
-    texts::number_within(0, 63, word)
+    forms
+        .iter()
+        .copied()
+        .find(|form| word == keyword(*form).as_bytes())
 }

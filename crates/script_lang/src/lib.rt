@@ -5,10 +5,12 @@ mod commands;
 mod forms;
 mod grammar;
 pub mod laws;
-#[cfg(test)]
-mod tests;
-mod texts;
+mod lines;
+mod progress;
+mod recipe_forms;
+mod recipes;
 
-pub use commands::{Cause, Command, ParseFault, Script};
-pub use grammar::{SCRIPT_MOST, parse};
-pub use texts::name;
+pub use commands::{Command, ParseFault, Script};
+pub use grammar::parse;
+pub use recipes::{Recipe, RecipeLine};
+pub use word_kinds::{Cause, name};

@@ -1,0 +1,26 @@
+use Rattle.journal.specs.Notices.{notice_line}
+use Rattle.journal.proofs.lines.push_notice.Goals as goal
+
+pub returns-in-Usage-clause-whole : goal.returns-in-Usage-clause-whole
+unfolding notice_line
+returns-in-Usage-clause-whole c = rw c.in-Usage.is c.fixed.ensures.whole
+
+pub returns-in-StoreFault-clause-whole : goal.returns-in-StoreFault-clause-whole
+unfolding notice_line
+returns-in-StoreFault-clause-whole c = rw c.in-StoreFault.is c.fixed-in-StoreFault.ensures.whole
+
+pub returns-in-StepLimit-clause-whole : goal.returns-in-StepLimit-clause-whole
+unfolding notice_line
+returns-in-StepLimit-clause-whole c = rw c.in-StepLimit.is c.fixed-in-StepLimit.ensures.whole
+
+pub returns-in-TooLarge-clause-whole : goal.returns-in-TooLarge-clause-whole
+unfolding notice_line
+returns-in-TooLarge-clause-whole c = rw c.in-TooLarge.is c.worded-in-TooLarge.ensures.whole
+
+pub returns-in-TableUnread-clause-whole : goal.returns-in-TableUnread-clause-whole
+unfolding notice_line
+returns-in-TableUnread-clause-whole c = rw c.in-TableUnread.is c.fixed-in-TableUnread.ensures.whole
+
+pub returns-in-Segment-clause-whole : goal.returns-in-Segment-clause-whole
+unfolding notice_line
+returns-in-Segment-clause-whole c = rw c.in-Segment.is (rw c.from-in-Segment.ensures at (rw c.from-in-Segment-2.ensures at c.segment.ensures.whole))

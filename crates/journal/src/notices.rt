@@ -1,0 +1,31 @@
+use rp_base::{Da, Name};
+use word_kinds::Cause;
+
+/// A line that the program writes and that is no event of a run.
+#[derive(Clone, Copy, Drop)]
+pub enum Notice {
+    /// The words that the program takes.
+    Usage,
+    /// The source of the script failed.
+    ReadFault,
+    /// The store of images failed.
+    StoreFault,
+    /// The run took as many steps as it may.
+    StepLimit,
+    /// The script is refused: the number of the line, and why.
+    Refused(u32, Cause),
+    /// There is no image of this name.
+    Missing(Name),
+    /// The image is longer than it may be.
+    TooLarge(Name),
+    /// The image doesn't load: the number of the fault, and of the program header that it is about.
+    Fault(u8, Option<u16>),
+    /// The image has a resource table, which is not read.
+    TableUnread,
+    /// The address of the first instruction.
+    Start(Da),
+    /// A loaded segment: its number, its device address, its bytes in the image and in memory.
+    Segment(u16, Da, u64, u32),
+    /// The image loads.
+    Loads,
+}

@@ -1,8 +1,0 @@
-use Rattle.std.proofs.Common.{◌==◌, rules, tests}
-use Rattle.std.proofs.lemmas.Iterator.Consumers.{map_from_collect}
-use Rattle.std.proofs.lemmas.Iterator.Splits.{YieldsList-from_slice_split}
-use Rattle.script_lang.proofs.texts.pieces.Goals as goal
-
-pub returns-clause-pieces : goal.returns-clause-pieces
-returns-clause-pieces c = map_from_collect _ c.collect.ensures.ran
-    (YieldsList-from_slice_split _ (λ byte. byte == 10) c.args.bytes.now c.split.ensures.rest c.split.ensures.done c.split.ensures.closure (λ x b q k. search (rules, tests)))

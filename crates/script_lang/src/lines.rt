@@ -1,0 +1,136 @@
+ghost use Rattle.std.specs.Prelude.{◌≡◌, true, IfOk, map};
+ghost use Rattle.std.specs.List.{list_all};
+ghost use Rattle.script_lang.specs.Forms.{plain_forms, begun_forms};
+ghost use Rattle.script_lang.specs.Lines.{is_skipped, is_printable, is_other_call, begun_form, outside_cause, form_named, form_of, misfit, judged, inside_cause, recipe_judged};
+ghost use Rattle.script_lang.specs.Recipes.{recipe_form_named, is_allowed};
+
+use crate::forms::{BEGUN, FORMS, Form, form_named, kinds};
+use crate::recipe_forms::{Context, RecipeForm, is_allowed, recipe_form_named, recipe_kinds};
+use word_kinds::{Cause, Kind, are_of, word_at};
+
+/// Whether a line of these words says nothing: it has none, or the first begins with `#`.
+pub(crate) fn is_skipped(words: &[&[u8]]) -> bool
+    ensures { result ≡ is_skipped (map (λ word. word.now) words.now) }
+{
+    match words {
+        [] => true,
+        [word, ..] => word.first() == Some(&b'#'),
+    }
+}
+
+/// Whether a line has spaces and visible characters of ASCII alone.
+pub(crate) fn is_printable(line: &[u8]) -> bool
+    ensures { result ≡ list_all is_printable line.now }
+{
+    line.iter().all(|byte| matches!(*byte, b' '..=b'~'))
+}
+
+fn is_other_call(word: &[u8]) -> bool
+    ensures { result ≡ is_other_call word.now }
+{
+    word == b"raw".as_slice() || word == b"bind".as_slice() || word == b"unbind".as_slice()
+}
+
+/// The form of a call that is begun, by the fourth word.
+fn begun_form(words: &[&[u8]]) -> Result<Form, Cause>
+    ensures { result ≡ begun_form (map (λ word. word.now) words.now) }
+{
+    if words.len() < 4 {
+        return Err(Cause::Words);
+    }
+    let word = word_at(words, 3);
+    if is_other_call(word) {
+        return Err(Cause::Command);
+    }
+    match form_named(&BEGUN, word) {
+        Some(form) => Ok(form),
+        None => Err(Cause::Value),
+    }
+}
+
+/// Why a word begins no command outside of an image.
+fn outside_cause(word: &[u8]) -> Cause
+    ensures { result ≡ outside_cause word.now (recipe_form_named word.now) }
+{
+    match recipe_form_named(word) {
+        None => if word == b"end".as_slice() {
+            Cause::Block
+        } else {
+            Cause::Command
+        },
+        Some(RecipeForm::Table | RecipeForm::Trace) => Cause::Command,
+        Some(_) => Cause::Block,
+    }
+}
+
+/// The form by the keywords.
+fn form_of(words: &[&[u8]]) -> Result<Form, Cause>
+    ensures { result ≡ form_of (map (λ word. word.now) words.now) }
+{
+    let word = word_at(words, 0);
+    if word == b"begin".as_slice() {
+        return begun_form(words);
+    }
+    match form_named(&FORMS, word) {
+        Some(form) => Ok(form),
+        None => Err(outside_cause(word)),
+    }
+}
+
+/// Why words don't fit these kinds: their number before their kinds.
+pub(crate) fn misfit(kinds: &[Kind], words: &[&[u8]]) -> Option<Cause>
+    ensures { result ≡ misfit kinds.now (map (λ word. word.now) words.now) }
+{
+    if words.len() != kinds.len() {
+        return Some(Cause::Words);
+    }
+    if are_of(kinds, words) {
+        None
+    } else {
+        Some(Cause::Value)
+    }
+}
+
+/// The form of these words outside of an image, or why they have none.
+pub(crate) fn judged(words: &[&[u8]]) -> Result<Form, Cause>
+    ensures { result ≡ judged (map (λ word. word.now) words.now) }
+{
+    let form = form_of(words)?;
+    match misfit(kinds(form), words) {
+        None => Ok(form),
+        Some(why) => Err(why),
+    }
+}
+
+/// Why a word begins no line within an image.
+fn inside_cause(word: &[u8]) -> Cause
+    ensures { result ≡ inside_cause word.now (form_named plain_forms word.now) }
+{
+    match form_named(&FORMS, word) {
+        None => if word == b"begin".as_slice() || word == b"image".as_slice() {
+            Cause::Block
+        } else {
+            Cause::Command
+        },
+        Some(Form::Send | Form::Take) => Cause::Command,
+        Some(_) => Cause::Block,
+    }
+}
+
+/// The form of these words within an image, or why they have none.
+pub(crate) fn recipe_judged(context: Context, words: &[&[u8]]) -> Result<RecipeForm, Cause>
+    ensures form { result ≡ recipe_judged context (map (λ word. word.now) words.now) }
+    ensures allowed { IfOk result (λ form. is_allowed context form ≡ true) }
+{
+    let word = word_at(words, 0);
+    let Some(form) = recipe_form_named(word) else {
+        return Err(inside_cause(word));
+    };
+    if !is_allowed(context, form) {
+        return Err(Cause::Block);
+    }
+    match misfit(recipe_kinds(form), words) {
+        None => Ok(form),
+        Some(why) => Err(why),
+    }
+}

@@ -1,0 +1,24 @@
+-- A line of words (own).
+use Rattle.std.specs.Prelude.{ℕ, List, [], ◌∷◌, ◌++◌, map}
+use Rattle.std.specs.List.{join_with_byte}
+use Rattle.word_kinds.specs.declared.pieces.Piece.{Piece}
+use Rattle.word_kinds.specs.declared.pieces.Piece.TheVariants as piece
+use Rattle.word_kinds.specs.Texts.{Word, Fixed, Name, Number, Digits, Offset, Bytes, Escaped, Bound, Side, Open, Service, text}
+
+-- the texts of words with a space between two, and a line feed at the end
+unfoldable pub line_of : List Word → List ℕ
+line_of words = join_with_byte 32 (map text words) ++ 10 ∷ []
+
+-- the word that a piece is, without its references
+abbrev pub word_of : Piece → Word
+word_of (piece.Fixed bytes) = Fixed bytes.now
+word_of (piece.Name name) = Name name.now
+word_of (piece.Number number) = Number number
+word_of (piece.Digits number) = Digits number
+word_of (piece.Offset number) = Offset number
+word_of (piece.Bytes bytes) = Bytes bytes.now
+word_of (piece.Escaped bytes) = Escaped bytes.now
+word_of (piece.Bound endpoint) = Bound endpoint
+word_of (piece.Side end) = Side end
+word_of (piece.Open is_live) = Open is_live
+word_of (piece.Service what) = Service what

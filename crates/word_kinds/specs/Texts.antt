@@ -1,0 +1,98 @@
+-- The words of transcript lines, and the text of each (own).
+use Rattle.std.specs.Prelude.{ℕ, ◌+◌, ◌/◌, ◌%◌, Bool, ◌==◌, ◌&&◌, not, nat_le, nat_lt, if◌then◌else◌, List, [], ◌∷◌, ◌++◌, length, codes}
+use Rattle.std.specs.List.{flat_map}
+use Rattle.std.specs.Fmt.{decimal}
+use Rattle.rp_base.specs.declared.kinds.End.{End}
+use Rattle.rp_base.specs.declared.kinds.End.TheVariants as side
+use Rattle.rp_base.specs.declared.kinds.Endpoint.{Endpoint}
+use Rattle.rp_base.specs.declared.kinds.NsKind.{NsKind}
+use Rattle.rp_base.specs.declared.kinds.NsKind.TheVariants as service
+
+-- a lower-case hexadecimal digit
+abbrev pub hex_digit : ℕ → ℕ
+hex_digit value = if nat_lt value 10 then value + 48 else value + 87
+
+-- a byte as two digits
+abbrev pub hex_byte : ℕ → List ℕ
+hex_byte byte = hex_digit (byte / 16) ∷ hex_digit (byte % 16) ∷ []
+
+-- a number of 32 bits as eight digits
+abbrev pub eight_digits : ℕ → List ℕ
+eight_digits number =
+    hex_byte (number / 16777216) ++ hex_byte (number / 65536 % 256) ++ hex_byte (number / 256 % 256) ++ hex_byte (number % 256)
+
+-- a number below 65,536 as hexadecimal digits without leading zeros, or none for 0
+abbrev pub leading_digits : ℕ → List ℕ
+leading_digits number =
+    if number == 0 then [] else (if nat_lt number 16 then hex_digit number ∷ [] else (if nat_lt number 256 then hex_byte number
+    else (if nat_lt number 4096 then hex_digit (number / 256) ∷ hex_byte (number % 256) else hex_byte (number / 256) ++ hex_byte (number % 256))))
+
+-- a number of 32 bits as at least four digits
+abbrev pub four_digits : ℕ → List ℕ
+four_digits number = leading_digits (number / 65536) ++ hex_byte (number / 256 % 256) ++ hex_byte (number % 256)
+
+-- bytes as pairs of digits, or `-` where there is none
+abbrev pub hex_bytes : List ℕ → List ℕ
+hex_bytes bytes = if length bytes == 0 then codes "-" else flat_map hex_byte bytes
+
+-- a byte that prints as it is: a visible character other than `%`
+abbrev pub is_plain : ℕ → Bool
+is_plain byte = nat_le 33 byte && nat_le byte 126 && not (byte == 37)
+
+-- a byte as it is where it is plain, else `%` and its two digits
+abbrev pub escaped_byte : ℕ → List ℕ
+escaped_byte byte = if is_plain byte then byte ∷ [] else 37 ∷ hex_byte byte
+
+-- a name or a text, with `%` and two digits for each byte that isn't plain, or `%` where it is empty
+abbrev pub escaped : List ℕ → List ℕ
+escaped text = if length text == 0 then codes "%" else flat_map escaped_byte text
+
+-- the end of a link
+abbrev pub end_text : End → List ℕ
+end_text side.Host = codes "host"
+end_text side.Remote = codes "remote"
+
+-- address and generation
+abbrev pub endpoint_text : Endpoint → List ℕ
+endpoint_text endpoint = decimal endpoint.address ++ codes "." ++ decimal endpoint.generation
+
+-- whether an incarnation is open
+abbrev pub open_text : Bool → List ℕ
+open_text is_live = if is_live then codes "open" else codes "closed"
+
+-- what the name service made of a message
+abbrev pub service_text : NsKind → List ℕ
+service_text service.Created = codes "created"
+service_text service.Duplicate = codes "duplicate"
+service_text service.Destroyed = codes "destroyed"
+service_text service.Unknown = codes "unknown"
+service_text service.ChannelsFull = codes "full"
+
+-- a word of a line, by its kind: fixed text, a name, a number in decimal or in eight or at least four hexadecimal digits, bytes in
+-- hexadecimal, a text with escapes, an endpoint, the end of a link, whether it is open, what the name service did
+pub data Word : Type 0 where
+  Fixed : List ℕ → Word
+  Name : List ℕ → Word
+  Number : ℕ → Word
+  Digits : ℕ → Word
+  Offset : ℕ → Word
+  Bytes : List ℕ → Word
+  Escaped : List ℕ → Word
+  Bound : Endpoint → Word
+  Side : End → Word
+  Open : Bool → Word
+  Service : NsKind → Word
+
+-- how a word is written
+abbrev pub text : Word → List ℕ
+text (Fixed bytes) = bytes
+text (Name name) = name
+text (Number number) = decimal number
+text (Digits number) = eight_digits number
+text (Offset number) = four_digits number
+text (Bytes bytes) = hex_bytes bytes
+text (Escaped bytes) = escaped bytes
+text (Bound endpoint) = endpoint_text endpoint
+text (Side end) = end_text end
+text (Open is_live) = open_text is_live
+text (Service what) = service_text what

@@ -1,0 +1,240 @@
+ghost use Rattle.std.specs.Prelude.{◌≡◌, ◌++◌, ◌∷◌, ◌<◌, [], OnOk, OnErr, map};
+ghost use Rattle.std.specs.Fmt.{decimal};
+ghost use Rattle.std.specs.List.{flat_map, join_with_byte};
+ghost use Rattle.word_kinds.specs.Texts.{hex_digit, hex_byte, eight_digits, four_digits, leading_digits, hex_bytes, escaped, is_plain, endpoint_text, end_text, service_text, text};
+ghost use Rattle.word_kinds.specs.Lines.{line_of, word_of};
+ghost use Rattle.word_kinds.specs.Growth.{Grown};
+
+use rp_base::{End, Endpoint, Name, NoMemory, NsKind};
+use std::alloc::AllocError;
+
+/// A word of a line, with what is written there.
+#[derive(Clone, Copy, Drop)]
+pub enum Piece<'a> {
+    /// A fixed word, or several.
+    Fixed(&'a str),
+    /// A name as it is.
+    Name(&'a Name),
+    /// A number in decimal.
+    Number(u64),
+    /// A number as eight lower-case hexadecimal digits.
+    Digits(u32),
+    /// A number as lower-case hexadecimal digits, at least four.
+    Offset(u32),
+    /// Bytes as pairs of lower-case hexadecimal digits, or `-` where there is none.
+    Bytes(&'a [u8]),
+    /// A name or a text with `%` and two digits for each byte that doesn't print as it is, or `%`
+    /// where it is empty.
+    Escaped(&'a [u8]),
+    /// An address and the number of its binding.
+    Bound(Endpoint),
+    /// The end of a link.
+    Side(End),
+    /// Whether an incarnation is open.
+    Open(bool),
+    /// What the name service made of a message.
+    Service(NsKind),
+}
+
+/// Appends the line of these words: a space between two, and a line feed at the end. Where memory
+/// is wanting, the text stays as it was.
+pub fn push_line(out: &mut Vec<u8>, words: &[Piece]) -> Result<(), NoMemory>
+    ensures whole { OnOk result (out.new.items ≡ out.old.items ++ line_of (map word_of words.now)) }
+    ensures same { OnErr result (out.new.items ≡ out.old.items) }
+{
+    let len = out.len();
+    if push_words(out, words).is_err() {
+        out.truncate(len);
+        return Err(NoMemory);
+    }
+    Ok(())
+}
+
+#[tactic(auto, unfolding(crate::specs::Lines::line_of))]
+fn push_words(out: &mut Vec<u8>, words: &[Piece]) -> Result<(), AllocError>
+    ensures whole { OnOk result (out.new.items ≡ out.old.items ++ line_of (map word_of words.now)) }
+    ensures front { Grown out.old.items out.new.items }
+{
+    push_joined(out, words)?;
+    out.push(b'\n')?;
+    Ok(())
+}
+
+/// Appends words with a space between two.
+fn push_joined(out: &mut Vec<u8>, words: &[Piece]) -> Result<(), AllocError>
+    ensures whole { OnOk result (out.new.items ≡ out.old.items ++ join_with_byte 32 (map text (map word_of words.now))) }
+    ensures front { Grown out.old.items out.new.items }
+{
+    match words {
+        [] => Ok(()),
+        [first, more @ ..] => {
+            push_word(out, first)?;
+            push_more(out, more)?;
+            Ok(())
+        }
+    }
+}
+
+/// Appends each word behind a space.
+fn push_more(out: &mut Vec<u8>, words: &[Piece]) -> Result<(), AllocError>
+    ensures whole { OnOk result (out.new.items ≡ out.old.items ++ flat_map (λ word. 32 ∷ text (word_of word)) words.now) }
+    ensures front { Grown out.old.items out.new.items }
+{
+    for word in words {
+        out.push(b' ')?;
+        push_word(out, word)?;
+    }
+    Ok(())
+}
+
+fn push_word(out: &mut Vec<u8>, word: &Piece) -> Result<(), AllocError>
+    ensures whole { OnOk result (out.new.items ≡ out.old.items ++ text (word_of word.now)) }
+    ensures front { Grown out.old.items out.new.items }
+{
+    match word {
+        Piece::Fixed(bytes) => out.extend_from_slice(bytes.as_bytes()),
+        Piece::Name(name) => out.extend_from_slice(name.bytes()),
+        Piece::Number(number) => push_number(out, *number),
+        Piece::Digits(number) => push_digits(out, *number),
+        Piece::Offset(number) => push_offset(out, *number),
+        Piece::Bytes(bytes) => push_hex(out, bytes),
+        Piece::Escaped(bytes) => push_escaped(out, bytes),
+        Piece::Bound(endpoint) => push_endpoint(out, *endpoint),
+        Piece::Side(end) => out.extend_from_slice(end_text(*end).as_bytes()),
+        Piece::Open(is_live) => {
+            let open = if *is_live { "open" } else { "closed" };
+            out.extend_from_slice(open.as_bytes())
+        }
+        Piece::Service(what) => out.extend_from_slice(service_text(*what).as_bytes()),
+    }
+}
+
+fn end_text(end: End) -> &'static str
+    ensures { result.now ≡ end_text end }
+{
+    match end {
+        End::Host => "host",
+        End::Remote => "remote",
+    }
+}
+
+fn service_text(what: NsKind) -> &'static str
+    ensures { result.now ≡ service_text what }
+{
+    match what {
+        NsKind::Created => "created",
+        NsKind::Duplicate => "duplicate",
+        NsKind::Destroyed => "destroyed",
+        NsKind::Unknown => "unknown",
+        NsKind::ChannelsFull => "full",
+    }
+}
+
+fn push_number(out: &mut Vec<u8>, number: u64) -> Result<(), AllocError>
+    ensures whole { OnOk result (out.new.items ≡ out.old.items ++ decimal number) }
+    ensures front { Grown out.old.items out.new.items }
+{
+    let mut buffer = itoa::Buffer::new();
+    out.extend_from_slice(buffer.format(number).as_bytes())
+}
+
+fn push_endpoint(out: &mut Vec<u8>, endpoint: Endpoint) -> Result<(), AllocError>
+    ensures whole { OnOk result (out.new.items ≡ out.old.items ++ endpoint_text endpoint) }
+    ensures front { Grown out.old.items out.new.items }
+{
+    push_number(out, u64::from(endpoint.address))?;
+    out.push(b'.')?;
+    push_number(out, endpoint.generation)
+}
+
+fn hex_digit(value: u8) -> u8
+    requires { value < 16 }
+    ensures { result ≡ hex_digit value }
+{
+    if value < 10 { value + b'0' } else { value + 87 }
+}
+
+/// Appends a byte as two hexadecimal digits.
+fn push_byte(out: &mut Vec<u8>, byte: u8) -> Result<(), AllocError>
+    ensures whole { OnOk result (out.new.items ≡ out.old.items ++ hex_byte byte) }
+    ensures front { Grown out.old.items out.new.items }
+{
+    out.extend_from_slice(&[hex_digit(byte / 16), hex_digit(byte % 16)])
+}
+
+fn push_digits(out: &mut Vec<u8>, number: u32) -> Result<(), AllocError>
+    ensures whole { OnOk result (out.new.items ≡ out.old.items ++ eight_digits number) }
+    ensures front { Grown out.old.items out.new.items }
+{
+    push_byte(out, (number / 16_777_216) as u8)?;
+    push_byte(out, (number / 65_536 % 256) as u8)?;
+    push_byte(out, (number / 256 % 256) as u8)?;
+    push_byte(out, (number % 256) as u8)
+}
+
+fn push_offset(out: &mut Vec<u8>, number: u32) -> Result<(), AllocError>
+    ensures whole { OnOk result (out.new.items ≡ out.old.items ++ four_digits number) }
+    ensures front { Grown out.old.items out.new.items }
+{
+    push_leading(out, (number / 65_536) as u16)?;
+    push_byte(out, (number / 256 % 256) as u8)?;
+    push_byte(out, (number % 256) as u8)
+}
+
+/// Appends the digits of a number without leading zeros.
+fn push_leading(out: &mut Vec<u8>, number: u16) -> Result<(), AllocError>
+    ensures whole { OnOk result (out.new.items ≡ out.old.items ++ leading_digits number) }
+    ensures front { Grown out.old.items out.new.items }
+{
+    let (high, low) = ((number / 256) as u8, (number % 256) as u8);
+    match number {
+        0 => Ok(()),
+        1..=15 => out.extend_from_slice(&[hex_digit(low)]),
+        16..=255 => push_byte(out, low),
+        256..=4095 => {
+            out.extend_from_slice(&[hex_digit(high)])?;
+            push_byte(out, low)
+        }
+        _ => {
+            push_byte(out, high)?;
+            push_byte(out, low)
+        }
+    }
+}
+
+fn push_hex(out: &mut Vec<u8>, bytes: &[u8]) -> Result<(), AllocError>
+    ensures whole { OnOk result (out.new.items ≡ out.old.items ++ hex_bytes bytes.now) }
+    ensures front { Grown out.old.items out.new.items }
+{
+    if bytes.is_empty() {
+        return out.extend_from_slice(b"-");
+    }
+    for byte in bytes {
+        push_byte(out, *byte)?;
+    }
+    Ok(())
+}
+
+fn is_plain(byte: u8) -> bool
+    ensures { result ≡ is_plain byte }
+{
+    matches!(byte, 33..=126) && byte != b'%'
+}
+
+fn push_escaped(out: &mut Vec<u8>, text: &[u8]) -> Result<(), AllocError>
+    ensures whole { OnOk result (out.new.items ≡ out.old.items ++ escaped text.now) }
+    ensures front { Grown out.old.items out.new.items }
+{
+    if text.is_empty() {
+        return out.extend_from_slice(b"%");
+    }
+    for byte in text {
+        if is_plain(*byte) {
+            out.push(*byte)?;
+        } else {
+            out.push(b'%')?;
+            push_byte(out, *byte)?;
+        }
+    }
+    Ok(())
+}
