@@ -1,4 +1,14 @@
 pub mod Holdings
-pub mod GoesOn
 pub mod SoundLanes
+pub mod BookEntries
+pub mod Steps
+pub mod GoesOn
+pub mod Others
 pub mod SoundKept
+pub mod Ends
+pub mod CrashSteps
+pub mod CrashLaws
+pub mod AskSteps
+pub mod FormSteps
+pub mod PartSteps
+pub mod AtOnce

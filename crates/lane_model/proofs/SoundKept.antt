@@ -1,423 +1,280 @@
--- Every step keeps a link sound.
-use Rattle.std.proofs.Common.{◌≡◌, ℕ, ◌<◌, ◌≤◌, ◌==◌, ◌+◌, length, Bool, true, false, cond, Option, Some, None, refl, sym, ap, subst, ◌∙◌, arith, List, [], ◌∷◌, ◌++◌}
-use Rattle.std.proofs.lemmas.Bool.{false≢true, eqb-true, eqb-false, ne_eqb, or_parts, cond_both, and_parts}
+-- Every step of a call, and the making of a caller, keep a link sound.
+use Rattle.std.proofs.Common.{◌≡◌, ℕ, ◌+◌, ◌||◌, length, Bool, true, false, cond, Option, Some, None, refl, sym, ap, subst, ◌∙◌, arith, List, [], ◌∷◌}
+use Rattle.std.proofs.lemmas.Bool.{false≢true, eqb-true, cond_both, or_parts}
 use Rattle.rp_base.specs.declared.kinds.Era.{Era}
 use Rattle.rp_base.specs.declared.kinds.End.{End}
 use Rattle.rp_base.specs.declared.kinds.End.TheVariants as side
 use Rattle.lane_model.specs.declared.states.Holding.{Holding}
-use Rattle.lane_model.specs.declared.states.Lane.{Lane}
 use Rattle.lane_model.specs.declared.states.LaneState.{LaneState}
-use Rattle.lane_model.specs.declared.states.LinkState.{LinkState}
-use Rattle.lane_model.specs.declared.stages.Sending.{Sending}
-use Rattle.lane_model.specs.declared.stages.SendStage.{SendStage}
-use Rattle.lane_model.specs.declared.stages.SendStage.TheVariants as stage
-use Rattle.lane_model.specs.declared.stages.SendEnd.TheVariants as send_end
 use Rattle.lane_model.specs.declared.stages.Receiving.{Receiving}
-use Rattle.lane_model.specs.declared.stages.ReceiveCall.{ReceiveCall}
-use Rattle.lane_model.specs.declared.stages.ReceiveCall.TheVariants as call
-use Rattle.lane_model.specs.declared.stages.TakeStage.{TakeStage}
+use Rattle.lane_model.specs.declared.stages.Work.{Work}
+use Rattle.lane_model.specs.declared.stages.Work.TheVariants as work
 use Rattle.lane_model.specs.declared.stages.TakeStage.TheVariants as take_stage
-use Rattle.lane_model.specs.declared.stages.TakeEnd.TheVariants as take_end
-use Rattle.lane_model.specs.declared.stages.GiveStage.{GiveStage}
 use Rattle.lane_model.specs.declared.stages.GiveStage.TheVariants as give_stage
-use Rattle.lane_model.specs.declared.stages.DeskStage.{DeskStage}
-use Rattle.lane_model.specs.declared.stages.DeskStage.TheVariants as desk_stage
 use Rattle.lane_model.specs.declared.stages.Turn.{Turn}
 use Rattle.lane_model.specs.declared.stages.Turn.TheVariants as turn
-use Rattle.lane_model.specs.declared.calls.Ask.{Ask}
-use Rattle.lane_model.specs.declared.calls.Ask.TheVariants as ask
+use Rattle.lane_model.specs.declared.calls.CallEnd.TheVariants as end
+use Rattle.lane_model.specs.declared.calls.Wish.{Wish}
+use Rattle.lane_model.specs.declared.calls.Wish.TheVariants as wish
 use Rattle.lane_model.specs.declared.calls.LinkConfig.{LinkConfig}
 use Rattle.lane_model.specs.Desks.{DeskMeaning}
-use Rattle.lane_model.specs.Lanes.{Stepped, is_live_in, is_sending, is_receiving, taken_by}
-use Rattle.lane_model.specs.Sends.{send_step, sender_step, after_send_look}
-use Rattle.lane_model.specs.Receives.{take_step, take_handed, give_step, bind_step, unbind_step, receive_step, receiver_step, after_take_look}
-use Rattle.lane_model.specs.Links.{PairStepped, pair_step, pair_begun, pair_continued, caller_step, end_step, end_of, opened_link}
-use Rattle.lane_model.specs.Conditions.{HasRoomAt, HasRoom, HasMessageAt, HasHeldAt, IsFitCall, IsFitReceiver, MayPairStep, MayEndStep, MayStep}
-use Rattle.lane_model.specs.Soundness.{IsUser, AreSoundHoldings, IsSoundLane, IsSoundSender, IsSoundReceiver, IsSoundState, IsAlone, SoundLink}
-use Rattle.lane_model.proofs.SoundLanes.{length-more, handed_sound, without_sound, length-without-one, held_if_holds}
-use Rattle.lane_model.proofs.GoesOn.{both}
+use Rattle.lane_model.specs.Lanes.{taken_by, has_call, is_live_in}
+use Rattle.lane_model.specs.Sends.{send_step, sender_step}
+use Rattle.lane_model.specs.Receives.{receive_step, receiver_step, take_handed}
+use Rattle.lane_model.specs.Crashes.{opened_lane}
+use Rattle.lane_model.specs.Forms.{list_form}
+use Rattle.lane_model.specs.Links.{LinkState, Lanes, lanes_of, end_of, lanes_step, first_step, send_first, receive_first, send_later, receive_later, on_lanes, caller_step, opened_link, free_number, with_caller}
+use Rattle.lane_model.specs.Conditions.{IsFitWork, IsFitReceiver, MayLanesStep, MayEndStep, MayStep, is_in_call}
+use Rattle.lane_model.specs.Soundness.{IsUser, AreUsers, IsSoundLane, IsSoundTurn, IsSoundBetween, IsAlone, SoundLink}
+use Rattle.lane_model.proofs.Holdings.{length-more, length-without-one}
+use Rattle.lane_model.proofs.SoundLanes.{turn_step_has, sent_on_sound, received_on_sound, send_begun_sound, receive_begun_sound}
+use Rattle.lane_model.proofs.Steps.{with_sound, send_on, receive_on, sender_own, receiver_own}
+use Rattle.lane_model.proofs.Others.{stays_in_use}
 
--- a sound lane whose sender's turn alone has changed
-sender_changed : {D : Type 0} (callers : List (Option End)) (sends receives : End) (live : Bool) (state : LaneState D) (next : Turn Sending)
-    → IsSoundState callers sends receives live state → IsSoundSender callers sends next
-    → HasRoom next (length state.lane.accepted) state.lane.returned state.lane.capacity state.lane.book
-    → IsSoundState callers sends receives live (record state { sender = next })
-sender_changed callers sends receives live state next sound user room =
-    record { lane = sound.lane; sender = user; receiver = sound.receiver; room = room; fit = sound.fit }
+-- the lanes of the callers of one end
+pub record IsSoundLanes {D : Type 0} (callers : List (Option End)) (own other : End) (live : Bool) (lanes : Lanes (LaneState D)) : Type 0 where
+  pub outgoing : IsSoundBetween callers own other live lanes.outgoing
+  pub incoming : IsSoundBetween callers other own live lanes.incoming
+  pub alone : IsAlone lanes.outgoing lanes.incoming
+  pub others : IsAlone lanes.incoming lanes.outgoing
 
--- a sound lane whose receiver's turn has changed, and its desk
-receiver_changed : {D : Type 0} (callers : List (Option End)) (sends receives : End) (live : Bool) (state : LaneState D) (next : Turn Receiving) (desk : D)
-    → IsSoundState callers sends receives live state → IsSoundReceiver callers receives next
-    → IsFitReceiver next state.lane.held (length state.lane.takers) (length state.lane.accepted)
-    → IsSoundState callers sends receives live (record state { receiver = next; desk = desk })
-receiver_changed callers sends receives live state next desk sound user fit =
-    record { lane = sound.lane; sender = sound.sender; receiver = user; room = sound.room; fit = fit }
+not_then : (a b : Bool) → (a ≡ true → b ≡ true) → b ≡ false → a ≡ false
+not_then false b from is = refl
+not_then true b from is = absurd (false≢true (sym is ∙ from refl))
 
--- what a call has found stays where more messages are accepted
-take_stays_fit : (now : TakeStage) (handed accepted more : ℕ) → accepted ≤ more → HasMessageAt now handed accepted → HasMessageAt now handed more
-take_stays_fit take_stage.Turn handed accepted more up fit = tt
-take_stays_fit take_stage.Era handed accepted more up fit = tt
-take_stays_fit take_stage.Look handed accepted more up fit = omega arith
-take_stays_fit take_stage.Buffer handed accepted more up fit = omega arith
-take_stays_fit (take_stage.Settled (take_end.Took number verdict)) handed accepted more up fit = omega arith
-take_stays_fit (take_stage.Settled (take_end.Dead era)) handed accepted more up fit = tt
-take_stays_fit (take_stage.Settled (take_end.Empty total)) handed accepted more up fit = tt
+-- who has the turn that was free is the caller, and else who had it before
+taken_had : {C : Type 0} (P : ℕ → Type 0) (now : Turn C) (caller other : ℕ) (call : C) → P caller → (has_call now other ≡ true → P other) → has_call (taken_by now caller call) other ≡ true → P other
+taken_had P turn.Free caller other call mine before is = subst P (eqb-true _ _ is) mine
+taken_had P (turn.Taken n now_call) caller other call mine before is = before is
+taken_had P (turn.Leaving n ended) caller other call mine before is = before is
+taken_had P turn.Manager caller other call mine before is = before is
 
-call_stays_fit : (now : ReceiveCall) (caller : ℕ) (held : List Holding) (handed accepted more : ℕ) → accepted ≤ more → IsFitCall now caller held handed accepted → IsFitCall now caller held handed more
-call_stays_fit (call.Take now) caller held handed accepted more up fit = take_stays_fit now handed accepted more up fit
-call_stays_fit (call.Give number now) caller held handed accepted more up fit = fit
-call_stays_fit (call.Bind address now) caller held handed accepted more up fit = tt
-call_stays_fit (call.Unbind address now) caller held handed accepted more up fit = tt
+taken_sound : {C : Type 0} (callers : List (Option End)) (own : End) (now : Turn C) (caller : ℕ) (call : C) → IsUser callers own caller → IsSoundTurn callers own now → IsSoundTurn callers own (taken_by now caller call)
+taken_sound callers own turn.Free caller call user sound = user
+taken_sound callers own (turn.Taken n now_call) caller call user sound = sound
+taken_sound callers own (turn.Leaving n ended) caller call user sound = sound
+taken_sound callers own turn.Manager caller call user sound = sound
 
-receiver_stays_fit : (now : Turn Receiving) (held : List Holding) (handed accepted more : ℕ) → accepted ≤ more → IsFitReceiver now held handed accepted → IsFitReceiver now held handed more
-receiver_stays_fit turn.Free held handed accepted more up fit = tt
-receiver_stays_fit (turn.Taken r) held handed accepted more up fit = call_stays_fit r.call r.caller held handed accepted more up fit
-receiver_stays_fit turn.Manager held handed accepted more up fit = tt
+-- who has the sender's turn after a step had it before
+sender_had : {D : Type 0} (era : Era) (state : LaneState D) (other : ℕ) → has_call (sender_step era state).state.sender other ≡ true → has_call state.sender other ≡ true
+sender_had {D} era state other =
+    turn_step_has (λ (after : LaneState D). has_call after.sender other ≡ true → has_call state.sender other ≡ true) state (record state { sender = turn.Free })
+    (λ caller s. send_step era state caller s s.stage) state.sender (λ has. has) (λ has. absurd (false≢true has))
+    (λ caller s is has. ap (λ now. has_call now other) is ∙ sym ((send_on era state caller s s.stage).0 other) ∙ has)
 
--- room stays where more buffers are given back
-send_keeps_room : (now : SendStage) (accepted returned more capacity book : ℕ) → returned ≤ more → HasRoomAt now accepted returned capacity book → HasRoomAt now accepted more capacity book
-send_keeps_room stage.Turn accepted returned more capacity book up room = tt
-send_keeps_room stage.Era accepted returned more capacity book up room = tt
-send_keeps_room stage.Look accepted returned more capacity book up room = (omega (arith, room.0), room.1)
-send_keeps_room stage.Buffer accepted returned more capacity book up room = (omega (arith, room.0), room.1)
-send_keeps_room stage.Entry accepted returned more capacity book up room = (omega (arith, room.0), room.1)
-send_keeps_room (stage.Settled ended) accepted returned more capacity book up room = tt
+receiver_had : {D : Type 0} (desk : DeskMeaning D) (era : Era) (state : LaneState D) (other : ℕ) → has_call (receiver_step desk era state).state.receiver other ≡ true → has_call state.receiver other ≡ true
+receiver_had {D} desk era state other =
+    turn_step_has (λ (after : LaneState D). has_call after.receiver other ≡ true → has_call state.receiver other ≡ true) state (record state { receiver = turn.Free })
+    (λ caller r. receive_step desk era state caller r r.work) state.receiver (λ has. has) (λ has. absurd (false≢true has))
+    (λ caller r is has. ap (λ now. has_call now other) is ∙ sym ((receive_on desk era state caller r r.work).0 other) ∙ has)
 
-sender_keeps_room : (now : Turn Sending) (accepted returned more capacity book : ℕ) → returned ≤ more → HasRoom now accepted returned capacity book → HasRoom now accepted more capacity book
-sender_keeps_room turn.Free accepted returned more capacity book up room = tt
-sender_keeps_room (turn.Taken s) accepted returned more capacity book up room = send_keeps_room s.stage accepted returned more capacity book up room
-sender_keeps_room turn.Manager accepted returned more capacity book up room = tt
+-- the buffers that were handed over are held or back
+abbrev IsWhole : {D : Type 0} → Bool → LaneState D → Type 0
+IsWhole live state = live ≡ true → state.lane.returned + length state.lane.held ≡ length state.lane.takers
 
--- a look for room finds room, or settles the send
-room_if_looked : (lane : Lane) → length lane.accepted ≤ lane.returned + lane.capacity → length lane.accepted ≤ lane.book
-    → HasRoomAt (after_send_look lane) (length lane.accepted) lane.returned lane.capacity lane.book
-room_if_looked lane out within =
-    let Has : SendStage → Type 0 = λ next. HasRoomAt next (length lane.accepted) lane.returned lane.capacity lane.book in
-    let full = stage.Settled (send_end.BookFull (length lane.accepted)) in
-    let none = stage.Settled (send_end.NoBuffer (length lane.accepted) lane.returned) in
-    cond_both (length lane.accepted == lane.returned + lane.capacity) none (cond (length lane.accepted == lane.book) full stage.Look) Has (λ _. tt)
-    (λ some. cond_both (length lane.accepted == lane.book) full stage.Look Has (λ _. tt)
-    (λ open_book.
-    let free = eqb-false _ _ some in
-    let fits = eqb-false _ _ open_book in
-    (omega arith, omega arith)))
-
--- a look for a message finds one, or settles the take
-message_if_looked : (lane : Lane) → length lane.takers ≤ length lane.accepted → HasMessageAt (after_take_look lane) (length lane.takers) (length lane.accepted)
-message_if_looked lane handed =
-    cond_both (length lane.takers == length lane.accepted) (take_stage.Settled (take_end.Empty (length lane.accepted))) take_stage.Look
-    (λ next. HasMessageAt next (length lane.takers) (length lane.accepted)) (λ _. tt)
-    (λ some. let left = eqb-false _ _ some in omega arith)
-
-send_sound : {D : Type 0} (callers : List (Option End)) (sends receives : End) (live : Bool) (era : Era) (state : LaneState D) (s : Sending) (now : SendStage)
-    → IsSoundState callers sends receives live state → IsUser callers sends s.caller
-    → HasRoomAt now (length state.lane.accepted) state.lane.returned state.lane.capacity state.lane.book
-    → IsSoundState callers sends receives live (send_step era state s now).state
-send_sound callers sends receives live era state s stage.Turn sound user room =
-    sender_changed callers sends receives live state _ sound user
-    (both (λ next. HasRoomAt next (length state.lane.accepted) state.lane.returned state.lane.capacity state.lane.book) (is_live_in era s.follows) stage.Era (stage.Settled (send_end.Dead era)) tt tt)
-send_sound callers sends receives live era state s stage.Era sound user room =
-    sender_changed callers sends receives live state _ sound user (room_if_looked state.lane sound.lane.out sound.lane.within)
-send_sound callers sends receives live era state s stage.Look sound user room = sender_changed callers sends receives live state _ sound user room
-send_sound callers sends receives live era state s stage.Buffer sound user room = sender_changed callers sends receives live state _ sound user room
-send_sound callers sends receives live era state s stage.Entry sound user room =
+handed_whole : {D : Type 0} (desk : DeskMeaning D) (live : Bool) (state : LaneState D) (caller : ℕ) → IsWhole live state → IsWhole live (take_handed desk state caller)
+handed_whole desk live state caller whole = λ is.
     let old = state.lane in
-    let more = length-more old.accepted (record { caller = s.caller; message = s.message }) in
-    record {
-      lane = record {
-        counts = sound.lane.counts;
-        handed = omega (arith, more, sound.lane.handed);
-        out = omega (arith, more, room.0);
-        within = omega (arith, more, room.1);
-        whole = sound.lane.whole;
-        holdings = sound.lane.holdings;
-      };
-      sender = user;
-      receiver = sound.receiver;
-      room = tt;
-      fit = receiver_stays_fit state.receiver old.held (length old.takers) (length old.accepted) _ (omega (arith, more)) sound.fit;
-    }
-send_sound callers sends receives live era state s (stage.Settled ended) sound user room = sender_changed callers sends receives live state turn.Free sound tt tt
+    let one_taker = length-more old.takers caller in
+    let one_held = length-more old.held (record { number = length old.takers; caller = caller }) in
+    let before = whole is in
+    omega (arith, one_taker, one_held, before)
 
--- the handing of a message in a live era
-handing_sound : {D : Type 0} (callers : List (Option End)) (sends receives : End) (era : Era) (desk : DeskMeaning D) (state : LaneState D) (r : Receiving)
-    → IsSoundState callers sends receives era.is_live state → IsUser callers receives r.caller → length state.lane.takers < length state.lane.accepted → era.is_live ≡ true
-    → IsSoundState callers sends receives era.is_live (take_handed desk state r).state
-handing_sound callers sends receives era desk state r sound user waits live =
-    let old = state.lane in
-    let one_taker = length-more old.takers r.caller in
-    let one_held = length-more old.held (record { number = length old.takers; caller = r.caller }) in
+receive_whole : {D : Type 0} (desk : DeskMeaning D) (era : Era) (live : Bool) (state : LaneState D) (caller : ℕ) (r : Receiving) (now : Work)
+    → IsSoundLane state → IsFitWork now state.lane caller → IsWhole live state → IsWhole live (receive_step desk era state caller r now).state
+receive_whole desk era live state caller r (work.Take take_stage.Turn) sound fit whole = whole
+receive_whole desk era live state caller r (work.Take take_stage.Era) sound fit whole = whole
+receive_whole desk era live state caller r (work.Take take_stage.Look) sound fit whole = whole
+receive_whole desk era live state caller r (work.Take take_stage.Buffer) sound fit whole =
+    cond_both (is_live_in era r.follows) (take_handed desk state caller) (record state { receiver = turn.Leaving caller (end.Dead era) }) (IsWhole live)
+    (λ _. handed_whole desk live state caller whole) (λ _. whole)
+receive_whole desk era live state caller r (work.Give number give_stage.Turn) sound fit whole = whole
+receive_whole desk era live state caller r (work.Give number give_stage.Entry) sound fit whole = λ is.
+    let fewer = length-without-one (length state.lane.takers) state.lane.held number caller sound.holdings fit in
+    let before = whole is in
+    omega (arith, fewer, before)
+receive_whole {D} desk era live state caller r (work.Bind address) sound fit whole =
+    cond_both (is_live_in era r.follows) _ _ (λ (after : LaneState D). IsWhole live after) (λ _. whole) (λ _. whole)
+receive_whole {D} desk era live state caller r (work.Unbind address) sound fit whole =
+    cond_both (is_live_in era r.follows) _ _ (λ (after : LaneState D). IsWhole live after) (λ _. whole) (λ _. whole)
+
+sender_between : {D : Type 0} (callers : List (Option End)) (own other : End) (live : Bool) (era : Era) (state : LaneState D) → IsSoundBetween callers own other live state
+    → IsSoundBetween callers own other live (sender_step era state).state
+sender_between {D} callers own other live era state sound =
+    let kept = sender_own era state in
     record {
-      lane = record {
-        counts = omega (arith, one_taker, one_held, sound.lane.counts);
-        handed = omega (arith, one_taker, waits);
-        out = sound.lane.out;
-        within = sound.lane.within;
-        whole = λ _. let whole = sound.lane.whole live in omega (arith, one_taker, one_held);
-        holdings = subst (λ n. AreSoundHoldings callers receives n (old.held ++ record { number = length old.takers; caller = r.caller } ∷ [])) (sym one_taker)
-            (handed_sound callers receives (length old.takers) r.caller user old.held sound.lane.holdings);
-      };
-      sender = sound.sender;
-      receiver = user;
-      room = sound.room;
-      fit = waits;
+      lane = sent_on_sound era state sound.lane;
+      whole = λ is. rw (kept.held, kept.takers, kept.returned) (sound.whole is);
+      users = subst (AreUsers callers other) (sym kept.held) sound.users;
+      sender = turn_step_has (λ (after : LaneState D). IsSoundTurn callers own after.sender) state (record state { sender = turn.Free }) (λ caller s. send_step era state caller s s.stage) state.sender sound.sender tt
+          (λ caller s is. with_sound callers own caller _ (subst (IsSoundTurn callers own) is sound.sender) (send_on era state caller s s.stage).0);
+      receiver = subst (IsSoundTurn callers other) (sym kept.receiver) sound.receiver;
     }
 
--- what a step on one lane leaves is sound
-abbrev LaneStaysSound : {D : Type 0} → List (Option End) → End → End → Bool → Stepped D → Type 0
-LaneStaysSound callers sends receives live step = IsSoundState callers sends receives live step.state
-
-take_sound : {D : Type 0} (callers : List (Option End)) (sends receives : End) (desk : DeskMeaning D) (era : Era) (lane_no buffer : ℕ) (state : LaneState D) (r : Receiving) (now : TakeStage)
-    → IsSoundState callers sends receives era.is_live state → IsUser callers receives r.caller → HasMessageAt now (length state.lane.takers) (length state.lane.accepted)
-    → IsSoundState callers sends receives era.is_live (take_step desk era lane_no buffer state r now).state
-take_sound callers sends receives desk era lane_no buffer state r take_stage.Turn sound user fit =
-    receiver_changed callers sends receives era.is_live state _ state.desk sound user
-    (both (λ next. HasMessageAt next (length state.lane.takers) (length state.lane.accepted)) (is_live_in era r.follows) take_stage.Era (take_stage.Settled (take_end.Dead era)) tt tt)
-take_sound callers sends receives desk era lane_no buffer state r take_stage.Era sound user fit =
-    receiver_changed callers sends receives era.is_live state _ state.desk sound user (message_if_looked state.lane sound.lane.handed)
-take_sound callers sends receives desk era lane_no buffer state r take_stage.Look sound user fit =
-    receiver_changed callers sends receives era.is_live state _ state.desk sound user fit
-take_sound callers sends receives desk era lane_no buffer state r take_stage.Buffer sound user fit =
-    cond_both (is_live_in era r.follows) _ _ (LaneStaysSound callers sends receives era.is_live)
-    (λ live. handing_sound callers sends receives era desk state r sound user fit (and_parts _ _ live).1)
-    (λ _. receiver_changed callers sends receives era.is_live state (turn.Taken (record r { call = call.Take (take_stage.Settled (take_end.Dead era)) })) state.desk sound user tt)
-take_sound callers sends receives desk era lane_no buffer state r (take_stage.Settled ended) sound user fit =
-    receiver_changed callers sends receives era.is_live state turn.Free state.desk sound tt tt
-
-give_sound : {D : Type 0} (callers : List (Option End)) (sends receives : End) (live : Bool) (state : LaneState D) (r : Receiving) (number : ℕ) (now : GiveStage)
-    → IsSoundState callers sends receives live state → IsUser callers receives r.caller → HasHeldAt now state.lane.held number r.caller
-    → IsSoundState callers sends receives live (give_step state r number now).state
-give_sound callers sends receives live state r number give_stage.Turn sound user fit = receiver_changed callers sends receives live state _ state.desk sound user fit
-give_sound callers sends receives live state r number give_stage.Entry sound user fit =
-    let old = state.lane in
-    let fewer = length-without-one callers receives (length old.takers) old.held number sound.lane.holdings (held_if_holds old.held number r.caller fit) in
+receiver_between : {D : Type 0} (callers : List (Option End)) (own other : End) (live : Bool) (desk : DeskMeaning D) (era : Era) (state : LaneState D) (caller : ℕ) → has_call state.receiver caller ≡ true
+    → IsUser callers own caller → IsSoundBetween callers other own live state → IsSoundBetween callers other own live (receiver_step desk era state).state
+receiver_between {D} callers own other live desk era state caller has user sound =
+    let kept = receiver_own desk era state caller has in
     record {
-      lane = record {
-        counts = omega (arith, fewer, sound.lane.counts);
-        handed = sound.lane.handed;
-        out = omega (arith, sound.lane.out);
-        within = sound.lane.within;
-        whole = λ is. let whole = sound.lane.whole is in omega (arith, fewer);
-        holdings = without_sound callers receives (length old.takers) old.held number sound.lane.holdings;
-      };
-      sender = sound.sender;
-      receiver = user;
-      room = sender_keeps_room state.sender (length old.accepted) old.returned (old.returned + 1) old.capacity old.book (omega arith) sound.room;
-      fit = tt;
+      lane = received_on_sound desk era state sound.lane;
+      whole = turn_step_has (IsWhole live) state (record state { receiver = turn.Free }) (λ n r. receive_step desk era state n r r.work) state.receiver sound.whole sound.whole
+          (λ n r is. receive_whole desk era live state n r r.work sound.lane (subst (λ now. IsFitReceiver now state.lane) is sound.lane.fit) sound.whole);
+      users = kept.users callers own user sound.users;
+      sender = subst (IsSoundTurn callers other) (sym kept.sender) sound.sender;
+      receiver = turn_step_has (λ (after : LaneState D). IsSoundTurn callers own after.receiver) state (record state { receiver = turn.Free }) (λ n r. receive_step desk era state n r r.work) state.receiver sound.receiver tt
+          (λ n r is. with_sound callers own n _ (subst (IsSoundTurn callers own) is sound.receiver) (receive_on desk era state n r r.work).0);
     }
-give_sound callers sends receives live state r number give_stage.Settled sound user fit = receiver_changed callers sends receives live state turn.Free state.desk sound tt tt
 
-bind_sound : {D : Type 0} (callers : List (Option End)) (sends receives : End) (live : Bool) (desk : DeskMeaning D) (era : Era) (state : LaneState D) (r : Receiving) (address : ℕ) (now : DeskStage)
-    → IsSoundState callers sends receives live state → IsUser callers receives r.caller
-    → IsSoundState callers sends receives live (bind_step desk era state r address now).state
-bind_sound callers sends receives live desk era state r address desk_stage.Turn sound user =
-    both (LaneStaysSound callers sends receives live) (is_live_in era r.follows) _ _
-    (receiver_changed callers sends receives live state _ (desk.bound state.desk address (length state.lane.takers)) sound user tt)
-    (receiver_changed callers sends receives live state _ state.desk sound user tt)
-bind_sound callers sends receives live desk era state r address (desk_stage.Settled ended) sound user = receiver_changed callers sends receives live state turn.Free state.desk sound tt tt
-
-unbind_sound : {D : Type 0} (callers : List (Option End)) (sends receives : End) (live : Bool) (desk : DeskMeaning D) (era : Era) (state : LaneState D) (r : Receiving) (address : ℕ) (now : DeskStage)
-    → IsSoundState callers sends receives live state → IsUser callers receives r.caller
-    → IsSoundState callers sends receives live (unbind_step desk era state r address now).state
-unbind_sound callers sends receives live desk era state r address desk_stage.Turn sound user =
-    both (LaneStaysSound callers sends receives live) (is_live_in era r.follows) _ _
-    (receiver_changed callers sends receives live state _ (desk.unbound state.desk address) sound user tt)
-    (receiver_changed callers sends receives live state _ state.desk sound user tt)
-unbind_sound callers sends receives live desk era state r address (desk_stage.Settled ended) sound user = receiver_changed callers sends receives live state turn.Free state.desk sound tt tt
-
-receive_sound : {D : Type 0} (callers : List (Option End)) (sends receives : End) (desk : DeskMeaning D) (era : Era) (lane_no buffer : ℕ) (state : LaneState D) (r : Receiving) (now : ReceiveCall)
-    → IsSoundState callers sends receives era.is_live state → IsUser callers receives r.caller → IsFitCall now r.caller state.lane.held (length state.lane.takers) (length state.lane.accepted)
-    → IsSoundState callers sends receives era.is_live (receive_step desk era lane_no buffer state r now).state
-receive_sound callers sends receives desk era lane_no buffer state r (call.Take now) sound user fit = take_sound callers sends receives desk era lane_no buffer state r now sound user fit
-receive_sound callers sends receives desk era lane_no buffer state r (call.Give number now) sound user fit = give_sound callers sends receives era.is_live state r number now sound user fit
-receive_sound callers sends receives desk era lane_no buffer state r (call.Bind address now) sound user fit = bind_sound callers sends receives era.is_live desk era state r address now sound user
-receive_sound callers sends receives desk era lane_no buffer state r (call.Unbind address now) sound user fit = unbind_sound callers sends receives era.is_live desk era state r address now sound user
-
--- who sends after a step sent before it, and no send touches the receiver's turn
-record IsSendersOwn {D : Type 0} (state left : LaneState D) (s : Sending) : Type 0 where
-  pub receiver : left.receiver ≡ state.receiver
-  pub sender : (caller : ℕ) → is_sending left.sender caller ≡ true → (s.caller == caller) ≡ true
-
-send_stays_own : {D : Type 0} (era : Era) (state : LaneState D) (s : Sending) (now : SendStage) → IsSendersOwn state (send_step era state s now).state s
-send_stays_own era state s stage.Turn = record { receiver = refl; sender = λ caller is. is }
-send_stays_own era state s stage.Era = record { receiver = refl; sender = λ caller is. is }
-send_stays_own era state s stage.Look = record { receiver = refl; sender = λ caller is. is }
-send_stays_own era state s stage.Buffer = record { receiver = refl; sender = λ caller is. is }
-send_stays_own era state s stage.Entry = record { receiver = refl; sender = λ caller is. is }
-send_stays_own era state s (stage.Settled ended) = record { receiver = refl; sender = λ caller is. absurd (false≢true is) }
-
--- the same of a call on the receiver's turn
-record IsReceiversOwn {D : Type 0} (state left : LaneState D) (r : Receiving) : Type 0 where
-  pub sender : left.sender ≡ state.sender
-  pub receiver : (caller : ℕ) → (r.caller == caller) ≡ false → is_receiving left.receiver caller ≡ false
-
-abbrev ReceiverStaysOwn : {D : Type 0} → LaneState D → Receiving → Stepped D → Type 0
-ReceiverStaysOwn state r step = IsReceiversOwn state step.state r
-
-take_stays_own : {D : Type 0} (desk : DeskMeaning D) (era : Era) (lane_no buffer : ℕ) (state : LaneState D) (r : Receiving) (now : TakeStage)
-    → IsReceiversOwn state (take_step desk era lane_no buffer state r now).state r
-take_stays_own desk era lane_no buffer state r take_stage.Turn = record { sender = refl; receiver = λ caller is. is }
-take_stays_own desk era lane_no buffer state r take_stage.Era = record { sender = refl; receiver = λ caller is. is }
-take_stays_own desk era lane_no buffer state r take_stage.Look = record { sender = refl; receiver = λ caller is. is }
-take_stays_own desk era lane_no buffer state r take_stage.Buffer =
-    both (ReceiverStaysOwn state r) (is_live_in era r.follows) _ _ (record { sender = refl; receiver = λ caller is. is }) (record { sender = refl; receiver = λ caller is. is })
-take_stays_own desk era lane_no buffer state r (take_stage.Settled ended) = record { sender = refl; receiver = λ caller is. refl }
-
-give_stays_own : {D : Type 0} (state : LaneState D) (r : Receiving) (number : ℕ) (now : GiveStage) → IsReceiversOwn state (give_step state r number now).state r
-give_stays_own state r number give_stage.Turn = record { sender = refl; receiver = λ caller is. is }
-give_stays_own state r number give_stage.Entry = record { sender = refl; receiver = λ caller is. is }
-give_stays_own state r number give_stage.Settled = record { sender = refl; receiver = λ caller is. refl }
-
-bind_stays_own : {D : Type 0} (desk : DeskMeaning D) (era : Era) (state : LaneState D) (r : Receiving) (address : ℕ) (now : DeskStage)
-    → IsReceiversOwn state (bind_step desk era state r address now).state r
-bind_stays_own desk era state r address desk_stage.Turn =
-    both (ReceiverStaysOwn state r) (is_live_in era r.follows) _ _ (record { sender = refl; receiver = λ caller is. is }) (record { sender = refl; receiver = λ caller is. is })
-bind_stays_own desk era state r address (desk_stage.Settled ended) = record { sender = refl; receiver = λ caller is. refl }
-
-unbind_stays_own : {D : Type 0} (desk : DeskMeaning D) (era : Era) (state : LaneState D) (r : Receiving) (address : ℕ) (now : DeskStage)
-    → IsReceiversOwn state (unbind_step desk era state r address now).state r
-unbind_stays_own desk era state r address desk_stage.Turn =
-    both (ReceiverStaysOwn state r) (is_live_in era r.follows) _ _ (record { sender = refl; receiver = λ caller is. is }) (record { sender = refl; receiver = λ caller is. is })
-unbind_stays_own desk era state r address (desk_stage.Settled ended) = record { sender = refl; receiver = λ caller is. refl }
-
-receive_stays_own : {D : Type 0} (desk : DeskMeaning D) (era : Era) (lane_no buffer : ℕ) (state : LaneState D) (r : Receiving) (now : ReceiveCall)
-    → IsReceiversOwn state (receive_step desk era lane_no buffer state r now).state r
-receive_stays_own desk era lane_no buffer state r (call.Take now) = take_stays_own desk era lane_no buffer state r now
-receive_stays_own desk era lane_no buffer state r (call.Give number now) = give_stays_own state r number now
-receive_stays_own desk era lane_no buffer state r (call.Bind address now) = bind_stays_own desk era state r address now
-receive_stays_own desk era lane_no buffer state r (call.Unbind address now) = unbind_stays_own desk era state r address now
-
--- both lanes, as a caller on the end `own` sees them: it sends on the first, and takes from the second
-pub record IsSoundPair {D : Type 0} (callers : List (Option End)) (own other : End) (live : Bool) (sent taken : LaneState D) : Type 0 where
-  pub outgoing : IsSoundState callers own other live sent
-  pub incoming : IsSoundState callers other own live taken
-  pub alone : IsAlone sent taken
-  pub others : IsAlone taken sent
-
--- what a step leaves is sound
-abbrev LeavesSound : {D : Type 0} → List (Option End) → End → End → Bool → PairStepped D → Type 0
-LeavesSound callers own other live step = IsSoundPair callers own other live step.outgoing step.incoming
-
-sender_sound : {D : Type 0} (callers : List (Option End)) (own other : End) (live : Bool) (era : Era) (outgoing incoming : LaneState D) (now : Turn Sending) → outgoing.sender ≡ now
-    → IsSoundPair callers own other live outgoing incoming → IsSoundPair callers own other live (sender_step era outgoing now).state incoming
-sender_sound callers own other live era outgoing incoming turn.Free is sound = sound
-sender_sound callers own other live era outgoing incoming (turn.Taken s) is sound =
-    let user = subst (IsSoundSender callers own) is sound.outgoing.sender in
-    let lane = outgoing.lane in
-    let room = subst (λ sends. HasRoom sends (length lane.accepted) lane.returned lane.capacity lane.book) is sound.outgoing.room in
-    let kept = send_stays_own era outgoing s s.stage in
-    record {
-      outgoing = send_sound callers own other live era outgoing s s.stage sound.outgoing user room;
-      incoming = sound.incoming;
-      alone = λ caller sends. sound.alone caller (ap (λ sender. is_sending sender caller) is ∙ kept.sender caller sends);
-      others = λ caller sends. ap (λ receiver. is_receiving receiver caller) kept.receiver ∙ sound.others caller sends;
-    }
-sender_sound callers own other live era outgoing incoming turn.Manager is sound = sound
-
-receiver_sound : {D : Type 0} (callers : List (Option End)) (own other : End) (desk : DeskMeaning D) (era : Era) (lane_no buffer : ℕ) (outgoing incoming : LaneState D) (now : Turn Receiving) → incoming.receiver ≡ now
-    → IsSoundPair callers own other era.is_live outgoing incoming → IsSoundPair callers own other era.is_live outgoing (receiver_step desk era lane_no buffer incoming now).state
-receiver_sound callers own other desk era lane_no buffer outgoing incoming turn.Free is sound = sound
-receiver_sound callers own other desk era lane_no buffer outgoing incoming (turn.Taken r) is sound =
-    let user = subst (IsSoundReceiver callers own) is sound.incoming.receiver in
-    let lane = incoming.lane in
-    let fit = subst (λ receives. IsFitReceiver receives lane.held (length lane.takers) (length lane.accepted)) is sound.incoming.fit in
-    let kept = receive_stays_own desk era lane_no buffer incoming r r.call in
+work_sound : {D : Type 0} (callers : List (Option End)) (own other : End) (live : Bool) (desk : DeskMeaning D) (lanes : Lanes (LaneState D)) (caller follows : ℕ) (first : Work)
+    → IsUser callers own caller → is_in_call lanes caller ≡ false → IsFitWork first lanes.incoming.lane caller
+    → IsSoundLanes callers own other live lanes → IsSoundLanes callers own other live (receive_first (list_form desk) lanes caller follows first).state
+work_sound callers own other live desk lanes caller follows first user silent fit sound =
+    let old = sound.incoming in
     record {
       outgoing = sound.outgoing;
-      incoming = receive_sound callers other own desk era lane_no buffer incoming r r.call sound.incoming user fit;
-      alone = λ caller sends. kept.receiver caller (sym (ap (λ receiver. is_receiving receiver caller) is) ∙ sound.alone caller sends);
-      others = λ caller sends. sound.others caller (sym (ap (λ sender. is_sending sender caller) kept.sender) ∙ sends);
-    }
-receiver_sound callers own other desk era lane_no buffer outgoing incoming turn.Manager is sound = sound
-
--- step 1 of a send
-sending_sound : {D : Type 0} (callers : List (Option End)) (own other : End) (live : Bool) (outgoing incoming : LaneState D) (call : Sending) (now : Turn Sending) → outgoing.sender ≡ now
-    → IsUser callers own call.caller → call.stage ≡ stage.Turn → is_receiving incoming.receiver call.caller ≡ false
-    → IsSoundPair callers own other live outgoing incoming → IsSoundPair callers own other live (record outgoing { sender = taken_by now call }) incoming
-sending_sound callers own other live outgoing incoming call turn.Free is user first silent sound =
-    let lane = outgoing.lane in
-    record {
-      outgoing = sender_changed callers own other live outgoing (turn.Taken call) sound.outgoing user
-          (subst (λ now. HasRoomAt now (length lane.accepted) lane.returned lane.capacity lane.book) (sym first) tt);
-      incoming = sound.incoming;
-      alone = λ caller sends. subst (λ n. is_receiving incoming.receiver n ≡ false) (eqb-true _ _ sends) silent;
+      incoming = record {
+        lane = receive_begun_sound lanes.incoming caller follows first old.lane fit;
+        whole = old.whole;
+        users = old.users;
+        sender = old.sender;
+        receiver = taken_sound callers own lanes.incoming.receiver caller _ user old.receiver;
+      };
+      alone = λ n sends. not_then _ false
+          (λ is. sym (taken_had (λ m. has_call lanes.outgoing.sender m ≡ false) lanes.incoming.receiver caller n (record { follows = follows; work = first }) (or_parts _ _ silent).0
+          (λ had. absurd (false≢true (sym (sound.alone n sends) ∙ had))) is) ∙ sends) refl;
       others = sound.others;
     }
-sending_sound callers own other live outgoing incoming call (turn.Taken s) is user first silent sound = subst (λ now. IsSoundPair callers own other live (record outgoing { sender = now }) incoming) is sound
-sending_sound callers own other live outgoing incoming call turn.Manager is user first silent sound = subst (λ now. IsSoundPair callers own other live (record outgoing { sender = now }) incoming) is sound
 
--- step 1 of a call that needs the receiver's turn
-receiving_sound : {D : Type 0} (callers : List (Option End)) (own other : End) (live : Bool) (outgoing incoming : LaneState D) (call : Receiving) (now : Turn Receiving) → incoming.receiver ≡ now
-    → IsUser callers own call.caller → IsFitCall call.call call.caller incoming.lane.held (length incoming.lane.takers) (length incoming.lane.accepted) → is_sending outgoing.sender call.caller ≡ false
-    → IsSoundPair callers own other live outgoing incoming → IsSoundPair callers own other live outgoing (record incoming { receiver = taken_by now call })
-receiving_sound callers own other live outgoing incoming call turn.Free is user fit silent sound =
+send_sound : {D : Type 0} (callers : List (Option End)) (own other : End) (live : Bool) (desk : DeskMeaning D) (lanes : Lanes (LaneState D)) (caller follows : ℕ) (message : List ℕ)
+    → IsUser callers own caller → is_in_call lanes caller ≡ false
+    → IsSoundLanes callers own other live lanes → IsSoundLanes callers own other live (send_first (list_form desk) lanes caller follows message).state
+send_sound callers own other live desk lanes caller follows message user silent sound =
+    let old = sound.outgoing in
+    record {
+      outgoing = record {
+        lane = send_begun_sound lanes.outgoing caller follows message old.lane;
+        whole = old.whole;
+        users = old.users;
+        sender = taken_sound callers own lanes.outgoing.sender caller _ user old.sender;
+        receiver = old.receiver;
+      };
+      incoming = sound.incoming;
+      alone = λ n sends. taken_had (λ m. has_call lanes.incoming.receiver m ≡ false) lanes.outgoing.sender caller n _ (or_parts _ _ silent).1 (sound.alone n) sends;
+      others = sound.others;
+    }
+
+first_sound : {D : Type 0} (callers : List (Option End)) (own other : End) (live : Bool) (desk : DeskMeaning D) (lanes : Lanes (LaneState D)) (caller follows : ℕ) (wished : Wish)
+    → IsUser callers own caller → MayLanesStep lanes caller (Some wished)
+    → IsSoundLanes callers own other live lanes → IsSoundLanes callers own other live (first_step (list_form desk) lanes caller follows wished).state
+first_sound callers own other live desk lanes caller follows (wish.Send message) user may sound = send_sound callers own other live desk lanes caller follows message user may.0 sound
+first_sound callers own other live desk lanes caller follows wish.Take user may sound =
+    work_sound callers own other live desk lanes caller follows _ user may.0 (λ sought. absurd (false≢true sought)) sound
+first_sound callers own other live desk lanes caller follows (wish.Give number) user may sound = work_sound callers own other live desk lanes caller follows _ user may.0 may.1 sound
+first_sound callers own other live desk lanes caller follows (wish.Bind address) user may sound = work_sound callers own other live desk lanes caller follows _ user may.0 tt sound
+first_sound callers own other live desk lanes caller follows (wish.Unbind address) user may sound = work_sound callers own other live desk lanes caller follows _ user may.0 tt sound
+
+later_sound : {D : Type 0} (callers : List (Option End)) (own other : End) (live : Bool) (desk : DeskMeaning D) (era : Era) (lanes : Lanes (LaneState D)) (caller : ℕ) (sends : Bool)
+    → IsUser callers own caller → has_call lanes.outgoing.sender caller ≡ sends → is_in_call lanes caller ≡ true
+    → IsSoundLanes callers own other live lanes → IsSoundLanes callers own other live (cond sends (send_later (list_form desk) era lanes) (receive_later (list_form desk) desk era lanes)).state
+later_sound callers own other live desk era lanes caller true user is calls sound =
+    let kept = sender_own era lanes.outgoing in
+    record {
+      outgoing = sender_between callers own other live era lanes.outgoing sound.outgoing;
+      incoming = sound.incoming;
+      alone = λ n sends. sound.alone n (sender_had era lanes.outgoing n sends);
+      others = λ n sends. ap (λ now. has_call now n) kept.receiver ∙ sound.others n sends;
+    }
+later_sound callers own other live desk era lanes caller false user is calls sound =
+    let receives : has_call lanes.incoming.receiver caller ≡ true = sym (ap (λ b. b || has_call lanes.incoming.receiver caller) is) ∙ calls in
+    let kept = receiver_own desk era lanes.incoming caller receives in
     record {
       outgoing = sound.outgoing;
-      incoming = receiver_changed callers other own live incoming (turn.Taken call) incoming.desk sound.incoming user fit;
-      alone = λ caller sends. ne_eqb _ _ (λ same. false≢true (sym silent ∙ ap (is_sending outgoing.sender) same ∙ sends));
-      others = sound.others;
+      incoming = receiver_between callers own other live desk era lanes.incoming caller receives user sound.incoming;
+      alone = λ n sends. not_then _ _ (receiver_had desk era lanes.incoming n) (sound.alone n sends);
+      others = λ n sends. sound.others n (sym (ap (λ now. has_call now n) kept.sender) ∙ sends);
     }
-receiving_sound callers own other live outgoing incoming call (turn.Taken r) is user fit silent sound = subst (λ now. IsSoundPair callers own other live outgoing (record incoming { receiver = now })) is sound
-receiving_sound callers own other live outgoing incoming call turn.Manager is user fit silent sound = subst (λ now. IsSoundPair callers own other live outgoing (record incoming { receiver = now })) is sound
 
-begun_sound : {D : Type 0} (callers : List (Option End)) (own other : End) (live : Bool) (lane_no : ℕ) (outgoing incoming : LaneState D) (caller follows : ℕ) (asked : Ask)
-    → IsUser callers own caller → MayPairStep lane_no outgoing incoming caller (Some asked)
-    → IsSoundPair callers own other live outgoing incoming → LeavesSound callers own other live (pair_begun outgoing incoming caller follows asked)
-begun_sound callers own other live lane_no outgoing incoming caller follows (ask.Send message) user may sound =
-    sending_sound callers own other live outgoing incoming _ outgoing.sender refl user refl (or_parts _ _ may.0).1 sound
-begun_sound callers own other live lane_no outgoing incoming caller follows ask.Take user may sound =
-    receiving_sound callers own other live outgoing incoming _ incoming.receiver refl user tt (or_parts _ _ may.0).0 sound
-begun_sound callers own other live lane_no outgoing incoming caller follows (ask.Give held) user may sound =
-    receiving_sound callers own other live outgoing incoming _ incoming.receiver refl user may.1.2 (or_parts _ _ may.0).0 sound
-begun_sound callers own other live lane_no outgoing incoming caller follows (ask.Bind address) user may sound =
-    receiving_sound callers own other live outgoing incoming _ incoming.receiver refl user tt (or_parts _ _ may.0).0 sound
-begun_sound callers own other live lane_no outgoing incoming caller follows (ask.Unbind address) user may sound =
-    receiving_sound callers own other live outgoing incoming _ incoming.receiver refl user tt (or_parts _ _ may.0).0 sound
+lanes_sound : {D : Type 0} (callers : List (Option End)) (own other : End) (live : Bool) (desk : DeskMeaning D) (era : Era) (lanes : Lanes (LaneState D)) (caller follows : ℕ) (wished : Option Wish)
+    → IsUser callers own caller → MayLanesStep lanes caller wished
+    → IsSoundLanes callers own other live lanes → IsSoundLanes callers own other live (lanes_step (list_form desk) desk era lanes caller follows wished).state
+lanes_sound callers own other live desk era lanes caller follows (Some wished) user may sound = first_sound callers own other live desk lanes caller follows wished user may sound
+lanes_sound callers own other live desk era lanes caller follows None user may sound =
+    later_sound callers own other live desk era lanes caller (has_call lanes.outgoing.sender caller) user refl may sound
 
-continued_sound : {D : Type 0} (callers : List (Option End)) (own other : End) (lane_no buffer : ℕ) (era : Era) (desk : DeskMeaning D) (outgoing incoming : LaneState D) (sends : Bool)
-    → IsSoundPair callers own other era.is_live outgoing incoming → LeavesSound callers own other era.is_live (pair_continued lane_no buffer era desk outgoing incoming sends)
-continued_sound callers own other lane_no buffer era desk outgoing incoming true sound = sender_sound callers own other era.is_live era outgoing incoming outgoing.sender refl sound
-continued_sound callers own other lane_no buffer era desk outgoing incoming false sound = receiver_sound callers own other desk era lane_no buffer outgoing incoming incoming.receiver refl sound
+-- a sound link, as the callers of the host and of the remote see it
+pub hosts_see : {D : Type 0} (link : LinkState D) → SoundLink link → IsSoundLanes link.callers side.Host side.Remote link.era.is_live (lanes_of link side.Host)
+hosts_see link sound = record { outgoing = sound.to_remote; incoming = sound.to_host; alone = sound.hosts; others = sound.remotes }
 
-pair_sound : {D : Type 0} (callers : List (Option End)) (own other : End) (lane_no buffer : ℕ) (era : Era) (desk : DeskMeaning D) (outgoing incoming : LaneState D) (caller follows : ℕ) (asked : Option Ask)
-    → IsUser callers own caller → MayPairStep lane_no outgoing incoming caller asked
-    → IsSoundPair callers own other era.is_live outgoing incoming → LeavesSound callers own other era.is_live (pair_step lane_no buffer era desk outgoing incoming caller follows asked)
-pair_sound callers own other lane_no buffer era desk outgoing incoming caller follows (Some asked) user may sound =
-    begun_sound callers own other era.is_live lane_no outgoing incoming caller follows asked user may sound
-pair_sound callers own other lane_no buffer era desk outgoing incoming caller follows None user may sound =
-    continued_sound callers own other lane_no buffer era desk outgoing incoming (is_sending outgoing.sender caller) sound
+pub remotes_see : {D : Type 0} (link : LinkState D) → SoundLink link → IsSoundLanes link.callers side.Remote side.Host link.era.is_live (lanes_of link side.Remote)
+remotes_see link sound = record { outgoing = sound.to_host; incoming = sound.to_remote; alone = sound.remotes; others = sound.hosts }
 
-end_sound : {D : Type 0} (buffer : ℕ) (desk : DeskMeaning D) (link : LinkState D) (end : Option End) (caller follows : ℕ) (asked : Option Ask) → end_of link.callers caller ≡ end
-    → MayEndStep link end caller asked → SoundLink link → SoundLink (end_step buffer desk link end caller follows asked).state
-end_sound buffer desk link (Some side.Host) caller follows asked is may sound =
-    let pair : IsSoundPair link.callers side.Host side.Remote link.era.is_live link.to_remote link.to_host =
-    record { outgoing = sound.to_remote; incoming = sound.to_host; alone = sound.hosts; others = sound.remotes } in
-    let left = pair_sound link.callers side.Host side.Remote 0 buffer link.era desk link.to_remote link.to_host caller follows asked is may pair in
+end_sound : {D : Type 0} (desk : DeskMeaning D) (link : LinkState D) (found : Option End) (caller follows : ℕ) (wished : Option Wish) → end_of link.callers caller ≡ found
+    → MayEndStep link found caller wished → SoundLink link
+    → SoundLink (on_lanes link found (λ lanes. lanes_step (list_form desk) desk link.era lanes caller follows wished)).state
+end_sound desk link (Some side.Host) caller follows wished is may sound =
+    let left = lanes_sound link.callers side.Host side.Remote link.era.is_live desk link.era (lanes_of link side.Host) caller follows wished is may (hosts_see link sound) in
     record { to_host = left.incoming; to_remote = left.outgoing; hosts = left.alone; remotes = left.others }
-end_sound buffer desk link (Some side.Remote) caller follows asked is may sound =
-    let pair : IsSoundPair link.callers side.Remote side.Host link.era.is_live link.to_host link.to_remote =
-    record { outgoing = sound.to_host; incoming = sound.to_remote; alone = sound.remotes; others = sound.hosts } in
-    let left = pair_sound link.callers side.Remote side.Host 1 buffer link.era desk link.to_host link.to_remote caller follows asked is may pair in
+end_sound desk link (Some side.Remote) caller follows wished is may sound =
+    let left = lanes_sound link.callers side.Remote side.Host link.era.is_live desk link.era (lanes_of link side.Remote) caller follows wished is may (remotes_see link sound) in
     record { to_host = left.outgoing; to_remote = left.incoming; hosts = left.others; remotes = left.alone }
-end_sound buffer desk link None caller follows asked is may sound = sound
+end_sound desk link None caller follows wished is may sound = sound
 
 -- every step of a call keeps a link sound
-pub step_sound : {D : Type 0} (buffer : ℕ) (desk : DeskMeaning D) (link : LinkState D) (caller follows : ℕ) (asked : Option Ask)
-    → SoundLink link → MayStep link caller asked → SoundLink (caller_step buffer desk link caller follows asked).state
-step_sound buffer desk link caller follows asked sound may = end_sound buffer desk link (end_of link.callers caller) caller follows asked refl may.may sound
+pub step_sound : {D : Type 0} (desk : DeskMeaning D) (link : LinkState D) (caller follows : ℕ) (wished : Option Wish)
+    → SoundLink link → MayStep link caller wished → SoundLink (caller_step desk link caller follows wished).state
+step_sound desk link caller follows wished sound may = end_sound desk link (end_of link.callers caller) caller follows wished refl may.may sound
 
 -- an empty lane is sound
-new_lane : (callers : List (Option End)) (end : End) (capacity book : ℕ)
-    → IsSoundLane callers end true (record { capacity = capacity; book = book; accepted = []; takers = []; held = []; returned = 0 })
-new_lane callers end capacity book =
-    record { counts = omega arith; handed = omega arith; out = omega arith; within = omega arith; whole = λ _. refl; holdings = tt }
+opened_between : {D : Type 0} (callers : List (Option End)) (sends receives : End) (capacity book : ℕ) (desk : D) → IsSoundBetween callers sends receives true (opened_lane capacity book desk)
+opened_between callers sends receives capacity book desk = record {
+  lane = record { counts = omega arith; handed = omega arith; out = omega arith; within = omega arith; holdings = tt; room = tt; fit = tt };
+  whole = λ _. refl;
+  users = tt;
+  sender = tt;
+  receiver = tt;
+}
 
 -- a new link is sound
 pub opened_sound : {D : Type 0} (config : LinkConfig) (host remote : D) → SoundLink (opened_link config host remote)
-opened_sound config host remote =
+opened_sound config host remote = record {
+  to_host = opened_between _ side.Remote side.Host _ _ host;
+  to_remote = opened_between _ side.Host side.Remote _ _ remote;
+  hosts = λ caller sends. absurd (false≢true sends);
+  remotes = λ caller sends. absurd (false≢true sends);
+}
+
+-- who was in use is in use
+abbrev StayUsers : List (Option End) → List (Option End) → Type 0
+StayUsers callers more = (caller : ℕ) (end : End) → IsUser callers end caller → IsUser more end caller
+
+turn_users : {C : Type 0} (callers more : List (Option End)) (end : End) (now : Turn C) → StayUsers callers more → IsSoundTurn callers end now → IsSoundTurn more end now
+turn_users callers more end turn.Free stay sound = tt
+turn_users callers more end (turn.Taken caller call) stay sound = stay caller end sound
+turn_users callers more end (turn.Leaving caller ended) stay sound = stay caller end sound
+turn_users callers more end turn.Manager stay sound = tt
+
+held_users : (callers more : List (Option End)) (end : End) (held : List Holding) → StayUsers callers more → AreUsers callers end held → AreUsers more end held
+held_users callers more end [] stay users = tt
+held_users callers more end (h ∷ hs) stay users = (stay h.caller end users.0, held_users callers more end hs stay users.1)
+
+between_users : {D : Type 0} (callers more : List (Option End)) (sends receives : End) (live : Bool) (state : LaneState D) → StayUsers callers more
+    → IsSoundBetween callers sends receives live state → IsSoundBetween more sends receives live state
+between_users callers more sends receives live state stay sound = record {
+  lane = sound.lane;
+  whole = sound.whole;
+  users = held_users callers more receives state.lane.held stay sound.users;
+  sender = turn_users callers more sends state.sender stay sound.sender;
+  receiver = turn_users callers more receives state.receiver stay sound.receiver;
+}
+
+-- the making of a caller keeps a link sound
+pub caller_sound : {D : Type 0} (link : LinkState D) (new : End) → SoundLink link → SoundLink (record link { callers = with_caller link.callers new (free_number link.callers) })
+caller_sound link new sound =
+    let more = with_caller link.callers new (free_number link.callers) in
+    let stay : StayUsers link.callers more = λ caller end user. stays_in_use link.callers new caller end user in
     record {
-      to_host = record { lane = new_lane _ side.Host _ _; sender = tt; receiver = tt; room = tt; fit = tt };
-      to_remote = record { lane = new_lane _ side.Remote _ _; sender = tt; receiver = tt; room = tt; fit = tt };
-      hosts = λ caller sends. absurd (false≢true sends);
-      remotes = λ caller sends. absurd (false≢true sends);
+      to_host = between_users link.callers more side.Remote side.Host link.era.is_live link.to_host stay sound.to_host;
+      to_remote = between_users link.callers more side.Host side.Remote link.era.is_live link.to_remote stay sound.to_remote;
+      hosts = sound.hosts;
+      remotes = sound.remotes;
     }

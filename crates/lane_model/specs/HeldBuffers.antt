@@ -1,10 +1,9 @@
 -- What contracts see of a held buffer (own).
-use Rattle.std.specs.Prelude.{ℕ}
-use Rattle.rp_base.specs.declared.messages.Buffer.{Buffer}
+use Rattle.std.specs.Prelude.{ℕ, List}
 
--- a buffer that was taken and not given back: its lane, who has it, the number of its message
+-- a buffer that was taken and not given back: its lane, who has it, the number and the bytes of its message
 pub record HeldBuffer : Type 0 where
   pub lane : ℕ
   pub caller : ℕ
   pub number : ℕ
-  pub buffer : Buffer
+  pub message : List ℕ

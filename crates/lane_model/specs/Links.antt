@@ -1,127 +1,126 @@
 -- A step of a caller of a link: which lane and which end of it the call works on, and what it leaves (own).
-use Rattle.std.specs.Prelude.{ℕ, Bool, true, false, List, slice_get, slice_set, Option, Some, None, option_and_then, is_none, replicate, [], min}
+use Rattle.std.specs.Prelude.{ℕ, List, slice_get, slice_set, Option, Some, None, option_and_then, is_none, replicate, true, if◌then◌else◌}
 use Rattle.std.specs.List.{position}
 use Rattle.rp_base.specs.declared.kinds.Era.{Era}
 use Rattle.rp_base.specs.declared.kinds.End.{End}
 use Rattle.rp_base.specs.declared.kinds.End.TheVariants as side
+use Rattle.rp_base.specs.Limits.{ring_capacity}
 use Rattle.lane_model.specs.declared.states.LaneState.{LaneState}
-use Rattle.lane_model.specs.declared.states.LinkState.{LinkState}
-use Rattle.lane_model.specs.declared.stages.ReceiveCall.{ReceiveCall}
-use Rattle.lane_model.specs.declared.stages.ReceiveCall.TheVariants as call
+use Rattle.lane_model.specs.declared.lane_links.LaneLink.{LaneLink}
+use Rattle.lane_model.specs.declared.stages.Work.{Work}
+use Rattle.lane_model.specs.declared.stages.Work.TheVariants as work
 use Rattle.lane_model.specs.declared.stages.TakeStage.TheVariants as take_stage
 use Rattle.lane_model.specs.declared.stages.GiveStage.TheVariants as give_stage
-use Rattle.lane_model.specs.declared.stages.DeskStage.TheVariants as desk_stage
-use Rattle.lane_model.specs.declared.stages.Turn.TheVariants as turn
-use Rattle.lane_model.specs.declared.events.StepEvent.{StepEvent}
-use Rattle.lane_model.specs.declared.events.StepEvent.TheVariants as event
-use Rattle.lane_model.specs.declared.calls.Ask.{Ask}
-use Rattle.lane_model.specs.declared.calls.Ask.TheVariants as ask
-use Rattle.lane_model.specs.declared.calls.Answer.{Answer}
-use Rattle.lane_model.specs.declared.calls.Answer.TheVariants as answer
-use Rattle.lane_model.specs.declared.calls.Progress.{Progress}
-use Rattle.lane_model.specs.declared.calls.Progress.TheVariants as progress
+use Rattle.lane_model.specs.declared.calls.Wish.{Wish}
+use Rattle.lane_model.specs.declared.calls.Wish.TheVariants as wish
+use Rattle.lane_model.specs.declared.calls.CallEnd.TheVariants as end
+use Rattle.lane_model.specs.declared.calls.Outcome.{Outcome}
+use Rattle.lane_model.specs.declared.calls.Outcome.TheVariants as outcome
 use Rattle.lane_model.specs.declared.calls.LinkConfig.{LinkConfig}
 use Rattle.lane_model.specs.Desks.{DeskMeaning}
-use Rattle.lane_model.specs.Lanes.{Stepped, sender_holder, receiver_holder, is_sending}
-use Rattle.lane_model.specs.Sends.{send_begun, sender_step}
-use Rattle.lane_model.specs.Receives.{receive_begun, receiver_step}
+use Rattle.lane_model.specs.Lanes.{Stepped, still, holder, has_call}
+use Rattle.lane_model.specs.Sends.{sender_step}
+use Rattle.lane_model.specs.Receives.{receiver_step}
+use Rattle.lane_model.specs.Forms.{FormMeaning, list_form}
+use Rattle.lane_model.specs.Crashes.{opened_lane}
 
--- what a step leaves on the lane that its caller sends on and the one that it takes from
-pub record PairStepped (D : Type 0) : Type 0 where
-  pub outgoing : LaneState D
-  pub incoming : LaneState D
-  pub event : StepEvent
-  pub told : Progress
+-- the state of a link: its era, its lanes as lists with their turns and desks, and the ends of its callers
+abbrev pub LinkState : Type 0 → Type 0
+LinkState D = LaneLink (LaneState D)
 
--- what a step leaves of a link
-pub record LinkStepped (D : Type 0) : Type 0 where
-  pub state : LinkState D
-  pub event : StepEvent
-  pub told : Progress
+-- the link that a link with lanes of some form stands for
+abbrev pub link_of : {L D : Type 0} → FormMeaning L D → LaneLink L → LinkState D
+link_of form link =
+    record { era = link.era; to_host = form.state link.to_host; to_remote = form.state link.to_remote; callers = link.callers }
 
--- what step 1 says, by who had the turn
-abbrev pub begun_progress : Option ℕ → (ℕ → Answer) → Progress
-begun_progress None busy = progress.At 1
-begun_progress (Some holder) busy = progress.Done (busy holder)
+-- the lane that a caller sends on and the one that it takes from
+pub record Lanes (L : Type 0) : Type 0 where
+  pub outgoing : L
+  pub incoming : L
 
--- what step 1 did to the turn word
-abbrev pub begun_event : Option ℕ → StepEvent
-begun_event None = event.TurnTaken
-begun_event (Some holder) = event.TurnBusy holder
+-- a host caller sends on lane 1, to the remote, and takes from lane 0, to the host; a remote caller the other way
+abbrev pub lanes_of : {L : Type 0} → LaneLink L → End → Lanes L
+lanes_of link side.Host = record { outgoing = link.to_remote; incoming = link.to_host }
+lanes_of link side.Remote = record { outgoing = link.to_host; incoming = link.to_remote }
 
--- step 1 of a call that needs the receiver's turn
-abbrev pub incoming_begun : {D : Type 0} → LaneState D → LaneState D → ℕ → ℕ → ReceiveCall → (ℕ → Answer) → PairStepped D
-incoming_begun outgoing incoming caller follows first busy = record {
-  outgoing = outgoing;
-  incoming = receive_begun incoming caller follows first;
-  event = begun_event (receiver_holder incoming.receiver);
-  told = begun_progress (receiver_holder incoming.receiver) busy;
-}
+-- the link with these lanes, as a caller of this end sees them
+abbrev pub with_lanes : {L : Type 0} → LaneLink L → End → Lanes L → LaneLink L
+with_lanes link side.Host lanes = record link { to_remote = lanes.outgoing; to_host = lanes.incoming }
+with_lanes link side.Remote lanes = record link { to_host = lanes.outgoing; to_remote = lanes.incoming }
 
--- step 1 of a call
-abbrev pub pair_begun : {D : Type 0} → LaneState D → LaneState D → ℕ → ℕ → Ask → PairStepped D
-pair_begun outgoing incoming caller follows (ask.Send message) = record {
-  outgoing = send_begun outgoing caller follows message;
-  incoming = incoming;
-  event = begun_event (sender_holder outgoing.sender);
-  told = begun_progress (sender_holder outgoing.sender) answer.Busy;
-}
-pair_begun outgoing incoming caller follows ask.Take =
-    incoming_begun outgoing incoming caller follows (call.Take take_stage.Turn) answer.Busy
-pair_begun outgoing incoming caller follows (ask.Give held) =
-    incoming_begun outgoing incoming caller follows (call.Give held.number give_stage.Turn) (λ holder. answer.GiveBusy holder held)
-pair_begun outgoing incoming caller follows (ask.Bind address) =
-    incoming_begun outgoing incoming caller follows (call.Bind address desk_stage.Turn) answer.Busy
-pair_begun outgoing incoming caller follows (ask.Unbind address) =
-    incoming_begun outgoing incoming caller follows (call.Unbind address desk_stage.Turn) answer.Busy
-
--- a step on the lane that the caller sends on
-abbrev pub outgoing_stepped : {D : Type 0} → LaneState D → Stepped D → PairStepped D
-outgoing_stepped incoming step = record { outgoing = step.state; incoming = incoming; event = step.event; told = step.told }
-
--- a step on the lane that the caller takes from
-abbrev pub incoming_stepped : {D : Type 0} → LaneState D → Stepped D → PairStepped D
-incoming_stepped outgoing step = record { outgoing = outgoing; incoming = step.state; event = step.event; told = step.told }
-
--- a later step: of the send of this caller where one is under way, else of its call on the other lane
-abbrev pub pair_continued : {D : Type 0} → ℕ → ℕ → Era → DeskMeaning D → LaneState D → LaneState D → Bool → PairStepped D
-pair_continued lane_no buffer era desk outgoing incoming true =
-    outgoing_stepped incoming (sender_step era outgoing outgoing.sender)
-pair_continued lane_no buffer era desk outgoing incoming false =
-    incoming_stepped outgoing (receiver_step desk era lane_no buffer incoming incoming.receiver)
-
--- a step of a caller who takes from lane `lane_no`; `asked` is there where the call has done no step
-abbrev pub pair_step : {D : Type 0} → ℕ → ℕ → Era → DeskMeaning D → LaneState D → LaneState D → ℕ → ℕ → Option Ask → PairStepped D
-pair_step lane_no buffer era desk outgoing incoming caller follows (Some asked) = pair_begun outgoing incoming caller follows asked
-pair_step lane_no buffer era desk outgoing incoming caller follows None =
-    pair_continued lane_no buffer era desk outgoing incoming (is_sending outgoing.sender caller)
+-- the number of the lane that callers of this end take from
+abbrev pub incoming_number : End → ℕ
+incoming_number side.Host = 0
+incoming_number side.Remote = 1
 
 -- the end of the caller of this number, where it is in use
 abbrev pub end_of : List (Option End) → ℕ → Option End
 end_of callers caller = option_and_then (λ found. found) (slice_get callers caller)
 
--- the link after a step of a host caller
-abbrev pub host_stepped : {D : Type 0} → LinkState D → PairStepped D → LinkStepped D
-host_stepped link step =
-    record { state = record link { to_remote = step.outgoing; to_host = step.incoming }; event = step.event; told = step.told }
+-- step 1 of a call, by who had the turn
+abbrev pub begun_outcome : Option ℕ → Outcome
+begun_outcome None = outcome.At 1
+begun_outcome (Some holder) = outcome.Ended (end.Busy holder)
 
--- the link after a step of a remote caller
-abbrev pub remote_stepped : {D : Type 0} → LinkState D → PairStepped D → LinkStepped D
-remote_stepped link step =
-    record { state = record link { to_host = step.outgoing; to_remote = step.incoming }; event = step.event; told = step.told }
+-- step 1 of a send
+abbrev pub send_first : {L D : Type 0} → FormMeaning L D → Lanes L → ℕ → ℕ → List ℕ → Stepped (Lanes L)
+send_first form lanes caller follows message = record {
+  state = record lanes { outgoing = form.send_begun lanes.outgoing caller follows message };
+  outcome = begun_outcome (holder (form.state lanes.outgoing).sender);
+}
 
--- a host caller sends on lane 1 and takes from lane 0, a remote caller the other way
-abbrev pub end_step : {D : Type 0} → ℕ → DeskMeaning D → LinkState D → Option End → ℕ → ℕ → Option Ask → LinkStepped D
-end_step buffer desk link (Some side.Host) caller follows asked =
-    host_stepped link (pair_step 0 buffer link.era desk link.to_remote link.to_host caller follows asked)
-end_step buffer desk link (Some side.Remote) caller follows asked =
-    remote_stepped link (pair_step 1 buffer link.era desk link.to_host link.to_remote caller follows asked)
-end_step buffer desk link None caller follows asked =
-    record { state = link; event = event.Nothing; told = progress.At 0 }
+-- step 1 of a call that needs the receiver's turn
+abbrev pub receive_first : {L D : Type 0} → FormMeaning L D → Lanes L → ℕ → ℕ → Work → Stepped (Lanes L)
+receive_first form lanes caller follows first = record {
+  state = record lanes { incoming = form.receive_begun lanes.incoming caller follows first };
+  outcome = begun_outcome (holder (form.state lanes.incoming).receiver);
+}
 
--- a step of a caller's call, which follows an incarnation; `buffer` is the number of the buffer that its take has out
-abbrev pub caller_step : {D : Type 0} → ℕ → DeskMeaning D → LinkState D → ℕ → ℕ → Option Ask → LinkStepped D
-caller_step buffer desk link caller follows asked = end_step buffer desk link (end_of link.callers caller) caller follows asked
+-- step 1 of a call
+abbrev pub first_step : {L D : Type 0} → FormMeaning L D → Lanes L → ℕ → ℕ → Wish → Stepped (Lanes L)
+first_step form lanes caller follows (wish.Send message) = send_first form lanes caller follows message
+first_step form lanes caller follows wish.Take = receive_first form lanes caller follows (work.Take take_stage.Turn)
+first_step form lanes caller follows (wish.Give number) = receive_first form lanes caller follows (work.Give number give_stage.Turn)
+first_step form lanes caller follows (wish.Bind address) = receive_first form lanes caller follows (work.Bind address)
+first_step form lanes caller follows (wish.Unbind address) = receive_first form lanes caller follows (work.Unbind address)
+
+-- a later step of the send of this caller
+abbrev pub send_later : {L D : Type 0} → FormMeaning L D → Era → Lanes L → Stepped (Lanes L)
+send_later form era lanes = record {
+  state = record lanes { outgoing = form.sent_on lanes.outgoing era };
+  outcome = (sender_step era (form.state lanes.outgoing)).outcome;
+}
+
+-- a later step of a call that has the receiver's turn
+abbrev pub receive_later : {L D : Type 0} → FormMeaning L D → DeskMeaning D → Era → Lanes L → Stepped (Lanes L)
+receive_later form desk era lanes = record {
+  state = record lanes { incoming = form.received_on lanes.incoming era };
+  outcome = (receiver_step desk era (form.state lanes.incoming)).outcome;
+}
+
+-- a step of a caller of these lanes: step 1 of what it wishes, else a later step of its send, where it has one, or of its call on the other lane
+abbrev pub lanes_step : {L D : Type 0} → FormMeaning L D → DeskMeaning D → Era → Lanes L → ℕ → ℕ → Option Wish → Stepped (Lanes L)
+lanes_step form desk era lanes caller follows (Some wished) = first_step form lanes caller follows wished
+lanes_step form desk era lanes caller follows None =
+    if has_call (form.state lanes.outgoing).sender caller then send_later form era lanes else receive_later form desk era lanes
+
+-- a step on the lanes of a caller of this end; a number that is not in use has no step
+abbrev pub on_lanes : {L : Type 0} → LaneLink L → Option End → (Lanes L → Stepped (Lanes L)) → Stepped (LaneLink L)
+on_lanes link (Some end) step = record { state = with_lanes link end (step (lanes_of link end)).state; outcome = (step (lanes_of link end)).outcome }
+on_lanes link None step = still link
+
+-- step 1 of a call that needs the receiver's turn, on a link with lanes of some form
+abbrev pub work_begun : {L D : Type 0} → FormMeaning L D → LaneLink L → ℕ → ℕ → Work → Stepped (LaneLink L)
+work_begun form link caller follows first = on_lanes link (end_of link.callers caller) (λ lanes. receive_first form lanes caller follows first)
+
+-- a step of a caller's call on a link with lanes of some form. The call follows an incarnation; the wish is there where it has done no step
+abbrev pub form_step : {L D : Type 0} → FormMeaning L D → DeskMeaning D → LaneLink L → ℕ → ℕ → Option Wish → Stepped (LaneLink L)
+form_step form desk link caller follows wished =
+    on_lanes link (end_of link.callers caller) (λ lanes. lanes_step form desk link.era lanes caller follows wished)
+
+-- a step of a caller's call
+abbrev pub caller_step : {D : Type 0} → DeskMeaning D → LinkState D → ℕ → ℕ → Option Wish → Stepped (LinkState D)
+caller_step desk link caller follows wished = form_step (list_form desk) desk link caller follows wished
 
 -- the least number that is not in use
 abbrev pub free_number : List (Option End) → Option ℕ
@@ -132,24 +131,16 @@ abbrev pub with_caller : List (Option End) → End → Option ℕ → List (Opti
 with_caller callers new (Some number) = slice_set callers number (Some new)
 with_caller callers new None = callers
 
--- how many buffers a lane has: one for each entry of its ring, at most 256
-abbrev pub capacity_of : ℕ → ℕ
-capacity_of entries = min entries 256
-
--- a new lane: empty lists, nothing given back, free turns
-abbrev pub opened_lane : {D : Type 0} → ℕ → ℕ → D → LaneState D
-opened_lane capacity book desk = record {
-  lane = record { capacity = capacity; book = book; accepted = []; takers = []; held = []; returned = 0 };
-  sender = turn.Free;
-  receiver = turn.Free;
-  desk = desk;
+-- a new link: live in its first incarnation, with two lanes and no callers
+abbrev pub opened : {L : Type 0} → ℕ → L → L → LaneLink L
+opened first to_host to_remote = record {
+  era = record { inc = first; is_live = true };
+  to_host = to_host;
+  to_remote = to_remote;
+  callers = replicate 64 None;
 }
 
 -- a new link: live in its first incarnation, with empty lanes, free turns and no callers
 abbrev pub opened_link : {D : Type 0} → LinkConfig → D → D → LinkState D
-opened_link config host remote = record {
-  era = record { inc = config.first; is_live = true };
-  to_host = opened_lane (capacity_of config.num0) config.book host;
-  to_remote = opened_lane (capacity_of config.num1) config.book remote;
-  callers = replicate 64 None;
-}
+opened_link config host remote = opened config.first
+    (opened_lane (ring_capacity config.num0) config.book host) (opened_lane (ring_capacity config.num1) config.book remote)

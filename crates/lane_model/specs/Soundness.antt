@@ -4,15 +4,11 @@ use Rattle.std.specs.List.{list_any}
 use Rattle.rp_base.specs.declared.kinds.End.{End}
 use Rattle.rp_base.specs.declared.kinds.End.TheVariants as side
 use Rattle.lane_model.specs.declared.states.Holding.{Holding}
-use Rattle.lane_model.specs.declared.states.Lane.{Lane}
 use Rattle.lane_model.specs.declared.states.LaneState.{LaneState}
-use Rattle.lane_model.specs.declared.states.LinkState.{LinkState}
-use Rattle.lane_model.specs.declared.stages.Sending.{Sending}
-use Rattle.lane_model.specs.declared.stages.Receiving.{Receiving}
 use Rattle.lane_model.specs.declared.stages.Turn.{Turn}
 use Rattle.lane_model.specs.declared.stages.Turn.TheVariants as turn
-use Rattle.lane_model.specs.Lanes.{is_sending, is_receiving}
-use Rattle.lane_model.specs.Links.{end_of}
+use Rattle.lane_model.specs.Lanes.{has_call}
+use Rattle.lane_model.specs.Links.{LinkState, end_of}
 use Rattle.lane_model.specs.Conditions.{HasRoom, IsFitReceiver}
 
 -- a caller is in use on this end
@@ -23,48 +19,48 @@ IsUser callers end caller = end_of callers caller ≡ Some end
 abbrev pub is_held : List Holding → ℕ → Bool
 is_held held number = list_any (λ holding. holding.number == number) held
 
--- each number is held once, it was handed over, and who holds it is in use on the receiving end
-abbrev pub AreSoundHoldings : List (Option End) → End → ℕ → List Holding → Type 0
-AreSoundHoldings callers end handed [] = Unit {0}
-AreSoundHoldings callers end handed (h ∷ hs) =
-    (is_held hs h.number ≡ false) × (h.number < handed) × IsUser callers end h.caller × AreSoundHoldings callers end handed hs
+-- each number is held once, and its message was handed over
+abbrev pub AreHandedOnce : ℕ → List Holding → Type 0
+AreHandedOnce handed [] = Unit {0}
+AreHandedOnce handed (h ∷ hs) = (is_held hs h.number ≡ false) × (h.number < handed) × AreHandedOnce handed hs
 
--- the counts and the holdings of a lane, whose receiver is on this end
-pub record IsSoundLane (callers : List (Option End)) (end : End) (is_live : Bool) (lane : Lane) : Type 0 where
-  pub counts : lane.returned + length lane.held ≤ length lane.takers
-  pub handed : length lane.takers ≤ length lane.accepted
-  pub out : length lane.accepted ≤ lane.returned + lane.capacity
-  pub within : length lane.accepted ≤ lane.book
-  pub whole : is_live ≡ true → lane.returned + length lane.held ≡ length lane.takers
-  pub holdings : AreSoundHoldings callers end (length lane.takers) lane.held
+-- who holds a buffer is in use on this end
+abbrev pub AreUsers : List (Option End) → End → List Holding → Type 0
+AreUsers callers end [] = Unit {0}
+AreUsers callers end (h ∷ hs) = IsUser callers end h.caller × AreUsers callers end hs
 
--- who has a turn is in use on the end that the turn belongs to
-abbrev pub IsSoundSender : List (Option End) → End → Turn Sending → Type 0
-IsSoundSender callers end turn.Free = Unit {0}
-IsSoundSender callers end (turn.Taken s) = IsUser callers end s.caller
-IsSoundSender callers end turn.Manager = Unit {0}
+-- a lane by itself: its counts, its holdings, and what each call under way has found
+pub record IsSoundLane {D : Type 0} (state : LaneState D) : Type 0 where
+  pub counts : state.lane.returned + length state.lane.held ≤ length state.lane.takers
+  pub handed : length state.lane.takers ≤ length state.lane.accepted
+  pub out : length state.lane.accepted ≤ state.lane.returned + state.lane.capacity
+  pub within : length state.lane.accepted ≤ state.lane.book
+  pub holdings : AreHandedOnce (length state.lane.takers) state.lane.held
+  pub room : HasRoom state.sender state.lane
+  pub fit : IsFitReceiver state.receiver state.lane
 
--- who has the receiver's turn is in use on the receiving end
-abbrev pub IsSoundReceiver : List (Option End) → End → Turn Receiving → Type 0
-IsSoundReceiver callers end turn.Free = Unit {0}
-IsSoundReceiver callers end (turn.Taken r) = IsUser callers end r.caller
-IsSoundReceiver callers end turn.Manager = Unit {0}
+-- the caller who has a turn is in use on the end that the turn belongs to
+abbrev pub IsSoundTurn : {C : Type 0} → List (Option End) → End → Turn C → Type 0
+IsSoundTurn callers end turn.Free = Unit {0}
+IsSoundTurn callers end (turn.Taken caller call) = IsUser callers end caller
+IsSoundTurn callers end (turn.Leaving caller ended) = IsUser callers end caller
+IsSoundTurn callers end turn.Manager = Unit {0}
 
--- a lane with its turns: what each call under way has found still holds
-pub record IsSoundState {D : Type 0} (callers : List (Option End)) (sends receives : End) (is_live : Bool) (state : LaneState D) : Type 0 where
-  pub lane : IsSoundLane callers receives is_live state.lane
-  pub sender : IsSoundSender callers sends state.sender
-  pub receiver : IsSoundReceiver callers receives state.receiver
-  pub room : HasRoom state.sender (length state.lane.accepted) state.lane.returned state.lane.capacity state.lane.book
-  pub fit : IsFitReceiver state.receiver state.lane.held (length state.lane.takers) (length state.lane.accepted)
+-- a lane between these ends, of a link that is live or not
+pub record IsSoundBetween {D : Type 0} (callers : List (Option End)) (sends receives : End) (is_live : Bool) (state : LaneState D) : Type 0 where
+  pub lane : IsSoundLane state
+  pub whole : is_live ≡ true → state.lane.returned + length state.lane.held ≡ length state.lane.takers
+  pub users : AreUsers callers receives state.lane.held
+  pub sender : IsSoundTurn callers sends state.sender
+  pub receiver : IsSoundTurn callers receives state.receiver
 
 -- no caller sends on one lane while it has the receiver's turn of the other
 abbrev pub IsAlone : {D : Type 0} → LaneState D → LaneState D → Type 0
-IsAlone outgoing incoming = (caller : ℕ) → is_sending outgoing.sender caller ≡ true → is_receiving incoming.receiver caller ≡ false
+IsAlone outgoing incoming = (caller : ℕ) → has_call outgoing.sender caller ≡ true → has_call incoming.receiver caller ≡ false
 
 -- a sound link
 pub record SoundLink {D : Type 0} (link : LinkState D) : Type 0 where
-  pub to_host : IsSoundState link.callers side.Remote side.Host link.era.is_live link.to_host
-  pub to_remote : IsSoundState link.callers side.Host side.Remote link.era.is_live link.to_remote
+  pub to_host : IsSoundBetween link.callers side.Remote side.Host link.era.is_live link.to_host
+  pub to_remote : IsSoundBetween link.callers side.Host side.Remote link.era.is_live link.to_remote
   pub hosts : IsAlone link.to_remote link.to_host
   pub remotes : IsAlone link.to_host link.to_remote

@@ -1,5 +1,5 @@
 ghost use Rattle.std.specs.Prelude.{◌≡◌};
-ghost use Rattle.lane_model.specs.Desks.{DeskMeaning};
+ghost use Rattle.lane_model.specs.Desks.{DeskMeaning, AreDeskLaws};
 
 use rp_base::{BindFault, Endpoint, Message, Verdict};
 
@@ -27,4 +27,7 @@ pub trait Desk: Drop {
     /// Begins a new incarnation, with no endpoint.
     fn reset(&mut self)
         ensures left { self.new ≡ meaning.fresh self.old };
+
+    /// The desk is one whose endpoints are handed what is due to them.
+    ghost laws: { AreDeskLaws meaning };
 }

@@ -4,8 +4,9 @@ use rp_base::{Buffer, CallerNo, Message};
 use std::marker::Model;
 
 /// A buffer that a caller has taken and not yet given back. It has to be given back or reclaimed:
-/// one that is dropped stays held, and its link cannot be reopened any more.
-#[derive(Debug, Drop)]
+/// one that is dropped stays held, and its link cannot be reopened any more. Contracts see its lane,
+/// its caller, and the number and the bytes of its message.
+#[derive(Drop)]
 pub struct Held {
     lane: u8,
     caller: CallerNo,
@@ -18,13 +19,13 @@ impl Model for Held {
 
     ghost Value = { HeldBuffer };
 
-    ghost view = { λ h. record { lane = h.lane; caller = h.caller; number = h.number; buffer = h.buffer } };
+    ghost view = { λ h. record { lane = h.lane; caller = h.caller; number = h.number; message = h.buffer.message } };
 }
 
 impl Held {
     /// The buffer of message `number` of `lane`, in the hands of `caller`.
     pub fn of(lane: u8, caller: CallerNo, number: u64, buffer: Buffer) -> Held
-        ensures { result ≡ record { lane = lane; caller = caller; number = number; buffer = buffer } }
+        ensures { result ≡ record { lane = lane; caller = caller; number = number; message = buffer.message } }
     {
         Held {
             lane,
@@ -34,9 +35,9 @@ impl Held {
         }
     }
 
-    /// The lane, the caller, the number of the message, and the buffer.
+    /// The lane, the caller, the number of the message, and the buffer with the message in it.
     pub fn into_parts(self) -> (u8, CallerNo, u64, Buffer)
-        ensures { result ≡ (self.lane, self.caller, self.number, self.buffer) }
+        ensures { self ≡ record { lane = result.0; caller = result.1; number = result.2; message = result.3.message } }
     {
         let Held {
             lane,
@@ -70,7 +71,7 @@ impl Held {
 
     /// The message.
     pub fn message(&self) -> &Message
-        ensures { result.now ≡ self.now.buffer.message }
+        ensures { result.now ≡ self.now.message }
     {
         &self.buffer.message
     }

@@ -1,16 +1,16 @@
+use crate::lane_links::LaneLink;
 use crate::stages::{Receiving, Sending, Turn};
-use rp_base::{CallerNo, End, Era, Message};
+use rp_base::{CallerNo, Message};
 use std::collections::LinkedList;
 
-/// One message of a book: who sent it, and its bytes.
-#[derive(Debug, Drop)]
+/// One message of a book: who sent it, and its bytes. Contracts speak of it; no code makes one.
 pub struct BookEntry {
     pub caller: CallerNo,
     pub message: Message,
 }
 
 /// A message that was handed over and whose buffer is not back: its number, and who has it.
-#[derive(Clone, Copy, Debug, PartialEq, Eq)]
+#[derive(Clone, Copy)]
 pub struct Holding {
     pub number: u64,
     pub caller: CallerNo,
@@ -44,9 +44,4 @@ pub struct LaneState<D> {
 
 /// The state of a link: its era, both lanes, and for each number the end of the caller that has it.
 /// Contracts speak of it; no code makes one.
-pub struct LinkState<D> {
-    pub era: Era,
-    pub to_host: LaneState<D>,
-    pub to_remote: LaneState<D>,
-    pub callers: LinkedList<Option<End>>,
-}
+pub type LinkState<D> = LaneLink<LaneState<D>>;
