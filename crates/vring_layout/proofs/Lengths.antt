@@ -31,15 +31,15 @@ sizes_add_up : (table first gap second num end used : ℕ) → table ≡ 16 * nu
 sizes_add_up table first gap second num end used t f g s e behind = omega arith
 
 -- the length of the whole is the size of the ring
-pub length-ring_layout : (align : ℕ) (words : RingWords) → words.capacity ≤ words.num → length words.avail.items ≡ words.num → length words.used.items ≡ words.num → length (ring_layout align words) ≡ ring_size words.num align
+pub length-ring_layout : (align : ℕ) (words : RingWords) → words.capacity ≤ words.num → length words.avail ≡ words.num → length words.used ≡ words.num → length (ring_layout align words) ≡ ring_size words.num align
 length-ring_layout align words within avail used =
     let num = words.num in
     let gap = used_start num align - available_end num in
-    let entries = length-pieces (little_bytes 2) 2 (λ entry. refl) words.avail.items in
+    let entries = length-pieces (little_bytes 2) 2 (λ entry. refl) words.avail in
     let first : length (available_ring words) ≡ 6 + 2 * num =
-    length-ring (little_bytes 2 0 ++ little_bytes 2 words.avail_idx) (flat_map (little_bytes 2) words.avail.items) (little_bytes 2 0) 2 num refl (entries ∙ ap (λ n. 2 * n) avail) refl in
-    let used_entries = length-pieces used_entry_bytes 8 (λ entry. refl) words.used.items in
+    length-ring (little_bytes 2 0 ++ little_bytes 2 words.avail_idx) (flat_map (little_bytes 2) words.avail) (little_bytes 2 0) 2 num refl (entries ∙ ap (λ n. 2 * n) avail) refl in
+    let used_entries = length-pieces used_entry_bytes 8 (λ entry. refl) words.used in
     let second : length (used_ring words) ≡ 6 + 8 * num =
-    length-ring (little_bytes 2 0 ++ little_bytes 2 words.used_idx) (flat_map used_entry_bytes words.used.items) (little_bytes 2 0) 8 num refl (used_entries ∙ ap (λ n. 8 * n) used) refl in
+    length-ring (little_bytes 2 0 ++ little_bytes 2 words.used_idx) (flat_map used_entry_bytes words.used) (little_bytes 2 0) 8 num refl (used_entries ∙ ap (λ n. 8 * n) used) refl in
     length-four (descriptor_table words) (available_ring words) (replicate gap 0) (used_ring words)
     ∙ sizes_add_up _ _ _ _ num (available_end num) (used_start num align) (length-descriptor_table words within) first (length-replicate gap 0) second refl (omega arith)

@@ -19,7 +19,7 @@ descriptor_table words =
 -- the available ring (2.7.6): flags le16, idx le16, ring le16 each, used_event le16
 abbrev pub available_ring : RingWords → List ℕ
 available_ring words =
-    little_bytes 2 0 ++ little_bytes 2 words.avail_idx ++ flat_map (little_bytes 2) words.avail.items ++ little_bytes 2 0
+    little_bytes 2 0 ++ little_bytes 2 words.avail_idx ++ flat_map (little_bytes 2) words.avail ++ little_bytes 2 0
 
 -- an entry of the used ring (2.7.8): id le32, len le32
 abbrev pub used_entry_bytes : UsedWord → List ℕ
@@ -28,7 +28,7 @@ used_entry_bytes entry = little_bytes 4 entry.id ++ little_bytes 4 entry.len
 -- the used ring (2.7.8): flags le16, idx le16, the entries, avail_event le16
 abbrev pub used_ring : RingWords → List ℕ
 used_ring words =
-    little_bytes 2 0 ++ little_bytes 2 words.used_idx ++ flat_map used_entry_bytes words.used.items ++ little_bytes 2 0
+    little_bytes 2 0 ++ little_bytes 2 words.used_idx ++ flat_map used_entry_bytes words.used ++ little_bytes 2 0
 
 -- the whole ring (2.7): the used ring stands at the next multiple of align
 abbrev pub ring_layout : ℕ → RingWords → List ℕ

@@ -2,10 +2,6 @@
 use Rattle.std.specs.Prelude.{ℕ, ◌+◌, ◌*◌, ◌≤◌, IsTrue}
 use Rattle.std.specs.Int.{is_power_of_two, next_multiple_of}
 
--- a queue size (VIRTIO 1.2, 2.7): a power of two, at most 32,768
-abbrev pub IsRingSize : ℕ → Type 0
-IsRingSize num = IsTrue (is_power_of_two num) × (num ≤ 32768)
-
 -- an alignment of the used ring: a power of two from 4 (VIRTIO 1.2, 2.7) to 65,536 (own)
 abbrev pub IsRingAlign : ℕ → Type 0
 IsRingAlign align = IsTrue (is_power_of_two align) × (4 ≤ align) × (align ≤ 65536)

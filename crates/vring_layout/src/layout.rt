@@ -1,7 +1,8 @@
-ghost use Rattle.std.specs.Prelude.{◌≡◌, ℕ, ◌+◌, ◌*◌, ◌-◌, ◌^◌, ◌<◌, ◌≤◌, ◌++◌, min, length, replicate, OnOk, IfOk};
+ghost use Rattle.std.specs.Prelude.{◌≡◌, ℕ, ◌+◌, ◌*◌, ◌-◌, ◌^◌, ◌<◌, ◌≤◌, ◌++◌, length, replicate, OnOk, IfOk};
 ghost use Rattle.std.specs.List.{flat_map};
 ghost use Rattle.byteorder.specs.Endian.{little_bytes};
-ghost use Rattle.vring_layout.specs.Sizes.{IsRingAlign, IsRingSize, ring_size};
+ghost use Rattle.rp_base.specs.Limits.{IsRingSize, ring_capacity};
+ghost use Rattle.vring_layout.specs.Sizes.{IsRingAlign, ring_size};
 ghost use Rattle.vring_layout.specs.Rings.{available_ring, descriptor_bytes, descriptor_table, ring_layout, used_entry_bytes, used_ring};
 
 use crate::sizes::{available_ring_end, used_ring_at, vring_size};
@@ -21,9 +22,9 @@ const DEVICE_WRITES: u16 = 2;
 pub fn ring_bytes(alloc: Global, align: u32, words: &RingWords) -> Result<Vec<u8>, NoMemory>
     requires num { IsRingSize words.now.num }
     requires align { IsRingAlign align }
-    requires capacity { words.now.capacity ≡ min words.now.num 256 }
-    requires avail { length words.now.avail.items ≡ words.now.num }
-    requires used { length words.now.used.items ≡ words.now.num }
+    requires capacity { words.now.capacity ≡ ring_capacity words.now.num }
+    requires avail { length words.now.avail ≡ words.now.num }
+    requires used { length words.now.used ≡ words.now.num }
     ensures bytes { IfOk result (λ bytes. bytes.items ≡ ring_layout align words.now) }
     ensures size { IfOk result (λ bytes. length bytes.items ≡ ring_size words.now.num align) }
 {
@@ -71,7 +72,7 @@ fn push_available_ring(bytes: &mut Vec<u8>, words: &RingWords) -> Result<(), NoM
 {
     push_u16(bytes, 0)?;
     push_u16(bytes, words.avail_idx)?;
-    for entry in &words.avail {
+    for entry in words.avail.as_slice() {
         push_u16(bytes, *entry)?;
     }
     push_u16(bytes, 0)
@@ -83,7 +84,7 @@ fn push_used_ring(bytes: &mut Vec<u8>, words: &RingWords) -> Result<(), NoMemory
 {
     push_u16(bytes, 0)?;
     push_u16(bytes, words.used_idx)?;
-    for entry in &words.used {
+    for entry in words.used.as_slice() {
         bytes.extend_from_slice(&used_entry(*entry))?;
     }
     push_u16(bytes, 0)

@@ -9,7 +9,4 @@ mod words;
 pub use layout::ring_bytes;
 pub use sizes::vring_size;
 pub use snapshots::{Snapshot, SnapshotFault};
-pub use words::{RingWords, UsedWord};
-
-#[cfg(test)]
-mod tests;
+pub use words::{AvailableWords, RingWords, UsedWord, UsedWords};

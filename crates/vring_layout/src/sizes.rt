@@ -1,5 +1,6 @@
 ghost use Rattle.std.specs.Prelude.{◌≡◌, ℕ, ◌+◌, ◌≤◌, ◌<◌};
-ghost use Rattle.vring_layout.specs.Sizes.{IsRingAlign, IsRingSize, available_end, ring_size, used_start};
+ghost use Rattle.rp_base.specs.Limits.{IsRingSize};
+ghost use Rattle.vring_layout.specs.Sizes.{IsRingAlign, available_end, ring_size, used_start};
 
 /// The bytes of a ring of `num` descriptors, whose used ring stands at a multiple of `align`:
 /// `vring_size` of Linux `virtio_ring.h`. `num` is a power of two up to 32,768, `align` is one

@@ -6,4 +6,4 @@ use Rattle.vring_layout.proofs.layout.push_available_ring.Given as goal
 -- the front of the ring, with the entries so far
 abbrev pub invariant-loop-entry : goal.invariant-loop-entry
 invariant-loop-entry l =
-    l.bytes.items ≡ l.fn.bytes.items ++ (little_bytes 2 0 ++ little_bytes 2 l.words.avail_idx ++ flat_map (little_bytes 2) (take l.entry-index l.words.avail.items))
+    l.bytes.items ≡ l.fn.bytes.items ++ (little_bytes 2 0 ++ little_bytes 2 l.words.avail_idx ++ flat_map (little_bytes 2) (take l.entry-index l.words.avail))

@@ -7,4 +7,4 @@ use Rattle.vring_layout.proofs.layout.push_used_ring.Given as goal
 -- the front of the ring, with the entries so far
 abbrev pub invariant-loop-entry : goal.invariant-loop-entry
 invariant-loop-entry l =
-    l.bytes.items ≡ l.fn.bytes.items ++ (little_bytes 2 0 ++ little_bytes 2 l.words.used_idx ++ flat_map used_entry_bytes (take l.entry-index l.words.used.items))
+    l.bytes.items ≡ l.fn.bytes.items ++ (little_bytes 2 0 ++ little_bytes 2 l.words.used_idx ++ flat_map used_entry_bytes (take l.entry-index l.words.used))

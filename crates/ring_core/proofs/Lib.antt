@@ -1,0 +1,10 @@
+pub mod Hands
+pub mod Inside
+pub mod Links
+pub mod OneOwner
+pub mod Opened
+pub mod Owned
+pub mod Sound
+pub mod Windows
+pub mod AtOnce
+pub mod Reclaims

@@ -1,0 +1,13 @@
+use Rattle.std.proofs.Common.{ap, arith}
+use Rattle.lane_model.specs.declared.states.LaneState.{LaneState}
+use Rattle.ring_core.specs.RingLanes.{state_of}
+use Rattle.ring_core.proofs.Inside.{inside_after}
+use Rattle.ring_core.proofs.Sound.{send_begun_sound}
+use Rattle.ring_core.proofs.ring_lanes.RingLaneLaneForm.begin_send.Goals as goal
+
+pub invariant_of-self : goal.invariant_of-self
+invariant_of-self g c =
+    let old = state_of c.self.inside in
+    inside_after _ _ _ c.self.invariant
+    (ap (λ (x : LaneState g.row.D.Denot). record old { lane = x }) c.begin_send.ensures.left)
+    (send_begun_sound g.D.Desk.meaning old c.args.caller c.args.follows _ c.self.invariant.sound) (omega arith) (omega arith)
