@@ -1,0 +1,6 @@
+pub mod Joins
+pub mod ReadFields
+pub mod ReadSegments
+pub mod ReadTable
+pub mod ReadImages
+pub mod ReadRecipes

@@ -1,0 +1,5 @@
+pub mod Fields
+pub mod Segments
+pub mod Tables
+pub mod Images
+pub mod ReadBack

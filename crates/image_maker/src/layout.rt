@@ -1,0 +1,156 @@
+ghost use Rattle.std.specs.Prelude.{◌≡◌, ◌++◌, None, Some, IfOk, OnOk};
+ghost use Rattle.image_maker.specs.Segments.{program_header, program_headers, segment_bytes};
+ghost use Rattle.image_maker.specs.Images.{image_of, image_with, file_header, data_start, segments_part, section_headers};
+ghost use Rattle.image_maker.specs.Tables.{table_len};
+
+use crate::fields::{put_half, put_words};
+use crate::sizes::{
+    data_len, data_of, entries_len, entry_address, entry_count, plus, segment_count, table_address,
+    times,
+};
+use crate::tables::put_table;
+use rp_base::NoMemory;
+use script_lang::{Recipe, RecipeLine};
+use std::alloc::{AllocError, Global};
+
+/// The identification of an ELF32 image, the lowest byte of a number first.
+const IDENTIFICATION: [u8; 16] = [0x7f, 0x45, 0x4c, 0x46, 1, 1, 1, 0, 0, 0, 0, 0, 0, 0, 0, 0];
+
+/// The image that a recipe says.
+#[tactic(auto, unfolding(crate::specs::Images::image_of))]
+pub fn build(alloc: Global, recipe: &Recipe) -> Result<Vec<u8>, NoMemory>
+    ensures { IfOk result (λ image. image.items ≡ image_of recipe.now) }
+{
+    let lines = recipe.lines();
+    let mut out = Vec::new(alloc);
+    match table_address(lines) {
+        None => put_plain(&mut out, lines)?,
+        Some(da) => put_with_table(&mut out, lines, da)?,
+    }
+    Ok(out)
+}
+
+/// Appends an image without a table.
+fn put_plain(out: &mut Vec<u8>, lines: &[RecipeLine]) -> Result<(), NoMemory>
+    ensures { OnOk result (out.new.items ≡ out.old.items ++ image_with lines.now None) }
+{
+    let segments = segment_count(lines)?;
+    put_file_header(out, entry_address(lines), segments, 0, 0, 0, 0)?;
+    put_segments(out, lines)?;
+    Ok(())
+}
+
+/// Appends an image with a table for this device address.
+fn put_with_table(out: &mut Vec<u8>, lines: &[RecipeLine], da: u64) -> Result<(), NoMemory>
+    ensures { OnOk result (out.new.items ≡ out.old.items ++ image_with lines.now (Some da)) }
+{
+    let segments = segment_count(lines)?;
+    let start = plus(data_start(lines)?, data_len(lines)?)?;
+    let len = table_len(lines)?;
+    let place = plus(plus(start, len)?, 27)?;
+    put_file_header(out, entry_address(lines), segments, place, 40, 3, 2)?;
+    put_segments(out, lines)?;
+    put_table(out, lines)?;
+    out.extend_from_slice(b"\0.resource_table\0.shstrtab\0")?;
+    put_section_headers(out, da, start, len)?;
+    Ok(())
+}
+
+/// Where the bytes of the segments begin.
+fn data_start(lines: &[RecipeLine]) -> Result<u64, NoMemory>
+    ensures { IfOk result (λ start. start ≡ data_start lines.now) }
+{
+    let count = segment_count(lines)?;
+    plus(52, times(32, count)?)
+}
+
+/// How many bytes the table has.
+fn table_len(lines: &[RecipeLine]) -> Result<u64, NoMemory>
+    ensures { IfOk result (λ len. len ≡ table_len lines.now) }
+{
+    let count = entry_count(lines)?;
+    let offsets = plus(16, times(4, count)?)?;
+    plus(offsets, entries_len(lines)?)
+}
+
+/// Appends the program headers and the bytes of the segments.
+#[tactic(auto, unfolding(crate::specs::Images::segments_part))]
+fn put_segments(out: &mut Vec<u8>, lines: &[RecipeLine]) -> Result<(), NoMemory>
+    ensures { OnOk result (out.new.items ≡ out.old.items ++ segments_part lines.now) }
+{
+    let start = data_start(lines)?;
+    put_program_headers(out, lines, start)?;
+    put_data(out, lines)?;
+    Ok(())
+}
+
+/// Appends the program headers of these lines, whose bytes stand from a place of the image on.
+fn put_program_headers(out: &mut Vec<u8>, lines: &[RecipeLine], start: u64) -> Result<(), NoMemory>
+    ensures { OnOk result (out.new.items ≡ out.old.items ++ program_headers start lines.now) }
+{
+    let mut offset = start;
+    for line in lines {
+        put_program_header(out, line, offset)?;
+        offset = plus(offset, data_of(line).len() as u64)?;
+    }
+    Ok(())
+}
+
+fn put_program_header(out: &mut Vec<u8>, line: &RecipeLine, offset: u64) -> Result<(), AllocError>
+    ensures { OnOk result (out.new.items ≡ out.old.items ++ program_header offset line.now) }
+{
+    match line {
+        RecipeLine::Load(da, bytes, memory_len) => {
+            let len = bytes.bytes().len() as u64;
+            put_words(out, &[1, offset, *da, *da, len, *memory_len, 7, 4])
+        }
+        _ => Ok(()),
+    }
+}
+
+/// Appends the bytes of the segments.
+fn put_data(out: &mut Vec<u8>, lines: &[RecipeLine]) -> Result<(), AllocError>
+    ensures { OnOk result (out.new.items ≡ out.old.items ++ segment_bytes lines.now) }
+{
+    for line in lines {
+        out.extend_from_slice(data_of(line))?;
+    }
+    Ok(())
+}
+
+/// Appends the ELF header: the entry, the number of program headers, and the place, the size, the
+/// number and the number of the names of the section headers.
+#[tactic(auto, unfolding(crate::specs::Images::file_header))]
+fn put_file_header(
+    out: &mut Vec<u8>,
+    entry: u64,
+    segments: u64,
+    place: u64,
+    size: u64,
+    sections: u64,
+    names: u64,
+) -> Result<(), AllocError>
+    ensures { OnOk result (out.new.items ≡ out.old.items ++ file_header entry segments place size sections names) }
+{
+    out.extend_from_slice(&IDENTIFICATION)?;
+    put_half(out, 2)?;
+    put_half(out, 40)?;
+    put_words(out, &[1, entry, 52, place, 0])?;
+    put_half(out, 52)?;
+    put_half(out, 32)?;
+    put_half(out, segments)?;
+    put_half(out, size)?;
+    put_half(out, sections)?;
+    put_half(out, names)
+}
+
+/// Appends three section headers: none, the table's, and that of the names behind the table.
+fn put_section_headers(out: &mut Vec<u8>, da: u64, start: u64, len: u64) -> Result<(), NoMemory>
+    ensures { OnOk result (out.new.items ≡ out.old.items ++ section_headers da start len) }
+{
+    let names = plus(start, len)?;
+    put_words(out, &[0, 0, 0, 0, 0, 0, 0, 0, 0, 0])?;
+    put_words(out, &[1, 1, 2, da, start, len, 0, 0, 4, 0])?;
+    put_words(out, &[17, 3, 0, 0, names, 27, 0, 0, 1, 0])?;
+    Ok(())
+}
