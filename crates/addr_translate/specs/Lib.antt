@@ -1,0 +1,4 @@
+pub mod Mapped
+pub mod Maps
+pub mod OrderedMaps
+pub mod Bytes
