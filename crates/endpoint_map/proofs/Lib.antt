@@ -1,0 +1,4 @@
+pub mod Binds
+pub mod Gaps
+pub mod Lookups
+pub mod Places
