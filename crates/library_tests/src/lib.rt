@@ -3,13 +3,23 @@
 
 #[cfg(test)]
 mod base;
+pub mod desks;
 #[cfg(test)]
 mod elf;
 #[cfg(test)]
 mod header;
 #[cfg(test)]
+mod links;
+#[cfg(test)]
 mod lives;
 #[cfg(test)]
 mod outside;
 #[cfg(test)]
+mod placement;
+#[cfg(test)]
 mod records;
+#[cfg(test)]
+mod table;
+#[cfg(test)]
+mod text;
+pub mod trait_calls;

@@ -1,4 +1,12 @@
-pub mod Told
-pub mod Steps
-pub mod Ends
-pub mod Clauses
+mod Handed
+mod Ends
+mod RunSteps
+mod Walks
+mod Begun
+mod Turns
+mod SoFar
+mod Placing
+mod Fetches
+mod AtOnce
+mod RingWalks
+mod RingRows

@@ -1,8 +1,8 @@
 -- What the words ask for, as code tells it apart (own).
-use Rattle.std.specs.Prelude.{◌≡◌, ℕ, List}
+use Rattle.std.specs.Prelude.{◌≡◌}
 use Rattle.script_run.specs.declared.words.Asked.{Asked}
 use Rattle.script_run.specs.declared.words.Asked.TheVariants as asked
-use Rattle.script_run.specs.Programs.{Form, other, run, check}
+use Rattle.script_run.specs.Outputs.{Form, other, run, check}
 
 -- what the words ask for, as the definitions have it
 abbrev pub asked_form : Asked → Form

@@ -1,9 +1,34 @@
--- A report as code makes it (own).
-use Rattle.std.specs.Prelude.{◌≡◌}
+-- A report as code makes it, and what becomes of it (own).
+use Rattle.std.specs.Prelude.{◌≡◌, ℕ, List, Option, if◌then◌else◌}
+use Rattle.rp_io.specs.Causes.{Rose}
+use Rattle.journal.specs.Notices.{report_text}
 use Rattle.script_run.specs.declared.reports.ImageReport.{ImageReport}
+use Rattle.script_run.specs.declared.reports.ReportFault.{ReportFault}
+use Rattle.script_run.specs.declared.reports.ReportFault.TheVariants as report_fault
+use Rattle.script_run.specs.declared.statuses.Status.{Status}
+use Rattle.script_run.specs.declared.statuses.Status.TheVariants as status
 use Rattle.script_run.specs.Reports.{Report}
+use Rattle.script_run.specs.Outputs.{Output, check}
+use Rattle.script_run.specs.Endings.{Ends}
 
--- it has this status and these lines
+-- it says the same, in these lines
 pub record IsImageReport (made : ImageReport) (report : Report) : Type 0 where
-  pub status : made.status ≡ report.status
+  pub loads : made.loads ≡ report.loads
   pub notices : made.notices.items ≡ report.notices
+
+-- its output
+abbrev pub made_output : ImageReport → Output
+made_output made = record { status = if made.loads then status.Done else status.NoImage; text = report_text made.notices.items }
+
+-- why there is no report, by the count of the store's faults
+abbrev pub IsReportFault : ReportFault → ℕ → ℕ → Type 0
+IsReportFault report_fault.Store before now = Rose before now
+IsReportFault report_fault.NoMemory before now = now ≡ before
+
+-- the program ends so with `check` and this name, whatever the source of the script has
+abbrev pub IsChecked : Status → List ℕ → Option (List (List ℕ × List ℕ)) → ℕ → ℕ → Option (List ℕ) → Option (List ℕ) → ℕ → ℕ → Type 0
+IsChecked ended name images store_before store_now old new before now =
+    (left left_now : Option (List ℕ)) (images_now : Option (List (List ℕ × List ℕ))) (source : ℕ) →
+    Ends ended (check name)
+    (record { left = left; images = images; written = old; source_faults = source; store_faults = store_before; sink_faults = before })
+    (record { left = left_now; images = images_now; written = new; source_faults = source; store_faults = store_now; sink_faults = now })

@@ -1,5 +1,6 @@
 -- What `check` reports of an image over the standard memory of a core, 65,536 bytes from device address 0 (own).
-use Rattle.std.specs.Prelude.{ℕ, ◌+◌, nat_le, Bool, List, [], ◌∷◌, ◌++◌, length, map, codes, if◌then◌else◌, Option, Some, None, Result, Ok, Err}
+use Rattle.std.specs.Prelude.{ℕ, ◌+◌, nat_le, Bool, true, false, List, [], ◌∷◌, ◌++◌, length, map, codes, if◌then◌else◌, Option, Some, None, Result, Ok, Err}
+use Rattle.rp_base.specs.declared.limits.TheConstants.{STANDARD_MEMORY}
 use Rattle.elf_image.specs.declared.faults.ElfFault.{ElfFault}
 use Rattle.elf_image.specs.declared.sections.Section.{Section}
 use Rattle.elf_image.specs.Faults.{fault_number, fault_index}
@@ -9,23 +10,21 @@ use Rattle.elf_image.specs.Sections.{section_of}
 use Rattle.rp_io.specs.declared.faults.FetchFault.{FetchFault}
 use Rattle.rp_io.specs.declared.faults.FetchFault.TheVariants as fetch_fault
 use Rattle.rp_io.specs.Images.{fetch_answer}
-use Rattle.script_run.specs.declared.statuses.Status.{Status}
-use Rattle.script_run.specs.declared.statuses.Status.TheVariants as status
-use Rattle.script_run.specs.declared.notices.Notice.{Notice}
-use Rattle.script_run.specs.declared.notices.Notice.TheVariants as notice
+use Rattle.journal.specs.declared.notices.Notice.{Notice}
+use Rattle.journal.specs.declared.notices.Notice.TheVariants as notice
 
--- how a report ends, and its lines
+-- whether an image loads, and the lines that say so
 pub record Report : Type 0 where
-  pub status : Status
+  pub loads : Bool
   pub notices : List Notice
 
 -- the one line of an image that doesn't load
 abbrev pub refusal : Notice → Report
-refusal why = record { status = status.NoImage; notices = why ∷ [] }
+refusal why = record { loads = false; notices = why ∷ [] }
 
 -- these bytes of a core lie in the standard memory
 abbrev pub is_mapped : ℕ → ℕ → Bool
-is_mapped da len = nat_le (da + len) 65536
+is_mapped da len = nat_le (da + len) STANDARD_MEMORY
 
 -- the number of the first loaded segment that passes the end of the memory
 abbrev pub first_unmapped : List SegmentAt → Option ℕ
@@ -39,7 +38,7 @@ segment_notice segment = notice.Segment segment.index segment.da (length segment
 -- an image that loads: its entry, its loaded segments, and a last line
 abbrev pub loads_report : ℕ → List SegmentAt → Report
 loads_report entry segments =
-    record { status = status.Done; notices = (notice.Start entry ∷ map segment_notice segments) ++ notice.Loads ∷ [] }
+    record { loads = true; notices = (notice.Start entry ∷ map segment_notice segments) ++ notice.Loads ∷ [] }
 
 -- the 16 bytes of the first worker record lie in the memory, or fault 41
 abbrev pub entry_report : ℕ → List SegmentAt → Report

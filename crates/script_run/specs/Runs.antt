@@ -1,198 +1,192 @@
--- What a run of a script tells: the lane machine's answers to the commands, in order (own).
-use Rattle.std.specs.Prelude.{◌≡◌, ℕ, Bool, true, false, nat_le, not, if◌then◌else◌, List, [], ◌∷◌, ◌++◌, length, slice_get, slice_set, Option, Some, None, IsSome, bytes_eq}
+-- The run of a script: what each command leaves and tells, from nothing on (own).
+use Rattle.std.specs.Prelude.{ℕ, Bool, is_some, ◌-◌, nat_le, List, [], ◌∷◌, ◌++◌, length, slice_get, slice_set, Option, Some, None, bytes_eq, if◌then◌else◌}
 use Rattle.std.specs.List.{position}
-use Rattle.rp_base.specs.declared.kinds.End.{End}
-use Rattle.rp_base.specs.declared.kinds.End.TheVariants as side
-use Rattle.rp_base.specs.declared.kinds.Verdict.{Verdict}
-use Rattle.rp_base.specs.declared.kinds.Verdict.TheVariants as verdict
-use Rattle.rp_base.specs.declared.kinds.Endpoint.{Endpoint}
-use Rattle.rp_base.specs.declared.kinds.BindFault.{BindFault}
-use Rattle.rp_base.specs.declared.kinds.BindFault.TheVariants as bind_fault
-use Rattle.rpmsg_header.specs.Headers.{header_bytes, is_whole, source_of, payload_of}
-use Rattle.lane_model.specs.declared.calls.Ask.{Ask}
-use Rattle.lane_model.specs.declared.calls.Ask.TheVariants as ask
-use Rattle.lane_model.specs.declared.calls.Answer.{Answer}
-use Rattle.lane_model.specs.declared.calls.Answer.TheVariants as answer
+use Rattle.rp_base.specs.declared.limits.TheConstants.{OBJECTS_MOST}
 use Rattle.lane_model.specs.declared.calls.LinkConfig.{LinkConfig}
-use Rattle.lane_model.specs.declared.states.LinkState.{LinkState}
-use Rattle.lane_model.specs.HeldBuffers.{HeldBuffer}
-use Rattle.lane_model.specs.Links.{end_of, free_number, with_caller, opened_link}
-use Rattle.lane_model.specs.Conditions.{is_calling, is_holding}
-use Rattle.lane_model.specs.WholeCalls.{Ended, steps_to_end}
 use Rattle.script_lang.specs.declared.commands.Command.{Command}
 use Rattle.script_lang.specs.declared.commands.Command.TheVariants as command
+use Rattle.script_lang.specs.declared.recipes.RecipeLine.{RecipeLine}
+use Rattle.image_maker.specs.Images.{image_of}
 use Rattle.journal.specs.declared.events.Event.{Event}
 use Rattle.journal.specs.declared.events.Event.TheVariants as event
-use Rattle.script_run.specs.declared.silent_desks.SilentDesk.{SilentDesk}
-use Rattle.script_run.specs.declared.benches.Bench.{Bench}
-use Rattle.script_run.specs.SilentDesks.{silent_desk}
+use Rattle.script_run.specs.declared.statuses.Stop.{Stop}
+use Rattle.script_run.specs.NamedLinks.{NamedLink}
+use Rattle.script_run.specs.Benches.{BenchState, new_bench_of}
+use Rattle.script_run.specs.Pumps.{pump_effect}
+use Rattle.script_run.specs.RingDumps.{ring_effect}
+use Rattle.script_run.specs.Effects.{Effect, tells, caller_effect, call_effect, begun_effect, send_effect, take_effect, give_effect, step_effect, books_effect}
 
--- a message that goes to an endpoint or nowhere; one without a whole header is malformed
-abbrev pub aimed_event : List ℕ → ℕ → ℕ → List ℕ → (ℕ → List ℕ → Event) → Event
-aimed_event name caller number message aimed =
-    if is_whole message then aimed (source_of message) (payload_of message) else event.TookMalformed name caller number
+-- an image that a script made, under its name
+pub record ImageState : Type 0 where
+  pub name : List ℕ
+  pub bytes : List ℕ
 
--- the end of a take, by the verdict
-abbrev pub took_event : List ℕ → ℕ → ℕ → List ℕ → Verdict → Event
-took_event name caller number message (verdict.To endpoint) =
-    aimed_event name caller number message (λ src payload. event.TookTo name caller number src endpoint payload)
-took_event name caller number message (verdict.Dropped dst) =
-    aimed_event name caller number message (λ src payload. event.TookDropped name caller number src dst payload)
-took_event name caller number message verdict.Malformed = event.TookMalformed name caller number
-took_event name caller number message (verdict.Service what channel address endpoint) =
-    event.TookService name caller number what channel address
-took_event name caller number message verdict.ServiceMalformed = event.TookServiceMalformed name caller number
+-- what a script made: its links and its images, each in the order in which they were made
+pub record ObjectsState : Type 0 where
+  pub links : List NamedLink
+  pub images : List ImageState
 
--- why an endpoint was not bound or unbound
-abbrev pub refused_event : List ℕ → ℕ → BindFault → Event
-refused_event name caller (bind_fault.AddressTaken address) = event.AddressTaken name caller address
-refused_event name caller bind_fault.EndpointsFull = event.EndpointsFull name caller
-refused_event name caller (bind_fault.NotBound address) = event.NotBound name caller address
+-- the state of a run: what was made, and how many steps were done
+pub record RunState : Type 0 where
+  pub objects : ObjectsState
+  pub steps : ℕ
 
--- the end of a call
-abbrev pub answer_event : List ℕ → ℕ → Answer → Event
-answer_event name caller (answer.Sent number) = event.Sent name caller number
-answer_event name caller (answer.Took held judged) = took_event name caller held.number held.buffer.message judged
-answer_event name caller (answer.Gave number) = event.Gave name caller number
-answer_event name caller (answer.Bound endpoint) = event.Bound name caller endpoint
-answer_event name caller (answer.Unbound endpoint) = event.Unbound name caller endpoint
-answer_event name caller (answer.Busy holder) = event.Busy name caller holder
-answer_event name caller (answer.GiveBusy holder held) = event.Busy name caller holder
-answer_event name caller (answer.Dead era) = event.Dead name caller era
-answer_event name caller (answer.NoBuffer accepted returned) = event.NoBuffer name caller accepted returned
-answer_event name caller (answer.BookFull accepted) = event.BookFull name caller accepted
-answer_event name caller (answer.Empty accepted) = event.Empty name caller accepted
-answer_event name caller (answer.Refused fault) = refused_event name caller fault
-
--- what a command leaves of its link, and the events that it tells
-pub record BenchRan : Type 0 where
-  pub bench : Bench
+-- what a command leaves of a run, what it tells, and why the run stops in its midst, if it does
+pub record RunEffect : Type 0 where
+  pub run : RunState
   pub events : List Event
+  pub ending : Option Stop
 
--- one event, and the link as it was
-abbrev pub told : Bench → Event → BenchRan
-told bench event = record { bench = bench; events = event ∷ [] }
+-- one event, and the run as it is
+abbrev pub run_tells : RunState → Event → RunEffect
+run_tells run told = record { run = run; events = told ∷ []; ending = None }
 
--- the link that a call leaves, and the event of its answer
-abbrev pub ended_ran : Bench → ℕ → Option (Ended SilentDesk) → BenchRan
-ended_ran bench caller (Some ended) = told (record bench { link = ended.state }) (answer_event bench.name caller ended.answer)
-ended_ran bench caller None = record { bench = bench; events = [] }
-
--- a whole call, which follows the incarnation that the link is in
-abbrev pub call_ran : Bench → ℕ → Ask → BenchRan
-call_ran bench caller asked =
-    ended_ran bench caller (steps_to_end 7 silent_desk bench.link caller bench.link.era.inc (Some asked))
-
--- a caller who is in use and in no call
-pub record IsReady (link : LinkState SilentDesk) (caller : ℕ) : Type 0 where
-  pub used : IsSome (end_of link.callers caller)
-  pub idle : is_calling link caller ≡ false
-
--- a caller that isn't in use, or is in a call, refuses
-abbrev pub tested_ran : Bench → ℕ → Option End → Bool → BenchRan → BenchRan
-tested_ran bench caller None calling ran = told bench (event.NoCaller bench.name caller)
-tested_ran bench caller (Some end) true ran = told bench (event.InCall bench.name caller)
-tested_ran bench caller (Some end) false ran = ran
-
--- what this caller's call does, where the caller is in use and in no call
-abbrev pub caller_ran : Bench → ℕ → BenchRan → BenchRan
-caller_ran bench caller ran = tested_ran bench caller (end_of bench.link.callers caller) (is_calling bench.link caller) ran
-
--- the lane that a caller of this end takes from
-abbrev pub incoming_lane : Option End → ℕ
-incoming_lane (Some side.Host) = 0
-incoming_lane (Some side.Remote) = 1
-incoming_lane None = 0
-
--- a new caller under this number, where one is free
-abbrev pub made_ran : Bench → End → Option ℕ → BenchRan
-made_ran bench end None = told bench (event.CallersFull bench.name)
-made_ran bench end (Some number) =
-    told (record bench { link = record bench.link { callers = with_caller bench.link.callers end (Some number) } }) (event.CallerMade bench.name number end)
-
--- a send, whose payload may be too long for a buffer
-abbrev pub send_ran : Bench → ℕ → ℕ → ℕ → List ℕ → BenchRan
-send_ran bench caller src dst payload =
-    if nat_le (length payload) 496 then call_ran bench caller (ask.Send (header_bytes src dst payload))
-    else told bench (event.TooLong bench.name caller (length payload))
-
--- a give of a message whose buffer the caller holds
-abbrev pub give_ran : Bench → ℕ → ℕ → BenchRan
-give_ran bench caller number =
-    if is_holding bench.link caller number
-    then call_ran bench caller (ask.Give (record { lane = incoming_lane (end_of bench.link.callers caller); caller = caller; number = number; buffer = record { id = 0; message = [] } }))
-    else told bench (event.NotHeld bench.name caller number)
-
--- a command on the link that it names
-abbrev pub bench_ran : Bench → Command → BenchRan
-bench_ran bench (command.Link name to_host to_remote book) = told bench (event.Exists name)
-bench_ran bench (command.Caller name end) = made_ran bench end (free_number bench.link.callers)
-bench_ran bench (command.Send name caller src dst payload) = caller_ran bench caller (send_ran bench caller src dst payload)
-bench_ran bench (command.Take name caller) = caller_ran bench caller (call_ran bench caller ask.Take)
-bench_ran bench (command.Give name caller number) = caller_ran bench caller (give_ran bench caller number)
+-- a command on the link of this name
+unfoldable pub link_effect : NamedLink → ℕ → Command → Effect
+link_effect named steps (command.Link name to_host to_remote book) = tells named.bench steps (event.Exists named.name)
+link_effect named steps (command.Caller name end) = caller_effect named.name named.bench steps end
+link_effect named steps (command.Send name caller src dst payload) = send_effect call_effect named.name named.bench steps caller src dst payload
+link_effect named steps (command.Take name caller) = take_effect call_effect named.name named.bench steps caller
+link_effect named steps (command.Give name caller number) = give_effect call_effect named.name named.bench steps caller number
+link_effect named steps (command.BeginSend name caller src dst payload) = send_effect begun_effect named.name named.bench steps caller src dst payload
+link_effect named steps (command.BeginTake name caller) = take_effect begun_effect named.name named.bench steps caller
+link_effect named steps (command.BeginGive name caller number) = give_effect begun_effect named.name named.bench steps caller number
+link_effect named steps (command.Step name caller count) = step_effect named.name named.bench steps caller (count - 1)
+link_effect named steps (command.Finish name caller) = step_effect named.name named.bench steps caller 6
+link_effect named steps (command.Pump name sender receiver count) = pump_effect named.name named.bench steps sender receiver count
+-- (no run gets here: an image is made beside the links)
+link_effect named steps (command.Image name lines) = tells named.bench steps (event.Exists named.name)
+link_effect named steps (command.Ring name lane) = ring_effect named.name named.bench steps lane
+link_effect named steps (command.Books name) = books_effect named.name named.bench steps
 
 -- the name of the link that a command is about
-abbrev pub name_of : Command → List ℕ
-name_of (command.Link name to_host to_remote book) = name
-name_of (command.Caller name end) = name
-name_of (command.Send name caller src dst payload) = name
-name_of (command.Take name caller) = name
-name_of (command.Give name caller number) = name
+abbrev pub command_name : Command → List ℕ
+command_name (command.Link name to_host to_remote book) = name
+command_name (command.Caller name end) = name
+command_name (command.Send name caller src dst payload) = name
+command_name (command.Take name caller) = name
+command_name (command.Give name caller number) = name
+command_name (command.BeginSend name caller src dst payload) = name
+command_name (command.BeginTake name caller) = name
+command_name (command.BeginGive name caller number) = name
+command_name (command.Step name caller count) = name
+command_name (command.Finish name caller) = name
+command_name (command.Pump name sender receiver count) = name
+command_name (command.Image name lines) = name
+command_name (command.Ring name lane) = name
+command_name (command.Books name) = name
 
 -- the place of the link of this name
-abbrev pub place_of : List Bench → List ℕ → Option ℕ
-place_of benches name = position (λ bench. bytes_eq bench.name name) benches
-
--- what a command leaves of the links, and the events that it tells
-pub record Ran : Type 0 where
-  pub benches : List Bench
-  pub events : List Event
+abbrev pub place_of : List NamedLink → List ℕ → Option ℕ
+place_of links name = position (λ named. bytes_eq named.name name) links
 
 -- a link is live in incarnation 1, and its buffers begin at address 0
 abbrev pub config_of : ℕ → ℕ → ℕ → LinkConfig
 config_of to_host to_remote book = record { num0 = to_host; num1 = to_remote; book = book; first = 1; base = 0 }
 
--- a command whose name no link has: a `link` makes one, unless there are eight
-abbrev pub unnamed_ran : List Bench → Command → Ran
-unnamed_ran benches (command.Link name to_host to_remote book) =
-    if nat_le 8 (length benches) then record { benches = benches; events = event.ObjectsFull ∷ [] }
-    else record {
-      benches = benches ++ record { name = name; link = opened_link (config_of to_host to_remote book) (record {}) (record {}) } ∷ [];
-      events = event.Opened name 1 ∷ [];
-    }
-unnamed_ran benches (command.Caller name end) = record { benches = benches; events = event.Unknown name ∷ [] }
-unnamed_ran benches (command.Send name caller src dst payload) = record { benches = benches; events = event.Unknown name ∷ [] }
-unnamed_ran benches (command.Take name caller) = record { benches = benches; events = event.Unknown name ∷ [] }
-unnamed_ran benches (command.Give name caller number) = record { benches = benches; events = event.Unknown name ∷ [] }
+-- a bench of a new link, on which nothing is begun
+abbrev pub new_bench : ℕ → ℕ → ℕ → BenchState
+new_bench to_host to_remote book = new_bench_of (config_of to_host to_remote book)
 
--- the links, with what a command leaves of the one at this place
-abbrev pub bench_ran_in : List Bench → ℕ → BenchRan → Ran
-bench_ran_in benches place ran = record { benches = slice_set benches place ran.bench; events = ran.events }
+-- the run with other links
+abbrev pub with_links : RunState → List NamedLink → RunState
+with_links run links = record run { objects = record run.objects { links = links } }
 
--- a command on the link at this place
-abbrev pub found_ran : List Bench → ℕ → Option Bench → Command → Ran
-found_ran benches place None command = record { benches = benches; events = [] }
-found_ran benches place (Some bench) command = bench_ran_in benches place (bench_ran bench command)
+-- `link X RING RING BOOK` for a new name: there are at most eight links
+unfoldable pub made_effect : RunState → List ℕ → ℕ → ℕ → ℕ → RunEffect
+made_effect run name to_host to_remote book =
+    if nat_le OBJECTS_MOST (length run.objects.links) then run_tells run event.ObjectsFull
+    else run_tells (with_links run (run.objects.links ++ record { name = name; bench = new_bench to_host to_remote book } ∷ [])) (event.Open name 1)
 
--- a command on the link of its name, or one whose name no link has
-abbrev pub placed_ran : List Bench → Option ℕ → Command → Ran
-placed_ran benches None command = unnamed_ran benches command
-placed_ran benches (Some place) command = found_ran benches place (slice_get benches place) command
+-- a command whose name no link has
+unfoldable pub unnamed_effect : RunState → Command → RunEffect
+unnamed_effect run (command.Link name to_host to_remote book) = made_effect run name to_host to_remote book
+unnamed_effect run other = run_tells run (event.Unknown (command_name other))
+
+-- the run with what a command leaves of the link at this place
+abbrev pub placed_effect : RunState → ℕ → NamedLink → Effect → RunEffect
+placed_effect run place named effect = record {
+  run = record (with_links run (slice_set run.objects.links place (record named { bench = effect.bench }))) { steps = effect.steps };
+  events = effect.events;
+  ending = effect.ending;
+}
+
+-- a command on the link at this place, or on none
+abbrev pub found_effect : RunState → Command → ℕ → Option NamedLink → RunEffect
+found_effect run command place None = unnamed_effect run command
+found_effect run command place (Some named) = placed_effect run place named (link_effect named run.steps command)
+
+-- a command on the link of its name, or on none
+abbrev pub located_effect : RunState → Command → Option ℕ → RunEffect
+located_effect run command None = unnamed_effect run command
+located_effect run command (Some place) = found_effect run command place (slice_get run.objects.links place)
+
+-- the place of the image of this name
+abbrev pub image_place : List ImageState → List ℕ → Option ℕ
+image_place images name = position (λ image. bytes_eq image.name name) images
+
+-- whether an image of this name was made
+abbrev pub has_image : List ImageState → List ℕ → Bool
+has_image images name = is_some (image_place images name)
+
+-- the run with an image more
+abbrev pub with_image : RunState → List ℕ → List ℕ → RunState
+with_image run name bytes = record run { objects = record run.objects { images = run.objects.images ++ record { name = name; bytes = bytes } ∷ [] } }
+
+-- `image FW` with its recipe
+unfoldable pub image_effect : RunState → List ℕ → List RecipeLine → RunEffect
+image_effect run name lines =
+    if has_image run.objects.images name then run_tells run (event.ImageExists name)
+    else run_tells (with_image run name (image_of lines)) (event.Image name (length (image_of lines)))
+
+-- the image that a command makes
+abbrev pub image_wanted : Command → Option (List ℕ × List RecipeLine)
+image_wanted (command.Image name lines) = Some (name, lines)
+image_wanted (command.Link name to_host to_remote book) = None
+image_wanted (command.Caller name end) = None
+image_wanted (command.Send name caller src dst payload) = None
+image_wanted (command.Take name caller) = None
+image_wanted (command.Give name caller number) = None
+image_wanted (command.BeginSend name caller src dst payload) = None
+image_wanted (command.BeginTake name caller) = None
+image_wanted (command.BeginGive name caller number) = None
+image_wanted (command.Step name caller count) = None
+image_wanted (command.Finish name caller) = None
+image_wanted (command.Pump name sender receiver count) = None
+image_wanted (command.Ring name lane) = None
+image_wanted (command.Books name) = None
+
+-- an image is made, or a command is about a link
+abbrev pub family_effect : RunState → Command → Option (List ℕ × List RecipeLine) → RunEffect
+family_effect run command (Some image) = image_effect run image.0 image.1
+family_effect run command None = located_effect run command (place_of run.objects.links (command_name command))
 
 -- a command
-unfoldable pub ran : List Bench → Command → Ran
-ran benches command = placed_ran benches (place_of benches (name_of command)) command
+unfoldable pub effect_of : RunState → Command → RunEffect
+effect_of run command = family_effect run command (image_wanted command)
 
--- the events of these commands, in order, and the links that they leave
-abbrev pub events_from : List Bench → List Command → List Event
-events_from benches [] = []
-events_from benches (first ∷ more) = (ran benches first).events ++ events_from (ran benches first).benches more
+-- a run: what it tells, the state in which it ends, and why it stopped in its midst, if it did
+pub record Run : Type 0 where
+  pub events : List Event
+  pub last : RunState
+  pub ending : Option Stop
 
--- the links that these commands leave
-abbrev pub benches_after : List Bench → List Command → List Bench
-benches_after benches [] = benches
-benches_after benches (first ∷ more) = benches_after (ran benches first).benches more
+-- the run stops with a command, or the later ones go on
+abbrev pub run_on : RunEffect → Option Stop → Run → Run
+run_on effect (Some why) later = record { events = effect.events; last = effect.run; ending = Some why }
+run_on effect None later = record later { events = effect.events ++ later.events }
 
--- the run of a script: its events, from no links
-abbrev pub run_of : List Command → List Event
-run_of commands = events_from [] commands
+-- the run of these commands, from a state
+unfoldable pub run_from : RunState → List Command → Run
+run_from run [] = record { events = []; last = run; ending = None }
+run_from run (first ∷ more) =
+    let effect = effect_of run first in
+    run_on effect effect.ending (run_from effect.run more)
+
+-- nothing is made, and no step done
+abbrev pub new_run : RunState
+new_run = record { objects = record { links = []; images = [] }; steps = 0 }
+
+-- the run of a script
+abbrev pub run_of : List Command → Run
+run_of commands = run_from new_run commands

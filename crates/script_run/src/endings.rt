@@ -1,50 +1,53 @@
-ghost use Rattle.std.specs.Prelude.{◌≡◌, ◌≤◌, ◌∷◌, [], OnOk, OnErr, IsErrOf};
-ghost use Rattle.std.specs.Io.KnownBytes.{Appends};
-ghost use Rattle.rp_io.specs.Causes.{Rose};
-ghost use Rattle.rp_io.specs.Contents.{AppendsFront};
-ghost use Rattle.script_run.specs.Programs.{Writes, ended_status};
-ghost use Rattle.script_run.specs.Notices.{report_text};
+ghost use Rattle.std.specs.Prelude.{◌≡◌, ◌≢◌, ◌∷◌, []};
+ghost use Rattle.journal.specs.Notices.{report_text};
+ghost use Rattle.script_run.specs.declared.statuses.Status.TheVariants as ended;
+ghost use Rattle.script_run.specs.Endings.{IsFinal, Writes};
+ghost use Rattle.script_run.specs.Told.{Tells};
 
-use crate::notices::Notice;
+use crate::logs::RunLog;
+use crate::runs::RunFault;
 use crate::statuses::Status;
-use crate::writers::{RunFault, Writer};
-use rp_io::Sink;
+use journal::Notice;
+use rp_io::{Sink, write_whole};
 use std::alloc::Global;
 
-/// How the program ends after writing, where it ends so if all was written.
-pub(crate) fn ended(written: Result<(), RunFault>, status: Status) -> Status
-    ensures { result ≡ ended_status written status }
-{
-    match written {
-        Ok(()) => status,
-        Err(RunFault::Write) => Status::WriteFault,
-        Err(RunFault::NoMemory) => Status::NoMemory,
-    }
-}
-
-/// Writes these lines, and ends so.
+/// Writes these lines, and ends so where all was written.
 pub(crate) fn end_with<K: Sink>(
     alloc: Global,
     notices: &[Notice],
     status: Status,
     out: &mut K,
 ) -> Status
-    ensures ends { Writes status (report_text notices.now) result (K.written out.old) (K.written out.new) (K.faults out.old) (K.faults out.new) }
-    ensures later { K.faults out.old ≤ K.faults out.new }
+    requires { IsFinal status }
+    ensures { Writes result (record { status = status; text = report_text notices.now }) (K.written out.old) (K.written out.new) (K.faults out.old) (K.faults out.new) }
 {
-    ended(write_notices(alloc, notices, out), status)
+    match write_notices(alloc, notices, out) {
+        Ok(()) => status,
+        Err(RunFault::Write) => Status::WriteFault,
+        Err(RunFault::NoMemory) => Status::NoMemory,
+    }
 }
 
-fn write_notices<K: Sink>(alloc: Global, notices: &[Notice], out: &mut K) -> Result<(), RunFault>
-    ensures whole { OnOk result (Appends (K.written out.old) (K.written out.new) (report_text notices.now)) }
-    ensures front { OnErr result (AppendsFront (K.written out.old) (K.written out.new) (report_text notices.now)) }
-    ensures failed { IsErrOf result RunFault.Write → Rose (K.faults out.old) (K.faults out.new) }
-    ensures later { K.faults out.old ≤ K.faults out.new }
+/// Writes a line that needs no memory, and ends so where all was written.
+pub(crate) fn end_with_line<K: Sink>(line: &str, status: Status, out: &mut K) -> Status
+    requires { IsFinal status }
+    ensures written { Writes result (record { status = status; text = line.now }) (K.written out.old) (K.written out.new) (K.faults out.old) (K.faults out.new) }
+    ensures found { result ≢ ended.NoMemory }
 {
-    let mut writer = Writer::new(alloc);
-    for notice in notices {
-        writer.note(alloc, notice, out)?;
+    match write_whole(out, line.as_bytes()) {
+        Ok(()) => status,
+        Err(_) => Status::WriteFault,
     }
-    writer.flush(out)?;
+}
+
+/// Writes these lines.
+fn write_notices<K: Sink>(alloc: Global, notices: &[Notice], out: &mut K) -> Result<(), RunFault>
+    ensures { Tells result (report_text notices.now) (K.written out.old) (K.written out.new) (K.faults out.old) (K.faults out.new) }
+{
+    let mut log = RunLog::new(alloc);
+    for notice in notices {
+        log.note(notice)?;
+    }
+    log.flush(out)?;
     Ok(())
 }

@@ -1,24 +1,28 @@
-// The top call of rproc: it reads a script, runs it over plain links and writes the transcript, or reports whether an image loads.
+// The top call of rproc: it runs a script over links and writes the transcript, or reports whether an image loads.
 #![tactic(auto)]
 
-mod answers;
 mod benches;
+mod calls;
+mod desks;
 mod endings;
-mod notices;
+mod links;
+mod logs;
+mod objects;
 mod program;
+mod pumps;
 mod reports;
+mod rings;
 mod runs;
-mod silent_desks;
 mod statuses;
-#[cfg(test)]
-mod tests;
+mod steps;
+mod whole_steps;
 mod words;
-mod writers;
 
-pub use benches::Bench;
-pub use notices::Notice;
+pub use benches::{BegunCall, Bench, BenchFault, Reach};
+pub use desks::SilentDesk;
+pub use links::NamedBench;
+pub use objects::ScriptImage;
 pub use program::{run_program, run_script};
 pub use reports::ImageReport;
-pub use silent_desks::SilentDesk;
 pub use statuses::Status;
 pub use words::Asked;

@@ -1,27 +1,31 @@
-ghost use Rattle.std.specs.Prelude.{◌≡◌, ◌≢◌, ◌⊎◌, ℕ, List, [], ◌∷◌, map};
-ghost use Rattle.std.specs.Io.KnownBytes.{Appends};
+ghost use Rattle.std.specs.Prelude.{◌≡◌, ◌≢◌, ◌≤◌, ◌+◌, ℕ, List, length, map};
+ghost use Rattle.rp_base.specs.declared.limits.TheConstants.{SCRIPT_MOST};
 ghost use Rattle.rp_io.specs.Causes.{Rose};
-ghost use Rattle.rp_io.specs.Contents.{AppendsFront};
+ghost use Rattle.std.specs.Io.KnownBytes.{IsAtEnd};
+ghost use Rattle.rp_io.specs.Contents.{LosesFront};
 ghost use Rattle.script_lang.specs.Grammar.{IsScript};
-ghost use Rattle.journal.specs.Lines.{transcript};
 ghost use Rattle.script_run.specs.Runs.{run_of};
-ghost use Rattle.script_run.specs.declared.statuses.Status.{Status};
-ghost use Rattle.script_run.specs.Statuses.{number_of};
-ghost use Rattle.script_run.specs.Notices.{report_text};
-ghost use Rattle.script_run.specs.Programs.{other, run, form_of, output_of, IsWhole, RunEnds, Writes};
-ghost use Rattle.script_run.specs.Answers.{Answered, EndsAsTold, IsText};
+ghost use Rattle.script_run.specs.Outputs.{form_of, run_output, transcript_output};
+ghost use Rattle.script_run.specs.Outputs.{check as check_form, run as run_form};
+ghost use Rattle.script_run.specs.Statuses.{status_of};
+ghost use Rattle.script_run.specs.Endings.{AnswersAs, AnswersWell, Devices, Ends, IsRunAnswer, IsRunEnd, RunAnswersAs, Writes};
 
-use crate::endings::{end_with, ended};
-use crate::notices::Notice;
+use crate::endings::{end_with, end_with_line};
+use crate::objects::Objects;
 use crate::reports::check;
 use crate::runs::run_commands;
 use crate::statuses::Status;
 use crate::words::{Asked, read_words};
+use journal::Notice;
+use rp_base::SCRIPT_MOST;
 use rp_io::{FirmwareStore, ReadFault, Sink, Source, read_front};
-use script_lang::{ParseFault, SCRIPT_MOST, Script, parse};
+use script_lang::{ParseFault, Script, parse};
 use std::alloc::Global;
 
-/// The program: `words` are those behind its name. It answers the number with which the process ends.
+/// The program: it does what the words behind the program's name ask for, and answers the number with
+/// which the process ends. With the word `run` it reads a script from the source, runs it and writes
+/// the transcript; with `check NAME` it writes whether the image of that name loads; all other words
+/// are answered by the usage line.
 pub fn run_program<S: Source, F: FirmwareStore, K: Sink>(
     alloc: Global,
     words: &[&str],
@@ -29,35 +33,44 @@ pub fn run_program<S: Source, F: FirmwareStore, K: Sink>(
     store: &mut F,
     out: &mut K,
 ) -> u8
-    ensures answer { (status : Status) × (result ≡ number_of status)
-        × Answered (form_of (map (λ word. word.now) words.now)) (S.left script.old) (F.images store.old) status
-        (K.written out.old) (K.written out.new) (S.faults script.old) (S.faults script.new)
-        (F.faults store.old) (F.faults store.new) (K.faults out.old) (K.faults out.new) }
-    ensures done { result ≡ 0 → IsWhole (output_of (form_of (map (λ word. word.now) words.now)) (S.left script.old) (F.images store.old))
-        Status.Done (K.written out.old) (K.written out.new) }
-    ensures no_image { result ≡ 1 → IsWhole (output_of (form_of (map (λ word. word.now) words.now)) (S.left script.old) (F.images store.old))
-        Status.NoImage (K.written out.old) (K.written out.new) }
-    ensures usage { result ≡ 2 → (form_of (map (λ word. word.now) words.now) ≡ other)
-        × Appends (K.written out.old) (K.written out.new) (report_text (Notice.Usage ∷ [])) }
-    ensures read { result ≡ 3 → Rose (S.faults script.old) (S.faults script.new)
-        × Appends (K.written out.old) (K.written out.new) (report_text (Notice.ReadFault ∷ [])) }
-    ensures write { result ≡ 4 → Rose (K.faults out.old) (K.faults out.new) }
-    ensures refused { let form = form_of (map (λ word. word.now) words.now) in
-        result ≡ 6 → (form ≡ run) × IsWhole (output_of form (S.left script.old) (F.images store.old))
-        Status.Refused (K.written out.old) (K.written out.new) }
-    ensures store { result ≡ 8 → Rose (F.faults store.old) (F.faults store.new)
-        × Appends (K.written out.old) (K.written out.new) (report_text (Notice.StoreFault ∷ [])) }
-    ensures front { (result ≡ 4) ⊎ (result ≡ 5) → (text : List ℕ)
-        × IsText (form_of (map (λ word. word.now) words.now)) (S.left script.old) (F.images store.old) text
-        × AppendsFront (K.written out.old) (K.written out.new) text }
-    ensures complete { ¬ Rose (S.faults script.old) (S.faults script.new) → ¬ Rose (F.faults store.old) (F.faults store.new)
-        → ¬ Rose (K.faults out.old) (K.faults out.new)
-        → EndsAsTold (output_of (form_of (map (λ word. word.now) words.now)) (S.left script.old) (F.images store.old)) result }
+    ensures answer { let form = form_of (map (λ word. word.now) words.now) in
+        let before : Devices = record {
+          left = S.left script.old;
+          images = F.images store.old;
+          written = K.written out.old;
+          source_faults = S.faults script.old;
+          store_faults = F.faults store.old;
+          sink_faults = K.faults out.old;
+        } in
+        let now : Devices = record {
+          left = S.left script.new;
+          images = F.images store.new;
+          written = K.written out.new;
+          source_faults = S.faults script.new;
+          store_faults = F.faults store.new;
+          sink_faults = K.faults out.new;
+        } in
+        AnswersAs (status_of result) form before now }
+    ensures complete { let form = form_of (map (λ word. word.now) words.now) in
+        let before : Devices = record {
+          left = S.left script.old;
+          images = F.images store.old;
+          written = K.written out.old;
+          source_faults = S.faults script.old;
+          store_faults = F.faults store.old;
+          sink_faults = K.faults out.old;
+        } in
+        ¬ Rose (S.faults script.old) (S.faults script.new) → ¬ Rose (F.faults store.old) (F.faults store.new) → ¬ Rose (K.faults out.old) (K.faults out.new)
+        → AnswersWell (status_of result) form before }
+    ensures read { form_of (map (λ word. word.now) words.now) ≡ run_form → IsRunAnswer (status_of result) → IsAtEnd (S.left script.new) }
+    ensures taken { LosesFront (S.left script.old) (S.left script.new) (SCRIPT_MOST + 1) }
+    ensures unread { form_of (map (λ word. word.now) words.now) ≢ run_form → script.new ≡ script.old }
+    ensures unasked { ((name : List ℕ) → form_of (map (λ word. word.now) words.now) ≢ check_form name) → store.new ≡ store.old }
 {
     answer(alloc, words, script, store, out).number()
 }
 
-/// Does what the words ask for.
+/// How the program ends.
 fn answer<S: Source, F: FirmwareStore, K: Sink>(
     alloc: Global,
     words: &[&str],
@@ -65,9 +78,28 @@ fn answer<S: Source, F: FirmwareStore, K: Sink>(
     store: &mut F,
     out: &mut K,
 ) -> Status
-    ensures { Answered (form_of (map (λ word. word.now) words.now)) (S.left script.old) (F.images store.old) result
-        (K.written out.old) (K.written out.new) (S.faults script.old) (S.faults script.new)
-        (F.faults store.old) (F.faults store.new) (K.faults out.old) (K.faults out.new) }
+    ensures ends { let form = form_of (map (λ word. word.now) words.now) in
+        let before : Devices = record {
+          left = S.left script.old;
+          images = F.images store.old;
+          written = K.written out.old;
+          source_faults = S.faults script.old;
+          store_faults = F.faults store.old;
+          sink_faults = K.faults out.old;
+        } in
+        let now : Devices = record {
+          left = S.left script.new;
+          images = F.images store.new;
+          written = K.written out.new;
+          source_faults = S.faults script.new;
+          store_faults = F.faults store.new;
+          sink_faults = K.faults out.new;
+        } in
+        Ends result form before now }
+    ensures read { form_of (map (λ word. word.now) words.now) ≡ run_form → IsRunEnd result → IsAtEnd (S.left script.new) }
+    ensures taken { LosesFront (S.left script.old) (S.left script.new) (SCRIPT_MOST + 1) }
+    ensures unread { form_of (map (λ word. word.now) words.now) ≢ run_form → script.new ≡ script.old }
+    ensures unasked { ((name : List ℕ) → form_of (map (λ word. word.now) words.now) ≢ check_form name) → store.new ≡ store.old }
 {
     match read_words(words) {
         Asked::Run => run_text(alloc, script, store, out),
@@ -76,25 +108,54 @@ fn answer<S: Source, F: FirmwareStore, K: Sink>(
     }
 }
 
-/// Reads a script to its end, parses it, and runs it.
+/// Reads a script, runs it and writes its transcript.
 fn run_text<S: Source, F: FirmwareStore, K: Sink>(
     alloc: Global,
     script: &mut S,
     store: &mut F,
     out: &mut K,
 ) -> Status
-    ensures { RunEnds (S.left script.old) result (K.written out.old) (K.written out.new) (S.faults script.old) (S.faults script.new)
-        (K.faults out.old) (K.faults out.new) }
+    ensures ends { let before : Devices = record {
+      left = S.left script.old;
+      images = F.images store.old;
+      written = K.written out.old;
+      source_faults = S.faults script.old;
+      store_faults = F.faults store.old;
+      sink_faults = K.faults out.old;
+    } in
+        let now : Devices = record {
+          left = S.left script.new;
+          images = F.images store.new;
+          written = K.written out.new;
+          source_faults = S.faults script.new;
+          store_faults = F.faults store.new;
+          sink_faults = K.faults out.new;
+        } in
+        Ends result run_form before now }
+    ensures read { IsRunEnd result → IsAtEnd (S.left script.new) }
+    ensures taken { LosesFront (S.left script.old) (S.left script.new) (SCRIPT_MOST + 1) }
+    ensures unasked { store.new ≡ store.old }
 {
-    let bytes = match read_front(alloc, script, SCRIPT_MOST) {
-        Ok(bytes) => bytes,
-        Err(ReadFault::Failed) => {
-            return end_with(alloc, &[Notice::ReadFault], Status::ReadFault, out);
-        }
-        Err(ReadFault::NoMemory) => return Status::NoMemory,
-    };
-    match parse(alloc, &bytes) {
-        Ok(script) => script_status(alloc, &script, store, out),
+    match read_front(alloc, script, SCRIPT_MOST) {
+        Ok(bytes) => run_bytes(alloc, &bytes, store, out),
+        Err(ReadFault::Failed) => end_with_line("* read fault\n", Status::ReadFault, out),
+        Err(ReadFault::NoMemory) => Status::NoMemory,
+    }
+}
+
+/// Runs the script of these bytes and writes its transcript, or writes where and why they are none.
+fn run_bytes<F: FirmwareStore, K: Sink>(
+    alloc: Global,
+    bytes: &[u8],
+    store: &mut F,
+    out: &mut K,
+) -> Status
+    ensures written { Writes result (run_output bytes.now) (K.written out.old) (K.written out.new) (K.faults out.old) (K.faults out.new) }
+    ensures fits { IsRunEnd result → length bytes.now ≤ SCRIPT_MOST }
+    ensures unasked { store.new ≡ store.old }
+{
+    match parse(alloc, bytes) {
+        Ok(parsed) => run_parsed(alloc, &parsed, store, out),
         Err(ParseFault::Refused(line, cause)) => {
             end_with(alloc, &[Notice::Refused(line, cause)], Status::Refused, out)
         }
@@ -102,8 +163,8 @@ fn run_text<S: Source, F: FirmwareStore, K: Sink>(
     }
 }
 
-/// Runs a script from no links, and writes its transcript. It answers the number with which the
-/// process ends: 0, 4 or 5.
+/// Runs a script from nothing, and writes its transcript. It answers the number with which the
+/// process ends: 0, 4, 5 or 7.
 pub fn run_script<F: FirmwareStore, K: Sink>(
     alloc: Global,
     script: &Script,
@@ -111,28 +172,25 @@ pub fn run_script<F: FirmwareStore, K: Sink>(
     out: &mut K,
 ) -> u8
     requires { IsScript script.now.commands.items }
-    ensures answer { (status : Status) × (result ≡ number_of status)
-        × Writes Status.Done (transcript (run_of script.now.commands.items)) status
+    ensures answer { RunAnswersAs (status_of result) (transcript_output (run_of script.now.commands.items))
         (K.written out.old) (K.written out.new) (K.faults out.old) (K.faults out.new) }
-    ensures done { result ≡ 0 → Appends (K.written out.old) (K.written out.new) (transcript (run_of script.now.commands.items)) }
-    ensures write { result ≡ 4 → Rose (K.faults out.old) (K.faults out.new) }
-    ensures front { result ≢ 0 → AppendsFront (K.written out.old) (K.written out.new) (transcript (run_of script.now.commands.items)) }
-    ensures complete { ¬ Rose (K.faults out.old) (K.faults out.new) → (result ≡ 0) ⊎ (result ≡ 5) }
+    ensures unasked { store.new ≡ store.old }
 {
-    script_status(alloc, script, store, out).number()
+    run_parsed(alloc, script, store, out).number()
 }
 
-fn script_status<F: FirmwareStore, K: Sink>(
+/// Runs a script from nothing, and writes its transcript.
+fn run_parsed<F: FirmwareStore, K: Sink>(
     alloc: Global,
     script: &Script,
     _store: &mut F,
     out: &mut K,
 ) -> Status
     requires { IsScript script.now.commands.items }
-    ensures { Writes Status.Done (transcript (run_of script.now.commands.items)) result
+    ensures written { Writes result (transcript_output (run_of script.now.commands.items))
         (K.written out.old) (K.written out.new) (K.faults out.old) (K.faults out.new) }
+    ensures unasked { _store.new ≡ _store.old }
 {
-    let mut benches = Vec::new(alloc);
-    let run = run_commands(alloc, &mut benches, script.commands.as_slice(), out);
-    ended(run, Status::Done)
+    let mut objects = Objects::new(alloc);
+    run_commands(alloc, &mut objects, script.commands.as_slice(), out)
 }

@@ -1,30 +1,61 @@
-ghost use Rattle.std.specs.Prelude.{◌≡◌, IfOk, codes};
+ghost use Rattle.std.specs.Prelude.{◌≡◌, IfOk, IfErr, codes};
 ghost use Rattle.elf_image.specs.Segments.{segments_of};
 ghost use Rattle.elf_image.specs.Images.{entry_of};
 ghost use Rattle.elf_image.specs.Sections.{section_of};
 ghost use Rattle.script_run.specs.Reports.{image_report, is_mapped, first_unmapped, loads_report, refusal, table_report};
-ghost use Rattle.script_run.specs.Programs.{CheckEnds};
-ghost use Rattle.script_run.specs.ImageReports.{IsImageReport};
+ghost use Rattle.script_run.specs.Endings.{IsFinal, IsReportOutput};
+ghost use Rattle.script_run.specs.ImageReports.{IsChecked, IsImageReport, IsReportFault, made_output};
 
-use crate::endings::end_with;
-use crate::notices::Notice;
+use crate::endings::{end_with, end_with_line};
 use crate::statuses::Status;
 use elf_image::{Image, Segments};
-use rp_base::{Da, Name};
+use journal::Notice;
+use rp_base::{Da, Name, STANDARD_MEMORY};
 use rp_io::{FetchFault, FirmwareStore, Sink};
 use std::alloc::{AllocError, Global};
-
-/// How many bytes the standard memory of a core has, from device address 0.
-const MEMORY_LEN: u64 = 65_536;
 
 /// How many bytes a worker record has.
 const RECORD_LEN: u32 = 16;
 
-/// What `check` says of an image: how it ends, and its lines.
+/// What `check` says of an image: whether it loads, and the lines that say so.
 #[derive(Drop)]
 pub struct ImageReport {
-    pub status: Status,
+    /// Whether it loads.
+    pub loads: bool,
     pub notices: Vec<Notice>,
+}
+
+impl ImageReport {
+    /// How the program ends once the lines are written.
+    fn status(&self) -> Status
+        ensures status { result ≡ (made_output self.now).status }
+        ensures last { IsFinal result }
+    {
+        if self.loads {
+            Status::Done
+        } else {
+            Status::NoImage
+        }
+    }
+}
+
+/// Why there is no report of an image.
+#[derive(Clone, Copy)]
+pub enum ReportFault {
+    /// The store of images failed. Its count of faults rose.
+    Store,
+    /// Memory ran out.
+    NoMemory,
+}
+
+impl From<AllocError> for ReportFault {
+    ghost use Rattle.script_run.specs.declared.reports.ReportFault.TheVariants as fault;
+
+    ghost from_gives = { λ _ e. e ≡ fault.NoMemory };
+
+    fn from(_error: AllocError) -> ReportFault {
+        ReportFault::NoMemory
+    }
 }
 
 /// Fetches the image of a name, and writes whether it loads.
@@ -36,23 +67,34 @@ pub(crate) fn check<F: FirmwareStore, K: Sink>(
     out: &mut K,
 ) -> Status
     requires { name ≡ word.now }
-    ensures { CheckEnds (F.images store.old) name result (K.written out.old) (K.written out.new) (F.faults store.old) (F.faults store.new) (K.faults out.old) (K.faults out.new) }
+    ensures { IsChecked result name (F.images store.old) (F.faults store.old) (F.faults store.new)
+        (K.written out.old) (K.written out.new) (K.faults out.old) (K.faults out.new) }
+{
+    match fetch_report(alloc, word, name, store) {
+        Ok(report) => end_with(alloc, report.notices.as_slice(), report.status(), out),
+        Err(ReportFault::Store) => end_with_line("* store fault\n", Status::StoreFault, out),
+        Err(ReportFault::NoMemory) => Status::NoMemory,
+    }
+}
+
+/// The report of what a store has under a name.
+fn fetch_report<F: FirmwareStore>(
+    alloc: Global,
+    word: &str,
+    name: Name,
+    store: &mut F,
+) -> Result<ImageReport, ReportFault>
+    requires { name ≡ word.now }
+    ensures report { IfOk result (λ report. IsReportOutput (F.images store.old) name (made_output report)) }
+    ensures same { IfOk result (λ _. F.faults store.new ≡ F.faults store.old) }
+    ensures fault { IfErr result (λ why. IsReportFault why (F.faults store.old) (F.faults store.new)) }
 {
     match store.fetch(alloc, word) {
-        Ok(image) => match report_image(alloc, &image) {
-            Ok(report) => end_with(alloc, report.notices.as_slice(), report.status, out),
-            Err(AllocError) => Status::NoMemory,
-        },
-        Err(FetchFault::Missing) => {
-            end_with(alloc, &[Notice::Missing(name)], Status::NoImage, out)
-        }
-        Err(FetchFault::TooLarge(_)) => {
-            end_with(alloc, &[Notice::TooLarge(name)], Status::NoImage, out)
-        }
-        Err(FetchFault::Failed) => {
-            end_with(alloc, &[Notice::StoreFault], Status::StoreFault, out)
-        }
-        Err(FetchFault::NoMemory) => Status::NoMemory,
+        Ok(image) => Ok(report_image(alloc, &image)?),
+        Err(FetchFault::Missing) => Ok(refuse(alloc, Notice::Missing(name))?),
+        Err(FetchFault::TooLarge(_)) => Ok(refuse(alloc, Notice::TooLarge(name))?),
+        Err(FetchFault::Failed) => Err(ReportFault::Store),
+        Err(FetchFault::NoMemory) => Err(ReportFault::NoMemory),
     }
 }
 
@@ -72,7 +114,7 @@ fn refuse(alloc: Global, notice: Notice) -> Result<ImageReport, AllocError>
     ensures { IfOk result (λ report. IsImageReport report (refusal notice)) }
 {
     Ok(ImageReport {
-        status: Status::NoImage,
+        loads: false,
         notices: vec![in alloc; notice]?,
     })
 }
@@ -91,7 +133,7 @@ fn report_good(alloc: Global, image: &Image<'_>) -> Result<ImageReport, AllocErr
         return refuse(alloc, Notice::Fault(41, None));
     }
     Ok(ImageReport {
-        status: Status::Done,
+        loads: true,
         notices: loads(alloc, image.entry(), image.segments())?,
     })
 }
@@ -100,7 +142,7 @@ fn report_good(alloc: Global, image: &Image<'_>) -> Result<ImageReport, AllocErr
 fn is_mapped(da: Da, len: u32) -> bool
     ensures { result ≡ is_mapped da len }
 {
-    u64::from(da) + u64::from(len) <= MEMORY_LEN
+    u64::from(da) + u64::from(len) <= u64::from(STANDARD_MEMORY)
 }
 
 /// The number of the first segment that passes the end of the memory.

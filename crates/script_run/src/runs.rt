@@ -1,114 +1,105 @@
-ghost use Rattle.std.specs.Prelude.{◌≡◌, ◌++◌, ◌∷◌, ◌<◌, ◌≤◌, [], IfOk, IfSome, OnOk, OnErr, IsErrOf, length};
+ghost use Rattle.std.specs.Prelude.{◌≡◌, ◌++◌, ◌∷◌, ◌<◌, ◌≤◌, [], IfOk, IfSome, OnOk, OnErr, IsErrOf, length, None, Some};
 ghost use Rattle.std.specs.Io.KnownBytes.{Appends};
 ghost use Rattle.rp_io.specs.Causes.{Rose};
 ghost use Rattle.rp_io.specs.Contents.{AppendsFront};
-ghost use Rattle.script_lang.specs.Grammar.{IsRunnable, AreRunnable};
+ghost use Rattle.script_lang.specs.Runnable.{AreRunnable};
 ghost use Rattle.journal.specs.Lines.{transcript};
-ghost use Rattle.script_run.specs.Runs.{config_of, events_from, benches_after, name_of, place_of, ran, unnamed_ran};
+ghost use Rattle.script_run.specs.Runs.{new_run, run_of};
+ghost use Rattle.script_run.specs.Outputs.{transcript_output};
+ghost use Rattle.script_run.specs.Endings.{Writes};
+ghost use Rattle.script_run.specs.Told.{EndsRun, RunWrites};
 
-use crate::benches::Bench;
-use crate::silent_desks::SilentDesk;
-use crate::writers::{RunFault, Writer};
-use journal::Event;
-use lane_model::{LinkConfig, ListLink};
-use rp_base::{Name, NoMemory};
-use rp_io::Sink;
+use crate::logs::RunLog;
+use crate::objects::Objects;
+use crate::statuses::{Status, Stop};
+use journal::Notice;
+use rp_base::NoMemory;
+use rp_io::{Failed, Sink};
 use script_lang::Command;
 use std::alloc::Global;
 
-/// The most links of a script.
-const LINKS_MOST: usize = 8;
+/// Why what a run tells was not written whole.
+#[derive(Clone, Copy)]
+pub enum RunFault {
+    /// The sink failed. Its count of faults rose.
+    Write,
+    /// Memory ran out.
+    NoMemory,
+}
 
-/// Runs commands in order over these links, and writes their events.
+impl From<Failed> for RunFault {
+    ghost use Rattle.script_run.specs.declared.runs.RunFault.TheVariants as fault;
+
+    ghost from_gives = { λ _ e. e ≡ fault.Write };
+
+    fn from(_failed: Failed) -> RunFault {
+        RunFault::Write
+    }
+}
+
+impl From<NoMemory> for RunFault {
+    ghost use Rattle.script_run.specs.declared.runs.RunFault.TheVariants as fault;
+
+    ghost from_gives = { λ _ e. e ≡ fault.NoMemory };
+
+    fn from(_error: NoMemory) -> RunFault {
+        RunFault::NoMemory
+    }
+}
+
+/// Runs commands in order from nothing, writes their events and the line of why the run stopped,
+/// and answers how the program ends.
 pub(crate) fn run_commands<K: Sink>(
     alloc: Global,
-    benches: &mut Vec<Bench>,
+    objects: &mut Objects,
     commands: &[Command],
     out: &mut K,
-) -> Result<(), RunFault>
-    requires { AreRunnable commands.now }
-    ensures whole { OnOk result (Appends (K.written out.old) (K.written out.new) (transcript (events_from benches.old.items commands.now))) }
-    ensures links { OnOk result (benches.new.items ≡ benches_after benches.old.items commands.now) }
-    ensures front { OnErr result (AppendsFront (K.written out.old) (K.written out.new) (transcript (events_from benches.old.items commands.now))) }
-    ensures failed { IsErrOf result RunFault.Write → Rose (K.faults out.old) (K.faults out.new) }
-    ensures later { K.faults out.old ≤ K.faults out.new }
+) -> Status
+    requires runnable { AreRunnable commands.now }
+    requires new { objects.old ≡ new_run.objects }
+    ensures { Writes result (transcript_output (run_of commands.now)) (K.written out.old) (K.written out.new) (K.faults out.old) (K.faults out.new) }
 {
-    let mut writer = Writer::new(alloc);
+    match tell_commands(alloc, objects, commands, out) {
+        Ok(None) => Status::Done,
+        Ok(Some(Stop::StepLimit)) => Status::StepLimit,
+        Err(RunFault::Write) => Status::WriteFault,
+        Err(RunFault::NoMemory) => Status::NoMemory,
+    }
+}
+
+/// Runs commands in order from nothing, and writes what they tell.
+fn tell_commands<K: Sink>(
+    alloc: Global,
+    objects: &mut Objects,
+    commands: &[Command],
+    out: &mut K,
+) -> Result<Option<Stop>, RunFault>
+    requires runnable { AreRunnable commands.now }
+    requires new { objects.old ≡ new_run.objects }
+    ensures written { RunWrites (run_of commands.now) result (K.written out.old) (K.written out.new) (K.faults out.old) (K.faults out.new) }
+{
+    let mut log = RunLog::new(alloc);
     for command in commands {
-        let event = run_command(alloc, benches, command)?;
-        writer.tell(alloc, &event, out)?;
-    }
-    writer.flush(out)?;
-    Ok(())
-}
-
-/// Runs one command.
-fn run_command(
-    alloc: Global,
-    benches: &mut Vec<Bench>,
-    command: &Command,
-) -> Result<Event, NoMemory>
-    requires { IsRunnable command.now }
-    ensures { IfOk result (λ event. ran benches.old.items command.now ≡ record { benches = benches.new.items; events = event ∷ [] }) }
-{
-    match place_of(benches, command_name(command).bytes()) {
-        Some(place) => {
-            let bench = &mut benches[place];
-            bench.run(alloc, command)
+        match objects.run(command, &mut log)? {
+            None => log.hand_on(out)?,
+            Some(stop) => return end_run(Some(stop), &mut log, out),
         }
-        None => run_unnamed(alloc, benches, command),
     }
+    end_run(None, &mut log, out)
 }
 
-/// Runs a command whose name no link has.
-fn run_unnamed(
-    alloc: Global,
-    benches: &mut Vec<Bench>,
-    command: &Command,
-) -> Result<Event, NoMemory>
-    requires { IsRunnable command.now }
-    ensures { IfOk result (λ event. unnamed_ran benches.old.items command.now ≡ record { benches = benches.new.items; events = event ∷ [] }) }
+/// Hands on what a run told, with the line of why it stopped.
+fn end_run<K: Sink>(
+    stop: Option<Stop>,
+    log: &mut RunLog,
+    out: &mut K,
+) -> Result<Option<Stop>, RunFault>
+    ensures { EndsRun result stop log.old.lines (K.written out.old) (K.written out.new) (K.faults out.old) (K.faults out.new) }
 {
-    match command {
-        Command::Link(name, to_host, to_remote, book) => {
-            if benches.len() >= LINKS_MOST {
-                return Ok(Event::ObjectsFull);
-            }
-            let config = LinkConfig {
-                num0: *to_host as u32,
-                num1: *to_remote as u32,
-                book: *book as u32,
-                first: 1,
-                base: 0,
-            };
-            let link = ListLink::make(alloc, config, SilentDesk, SilentDesk)?;
-            benches.push(Bench { name: *name, link })?;
-            Ok(Event::Opened(*name, 1))
-        }
-        Command::Caller(name, _)
-        | Command::Send(name, _, _, _, _)
-        | Command::Take(name, _)
-        | Command::Give(name, _, _) => Ok(Event::Unknown(*name)),
+    match stop {
+        None => {}
+        Some(Stop::StepLimit) => log.note(&Notice::StepLimit)?,
     }
-}
-
-/// The name of the link that a command works on.
-fn command_name(command: &Command) -> &Name
-    ensures { result.now ≡ name_of command.now }
-{
-    match command {
-        Command::Link(name, _, _, _)
-        | Command::Caller(name, _)
-        | Command::Send(name, _, _, _, _)
-        | Command::Take(name, _)
-        | Command::Give(name, _, _) => name,
-    }
-}
-
-/// The place of the link of this name.
-fn place_of(benches: &[Bench], name: &[u8]) -> Option<usize>
-    ensures place { result ≡ place_of benches.now name.now }
-    ensures within { IfSome result (λ place. place < length benches.now) }
-{
-    benches.iter().position(|bench| bench.name.bytes() == name)
+    log.flush(out)?;
+    Ok(stop)
 }

@@ -1,5 +1,5 @@
 /// How the program ends.
-#[derive(Clone, Copy, Debug, PartialEq, Eq)]
+#[derive(Clone, Copy)]
 pub enum Status {
     /// The whole output is written.
     Done,
@@ -15,17 +15,19 @@ pub enum Status {
     NoMemory,
     /// The text is no script.
     Refused,
+    /// The run was to take one step more than it may.
+    StepLimit,
     /// The store of images failed.
     StoreFault,
 }
 
 impl Status {
     ghost use Rattle.std.specs.Prelude.{◌≡◌};
-    ghost use Rattle.script_run.specs.Statuses.{number_of};
+    ghost use Rattle.script_run.specs.Statuses.{status_number};
 
     /// The number with which the process ends.
     pub fn number(self) -> u8
-        ensures { result ≡ number_of self }
+        ensures { result ≡ status_number self }
     {
         match self {
             Status::Done => 0,
@@ -35,7 +37,15 @@ impl Status {
             Status::WriteFault => 4,
             Status::NoMemory => 5,
             Status::Refused => 6,
+            Status::StepLimit => 7,
             Status::StoreFault => 8,
         }
     }
+}
+
+/// Why a run stops in its midst.
+#[derive(Clone, Copy)]
+pub enum Stop {
+    /// It was to take one step more than it may.
+    StepLimit,
 }

@@ -1,12 +1,12 @@
 ghost use Rattle.std.specs.Prelude.{◌≡◌, map};
-ghost use Rattle.script_run.specs.Programs.{form_of, named_form};
-ghost use Rattle.script_lang.specs.Words.{name_of};
+ghost use Rattle.script_run.specs.Outputs.{form_of, named_form};
+ghost use Rattle.word_kinds.specs.Spellings.{name_of};
 ghost use Rattle.script_run.specs.Asked.{IsNamed, asked_form};
 
 use rp_base::Name;
 
 /// What the words of the command line ask for.
-#[derive(Clone, Copy, Debug)]
+#[derive(Clone, Copy)]
 pub enum Asked<'a> {
     /// Nothing that the program does.
     Other,

@@ -1,24 +1,80 @@
-use Rattle.std.proofs.Common.{◌≡◌, Ok, Err, List, ℕ, Result, ap, sym, subst, ◌∙◌}
-use Rattle.script_lang.specs.declared.commands.Command.{Command}
-use Rattle.script_lang.specs.declared.commands.ParseFault.{ParseFault}
-use Rattle.script_lang.specs.Grammar.{Refusal, script_of, IsParsed}
-use Rattle.script_run.proofs.Ends.{run_wrote, run_no_memory}
+use Rattle.std.proofs.Common.{List, ℕ, Err, refl, sym, ap, subst}
+use Rattle.rp_io.specs.declared.faults.ReadFault.{ReadFault}
+use Rattle.script_run.specs.Outputs.{Output, run as run_form, run_output, read_fault_output}
+use Rattle.script_run.specs.Endings.{Devices, Writes}
+use Rattle.script_run.proofs.Ends.{ends_fault, ends_no_memory, ends_run, memory_well, read_fault_line, read_well}
 use Rattle.script_run.proofs.program.run_text.Goals as goal
 
-pub returns-in-Err-NoMemory : goal.returns-in-Err-NoMemory
-returns-in-Err-NoMemory g c = run_no_memory _ _ _ _ _ _
+pub returns-in-Ok-clause-ends : goal.returns-in-Ok-clause-ends
+returns-in-Ok-clause-ends g c =
+    let source = g.S.Source in
+    let store = g.F.FirmwareStore in
+    let sink = g.K.Sink in
+    let before : Devices = record {
+      left = source.left c.args.script.now;
+      images = store.images c.args.store.now;
+      written = sink.written c.args.out.now;
+      source_faults = source.faults c.args.script.now;
+      store_faults = store.faults c.args.store.now;
+      sink_faults = sink.faults c.args.out.now;
+    } in
+    let now : Devices = record {
+      left = source.left c.read_front.new.source;
+      images = store.images c.run_bytes.new.store;
+      written = sink.written c.run_bytes.new.out;
+      source_faults = source.faults c.read_front.new.source;
+      store_faults = store.faults c.run_bytes.new.store;
+      sink_faults = sink.faults c.run_bytes.new.out;
+    } in
+    ends_run c.run_bytes.result before now c.in-Ok.bytes.items c.in-Ok.ensures.bytes
+    (record { source = c.in-Ok.ensures.same (read_well c.in-Ok.bytes); store = ap store.faults c.run_bytes.ensures.unasked })
+    (subst (λ (bytes : List ℕ). Writes c.run_bytes.result (run_output bytes) before.written now.written before.sink_faults now.sink_faults) c.deref.ensures.value c.run_bytes.ensures.written)
 
-pub returns-in-Ok-parse : goal.returns-in-Ok-parse
-returns-in-Ok-parse g c =
-    run_wrote _ c.in-Ok.bytes.items (Ok c.in-Ok-parse.script.commands.items) _ _ _ _ _ _ _ c.in-Ok.ensures.bytes
-    (ap script_of (sym c.deref.ensures.value) ∙ c.in-Ok-parse.ensures) c.script_status.ensures
+pub returns-in-Err-Failed-clause-ends : goal.returns-in-Err-Failed-clause-ends
+returns-in-Err-Failed-clause-ends g c =
+    let source = g.S.Source in
+    let store = g.F.FirmwareStore in
+    let sink = g.K.Sink in
+    let before : Devices = record {
+      left = source.left c.args.script.now;
+      images = store.images c.args.store.now;
+      written = sink.written c.args.out.now;
+      source_faults = source.faults c.args.script.now;
+      store_faults = store.faults c.args.store.now;
+      sink_faults = sink.faults c.args.out.now;
+    } in
+    let now : Devices = record {
+      left = source.left c.read_front.new.source;
+      images = store.images c.args.store.now;
+      written = sink.written c.end_with_line.new.out;
+      source_faults = source.faults c.read_front.new.source;
+      store_faults = store.faults c.args.store.now;
+      sink_faults = sink.faults c.end_with_line.new.out;
+    } in
+    ends_fault c.end_with_line.result run_form before now read_fault_output c.end_with_line.ensures.found
+    (refl, c.in-Err-Failed.ensures.failed (ap (λ (fault : ReadFault). Err fault) c.in-Err-Failed.field-0-is), refl)
+    (subst (λ (output : Output). Writes c.end_with_line.result output before.written now.written before.sink_faults now.sink_faults) (sym read_fault_line) c.end_with_line.ensures.written)
 
-pub returns-in-Err-Refused : goal.returns-in-Err-Refused
-returns-in-Err-Refused g c =
-    run_wrote _ c.in-Ok.bytes.items (Err (record { line = c.in-Err-Refused.line; cause = c.in-Err-Refused.cause })) _ _ _ _ _ _ _ c.in-Ok.ensures.bytes
-    (ap script_of (sym c.deref.ensures.value)
-    ∙ subst (λ (fault : ParseFault). IsParsed (script_of c.deref.result.now) (Err fault)) c.in-Err-Refused.field-0-is c.in-Err-Refused.ensures)
-    c.end_with-in-Err-Refused.ensures.ends
-
-pub returns : goal.returns
-returns g c = run_no_memory _ _ _ _ _ _
+pub returns-in-Err-NoMemory-clause-ends : goal.returns-in-Err-NoMemory-clause-ends
+returns-in-Err-NoMemory-clause-ends g c =
+    let source = g.S.Source in
+    let store = g.F.FirmwareStore in
+    let sink = g.K.Sink in
+    let before : Devices = record {
+      left = source.left c.args.script.now;
+      images = store.images c.args.store.now;
+      written = sink.written c.args.out.now;
+      source_faults = source.faults c.args.script.now;
+      store_faults = store.faults c.args.store.now;
+      sink_faults = sink.faults c.args.out.now;
+    } in
+    let now : Devices = record {
+      left = source.left c.read_front.new.source;
+      images = store.images c.args.store.now;
+      written = sink.written c.args.out.now;
+      source_faults = source.faults c.read_front.new.source;
+      store_faults = store.faults c.args.store.now;
+      sink_faults = sink.faults c.args.out.now;
+    } in
+    ends_no_memory run_form before now
+    (record { source = c.in-Err-NoMemory.ensures.same (memory_well c.in-Err-NoMemory.field-0 c.in-Err-NoMemory.field-0-is); store = refl }) refl refl

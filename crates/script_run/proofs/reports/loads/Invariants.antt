@@ -1,5 +1,5 @@
 use Rattle.std.proofs.Common.{◌≡◌, ◌++◌, ◌∷◌, map}
-use Rattle.script_run.specs.declared.notices.Notice.TheVariants as notice
+use Rattle.journal.specs.declared.notices.Notice.TheVariants as notice
 use Rattle.script_run.specs.Reports.{segment_notice}
 use Rattle.script_run.proofs.reports.loads.Given as goal
 

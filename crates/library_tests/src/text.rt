@@ -1,0 +1,548 @@
+use image_maker::build;
+use journal::{Event, Notice, line, push_notice};
+use rp_base::{Data, End, Endpoint, Era, Name, NsKind};
+use script_lang::{Cause, Command, ParseFault, parse};
+use std::alloc::{AllocError, Global};
+use std::test::Fail;
+
+/// Texts that are scripts, each in one line with `;` for a line feed, by how many commands they say.
+const GOOD: [(usize, &str); 4] = [
+    (
+        0,
+        "\n\
+        ;;\n\
+        # any \t byte \u{7f};   # and behind blanks; #",
+    ),
+    (
+        1,
+        "take L 0\n\
+        take L 0;\n\
+        link L 0x4 0x8000 0x1\n\
+        send L 0 1 1024 6869\n\
+        send L 63 0 4294967295 aBcD\n\
+        send L 63 0 0xFFFFffff -\n\
+        send L 0 0x00000000000000000001 1024 5a*512\n\
+        send L 0 1 1024 Ff*1\n\
+        send  L   0 1 1024 -  \n\
+        \x20take L 63\n\
+        take 0.a_b-c 0\n\
+        take abcdefghijklmnopqrstuvwxyz01234 0\n\
+        give L 63 4294967295\n\
+        begin L 0 send 1 1024 -\n\
+        begin L 0 take\n\
+        begin L 0 give 7\n\
+        step L 0 1\n\
+        step L 0 4000000\n\
+        step L 0x3f 0x3D0900\n\
+        finish L 63\n\
+        pump L 0 1 230000\n\
+        pump L 63 62 4000000\n\
+        books L\n\
+        books 9;\n\
+        image a;end\n\
+        image a;table 0;carveout any 4096 a;;# x;vendor 4;devmem 1 2 3 b;trace 1 2 c;end\n\
+        image a;table 0;vdev 7 1;vring any 4096 16;vring 0 12 0;carveout 0 0 x;vdev 3 0;end\n\
+        image a;load 0 63*512 0xffffffff;load 1 - 0;entry 5;entry 6;table 9;end",
+    ),
+    (
+        2,
+        ";take L 0;;  ;take L 0x0\n\
+        link L 4 4 16;link M 1 32768 262144\n\
+        image a;table 0x100;end;image a;table 0;end",
+    ),
+    (
+        3,
+        "caller L host;caller L remote;caller take host\n\
+        image a;# no line;;entry 0;end;image b;end;take L 0;",
+    ),
+];
+
+/// Texts whose last line is refused, in the same form, by the cause.
+const BAD: [(Cause, &str); 5] = [
+    (
+        Cause::Byte,
+        "\t\n\
+        take L 0;\t# no comment\n\
+        frob \u{7f}\n\
+        take\tL 0\n\
+        take L 0 \u{e9}\n\
+        image a;frob \t",
+    ),
+    (
+        Cause::Command,
+        "frob L\n\
+        Take L 0\n\
+        takes L 0\n\
+        bind L 0 53\n\
+        raw L 0 -\n\
+        close L\n\
+        images a\n\
+        begin L 0 raw -\n\
+        begin L 0 bind any\n\
+        begin L 64 unbind 1 2 3\n\
+        table 0\n\
+        trace L 0\n\
+        code 0\n\
+        halt\n\
+        image a;send L 0 1 2 -\n\
+        image a;take L 0\n\
+        image a;code 0\n\
+        image a;raw L 0 -\n\
+        image a;close L\n\
+        image a;frob",
+    ),
+    (
+        Cause::Words,
+        "take\n\
+        take L\n\
+        take L 0 0\n\
+        take L 0 0 0 0 0 0 0 0 0 0\n\
+        give L 0\n\
+        give .L 0\n\
+        link L 4 4\n\
+        link L 4 4 16 16\n\
+        caller L\n\
+        send L 0 1 1024\n\
+        send L 0 1 1024 - -\n\
+        begin\n\
+        begin L 0\n\
+        begin L 0 take 1\n\
+        begin L 0 give\n\
+        begin L 0 send 1 1024\n\
+        begin L 64 send 1 1024 - - - -\n\
+        step L 0\n\
+        books\n\
+        pump L 0 1\n\
+        image\n\
+        image a b\n\
+        image a;end x\n\
+        image a;entry",
+    ),
+    (
+        Cause::Value,
+        "begin L 0 push\n\
+        begin L 0 push 1 2 3 4 5 6 7 8\n\
+        begin .L 0 take\n\
+        link L 3 4 16\n\
+        link L 4 0 16\n\
+        link L 65536 4 16\n\
+        link L 4 4 0\n\
+        link L 4 4 262145\n\
+        link L 04 4 16\n\
+        caller L hosts\n\
+        caller L Host\n\
+        send L 64 1 1024 -\n\
+        send L 0 4294967296 1 -\n\
+        send L 0 1 0x100000000 -\n\
+        send L 0 1 0X1 -\n\
+        send L 0 1 0x -\n\
+        send L 0 1 0xg -\n\
+        send L 0 1 1024 6\n\
+        send L 0 1 1024 686\n\
+        send L 0 1 1024 6G\n\
+        send L 0 1 1024 --\n\
+        send L 0 1 1024 *4\n\
+        send L 0 1 1024 5*4\n\
+        send L 0 1 1024 5g*4\n\
+        send L 0 1 1024 55*\n\
+        send L 0 1 1024 55*0\n\
+        send L 0 1 1024 55*04\n\
+        send L 0 1 1024 55*0x4\n\
+        send L 0 1 1024 55*513\n\
+        take L 063\n\
+        take L -1\n\
+        take L 99999999999999999999\n\
+        take L/M 0\n\
+        take abcdefghijklmnopqrstuvwxyz012345 0\n\
+        step L 0 0\n\
+        step L 0 4000001\n\
+        pump L 0 64 1\n\
+        image .a\n\
+        image a;table any\n\
+        image a;table 0;vendor 3\n\
+        image a;table 0;devmem any 1 2 a\n\
+        image a;table 0;carveout any any a\n\
+        image a;load 0 - any\n\
+        image a;load 0 0x0 1",
+    ),
+    (
+        Cause::Block,
+        "image a;\n\
+        image a;entry 0;;\n\
+        end\n\
+        end x\n\
+        entry 0\n\
+        load\n\
+        carveout any 1 a\n\
+        vring\n\
+        vendor 1 2 3\n\
+        image a;image b\n\
+        image a;link\n\
+        image a;begin L 0 take\n\
+        image a;give L 0 0\n\
+        image a;books\n\
+        image a;vdev 7 1\n\
+        image a;table 0;entry 0;carveout any 1 a\n\
+        image a;table 0;load 0 - 0;vendor 4\n\
+        image a;table 0;vdev 7 1;carveout any 1 a;vring any 1 1\n\
+        image a;table 0;vring any 1 1\n\
+        image a;table 0;table",
+    ),
+];
+
+/// Texts with the line and the cause of their refusal.
+const FIRST_BAD: [(&str, u32, Cause); 4] = [
+    ("take L 0\r\nfrob", 1, Cause::Byte),
+    ("take L 0\n\n# x\ntake L 64\nfrob", 4, Cause::Value),
+    ("image a\ntable\ntable", 2, Cause::Words),
+    ("image a", 2, Cause::Block),
+];
+
+fn counted(alloc: Global, text: &[u8]) -> Result<usize, ParseFault> {
+    Ok(parse(alloc, text)?.commands.len())
+}
+
+/// The text that is written in one line with `;` for a line feed, and the number of its last line.
+fn unfolded(alloc: Global, text: &str) -> Result<(Vec<u8>, u32), AllocError> {
+    let mut script = Vec::new(alloc);
+    let mut last = 1u32;
+    for byte in text.as_bytes() {
+        if *byte == b';' {
+            script.push(b'\n')?;
+            last = last.wrapping_add(1);
+        } else {
+            script.push(*byte)?;
+        }
+    }
+    Ok((script, last))
+}
+
+#[test]
+fn texts_are_scripts_or_refused(rt: HostRuntime) -> Result<(), Fail> {
+    for (commands, texts) in GOOD {
+        for text in texts.split('\n') {
+            let (script, _last) = unfolded(rt.alloc(), text)?;
+            assert_eq!(rt;
+                counted(rt.alloc(), script.as_slice()),
+                Ok(commands),
+                "at {text:?}"
+            );
+        }
+    }
+    for (cause, texts) in BAD {
+        for text in texts.split('\n') {
+            let (script, last) = unfolded(rt.alloc(), text)?;
+            let refused = Err(ParseFault::Refused(last, cause));
+            assert_eq!(rt;
+                counted(rt.alloc(), script.as_slice()),
+                refused,
+                "at {text:?}"
+            );
+        }
+    }
+    for (text, line, cause) in FIRST_BAD {
+        let refused = Err(ParseFault::Refused(line, cause));
+        assert_eq!(rt;
+            counted(rt.alloc(), text.as_bytes()),
+            refused,
+            "at {text:?}"
+        );
+    }
+    Ok(())
+}
+
+#[test]
+fn commands_say_their_fields(rt: HostRuntime) -> Result<(), Fail> {
+    let text =
+        b"link L 4 16 9\ncaller vq0 remote\nsend L 1 2 3 68eFF0\nbegin L 5 give 0x4D\nstep M 6 7\npump L 8 9 10\nbegin L 1 send 2 3 Ab*3\n";
+    let script = parse(rt.alloc(), text).ok().ok_or("refused")?;
+    let [link, caller, send, give, step, pump, begun] = script.commands.as_slice() else {
+        return Err("seven commands".into());
+    };
+    assert!(rt; matches!(link, Command::Link(_, 4, 16, 9)));
+    match caller {
+        Command::Caller(name, End::Remote) => assert_eq!(rt; name.bytes(), b"vq0".as_slice()),
+        _ => assert!(rt; false, "the caller"),
+    }
+    match send {
+        Command::Send(_, 1, 2, 3, payload) => {
+            assert_eq!(rt; payload.bytes(), [0x68, 0xef, 0xf0].as_slice());
+        }
+        _ => assert!(rt; false, "the send"),
+    }
+    assert!(rt; matches!(give, Command::BeginGive(_, 5, 77)));
+    match step {
+        Command::Step(name, 6, 7) => assert_eq!(rt; name.bytes(), b"M".as_slice()),
+        _ => assert!(rt; false, "the step"),
+    }
+    assert!(rt; matches!(pump, Command::Pump(_, 8, 9, 10)));
+    match begun {
+        Command::BeginSend(_, 1, 2, 3, payload) => {
+            assert_eq!(rt; payload.bytes(), [0xab, 0xab, 0xab].as_slice());
+        }
+        _ => assert!(rt; false, "the send that is begun"),
+    }
+    Ok(())
+}
+
+/// A text of this length: this front, and then one byte again and again.
+fn filled(alloc: Global, front: &[u8], byte: u8, len: usize) -> Result<Vec<u8>, AllocError> {
+    let mut text = Vec::from_slice(alloc, front)?;
+    text.resize(len, byte)?;
+    Ok(text)
+}
+
+#[test]
+fn scripts_have_their_sizes(rt: HostRuntime) -> Result<(), Fail> {
+    let value = Err(ParseFault::Refused(1, Cause::Value));
+    let command = Err(ParseFault::Refused(1, Cause::Command));
+    for (front, byte, len, wanted) in [
+        ("send L 0 1 1024 ", b'a', 16 + 1024, Ok(1)),
+        ("send L 0 1 1024 ", b'a', 16 + 1023, value),
+        ("send L 0 1 1024 ", b'a', 16 + 1026, value),
+        ("take L 0", b' ', 1_048_576, Ok(1)),
+        (
+            "take L 0",
+            b' ',
+            1_048_577,
+            Err(ParseFault::Refused(0, Cause::Size)),
+        ),
+        ("frob", b'\n', 4 + 9_999, command),
+        ("frob", b'\n', 4 + 10_000, command),
+        (
+            "frob",
+            b'\n',
+            4 + 10_001,
+            Err(ParseFault::Refused(10_001, Cause::Lines)),
+        ),
+    ] {
+        let text = filled(rt.alloc(), front.as_bytes(), byte, len)?;
+        assert_eq!(rt;
+            counted(rt.alloc(), text.as_slice()),
+            wanted,
+            "at {front} {len}"
+        );
+    }
+    Ok(())
+}
+
+const FIRST: Endpoint = Endpoint {
+    address: 2000,
+    generation: 1,
+};
+
+const CLOSED: Era = Era {
+    inc: 1,
+    is_live: false,
+};
+
+const OPEN: Era = Era {
+    inc: 2,
+    is_live: true,
+};
+
+/// Events, each with its line: `l` is the name `L`, and `cc`, `hi` and `none` are these bytes.
+fn events(l: Name, cc: Data, hi: Data, none: Data) -> [(Event, &'static str); 38] {
+    [
+        (Event::Open(l, 1), "L open 1\n"),
+        (Event::Exists(l), "L exists\n"),
+        (Event::Unknown(l), "* unknown L\n"),
+        (Event::ObjectsFull, "* objects-full\n"),
+        (Event::Caller(l, 0, End::Remote), "L caller 0 remote\n"),
+        (Event::Caller(l, 1, End::Host), "L caller 1 host\n"),
+        (Event::CallersFull(l), "L callers-full\n"),
+        (Event::NoCaller(l, 5), "L no-caller 5\n"),
+        (Event::InCall(l, 0), "L 0 in-call\n"),
+        (Event::NoCall(l, 63), "L 63 no-call\n"),
+        (Event::NotHeld(l, 1, 7), "L 1 not-held 7\n"),
+        (Event::TooLong(l, 0, 497), "L 0 too-long 497\n"),
+        (Event::Begun(l, 0), "L 0 begun\n"),
+        (Event::At(l, 0, 3), "L 0 at 3\n"),
+        (Event::Sent(l, 0, 0), "L 0 sent 0\n"),
+        (Event::Gave(l, 1, 0), "L 1 gave 0\n"),
+        (Event::Bound(l, 1, FIRST), "L 1 bound 2000.1\n"),
+        (Event::Unbound(l, 1, FIRST), "L 1 unbound 2000.1\n"),
+        (Event::Busy(l, 1, 0), "L 1 busy 0\n"),
+        (Event::Dead(l, 1, CLOSED), "L 1 dead 1 closed\n"),
+        (Event::Dead(l, 1, OPEN), "L 1 dead 2 open\n"),
+        (Event::NoBuffer(l, 0, 4, 0), "L 0 no-buffer 4 0\n"),
+        (Event::BookFull(l, 0, 70_000), "L 0 book-full 70000\n"),
+        (Event::Empty(l, 1, 0), "L 1 empty 0\n"),
+        (Event::AddressTaken(l, 1, 2000), "L 1 address-taken 2000\n"),
+        (Event::EndpointsFull(l, 1), "L 1 endpoints-full\n"),
+        (Event::NotBound(l, 1, 3000), "L 1 not-bound 3000\n"),
+        (Event::TookMalformed(l, 1, 1), "L 1 took 1 malformed\n"),
+        (Event::TookNsMalformed(l, 1, 4), "L 1 took 4 ns malformed\n"),
+        (
+            Event::LaneAcceptedHandedReturned(l, 1, 3, 2, 1),
+            "L lane 1 accepted 3 handed 2 returned 1\n",
+        ),
+        (Event::Pumped(l, 230_000), "L pumped 230000\n"),
+        (Event::Image(l, 375), "* image L 375\n"),
+        (Event::ImageExists(l), "* image-exists L\n"),
+        (Event::WrongSide(l, 1), "L 1 wrong-side\n"),
+        (
+            Event::Open(l, 18_446_744_073_709_551_615),
+            "L open 18446744073709551615\n",
+        ),
+        (
+            Event::TookFromTo(l, 1, 2, 1, FIRST, cc),
+            "L 1 took 2 from 1 to 2000.1 cc\n",
+        ),
+        (
+            Event::TookFromDropped(l, 1, 0, 1, 1024, hi),
+            "L 1 took 0 from 1 dropped 1024 6869\n",
+        ),
+        (
+            Event::TookFromDropped(l, 1, 0, 1, 1024, none),
+            "L 1 took 0 from 1 dropped 1024 -\n",
+        ),
+    ]
+}
+
+/// What the name service did, the channel's name and address, and how they print.
+const SERVICE: [(NsKind, &[u8], u64, &str); 5] = [
+    (NsKind::Created, b"led", 1024, "created led 1024"),
+    (
+        NsKind::Duplicate,
+        b"a b%\x7f\xff!~",
+        1025,
+        "duplicate a%20b%25%7f%ff!~ 1025",
+    ),
+    (NsKind::Destroyed, b"", 0, "destroyed % 0"),
+    (
+        NsKind::Unknown,
+        b"led",
+        4_294_967_295,
+        "unknown led 4294967295",
+    ),
+    (NsKind::ChannelsFull, b"led", 1024, "full led 1024"),
+];
+
+#[test]
+fn each_event_is_one_line(rt: HostRuntime) -> Result<(), Fail> {
+    let alloc = rt.alloc();
+    let l = Name::of(b"L").ok_or("a name")?;
+    let cc = Data::copy_of(alloc, &[0xcc])?;
+    let hi = Data::copy_of(alloc, b"hi")?;
+    let none = Data::copy_of(alloc, b"")?;
+    for (event, wanted) in events(l, cc, hi, none) {
+        let mut out = Vec::new(alloc);
+        line(alloc, &event, &mut out)?;
+        assert_eq!(rt; out.as_slice(), wanted.as_bytes());
+    }
+    for (what, channel, address, words) in SERVICE {
+        let channel = Name::of(channel).ok_or("a name")?;
+        let event = Event::TookNs(l, 1, 0, what, channel, address);
+        let mut out = Vec::from_slice(alloc, b"L open 1\n")?;
+        line(alloc, &event, &mut out)?;
+        let wanted = format!(in alloc; "L open 1\nL 1 took 0 ns {words}\n")?;
+        assert_eq!(rt; out.as_slice(), wanted.as_bytes());
+    }
+    Ok(())
+}
+
+#[test]
+fn each_notice_is_one_line(rt: HostRuntime) -> Result<(), Fail> {
+    let name = Name::of(b"a.elf").ok_or("a name")?;
+    for (notice, wanted) in [
+        (
+            Notice::Usage,
+            "usage: rproc run | check NAME | demo N | storm H R N K\n",
+        ),
+        (Notice::ReadFault, "* read fault\n"),
+        (Notice::StoreFault, "* store fault\n"),
+        (Notice::StepLimit, "* step limit\n"),
+        (Notice::Refused(0, Cause::Size), "* refused 0 size\n"),
+        (
+            Notice::Refused(10_001, Cause::Lines),
+            "* refused 10001 lines\n",
+        ),
+        (Notice::Refused(2, Cause::Byte), "* refused 2 byte\n"),
+        (Notice::Refused(9, Cause::Block), "* refused 9 block\n"),
+        (Notice::Refused(3, Cause::Command), "* refused 3 command\n"),
+        (Notice::Missing(name), "missing a.elf\n"),
+        (Notice::TooLarge(name), "too-large a.elf\n"),
+        (Notice::Fault(50, None), "fault 50\n"),
+        (Notice::Fault(8, Some(255)), "fault 8 255\n"),
+        (Notice::Start(0x1a2b_3c4d), "start 1a2b3c4d\n"),
+        (
+            Notice::Segment(1, 0x40, 16, 65_536),
+            "segment 1 00000040 16 65536\n",
+        ),
+        (Notice::Loads, "ok\n"),
+    ] {
+        let mut out = Vec::new(rt.alloc());
+        push_notice(rt.alloc(), &notice, &mut out)?;
+        assert_eq!(rt; out.as_slice(), wanted.as_bytes());
+    }
+    Ok(())
+}
+
+/// Recipes, each with the bytes of its image in hexadecimal.
+const BUILT: [(&str, &str); 2] = [
+    (
+        "image a\nend",
+        "7f454c460101010000000000000000000200280001000000000000003400000000000000000000003400200000000000\
+        00000000",
+    ),
+    (
+        "image a\nentry 5\nload 0x200 6869 4\nload 0x1000 aa*3 3\nentry 0x10\ntable 0x300\ncarveout any 4096 heap\n\
+        vdev 7 1\nvring any 4096 16\nvring 0x10002000 64 8\nvdev 3 0x12345678\ntrace 0x400 16 t0\ndevmem 1 2 3 uart\nvendor 128\nend",
+        "7f454c4601010100000000000000000002002800010000001000000034000000c0010000000000003400200002002800\
+        030002000100000074000000000200000002000002000000040000000700000004000000010000007600000000100000\
+        00100000030000000300000007000000040000006869aaaaaa0100000006000000000000000000000028000000600000\
+        00a4000000c0000000f00000002801000000000000ffffffff0000000000100000000000000000000068656170000000\
+        000000000000000000000000000000000000000000000000000300000007000000000000000100000000000000000000\
+        0000020000ffffffff001000001000000000000000000000000020001040000000080000000000000000000000030000\
+        000300000000000000785634120000000000000000000000000200000000040000100000000000000074300000000000\
+        000000000000000000000000000000000000000000000000000100000001000000020000000300000000000000000000\
+        00756172740000000000000000000000000000000000000000000000000000000080000000002e7265736f757263655f\
+        7461626c65002e7368737472746162000000000000000000000000000000000000000000000000000000000000000000\
+        000000000000000001000000010000000200000000030000790000002c01000000000000000000000400000000000000\
+        11000000030000000000000000000000a50100001b00000000000000000000000100000000000000",
+    ),
+];
+
+/// Recipes, each with the length of its image.
+const LENGTHS: [(&str, usize); 5] = [
+    (
+        "image a\nload 0 - 16\ntable 0x100\ncarveout any 4096 a\nvendor 128\ncarveout any 4096 b\nend",
+        375,
+    ),
+    (
+        "image a\nload 0 - 16\ntable 0x100\ncarveout any 4096 heap\ncarveout 0x10000000 8192 text\nend",
+        367,
+    ),
+    (
+        "image a\nload 0 - 16\ntable 0x100\nvdev 7 1\nvring any 4096 16\nvring any 4096 16\nend",
+        319,
+    ),
+    (
+        "image a\nload 0 - 16\ntable 0x100\ncarveout any 1048576 all\nend",
+        307,
+    ),
+    ("image a\nload 0 63*16 16\nend", 100),
+];
+
+fn built(alloc: Global, text: &str) -> Result<Vec<u8>, Fail> {
+    let script = parse(alloc, text.as_bytes()).ok().ok_or("refused")?;
+    match script.commands.as_slice() {
+        [Command::Image(_, recipe)] => Ok(build(alloc, recipe)?),
+        _ => Err("one image".into()),
+    }
+}
+
+#[test]
+fn images_are_as_their_recipes_say(rt: HostRuntime) -> Result<(), Fail> {
+    let alloc = rt.alloc();
+    for (text, wanted) in BUILT {
+        let image = built(alloc, text)?;
+        let printed = hex::encode(alloc, image.as_slice())?;
+        assert_eq!(rt; printed.as_str(), wanted, "at {text:?}");
+    }
+    for (text, len) in LENGTHS {
+        assert_eq!(rt; built(alloc, text)?.len(), len, "at {text:?}");
+    }
+    Ok(())
+}

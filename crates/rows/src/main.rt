@@ -1,0 +1,64 @@
+// Runs each row of the folder `rows` over devices in memory, and writes its name, its status and its output.
+#![tactic(auto)]
+
+mod devices;
+mod rows;
+
+use crate::devices::calls;
+use crate::rows::{Row, names_in};
+use rp_io::{MemorySink, MemorySource, MemoryStore};
+use script_run::run_program;
+use std::alloc::AllocError;
+use std::io::{self, Write};
+
+fn main(rt: HostRuntime) -> io::Result<()> {
+    let mut out = io::writer(&rt);
+    for name in names_in(&rt, "rows")?.iter() {
+        let row = Row::read(&rt, name.as_str())?;
+        run_row(&rt, name.as_str(), row, &mut out)?;
+    }
+    Ok(())
+}
+
+/// Runs the program over what a row has.
+fn run_row<W: Write>(rt: &HostRuntime, name: &str, row: Row, out: &mut W) -> io::Result<()> {
+    let alloc = rt.alloc();
+    let Row {
+        words: lines,
+        script,
+        images,
+        devices,
+    } = row;
+    let words: Vec<&str> = lines.lines().collect(alloc)?;
+    let source_fails = calls(alloc, devices.source_fails)?;
+    let mut source = MemorySource::new(script, devices.source_most.max(1), source_fails);
+    let mut store = MemoryStore::new(images, calls(alloc, devices.store_fails)?);
+    let sink_fails = calls(alloc, devices.sink_fails)?;
+    let sink = MemorySink::new(
+        alloc,
+        devices.sink_room,
+        devices.sink_most.max(1),
+        sink_fails,
+    );
+    let mut sink = sink.map_err(|_| AllocError)?;
+    let status = run_program(alloc, words.as_slice(), &mut source, &mut store, &mut sink);
+    write_row(rt, name, status, sink.bytes(), out)
+}
+
+/// Writes the name and the status of a row, and its output. An output whose last line has no line
+/// feed is followed by a line that says so.
+fn write_row<W: Write>(
+    rt: &HostRuntime,
+    name: &str,
+    status: u8,
+    output: &[u8],
+    out: &mut W,
+) -> io::Result<()> {
+    let head = format!(in rt.alloc(); "# {name}: {status}\n")?;
+    out.write_all(head.as_bytes())?;
+    out.write_all(output)?;
+    if !output.is_empty() && !output.ends_with(b"\n") {
+        out.write_all(b"\n\\ no line feed\n")?;
+    }
+    Ok(())
+}

@@ -1,0 +1,120 @@
+-- A command on the link of its name, on none, or one that makes an image.
+use Rattle.std.proofs.Common.{◌≡◌, ◌≢◌, ◌<◌, ℕ, false, cond, List, [], ◌∷◌, ◌++◌, length, Option, Some, None, slice_get, slice_set, refl, sym, ap, subst, ◌∙◌, append-nil}
+use Rattle.std.proofs.lemmas.Bool.{lt-leb}
+use Rattle.rp_base.specs.declared.limits.TheConstants.{OBJECTS_MOST}
+use Rattle.script_lang.specs.declared.commands.Command.{Command}
+use Rattle.script_lang.specs.declared.commands.Command.TheVariants as command
+use Rattle.script_lang.specs.declared.recipes.RecipeLine.{RecipeLine}
+use Rattle.image_maker.specs.Images.{image_of}
+use Rattle.journal.specs.Lines.{line}
+use Rattle.journal.specs.declared.events.Event.{Event}
+use Rattle.journal.specs.declared.events.Event.TheVariants as event
+use Rattle.script_run.specs.NamedLinks.{NamedLink}
+use Rattle.script_run.specs.declared.statuses.Stop.{Stop}
+use Rattle.script_run.specs.Benches.{BenchState}
+use Rattle.script_run.specs.Logs.{LogState, HasEffect, HasRunEffect}
+use Rattle.script_run.specs.Runs.{ObjectsState, RunState, RunEffect, command_name, effect_of, family_effect, found_effect, has_image, image_effect, image_wanted, link_effect, located_effect, made_effect, new_bench, place_of, placed_effect, run_tells, unnamed_effect, with_image, with_links}
+
+-- a link of the same name with another bench
+with_bench : (now named : NamedLink) (bench : BenchState) → now.name ≡ named.name → now.bench ≡ bench → record named { bench = bench } ≡ now
+with_bench now named bench name same =
+    sym (ap (λ (n : List ℕ). record now { name = n }) name ∙ ap (λ (b : BenchState). record named { bench = b }) same)
+
+-- a command that isn't `image` makes none
+pub no_image : (wanted : Command) → ((name : List ℕ) (lines : List RecipeLine) → wanted ≢ command.Image name lines) → image_wanted wanted ≡ None
+no_image (command.Image name lines) other = absurd (other name lines refl)
+no_image (command.Link name to_host to_remote book) other = refl
+no_image (command.Caller name end) other = refl
+no_image (command.Send name caller src dst payload) other = refl
+no_image (command.Take name caller) other = refl
+no_image (command.Give name caller number) other = refl
+no_image (command.BeginSend name caller src dst payload) other = refl
+no_image (command.BeginTake name caller) other = refl
+no_image (command.BeginGive name caller number) other = refl
+no_image (command.Step name caller count) other = refl
+no_image (command.Finish name caller) other = refl
+no_image (command.Pump name sender receiver count) other = refl
+no_image (command.Ring name lane) other = refl
+no_image (command.Books name) other = refl
+
+module _ (run : RunState) (wanted : Command) where
+  -- on the link at a place
+  effect_at : (place : ℕ) (named : NamedLink) → image_wanted wanted ≡ None → Some place ≡ place_of run.objects.links (command_name wanted)
+      → slice_get run.objects.links place ≡ Some named → effect_of run wanted ≡ placed_effect run place named (link_effect named run.steps wanted)
+  unfolding effect_of
+  effect_at place named none placed found =
+      ap (family_effect run wanted) none ∙ ap (located_effect run wanted) (sym placed) ∙ ap (found_effect run wanted place) found
+
+  -- on none
+  effect_unnamed : image_wanted wanted ≡ None → None ≡ place_of run.objects.links (command_name wanted) → effect_of run wanted ≡ unnamed_effect run wanted
+  unfolding effect_of
+  effect_unnamed none placed = ap (family_effect run wanted) none ∙ ap (located_effect run wanted) (sym placed)
+
+  -- that makes an image
+  effect_image : (name : List ℕ) (lines : List RecipeLine) → wanted ≡ command.Image name lines → effect_of run wanted ≡ image_effect run name lines
+  unfolding effect_of
+  effect_image name lines is = ap (λ (c : Command). family_effect run wanted (image_wanted c)) is
+
+  module _ (before after : LogState) (answer : Option Stop) where
+    -- what the link at a place did is what the run did
+    pub placed_run : (place : ℕ) (named now : NamedLink) → image_wanted wanted ≡ None → Some place ≡ place_of run.objects.links (command_name wanted)
+        → slice_get run.objects.links place ≡ Some named → now.name ≡ named.name → HasEffect (link_effect named run.steps wanted) now.bench before after answer
+        → HasRunEffect (effect_of run wanted) (record run.objects { links = slice_set run.objects.links place now }) before after answer
+    placed_run place named now none placed found name did =
+        let effect = link_effect named run.steps wanted in
+        let done : HasRunEffect (placed_effect run place named effect) (record run.objects { links = slice_set run.objects.links place now }) before after answer =
+        record {
+          objects = sym (ap (λ (n : NamedLink). record run.objects { links = slice_set run.objects.links place n }) (with_bench now named effect.bench name did.bench));
+          steps = did.steps;
+          lines = did.lines;
+          ending = did.ending;
+        } in
+        subst (λ (e : RunEffect). HasRunEffect e (record run.objects { links = slice_set run.objects.links place now }) before after answer) (sym (effect_at place named none placed found)) done
+
+    -- what was done without a link of the name is what the run did
+    pub unnamed_run : (objects : ObjectsState) → image_wanted wanted ≡ None → None ≡ place_of run.objects.links (command_name wanted)
+        → HasRunEffect (unnamed_effect run wanted) objects before after answer → HasRunEffect (effect_of run wanted) objects before after answer
+    unnamed_run objects none placed did =
+        subst (λ (e : RunEffect). HasRunEffect e objects before after answer) (sym (effect_unnamed none placed)) did
+
+    -- an image was made, or was made before
+    pub image_run : (objects : ObjectsState) (name : List ℕ) (lines : List RecipeLine) → wanted ≡ command.Image name lines
+        → HasRunEffect (image_effect run name lines) objects before after answer → HasRunEffect (effect_of run wanted) objects before after answer
+    image_run objects name lines is did =
+        subst (λ (e : RunEffect). HasRunEffect e objects before after answer) (sym (effect_image name lines is)) did
+
+module _ (run : RunState) (objects : ObjectsState) (before after : LogState) where
+  -- one event is told, with which a run goes on
+  tells_run : (next : RunState) (told : Event) → objects ≡ next.objects → after.steps ≡ next.steps → after.lines ≡ before.lines ++ line told
+      → HasRunEffect (run_tells next told) objects before after None
+  tells_run next told is steps kept = record {
+    objects = is;
+    steps = steps;
+    lines = kept ∙ ap (λ (bytes : List ℕ). before.lines ++ bytes) (sym (append-nil (line told)));
+    ending = refl;
+  }
+
+  -- a link of a new name is made
+  pub made_run : (name : List ℕ) (to_host to_remote book : ℕ) → length run.objects.links < OBJECTS_MOST
+      → objects ≡ record run.objects { links = run.objects.links ++ record { name = name; bench = new_bench to_host to_remote book } ∷ [] }
+      → before.steps ≡ run.steps → after ≡ record before { lines = before.lines ++ line (event.Open name 1) }
+      → HasRunEffect (made_effect run name to_host to_remote book) objects before after None
+  unfolding made_effect
+  made_run name to_host to_remote book few is steps kept =
+      let made = with_links run (run.objects.links ++ record { name = name; bench = new_bench to_host to_remote book } ∷ []) in
+      subst (λ full. HasRunEffect (cond full (run_tells run event.ObjectsFull) (run_tells made (event.Open name 1))) objects before after None) (sym (lt-leb OBJECTS_MOST (length run.objects.links) few))
+      (tells_run made (event.Open name 1) is (ap (λ (log : LogState). log.steps) kept ∙ steps) (ap (λ (log : LogState). log.lines) kept))
+
+  -- an image of a new name is made
+  pub imaged_run : (name : List ℕ) (lines : List RecipeLine) (bytes : List ℕ) → has_image run.objects.images name ≡ false → bytes ≡ image_of lines
+      → objects ≡ record run.objects { images = run.objects.images ++ record { name = name; bytes = bytes } ∷ [] }
+      → before.steps ≡ run.steps → after ≡ record before { lines = before.lines ++ line (event.Image name (length bytes)) }
+      → HasRunEffect (image_effect run name lines) objects before after None
+  unfolding image_effect
+  imaged_run name lines bytes new made is steps kept =
+      subst (λ known. HasRunEffect (cond known (run_tells run (event.ImageExists name)) (run_tells (with_image run name (image_of lines)) (event.Image name (length (image_of lines)))))
+      objects before after None) (sym new)
+      (tells_run (with_image run name (image_of lines)) (event.Image name (length (image_of lines)))
+      (is ∙ ap (λ (b : List ℕ). record run.objects { images = run.objects.images ++ record { name = name; bytes = b } ∷ [] }) made)
+      (ap (λ (log : LogState). log.steps) kept ∙ steps)
+      (ap (λ (log : LogState). log.lines) kept ∙ ap (λ (b : List ℕ). before.lines ++ line (event.Image name (length b))) made))

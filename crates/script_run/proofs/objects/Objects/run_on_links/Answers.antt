@@ -1,0 +1,43 @@
+use Rattle.std.proofs.Common.{◌≡◌, ◌<◌, List, Some, None, IfOk, length, slice_get, slice_set, refl, ap, subst, ◌∙◌}
+use Rattle.std.proofs.lemmas.Option.{slice_get_read}
+use Rattle.std.proofs.lemmas.Result.{IfOk-weaker}
+use Rattle.script_run.specs.NamedLinks.{NamedLink}
+use Rattle.script_run.specs.Logs.{HasEffect, HasRunEffect}
+use Rattle.script_run.specs.Runs.{ObjectsState, RunState, command_name, effect_of, link_effect, place_of, unnamed_effect}
+use Rattle.script_run.proofs.Placing.{placed_run, unnamed_run}
+use Rattle.script_run.proofs.objects.Objects.run_on_links.Goals as goal
+
+pub returns-in-Some : goal.returns-in-Some
+returns-in-Some c =
+    let items = c.self.inside.links.items in
+    let place = c.in-Some.place in
+    let named = c.index_mut.result.now in
+    let placed : Some place ≡ place_of items (command_name c.args.command.now) =
+    c.in-Some.ensures.place ∙ ap (λ (links : List NamedLink). place_of links c.bytes.result.now) c.as_slice.ensures.value
+    ∙ ap (place_of items) (c.bytes.ensures.bytes ∙ c.command_name.ensures) in
+    let found : slice_get items place ≡ Some named =
+    slice_get_read items (length items) place named refl (subst (λ (links : List NamedLink). place < length links) c.as_slice.ensures.value c.in-Some.ensures.within) c.index_mut.ensures.value in
+    let images = c.self.inside.images.items in
+    let run : RunState = record { objects = record { links = items; images = images }; steps = c.args.log.now.steps } in
+    subst (λ (objects : ObjectsState). IfOk c.run.result (λ ending.
+    HasRunEffect (effect_of (record { objects = objects; steps = c.args.log.now.steps }) c.args.command.now) (record { links = slice_set items place c.run.new.self; images = images })
+    c.args.log.now c.run.new.log ending))
+    c.self.view_is
+    (IfOk-weaker c.run.result
+    (λ ending. HasEffect (link_effect named c.args.log.now.steps c.args.command.now) c.run.new.self.bench c.args.log.now c.run.new.log ending)
+    (λ ending. HasRunEffect (effect_of run c.args.command.now) (record { links = slice_set items place c.run.new.self; images = images }) c.args.log.now c.run.new.log ending)
+    (λ ending did. placed_run run c.args.command.now c.args.log.now c.run.new.log ending place named c.run.new.self c.requires.family placed found c.run.ensures.name did)
+    c.run.ensures.effect)
+
+pub returns-in-None : goal.returns-in-None
+returns-in-None c =
+    let run : RunState = record { objects = c.args.self.now; steps = c.args.log.now.steps } in
+    let none : None ≡ place_of c.args.self.now.links (command_name c.args.command.now) =
+    c.in-None.ensures.place ∙ ap (λ (links : List NamedLink). place_of links c.bytes.result.now) c.as_slice.ensures.value
+    ∙ ap (λ (objects : ObjectsState). place_of objects.links c.bytes.result.now) c.self.view_is
+    ∙ ap (place_of c.args.self.now.links) (c.bytes.ensures.bytes ∙ c.command_name.ensures) in
+    IfOk-weaker c.run_unnamed.result
+    (λ ending. HasRunEffect (unnamed_effect run c.args.command.now) c.run_unnamed.new.self c.args.log.now c.run_unnamed.new.log ending)
+    (λ ending. HasRunEffect (effect_of run c.args.command.now) c.run_unnamed.new.self c.args.log.now c.run_unnamed.new.log ending)
+    (λ ending did. unnamed_run run c.args.command.now c.args.log.now c.run_unnamed.new.log ending c.run_unnamed.new.self c.requires.family none did)
+    c.run_unnamed.ensures

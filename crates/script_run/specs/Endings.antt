@@ -1,0 +1,121 @@
+-- How the program ends, by its words and by what its devices did (own).
+use Rattle.std.specs.Prelude.{◌≡◌, ◌⊎◌, ℕ, List, Option, Some, None, Result, Ok, Err}
+use Rattle.std.specs.Io.KnownBytes.{Appends}
+use Rattle.rp_io.specs.declared.faults.FetchFault.{FetchFault}
+use Rattle.rp_io.specs.declared.faults.FetchFault.TheVariants as fetch_fault
+use Rattle.rp_io.specs.Causes.{Rose}
+use Rattle.rp_io.specs.Contents.{AppendsFront}
+use Rattle.script_run.specs.declared.statuses.Status.{Status}
+use Rattle.script_run.specs.declared.statuses.Status.TheVariants as status
+use Rattle.script_run.specs.Outputs.{Form, other, run, check, Output, usage_output, run_output, report_output, read_fault_output, store_fault_output}
+use Rattle.script_run.specs.Reports.{fetched_report, check_report}
+
+-- what the devices hold, where they tell it, and their counts of faults
+pub record Devices : Type 0 where
+  -- what the source of the script has left
+  pub left : Option (List ℕ)
+  -- the names and images of the store
+  pub images : Option (List (List ℕ × List ℕ))
+  -- what the sink was given
+  pub written : Option (List ℕ)
+  pub source_faults : ℕ
+  pub store_faults : ℕ
+  pub sink_faults : ℕ
+
+-- neither the source nor the store failed
+pub record IsReadWell (before now : Devices) : Type 0 where
+  pub source : now.source_faults ≡ before.source_faults
+  pub store : now.store_faults ≡ before.store_faults
+
+-- the output of a script that was read; of a source that doesn't tell, that of some text
+abbrev pub IsRunOutput : Option (List ℕ) → Output → Type 0
+IsRunOutput None output = (bytes : List ℕ) × (output ≡ run_output bytes)
+IsRunOutput (Some bytes) output = output ≡ run_output bytes
+
+-- an answer of a store that didn't fail and found memory
+abbrev pub IsAnswer : Result (List ℕ) FetchFault → Type 0
+IsAnswer (Ok image) = Unit {0}
+IsAnswer (Err fetch_fault.Missing) = Unit {0}
+IsAnswer (Err fetch_fault.Failed) = ⊥
+IsAnswer (Err (fetch_fault.TooLarge bytes)) = Unit {0}
+IsAnswer (Err fetch_fault.NoMemory) = ⊥
+
+-- the report of an image; of a store that doesn't tell, that of some answer
+abbrev pub IsReportOutput : Option (List (List ℕ × List ℕ)) → List ℕ → Output → Type 0
+IsReportOutput None name output =
+    (answer : Result (List ℕ) FetchFault) × IsAnswer answer × (output ≡ report_output (fetched_report name answer))
+IsReportOutput (Some images) name output = output ≡ report_output (check_report images name)
+
+-- the output that the words ask for, over these devices
+abbrev pub IsAsked : Form → Devices → Output → Type 0
+IsAsked other before output = output ≡ usage_output
+IsAsked run before output = IsRunOutput before.left output
+IsAsked (check name) before output = IsReportOutput before.images name output
+
+-- the line of the device that failed, where the words need it
+abbrev pub IsFaultOutput : Form → Devices → Devices → Output → Type 0
+IsFaultOutput other before now output = ⊥
+IsFaultOutput run before now output =
+    (output ≡ read_fault_output) × Rose before.source_faults now.source_faults × (now.store_faults ≡ before.store_faults)
+IsFaultOutput (check name) before now output =
+    (output ≡ store_fault_output) × Rose before.store_faults now.store_faults × (now.source_faults ≡ before.source_faults)
+
+-- what is to be written: what the words ask for where the source and the store didn't fail, or the line of the one that did
+abbrev pub IsOutput : Form → Devices → Devices → Output → Type 0
+IsOutput form before now output =
+    (IsAsked form before output × IsReadWell before now) ⊎ IsFaultOutput form before now output
+
+-- how an output is written, by the status with which the program ends: a front of it where the sink failed or memory ran out, else the whole
+abbrev pub Writes : Status → Output → Option (List ℕ) → Option (List ℕ) → ℕ → ℕ → Type 0
+Writes status.WriteFault output old new before now = AppendsFront old new output.text × Rose before now
+Writes status.NoMemory output old new before now = AppendsFront old new output.text × (now ≡ before)
+Writes ended output old new before now = (output.status ≡ ended) × Appends old new output.text × (now ≡ before)
+
+-- what is to be written, by the status: memory that ran out is no fault of a device
+abbrev pub IsCourse : Status → Form → Devices → Devices → Output → Type 0
+IsCourse status.NoMemory form before now output = IsAsked form before output × IsReadWell before now
+IsCourse ended form before now output = IsOutput form before now output
+
+-- the program ends with this status
+pub record Ends (ended : Status) (form : Form) (before now : Devices) : Type 0 where
+  pub output : Output
+  pub course : IsCourse ended form before now output
+  pub written : Writes ended output before.written now.written before.sink_faults now.sink_faults
+
+-- the answer is the number of a status with which the program ends
+abbrev pub AnswersAs : Option Status → Form → Devices → Devices → Type 0
+AnswersAs None form before now = ⊥
+AnswersAs (Some ended) form before now = Ends ended form before now
+
+-- a status with which the program ends where all was written
+abbrev pub IsFinal : Status → Type 0
+IsFinal status.WriteFault = ⊥
+IsFinal status.NoMemory = ⊥
+IsFinal ended = Unit {0}
+
+-- the answer is the number of a status, by which an output is written
+abbrev pub RunAnswersAs : Option Status → Output → Option (List ℕ) → Option (List ℕ) → ℕ → ℕ → Type 0
+RunAnswersAs None output old new before now = ⊥
+RunAnswersAs (Some ended) output old new before now = Writes ended output old new before now
+
+-- where no device failed, the program ends with the status of what the words ask for, unless memory ran out
+abbrev pub EndsWell : Status → Form → Devices → Type 0
+EndsWell status.WriteFault form before = ⊥
+EndsWell status.NoMemory form before = Unit {0}
+EndsWell ended form before = (output : Output) × IsAsked form before output × (output.status ≡ ended)
+
+-- the answer is the number of a status with which the program ends where no device failed
+abbrev pub AnswersWell : Option Status → Form → Devices → Type 0
+AnswersWell None form before = ⊥
+AnswersWell (Some ended) form before = EndsWell ended form before
+
+-- a script was run, to its end or to the most steps
+abbrev pub IsRunEnd : Status → Type 0
+IsRunEnd status.Done = Unit {0}
+IsRunEnd status.StepLimit = Unit {0}
+IsRunEnd ended = ⊥
+
+-- the answer is the number of such a status
+abbrev pub IsRunAnswer : Option Status → Type 0
+IsRunAnswer None = ⊥
+IsRunAnswer (Some ended) = IsRunEnd ended

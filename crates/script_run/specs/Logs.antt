@@ -1,0 +1,33 @@
+-- What a run keeps beside its links (own).
+use Rattle.std.specs.Prelude.{◌≡◌, ℕ, List, ◌++◌, Option}
+use Rattle.std.specs.Io.KnownBytes.{Appends}
+use Rattle.journal.specs.Lines.{transcript}
+use Rattle.script_run.specs.declared.statuses.Stop.{Stop}
+use Rattle.script_run.specs.Benches.{BenchState}
+use Rattle.script_run.specs.Effects.{Effect}
+use Rattle.script_run.specs.Runs.{ObjectsState, RunEffect}
+
+-- the lines that wait to be handed on, and how many steps were done
+pub record LogState : Type 0 where
+  pub lines : List ℕ
+  pub steps : ℕ
+
+-- a command left of its bench, told and answered what this effect says
+pub record HasEffect (effect : Effect) (left : BenchState) (before after : LogState) (answer : Option Stop) : Type 0 where
+  pub bench : left ≡ effect.bench
+  pub steps : after.steps ≡ effect.steps
+  pub lines : after.lines ≡ before.lines ++ transcript effect.events
+  pub ending : answer ≡ effect.ending
+
+-- where told: what was handed on meanwhile, and what is kept now, are what was kept before and these bytes
+pub record Hands (written : Option (List ℕ)) (kept : List ℕ) (now : Option (List ℕ)) (left bytes : List ℕ) : Type 0 where
+  pub handed : List ℕ
+  pub appended : Appends written now handed
+  pub rest : handed ++ left ≡ kept ++ bytes
+
+-- a command left of its run, told and answered what this effect says
+pub record HasRunEffect (effect : RunEffect) (left : ObjectsState) (before after : LogState) (answer : Option Stop) : Type 0 where
+  pub objects : left ≡ effect.run.objects
+  pub steps : after.steps ≡ effect.run.steps
+  pub lines : after.lines ≡ before.lines ++ transcript effect.events
+  pub ending : answer ≡ effect.ending

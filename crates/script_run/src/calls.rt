@@ -1,0 +1,370 @@
+ghost use Rattle.std.specs.Prelude.{◌≡◌, ◌<◌, ◌≤◌, ◌+◌, ◌++◌, length, IfOk, Some, None};
+ghost use Rattle.rp_base.specs.declared.limits.TheConstants.{MESSAGE_MOST, PAYLOAD_MOST, STEPS_MOST};
+ghost use Rattle.lane_model.specs.declared.calls.Wish.TheVariants as wish;
+ghost use Rattle.rpmsg_header.specs.Headers.{header_bytes};
+ghost use Rattle.script_run.specs.Logs.{HasEffect};
+ghost use Rattle.script_run.specs.Benches.{BenchWalk, begin_fault, reach_of, ready_fault};
+ghost use Rattle.script_run.specs.CallEvents.{end_event, fault_event, refused_event, taken_on, took_event};
+ghost use Rattle.script_run.specs.Effects.{begun_effect, call_effect, give_effect, send_effect, step_effect, take_effect, tells, walk_effect};
+
+use crate::benches::{BenchFault, Progress};
+use crate::links::NamedBench;
+use crate::logs::RunLog;
+use crate::statuses::Stop;
+use journal::Event;
+use lane_model::{CallEnd, Wish};
+use rp_base::{BindFault, CallerNo, Data, Message, Name, NoMemory, PAYLOAD_MOST, Verdict};
+use std::alloc::Global;
+
+impl NamedBench {
+    ghost use Rattle.lane_model.specs.Links.{end_of};
+
+    /// A whole send.
+    #[tactic(auto, unfolding(crate::specs::Effects::send_effect))]
+    pub(crate) fn send(
+        &mut self,
+        caller: CallerNo,
+        src: u32,
+        dst: u32,
+        payload: &Data,
+        log: &mut RunLog,
+    ) -> Result<Option<Stop>, NoMemory>
+        requires { caller < 64 }
+        ensures name { self.new.name ≡ self.old.name }
+        ensures effect { IfOk result (λ ending. HasEffect (send_effect call_effect self.old.name self.old.bench log.old.steps caller src dst payload.now) self.new.bench log.old log.new ending) }
+    {
+        if let Some(fault) = self.bench.ready_fault(caller) {
+            return self.refuse(caller, fault, log);
+        }
+        let len = payload.bytes().len();
+        if len > PAYLOAD_MOST {
+            return self.tell(
+                &Event::TooLong(self.name, u64::from(caller), len as u64),
+                log,
+            );
+        }
+        let head = rpmsg_header::head(src, dst, len as u16);
+        self.call_send(caller, &head, payload.bytes(), log)
+    }
+
+    /// A whole take.
+    #[tactic(auto, unfolding(crate::specs::Effects::take_effect))]
+    pub(crate) fn take(
+        &mut self,
+        caller: CallerNo,
+        log: &mut RunLog,
+    ) -> Result<Option<Stop>, NoMemory>
+        requires { caller < 64 }
+        ensures name { self.new.name ≡ self.old.name }
+        ensures effect { IfOk result (λ ending. HasEffect (take_effect call_effect self.old.name self.old.bench log.old.steps caller) self.new.bench log.old log.new ending) }
+    {
+        if let Some(fault) = self.bench.ready_fault(caller) {
+            return self.refuse(caller, fault, log);
+        }
+        self.call(caller, &Wish::Take, log)
+    }
+
+    /// A whole give of the message of this number.
+    #[tactic(auto, unfolding(crate::specs::Effects::give_effect))]
+    pub(crate) fn give(
+        &mut self,
+        caller: CallerNo,
+        number: u64,
+        log: &mut RunLog,
+    ) -> Result<Option<Stop>, NoMemory>
+        requires { caller < 64 }
+        ensures name { self.new.name ≡ self.old.name }
+        ensures effect { IfOk result (λ ending. HasEffect (give_effect call_effect self.old.name self.old.bench log.old.steps caller number) self.new.bench log.old log.new ending) }
+    {
+        if let Some(fault) = self.bench.ready_fault(caller) {
+            return self.refuse(caller, fault, log);
+        }
+        if !self.bench.is_holding(caller, number) {
+            return self.tell(&Event::NotHeld(self.name, u64::from(caller), number), log);
+        }
+        self.call(caller, &Wish::Give(number), log)
+    }
+
+    /// A whole call of a caller that may begin it.
+    #[tactic(auto, unfolding(crate::specs::Effects::call_effect))]
+    fn call(
+        &mut self,
+        caller: CallerNo,
+        wished: &Wish,
+        log: &mut RunLog,
+    ) -> Result<Option<Stop>, NoMemory>
+        requires { begin_fault self.old.bench caller wished.now ≡ None }
+        ensures name { self.new.name ≡ self.old.name }
+        ensures effect { IfOk result (λ ending. HasEffect (call_effect self.old.name self.old.bench log.old.steps caller wished.now) self.new.bench log.old log.new ending) }
+    {
+        let (mut steps, mut end) = (log.steps(), CallEnd::Empty(0));
+        let progress = self.bench.call(caller, wished, &mut steps, &mut end);
+        log.set_steps(steps);
+        self.tell_reach(caller, progress, end, log)
+    }
+
+    /// A whole send of a caller that may begin one.
+    #[tactic(auto, unfolding(crate::specs::Effects::call_effect))]
+    fn call_send(
+        &mut self,
+        caller: CallerNo,
+        head: &[u8],
+        body: &[u8],
+        log: &mut RunLog,
+    ) -> Result<Option<Stop>, NoMemory>
+        requires ready { ready_fault self.old.bench caller ≡ None }
+        requires fits { length head.now + length body.now ≤ MESSAGE_MOST }
+        ensures name { self.new.name ≡ self.old.name }
+        ensures effect { IfOk result (λ ending. HasEffect (call_effect self.old.name self.old.bench log.old.steps caller (wish.Send (head.now ++ body.now))) self.new.bench log.old log.new ending) }
+    {
+        let (mut steps, mut end) = (log.steps(), CallEnd::Empty(0));
+        let progress = self.bench.send(caller, head, body, &mut steps, &mut end);
+        log.set_steps(steps);
+        self.tell_reach(caller, progress, end, log)
+    }
+
+    /// Begins a send.
+    #[tactic(auto, unfolding(crate::specs::Effects::send_effect))]
+    pub(crate) fn begin_send(
+        &mut self,
+        caller: CallerNo,
+        src: u32,
+        dst: u32,
+        payload: &Data,
+        log: &mut RunLog,
+    ) -> Result<Option<Stop>, NoMemory>
+        requires { caller < 64 }
+        ensures name { self.new.name ≡ self.old.name }
+        ensures effect { IfOk result (λ ending. HasEffect (send_effect begun_effect self.old.name self.old.bench log.old.steps caller src dst payload.now) self.new.bench log.old log.new ending) }
+    {
+        if let Some(fault) = self.bench.ready_fault(caller) {
+            return self.refuse(caller, fault, log);
+        }
+        let len = payload.bytes().len();
+        if len > PAYLOAD_MOST {
+            return self.tell(
+                &Event::TooLong(self.name, u64::from(caller), len as u64),
+                log,
+            );
+        }
+        self.begin(caller, Wish::Send(written(src, dst, payload)), log)
+    }
+
+    /// Begins a take.
+    #[tactic(auto, unfolding(crate::specs::Effects::take_effect))]
+    pub(crate) fn begin_take(
+        &mut self,
+        caller: CallerNo,
+        log: &mut RunLog,
+    ) -> Result<Option<Stop>, NoMemory>
+        requires { caller < 64 }
+        ensures name { self.new.name ≡ self.old.name }
+        ensures effect { IfOk result (λ ending. HasEffect (take_effect begun_effect self.old.name self.old.bench log.old.steps caller) self.new.bench log.old log.new ending) }
+    {
+        if let Some(fault) = self.bench.ready_fault(caller) {
+            return self.refuse(caller, fault, log);
+        }
+        self.begin(caller, Wish::Take, log)
+    }
+
+    /// Begins a give of the message of this number.
+    #[tactic(auto, unfolding(crate::specs::Effects::give_effect))]
+    pub(crate) fn begin_give(
+        &mut self,
+        caller: CallerNo,
+        number: u64,
+        log: &mut RunLog,
+    ) -> Result<Option<Stop>, NoMemory>
+        requires { caller < 64 }
+        ensures name { self.new.name ≡ self.old.name }
+        ensures effect { IfOk result (λ ending. HasEffect (give_effect begun_effect self.old.name self.old.bench log.old.steps caller number) self.new.bench log.old log.new ending) }
+    {
+        if let Some(fault) = self.bench.ready_fault(caller) {
+            return self.refuse(caller, fault, log);
+        }
+        if !self.bench.is_holding(caller, number) {
+            return self.tell(&Event::NotHeld(self.name, u64::from(caller), number), log);
+        }
+        self.begin(caller, Wish::Give(number), log)
+    }
+
+    /// Begins a call of a caller that may begin it.
+    #[tactic(auto, unfolding(crate::specs::Effects::begun_effect))]
+    fn begin(
+        &mut self,
+        caller: CallerNo,
+        wished: Wish,
+        log: &mut RunLog,
+    ) -> Result<Option<Stop>, NoMemory>
+        requires caller { caller < 64 }
+        requires ready { begin_fault self.old.bench caller wished ≡ None }
+        ensures name { self.new.name ≡ self.old.name }
+        ensures effect { IfOk result (λ ending. HasEffect (begun_effect self.old.name self.old.bench log.old.steps caller wished) self.new.bench log.old log.new ending) }
+    {
+        self.bench.put_begun(caller, wished);
+        self.tell(&Event::Begun(self.name, u64::from(caller)), log)
+    }
+
+    /// One step of the call that a caller is in, and `more` further ones.
+    #[tactic(auto, unfolding(crate::specs::Effects::step_effect))]
+    pub(crate) fn advance(
+        &mut self,
+        caller: CallerNo,
+        more: u64,
+        log: &mut RunLog,
+    ) -> Result<Option<Stop>, NoMemory>
+        requires caller { caller < 64 }
+        requires more { more < STEPS_MOST }
+        ensures name { self.new.name ≡ self.old.name }
+        ensures effect { IfOk result (λ ending. HasEffect (step_effect self.old.name self.old.bench log.old.steps caller more) self.new.bench log.old log.new ending) }
+    {
+        if self.bench.end_of(caller).is_none() {
+            return self.refuse(caller, BenchFault::NoCaller, log);
+        }
+        if !self.bench.is_in_call(caller) {
+            return self.refuse(caller, BenchFault::NoCall, log);
+        }
+        let (mut steps, mut end) = (log.steps(), CallEnd::Empty(0));
+        let progress = self.bench.advance(caller, more, &mut steps, &mut end);
+        log.set_steps(steps);
+        self.tell_reach(caller, progress, end, log)
+    }
+
+    /// Tells why the bench did nothing for a caller.
+    pub(crate) fn refuse(
+        &mut self,
+        caller: CallerNo,
+        fault: BenchFault,
+        log: &mut RunLog,
+    ) -> Result<Option<Stop>, NoMemory>
+        ensures same { self.new ≡ self.old }
+        ensures effect { IfOk result (λ ending. HasEffect (tells self.old.bench log.old.steps (fault_event self.old.name caller fault)) self.new.bench log.old log.new ending) }
+    {
+        self.tell(&self.fault_event(caller, fault), log)
+    }
+
+    /// What a refusal of the bench tells.
+    pub(crate) fn fault_event(&self, caller: CallerNo, fault: BenchFault) -> Event
+        ensures { result ≡ fault_event self.now.name caller fault }
+    {
+        let number = u64::from(caller);
+        match fault {
+            BenchFault::NoCaller => Event::NoCaller(self.name, number),
+            BenchFault::InCall => Event::InCall(self.name, number),
+            BenchFault::NoCall => Event::NoCall(self.name, number),
+            BenchFault::NotHeld(message) => Event::NotHeld(self.name, number, message),
+        }
+    }
+
+    /// Tells how far a caller's call came, with its end beside it.
+    fn tell_reach(
+        &mut self,
+        caller: CallerNo,
+        progress: Progress,
+        end: CallEnd,
+        log: &mut RunLog,
+    ) -> Result<Option<Stop>, NoMemory>
+        ensures same { self.new ≡ self.old }
+        ensures effect { IfOk result (λ ending. HasEffect
+            (walk_effect self.old.name caller (record { bench = self.old.bench; steps = log.old.steps; reach = reach_of progress end })) self.new.bench log.old log.new ending) }
+    {
+        match progress {
+            Progress::At(step) => {
+                self.tell(
+                    &Event::At(self.name, u64::from(caller), u64::from(step)),
+                    log,
+                )
+            }
+            Progress::Ended => {
+                let event = self.end_event(caller, end, log)?;
+                self.tell(&event, log)
+            }
+            Progress::Limit => Ok(Some(Stop::StepLimit)),
+        }
+    }
+
+    /// What the end of a caller's call tells.
+    pub(crate) fn end_event(
+        &self,
+        caller: CallerNo,
+        end: CallEnd,
+        log: &RunLog,
+    ) -> Result<Event, NoMemory>
+        ensures { IfOk result (λ event. event ≡ end_event self.now.name self.now.bench.link caller end) }
+    {
+        let (name, number) = (self.name, u64::from(caller));
+        Ok(match end {
+            CallEnd::Sent(message) => Event::Sent(name, number, message),
+            CallEnd::Took(message, verdict) => {
+                let bytes = self.bench.taken_message(caller, message);
+                return took_event(log.alloc(), name, number, message, bytes, verdict);
+            }
+            CallEnd::Gave(message) => Event::Gave(name, number, message),
+            CallEnd::Bound(endpoint) => Event::Bound(name, number, endpoint),
+            CallEnd::Unbound(endpoint) => Event::Unbound(name, number, endpoint),
+            CallEnd::Busy(holder) => Event::Busy(name, number, u64::from(holder)),
+            CallEnd::Dead(era) => Event::Dead(name, number, era),
+            CallEnd::NoBuffer(accepted, returned) => {
+                Event::NoBuffer(name, number, accepted, returned)
+            }
+            CallEnd::BookFull(accepted) => Event::BookFull(name, number, accepted),
+            CallEnd::Empty(accepted) => Event::Empty(name, number, accepted),
+            CallEnd::Refused(fault) => refused_event(name, number, fault),
+        })
+    }
+}
+
+/// The message with a payload that fits.
+fn written(src: u32, dst: u32, payload: &Data) -> Message
+    requires { length payload.now ≤ PAYLOAD_MOST }
+    ensures { result ≡ header_bytes src dst payload.now }
+{
+    let bytes = payload.bytes();
+    let mut message = Message::empty();
+    message.set(&rpmsg_header::head(src, dst, bytes.len() as u16), bytes);
+    message
+}
+
+/// What the end of a take tells.
+fn took_event(
+    alloc: Global,
+    name: Name,
+    caller: u64,
+    number: u64,
+    message: &[u8],
+    verdict: Verdict,
+) -> Result<Event, NoMemory>
+    ensures { IfOk result (λ event. event ≡ took_event name caller number message.now verdict) }
+{
+    Ok(match verdict {
+        Verdict::To(endpoint) => {
+            let header = rpmsg_header::fields(message);
+            let payload = Data::copy_of(alloc, header.payload)?;
+            let src = u64::from(header.src);
+            Event::TookFromTo(name, caller, number, src, endpoint, payload)
+        }
+        Verdict::Dropped(dst) => {
+            let header = rpmsg_header::fields(message);
+            let payload = Data::copy_of(alloc, header.payload)?;
+            let src = u64::from(header.src);
+            Event::TookFromDropped(name, caller, number, src, u64::from(dst), payload)
+        }
+        Verdict::Malformed => Event::TookMalformed(name, caller, number),
+        Verdict::Service(what, channel, address, _) => {
+            Event::TookNs(name, caller, number, what, channel, u64::from(address))
+        }
+        Verdict::ServiceMalformed => Event::TookNsMalformed(name, caller, number),
+    })
+}
+
+fn refused_event(name: Name, caller: u64, fault: BindFault) -> Event
+    ensures { result ≡ refused_event name caller fault }
+{
+    match fault {
+        BindFault::AddressTaken(address) => {
+            Event::AddressTaken(name, caller, u64::from(address))
+        }
+        BindFault::EndpointsFull => Event::EndpointsFull(name, caller),
+        BindFault::NotBound(address) => Event::NotBound(name, caller, u64::from(address)),
+    }
+}
