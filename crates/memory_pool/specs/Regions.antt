@@ -7,8 +7,8 @@ use Rattle.memory_pool.specs.declared.TheConstants.{REGIONS_MOST, MEMORY_MOST}
 use Rattle.memory_pool.specs.declared.faults.RegionFault.{RegionFault}
 use Rattle.memory_pool.specs.declared.faults.RegionFault.TheVariants as fault
 use Rattle.memory_pool.specs.declared.regions.Region.{Region}
-use Rattle.memory_pool.specs.declared.regions.RegionKind.{RegionKind}
-use Rattle.memory_pool.specs.declared.regions.RegionKind.TheVariants.{Tcm, Pool}
+use Rattle.rp_base.specs.declared.kinds.RegionKind.{RegionKind}
+use Rattle.rp_base.specs.declared.kinds.RegionKind.TheVariants.{Tcm, Pool}
 
 -- whether blocks are placed in a region of this kind (own)
 abbrev pub is_pool_kind : RegionKind → Bool

@@ -14,7 +14,8 @@ mod wanted;
 pub use blocks::{Block, Use};
 pub use faults::{PlaceFault, RegionFault};
 pub use placement::{Placed, place};
-pub use regions::{Region, RegionKind, Regions};
+pub use regions::{Region, Regions};
+pub use rp_base::RegionKind;
 
 /// The most regions of a core.
 pub const REGIONS_MOST: usize = 16;

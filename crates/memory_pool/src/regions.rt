@@ -9,7 +9,7 @@ use crate::blocks::{Block, Use};
 use crate::faults::RegionFault;
 use crate::ranges::{lies_within, range_end, ranges_meet};
 use crate::{MEMORY_MOST, REGIONS_MOST};
-use rp_base::{Da, NoMemory, Pa, STANDARD_MEMORY};
+use rp_base::{Da, NoMemory, Pa, RegionKind, STANDARD_MEMORY};
 use std::alloc::Global;
 use std::marker::Model;
 
@@ -31,15 +31,6 @@ const STANDARD_REGIONS: [Region; 2] = [
 
 /// The address behind the last one.
 pub(crate) const ADDRESSES_END: u64 = 4_294_967_296;
-
-/// What a region's memory serves for.
-#[derive(Clone, Copy)]
-pub enum RegionKind {
-    /// It is always mapped (tightly coupled memory).
-    Tcm,
-    /// Blocks are placed in it, and only these are mapped.
-    Pool,
-}
 
 /// A region of a core's memory.
 #[derive(Clone, Copy)]

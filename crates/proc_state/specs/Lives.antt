@@ -1,7 +1,7 @@
 -- The life of a core, and what each call makes of it: a table of states and calls (the states and calls of the Linux remoteproc documentation; the counts are own).
 use Rattle.std.specs.Prelude.{◌≡◌, ℕ, ◌+◌, ◌-◌, ◌≤◌, ◌==◌, Bool, true, if◌then◌else◌, Result, Ok, Err, OnErr}
-use Rattle.proc_state.specs.declared.answers.LifeState.{LifeState}
-use Rattle.proc_state.specs.declared.answers.LifeState.TheVariants.{Offline, Running, Crashed}
+use Rattle.rp_base.specs.declared.kinds.LifeState.{LifeState}
+use Rattle.rp_base.specs.declared.kinds.LifeState.TheVariants.{Offline, Running, Crashed}
 use Rattle.proc_state.specs.declared.answers.LifeFault.{LifeFault}
 use Rattle.proc_state.specs.declared.answers.LifeFault.TheVariants as fault
 use Rattle.proc_state.specs.declared.answers.Power.{Power}
@@ -32,30 +32,30 @@ abbrev pub new_life : CoreLife
 new_life = record { state = Offline; users = 0; incarnation = 0; recovery = true }
 
 -- a refusal: the life is as it was
-abbrev pub refused : {A : Type 0} → LifeFault → CoreLife → Outcome A
-refused reason life = record { life = life; answer = Err reason }
+abbrev pub refusal_of : {A : Type 0} → LifeFault → CoreLife → Outcome A
+refusal_of reason life = record { life = life; answer = Err reason }
 
 -- the core runs in its next incarnation, for these users; there is none after the last
-abbrev pub started : {A : Type 0} → ℕ → A → CoreLife → Outcome A
-started users told life =
-    if life.incarnation == most then refused fault.IncarnationsSpent life
+abbrev pub first_start : {A : Type 0} → ℕ → A → CoreLife → Outcome A
+first_start users told life =
+    if life.incarnation == most then refusal_of fault.IncarnationsSpent life
     else record {
       life = record life { state = Running; users = users; incarnation = life.incarnation + 1 };
       answer = Ok told;
     }
 
 -- one user more
-abbrev pub joined : CoreLife → Outcome Power
-joined life =
-    if life.users == most then refused fault.UsersFull life
+abbrev pub with_user : CoreLife → Outcome Power
+with_user life =
+    if life.users == most then refusal_of fault.UsersFull life
     else record {
       life = record life { users = life.users + 1 };
       answer = Ok (power.Counted (life.users + 1));
     }
 
 -- one user fewer, and offline at none
-abbrev pub parted : CoreLife → Outcome Left
-parted life =
+abbrev pub without_user : CoreLife → Outcome Left
+without_user life =
     if life.users == 1 then record {
       life = record life { state = Offline; users = 0 };
       answer = Ok left.Last;
@@ -66,38 +66,38 @@ parted life =
     }
 
 -- a boot, `rproc_boot`: it starts a core without users, and else counts one more
-abbrev pub booted : CoreLife → Outcome Power
-booted life = if life.users == 0 then started 1 power.First life else joined life
+abbrev pub life_after_boot : CoreLife → Outcome Power
+life_after_boot life = if life.users == 0 then first_start 1 power.First life else with_user life
 
 -- a shutdown, by the state of the core
-abbrev pub shut_down_in : LifeState → CoreLife → Outcome Left
-shut_down_in Offline life = refused fault.NotPowered life
-shut_down_in Running life = parted life
-shut_down_in Crashed life = refused fault.NotPowered life
+abbrev pub life_after_shutdown_in : LifeState → CoreLife → Outcome Left
+life_after_shutdown_in Offline life = refusal_of fault.NotPowered life
+life_after_shutdown_in Running life = without_user life
+life_after_shutdown_in Crashed life = refusal_of fault.NotPowered life
 
 -- a shutdown, `rproc_shutdown`: only of a core that runs
-abbrev pub shut_down : CoreLife → Outcome Left
-shut_down life = shut_down_in life.state life
+abbrev pub life_after_shutdown : CoreLife → Outcome Left
+life_after_shutdown life = life_after_shutdown_in life.state life
 
 -- a report of a crash, by the state of the core
-abbrev pub crashed_in : LifeState → CoreLife → Outcome Report
-crashed_in Offline life = refused fault.NotPowered life
-crashed_in Running life = record { life = record life { state = Crashed }; answer = Ok report.First }
-crashed_in Crashed life = record { life = life; answer = Ok report.Already }
+abbrev pub life_after_crash_in : LifeState → CoreLife → Outcome Report
+life_after_crash_in Offline life = refusal_of fault.NotPowered life
+life_after_crash_in Running life = record { life = record life { state = Crashed }; answer = Ok report.First }
+life_after_crash_in Crashed life = record { life = life; answer = Ok report.Already }
 
 -- a report of a crash, `rproc_report_crash`
-abbrev pub crashed : CoreLife → Outcome Report
-crashed life = crashed_in life.state life
+abbrev pub life_after_crash : CoreLife → Outcome Report
+life_after_crash life = life_after_crash_in life.state life
 
 -- a recovery, by the state of the core
-abbrev pub recovered_in : LifeState → CoreLife → Outcome (Unit {0})
-recovered_in Offline life = refused fault.NotCrashed life
-recovered_in Running life = refused fault.NotCrashed life
-recovered_in Crashed life = if life.recovery then started life.users tt life else refused fault.RecoveryOff life
+abbrev pub life_after_recovery_in : LifeState → CoreLife → Outcome (Unit {0})
+life_after_recovery_in Offline life = refusal_of fault.NotCrashed life
+life_after_recovery_in Running life = refusal_of fault.NotCrashed life
+life_after_recovery_in Crashed life = if life.recovery then first_start life.users tt life else refusal_of fault.RecoveryOff life
 
 -- a recovery, `rproc_trigger_recovery`: only of a crashed core, while recovery is on
-abbrev pub recovered : CoreLife → Outcome (Unit {0})
-recovered life = recovered_in life.state life
+abbrev pub life_after_recovery : CoreLife → Outcome (Unit {0})
+life_after_recovery life = life_after_recovery_in life.state life
 
 -- which users and incarnations there are in each state: a core is offline exactly where it has no
 -- users, and a core with users was started

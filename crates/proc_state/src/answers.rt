@@ -3,17 +3,6 @@ ghost use Rattle.proc_state.specs.Faults.{fault_number};
 
 use thiserror::Error;
 
-/// The state of a core (the states of the Linux remoteproc documentation).
-#[derive(Clone, Copy, Debug, PartialEq, Eq)]
-pub enum LifeState {
-    /// The core has no power.
-    Offline,
-    /// The core runs its firmware.
-    Running,
-    /// The core stopped by a fault, and waits to be recovered.
-    Crashed,
-}
-
 /// Why a call on a life was refused. Each has a number, and its text is `fault` with the number.
 #[derive(Clone, Copy, Debug, PartialEq, Eq, Error)]
 #[error("fault {}", self.number())]

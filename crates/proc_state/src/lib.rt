@@ -5,6 +5,7 @@ mod answers;
 mod laws;
 mod life;
 
-pub use answers::{Left, LifeFault, LifeState, Power, Report};
+pub use answers::{Left, LifeFault, Power, Report};
 pub use laws::{calls_keep_lives, crashes_keep_users, refusals_keep_lives};
 pub use life::Life;
+pub use rp_base::LifeState;

@@ -1,8 +1,8 @@
 ghost use Rattle.std.specs.Prelude.{◌≡◌, ◌+◌, ◌==◌, if◌then◌else◌};
-ghost use Rattle.proc_state.specs.Lives.{new_life, booted, shut_down, crashed, recovered, IsReachable, most};
+ghost use Rattle.proc_state.specs.Lives.{new_life, life_after_boot, life_after_shutdown, life_after_crash, life_after_recovery, IsReachable, most};
 
-use crate::answers::{Left, LifeFault, LifeState, Power, Report};
-use rp_base::Inc;
+use crate::answers::{Left, LifeFault, Power, Report};
+use rp_base::{Inc, LifeState};
 use std::marker::Model;
 
 /// The life of a remote core. A core is booted by its first user and runs until its last user
@@ -82,8 +82,8 @@ impl Life {
     /// Errors: `UsersFull` at 2^32 - 1 users, and without users `IncarnationsSpent` at incarnation
     /// 2^32 - 1. Both leave the life as it was.
     pub fn boot(&mut self) -> Result<Power, LifeFault>
-        ensures left { self.new ≡ (booted self.old).life }
-        ensures answer { result ≡ (booted self.old).answer }
+        ensures left { self.new ≡ (life_after_boot self.old).life }
+        ensures answer { result ≡ (life_after_boot self.old).answer }
     {
         if self.users > 0 {
             self.users = self.users.checked_add(1).ok_or(LifeFault::UsersFull)?;
@@ -99,8 +99,8 @@ impl Life {
     ///
     /// Errors: `NotPowered` exactly where the core isn't running, which leaves the life as it was.
     pub fn shutdown(&mut self) -> Result<Left, LifeFault>
-        ensures left { self.new ≡ (shut_down self.old).life }
-        ensures answer { result ≡ (shut_down self.old).answer }
+        ensures left { self.new ≡ (life_after_shutdown self.old).life }
+        ensures answer { result ≡ (life_after_shutdown self.old).answer }
     {
         if self.state != LifeState::Running {
             return Err(LifeFault::NotPowered);
@@ -117,8 +117,8 @@ impl Life {
     ///
     /// Errors: `NotPowered` exactly where the core is offline, which leaves the life as it was.
     pub fn crash(&mut self) -> Result<Report, LifeFault>
-        ensures left { self.new ≡ (crashed self.old).life }
-        ensures answer { result ≡ (crashed self.old).answer }
+        ensures left { self.new ≡ (life_after_crash self.old).life }
+        ensures answer { result ≡ (life_after_crash self.old).answer }
     {
         match self.state {
             LifeState::Offline => Err(LifeFault::NotPowered),
@@ -137,8 +137,8 @@ impl Life {
     /// where its recovery is off, `IncarnationsSpent` at incarnation 2^32 - 1. Each leaves the life
     /// as it was.
     pub fn recover(&mut self) -> Result<(), LifeFault>
-        ensures left { self.new ≡ (recovered self.old).life }
-        ensures answer { result ≡ (recovered self.old).answer }
+        ensures left { self.new ≡ (life_after_recovery self.old).life }
+        ensures answer { result ≡ (life_after_recovery self.old).answer }
     {
         if self.state != LifeState::Crashed {
             return Err(LifeFault::NotCrashed);

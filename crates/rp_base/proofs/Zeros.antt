@@ -5,7 +5,7 @@ use Rattle.std.proofs.lemmas.Bool.{false≢true}
 use Rattle.std.proofs.Math.Seq.{take-append_seam}
 use Rattle.std.proofs.lemmas.List.{drop-replicate}
 use Rattle.std.proofs.lemmas.List.Sums.{take_while-cons}
-use Rattle.rp_base.specs.Texts.{text_before_zero, padded}
+use Rattle.rp_base.specs.Texts.{text_before_zero, padded_name}
 
 abbrev pub is_text : ℕ → Bool
 is_text byte = not (byte == 0)
@@ -29,11 +29,11 @@ text_before_zero-append text n clear =
     ap (λ k. take k (text ++ replicate n 0)) (prefix_len-append text n clear) ∙ take-append_seam text (replicate n 0)
 
 -- in a field of 32 bytes: the field is the padded text, whose text is this one again
-pub padded_field : (text field : List ℕ) → list_any (λ byte. eqb byte 0) text ≡ false → field ≡ text ++ drop (length text) (replicate 32 0) → (text_before_zero field ≡ text) × (field ≡ padded (text_before_zero field))
+pub padded_field : (text field : List ℕ) → list_any (λ byte. eqb byte 0) text ≡ false → field ≡ text ++ drop (length text) (replicate 32 0) → (text_before_zero field ≡ text) × (field ≡ padded_name (text_before_zero field))
 padded_field text field clear is =
-    let zeros : field ≡ padded text = is ∙ ap (λ rest. text ++ rest) (drop-replicate (length text) 32 0) in
+    let zeros : field ≡ padded_name text = is ∙ ap (λ rest. text ++ rest) (drop-replicate (length text) 32 0) in
     let same : text_before_zero field ≡ text = ap text_before_zero zeros ∙ text_before_zero-append text (32 - length text) clear in
-    (same, zeros ∙ ap padded (sym same))
+    (same, zeros ∙ ap padded_name (sym same))
 
 -- a text without a zero is its own text
 pub text_before_zero-clear : (text : List ℕ) → list_any (λ byte. eqb byte 0) text ≡ false → text_before_zero text ≡ text

@@ -78,3 +78,41 @@ pub enum CrashKind {
     Watchdog,
     Fatal,
 }
+
+/// The state of a core (the states of the Linux remoteproc documentation).
+#[derive(Clone, Copy, Debug, PartialEq, Eq)]
+pub enum LifeState {
+    /// The core has no power.
+    Offline,
+    /// The core runs its firmware.
+    Running,
+    /// The core stopped by a fault, and waits to be recovered.
+    Crashed,
+}
+
+/// What the memory of a region serves for.
+#[derive(Clone, Copy)]
+pub enum RegionKind {
+    /// It is always mapped (tightly coupled memory).
+    Tcm,
+    /// Blocks are placed in it, and only these are mapped.
+    Pool,
+}
+
+/// What a driver does with a message.
+#[derive(Clone, Copy)]
+pub enum DriverKind {
+    /// It takes the message and answers nothing.
+    Sink,
+    /// It sends the message back.
+    Echo,
+    /// It answers as the sample client of Linux does (`rpmsg_client_sample.c`).
+    Sample,
+}
+
+/// Whether something is on.
+#[derive(Clone, Copy)]
+pub enum Switch {
+    On,
+    Off,
+}

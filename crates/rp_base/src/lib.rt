@@ -10,7 +10,10 @@ mod names;
 mod payloads;
 
 pub use fields::{put_u16, put_u32, u16_at, u32_at, u64_at};
-pub use kinds::{BindFault, BoundEndpoint, CrashKind, End, Endpoint, Era, NsKind, Verdict};
+pub use kinds::{
+    BindFault, BoundEndpoint, CrashKind, DriverKind, End, Endpoint, Era, LifeState, NsKind,
+    RegionKind, Switch, Verdict,
+};
 pub use limits::{
     BOOK_MOST, CALLERS_MOST, CAPACITY_MOST, CHANNELS_MOST, ENDPOINTS_MOST, IMAGE_MOST,
     MESSAGE_MOST, NAME_MOST, OBJECTS_MOST, PAYLOAD_MOST, RING_MOST, SCRIPT_LINES_MOST, SCRIPT_MOST,

@@ -13,15 +13,15 @@ pub struct Name {
 
 impl Model for Name {
     ghost use Rattle.std.specs.Prelude.{ℕ, List, ◌≡◌, ◌≤◌, length};
-    ghost use Rattle.rp_base.specs.Texts.{text_before_zero, padded};
+    ghost use Rattle.rp_base.specs.Texts.{text_before_zero, padded_name};
 
     ghost Value = { List ℕ };
 
     ghost view = { λ n. text_before_zero n.bytes };
 
-    ghost invariant = { λ n. (n.bytes ≡ padded (text_before_zero n.bytes)) × (length (text_before_zero n.bytes) ≤ 31) };
+    ghost invariant = { λ n. (n.bytes ≡ padded_name (text_before_zero n.bytes)) × (length (text_before_zero n.bytes) ≤ 31) };
 
-    ghost inverse = { λ text. record { bytes = padded text } };
+    ghost inverse = { λ text. record { bytes = padded_name text } };
 }
 
 impl Name {
