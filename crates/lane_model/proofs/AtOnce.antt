@@ -23,8 +23,8 @@ use Rattle.lane_model.specs.declared.calls.Outcome.{Outcome}
 use Rattle.lane_model.specs.declared.calls.Outcome.TheVariants as outcome
 use Rattle.lane_model.specs.Desks.{DeskMeaning}
 use Rattle.lane_model.specs.Lanes.{Stepped, holder, has_call, is_live_in}
-use Rattle.lane_model.specs.Sends.{send_begun, sender_step, with_accepted}
-use Rattle.lane_model.specs.Receives.{receive_begun, receiver_step, take_handed, with_returned}
+use Rattle.lane_model.specs.Sends.{after_send_start, sender_step, with_accepted}
+use Rattle.lane_model.specs.Receives.{after_receive_start, receiver_step, after_handing, with_returned}
 use Rattle.lane_model.specs.Forms.{FormMeaning, IsForm}
 use Rattle.lane_model.specs.Links.{LinkState, link_of, Lanes, lanes_of, with_lanes, end_of, receive_first, on_lanes, form_step}
 use Rattle.lane_model.specs.AtOnce.{after_send, after_take, after_give, SendsAtOnce, TakesAtOnce, took_next, FormEndsIn, EndsIn}
@@ -87,7 +87,7 @@ lists_end {L} {D} (suc more) form desk is link caller follows wished left end en
 send_begins : {L D : Type 0} (form : FormMeaning L D) (desk : DeskMeaning D) (link : LaneLink L) (end : End) (caller follows : ℕ) (message : List ℕ) → end_of link.callers caller ≡ Some end
     → holder (form.state (lanes_of link end).outgoing).sender ≡ None
     → form_step form desk link caller follows (Some (wish.Send message))
-    ≡ stepped (with_lanes link end (record (lanes_of link end) { outgoing = form.send_begun (lanes_of link end).outgoing caller follows message })) (outcome.At 1)
+    ≡ stepped (with_lanes link end (record (lanes_of link end) { outgoing = form.after_send_start (lanes_of link end).outgoing caller follows message })) (outcome.At 1)
 send_begins form desk link side.Host caller follows message used free = rw (used, free) refl
 send_begins form desk link side.Remote caller follows message used free = rw (used, free) refl
 
@@ -101,7 +101,7 @@ send_goes form desk link side.Remote lanes caller out used has is = rw (used, ha
 -- step 1 of a call that needs the receiver's turn
 receive_begins : {L D : Type 0} (form : FormMeaning L D) (link : LaneLink L) (end : End) (caller follows : ℕ) (first : Work) → holder (form.state (lanes_of link end).incoming).receiver ≡ None
     → on_lanes link (Some end) (λ lanes. receive_first form lanes caller follows first)
-    ≡ stepped (with_lanes link end (record (lanes_of link end) { incoming = form.receive_begun (lanes_of link end).incoming caller follows first })) (outcome.At 1)
+    ≡ stepped (with_lanes link end (record (lanes_of link end) { incoming = form.after_receive_start (lanes_of link end).incoming caller follows first })) (outcome.At 1)
 receive_begins form link side.Host caller follows first free = rw free refl
 receive_begins form link side.Remote caller follows first free = rw free refl
 
@@ -143,7 +143,7 @@ send_ends {L} {D} form desk is link end caller message used live at =
     let call : SendStage → Turn Sending = λ last. turn.Taken caller (record { follows = era.inc; message = message; stage = last }) in
     let mine = same caller in
     let link_at : L → LaneLink L = λ lane. with_lanes link end (record lanes { outgoing = lane }) in
-    let l1 : L = form.send_begun lanes.outgoing caller era.inc message in
+    let l1 : L = form.after_send_start lanes.outgoing caller era.inc message in
     let l2 : L = form.sent_on l1 era in
     let l3 : L = form.sent_on l2 era in
     let l4 : L = form.sent_on l3 era in
@@ -152,7 +152,7 @@ send_ends {L} {D} form desk is link end caller message used live at =
     let l7 : L = form.sent_on l6 era in
     let free = free_is state.sender at.free in
     let s1 : form.state l1 ≡ sent state (call stage.Turn) =
-    is.send_begun lanes.outgoing caller era.inc message ∙ ap (λ (now : Turn Sending). send_begun (sent state now) caller era.inc message) free in
+    is.after_send_start lanes.outgoing caller era.inc message ∙ ap (λ (now : Turn Sending). after_send_start (sent state now) caller era.inc message) free in
     let s2 : form.state l2 ≡ sent state (call stage.Era) =
     on_sent form desk is l1 era (sent state (call stage.Turn)) s1 ∙ ap (λ v. sent state (cond v (call stage.Era) (turn.Leaving caller (call_end.Dead era)))) (live_in era live) in
     let s3 : form.state l3 ≡ sent state (call stage.Look) =
@@ -177,7 +177,7 @@ send_ends {L} {D} form desk is link end caller message used live at =
 works_begin : {L D : Type 0} (form : FormMeaning L D) (link : LaneLink L) (end : End) (caller follows : ℕ) (first : Work) → end_of link.callers caller ≡ Some end
     → holder (form.state (lanes_of link end).incoming).receiver ≡ None
     → on_lanes link (end_of link.callers caller) (λ lanes. receive_first form lanes caller follows first)
-    ≡ stepped (with_lanes link end (record (lanes_of link end) { incoming = form.receive_begun (lanes_of link end).incoming caller follows first })) (outcome.At 1)
+    ≡ stepped (with_lanes link end (record (lanes_of link end) { incoming = form.after_receive_start (lanes_of link end).incoming caller follows first })) (outcome.At 1)
 works_begin {L} form link end caller follows first used free =
     ap (λ found. on_lanes link found (λ (lanes : Lanes L). receive_first form lanes caller follows first)) used ∙ receive_begins form link end caller follows first free
 
@@ -194,7 +194,7 @@ take_ends {L} {D} form desk is link end caller used live apart at =
     let ended = took_next desk state in
     let call : Work → Turn Receiving = λ last. turn.Taken caller (record { follows = era.inc; work = last }) in
     let link_at : L → LaneLink L = λ lane. with_lanes link end (record lanes { incoming = lane }) in
-    let l1 : L = form.receive_begun lanes.incoming caller era.inc (work.Take take_stage.Turn) in
+    let l1 : L = form.after_receive_start lanes.incoming caller era.inc (work.Take take_stage.Turn) in
     let l2 : L = form.received_on l1 era in
     let l3 : L = form.received_on l2 era in
     let l4 : L = form.received_on l3 era in
@@ -202,7 +202,7 @@ take_ends {L} {D} form desk is link end caller used live apart at =
     let l6 : L = form.received_on l5 era in
     let free = free_is state.receiver at.free in
     let s1 : form.state l1 ≡ received state (call (work.Take take_stage.Turn)) =
-    is.receive_begun lanes.incoming caller era.inc (work.Take take_stage.Turn) ∙ ap (λ (now : Turn Receiving). receive_begun (received state now) caller era.inc (work.Take take_stage.Turn)) free in
+    is.after_receive_start lanes.incoming caller era.inc (work.Take take_stage.Turn) ∙ ap (λ (now : Turn Receiving). after_receive_start (received state now) caller era.inc (work.Take take_stage.Turn)) free in
     let s2 : form.state l2 ≡ received state (call (work.Take take_stage.Era)) =
     on_received form desk is l1 era (received state (call (work.Take take_stage.Turn))) s1
     ∙ ap (λ v. received state (cond v (call (work.Take take_stage.Era)) (turn.Leaving caller (call_end.Dead era)))) (live_in era live) in
@@ -210,9 +210,9 @@ take_ends {L} {D} form desk is link end caller used live apart at =
     on_received form desk is l2 era (received state (call (work.Take take_stage.Era))) s2
     ∙ ap (λ v. received state (cond v (turn.Leaving caller (call_end.Empty (length state.lane.accepted))) (call (work.Take take_stage.Look)))) at.some in
     let s4 : form.state l4 ≡ received state (call (work.Take take_stage.Buffer)) = on_received form desk is l3 era (received state (call (work.Take take_stage.Look))) s3 in
-    let s5 : form.state l5 ≡ take_handed desk state caller =
+    let s5 : form.state l5 ≡ after_handing desk state caller =
     on_received form desk is l4 era (received state (call (work.Take take_stage.Buffer))) s4
-    ∙ ap (λ v. cond v (take_handed desk state caller) (received state (turn.Leaving caller (call_end.Dead era)))) (live_in era live) in
+    ∙ ap (λ v. cond v (after_handing desk state caller) (received state (turn.Leaving caller (call_end.Dead era)))) (live_in era live) in
     let out : (lane : L) (s : LaneState D) → form.state lane ≡ s → (receiver_step desk era (form.state lane)).outcome ≡ (receiver_step desk era s).outcome =
     λ lane s at_s. ap (λ (x : LaneState D). (receiver_step desk era x).outcome) at_s in
     ends_more 4 form desk link (link_at l1) caller era.inc (Some wish.Take) 1 (link_at l6) ended (works_begin form link end caller era.inc (work.Take take_stage.Turn) used at.free)
@@ -234,13 +234,13 @@ give_ends {L} {D} form desk is link end caller number used apart free_now =
     let ended = call_end.Gave number in
     let call : Work → Turn Receiving = λ last. turn.Taken caller (record { follows = era.inc; work = last }) in
     let link_at : L → LaneLink L = λ lane. with_lanes link end (record lanes { incoming = lane }) in
-    let l1 : L = form.receive_begun lanes.incoming caller era.inc (work.Give number give_stage.Turn) in
+    let l1 : L = form.after_receive_start lanes.incoming caller era.inc (work.Give number give_stage.Turn) in
     let l2 : L = form.received_on l1 era in
     let l3 : L = form.received_on l2 era in
     let l4 : L = form.received_on l3 era in
     let free = free_is state.receiver free_now in
     let s1 : form.state l1 ≡ received state (call (work.Give number give_stage.Turn)) =
-    is.receive_begun lanes.incoming caller era.inc (work.Give number give_stage.Turn) ∙ ap (λ (now : Turn Receiving). receive_begun (received state now) caller era.inc (work.Give number give_stage.Turn)) free in
+    is.after_receive_start lanes.incoming caller era.inc (work.Give number give_stage.Turn) ∙ ap (λ (now : Turn Receiving). after_receive_start (received state now) caller era.inc (work.Give number give_stage.Turn)) free in
     let s2 : form.state l2 ≡ received state (call (work.Give number give_stage.Entry)) = on_received form desk is l1 era (received state (call (work.Give number give_stage.Turn))) s1 in
     let s3 : form.state l3 ≡ record state { lane = with_returned state.lane number caller; receiver = turn.Leaving caller ended } = on_received form desk is l2 era (received state (call (work.Give number give_stage.Entry))) s2 in
     let out : (lane : L) (s : LaneState D) → form.state lane ≡ s → (receiver_step desk era (form.state lane)).outcome ≡ (receiver_step desk era s).outcome =

@@ -19,10 +19,10 @@ use Rattle.lane_model.specs.declared.calls.Wish.TheVariants as wish
 use Rattle.lane_model.specs.Desks.{DeskMeaning}
 use Rattle.lane_model.specs.Lanes.{has_call, is_live_in}
 use Rattle.lane_model.specs.Receives.{receive_step, receiver_step}
-use Rattle.lane_model.specs.Crashes.{ended_turn, held_by_others, send_ended, receive_ended, opened_lane}
+use Rattle.lane_model.specs.Crashes.{ended_turn, held_by_others, after_send_end, after_receive_end, opened_lane}
 use Rattle.lane_model.specs.Forms.{list_form}
 use Rattle.lane_model.specs.Links.{LinkState, Lanes, lanes_of, end_of, lanes_step, send_later, receive_later, on_lanes, caller_step}
-use Rattle.lane_model.specs.Recoveries.{closed, reclaimed, without_caller, reopened, HandsNone}
+use Rattle.lane_model.specs.Recoveries.{link_after_close, link_after_reclaim, without_caller, link_after_reopen, HandsNone}
 use Rattle.lane_model.specs.Soundness.{IsUser, AreUsers, IsSoundTurn, IsSoundBetween, SoundLink}
 use Rattle.lane_model.proofs.SoundLanes.{turn_step_has}
 use Rattle.lane_model.proofs.Steps.{sender_own}
@@ -35,7 +35,7 @@ closed_between callers sends receives live state sound =
     record { lane = sound.lane; whole = λ is. absurd (false≢true is); users = sound.users; sender = sound.sender; receiver = sound.receiver }
 
 -- a close keeps a link sound
-pub close_sound : {D : Type 0} (link : LinkState D) (inc : ℕ) → SoundLink link → SoundLink (closed link inc)
+pub close_sound : {D : Type 0} (link : LinkState D) (inc : ℕ) → SoundLink link → SoundLink (link_after_close link inc)
 close_sound {D} link inc sound =
     cond_both (is_live_in link.era inc) (record link { era = record { inc = inc; is_live = false } }) link (λ (left : LinkState D). SoundLink left)
     (λ _. record {
@@ -46,7 +46,7 @@ close_sound {D} link inc sound =
     }) (λ _. sound)
 
 -- a caller stays where another's number is freed
-freed : (callers : List (Option End)) (gone caller : ℕ) → gone ≢ caller → end_of (slice_set callers gone None) caller ≡ end_of callers caller
+pub freed : (callers : List (Option End)) (gone caller : ℕ) → gone ≢ caller → end_of (slice_set callers gone None) caller ≡ end_of callers caller
 freed [] gone caller differ = refl
 freed (found ∷ callers) zero zero differ = absurd (differ refl)
 freed (found ∷ callers) zero (suc caller) differ = refl
@@ -95,7 +95,7 @@ not_then true b from is = absurd (false≢true (sym is ∙ from refl))
 
 -- the lane on which the caller sent
 outgoing_ended : {D : Type 0} (callers : List (Option End)) (mine theirs : End) (live : Bool) (state : LaneState D) (gone : ℕ) → mine ≢ theirs → IsUser callers mine gone
-    → IsSoundBetween callers mine theirs live state → IsSoundBetween (slice_set callers gone None) mine theirs live (send_ended state gone)
+    → IsSoundBetween callers mine theirs live state → IsSoundBetween (slice_set callers gone None) mine theirs live (after_send_end state gone)
 outgoing_ended callers mine theirs live state gone differ user sound = record {
   lane = send_ended_sound state gone sound.lane;
   whole = sound.whole;
@@ -106,7 +106,7 @@ outgoing_ended callers mine theirs live state gone differ user sound = record {
 
 -- the lane from which the caller took
 incoming_ended : {D : Type 0} (callers : List (Option End)) (mine theirs : End) (state : LaneState D) (gone : ℕ) → mine ≢ theirs → IsUser callers mine gone
-    → IsSoundBetween callers theirs mine false state → IsSoundBetween (slice_set callers gone None) theirs mine false (receive_ended state gone)
+    → IsSoundBetween callers theirs mine false state → IsSoundBetween (slice_set callers gone None) theirs mine false (after_receive_end state gone)
 incoming_ended callers mine theirs state gone differ user sound = record {
   lane = receive_ended_sound state gone sound.lane;
   whole = λ is. absurd (false≢true is);
@@ -131,7 +131,7 @@ without_sound {D} desk link (Some side.Host) gone is shut sound =
     let out : IsSoundBetween link.callers side.Host side.Remote link.era.is_live link.to_remote = sound.to_remote in
     let inc : IsSoundBetween link.callers side.Remote side.Host false link.to_host = closed_between link.callers side.Remote side.Host link.era.is_live link.to_host sound.to_host in
     record {
-      to_host = subst (λ live. IsSoundBetween (slice_set link.callers gone None) side.Remote side.Host live (receive_ended link.to_host gone)) (sym shut) (incoming_ended link.callers side.Host side.Remote link.to_host gone host_is_not is inc);
+      to_host = subst (λ live. IsSoundBetween (slice_set link.callers gone None) side.Remote side.Host live (after_receive_end link.to_host gone)) (sym shut) (incoming_ended link.callers side.Host side.Remote link.to_host gone host_is_not is inc);
       to_remote = outgoing_ended link.callers side.Host side.Remote link.era.is_live link.to_remote gone host_is_not is out;
       hosts = λ caller sends. not_then _ _ (ended_had link.to_host.receiver gone caller) (sound.hosts caller (ended_had link.to_remote.sender gone caller sends));
       remotes = sound.remotes;
@@ -140,7 +140,7 @@ without_sound {D} desk link (Some side.Remote) gone is shut sound =
     let out : IsSoundBetween link.callers side.Remote side.Host link.era.is_live link.to_host = sound.to_host in
     let inc : IsSoundBetween link.callers side.Host side.Remote false link.to_remote = closed_between link.callers side.Host side.Remote link.era.is_live link.to_remote sound.to_remote in
     record {
-      to_remote = subst (λ live. IsSoundBetween (slice_set link.callers gone None) side.Host side.Remote live (receive_ended link.to_remote gone)) (sym shut) (incoming_ended link.callers side.Remote side.Host link.to_remote gone remote_is_not is inc);
+      to_remote = subst (λ live. IsSoundBetween (slice_set link.callers gone None) side.Host side.Remote live (after_receive_end link.to_remote gone)) (sym shut) (incoming_ended link.callers side.Remote side.Host link.to_remote gone remote_is_not is inc);
       to_host = outgoing_ended link.callers side.Remote side.Host link.era.is_live link.to_host gone remote_is_not is out;
       remotes = λ caller sends. not_then _ _ (ended_had link.to_remote.receiver gone caller) (sound.remotes caller (ended_had link.to_host.sender gone caller sends));
       hosts = sound.hosts;
@@ -148,14 +148,14 @@ without_sound {D} desk link (Some side.Remote) gone is shut sound =
 without_sound desk link None gone is shut sound = sound
 
 -- a reclaim in a closed era keeps a link sound
-pub reclaim_sound : {D : Type 0} (desk : DeskMeaning D) (link : LinkState D) (gone : ℕ) → link.era.is_live ≡ false → SoundLink link → SoundLink (reclaimed (list_form desk) link gone)
+pub reclaim_sound : {D : Type 0} (desk : DeskMeaning D) (link : LinkState D) (gone : ℕ) → link.era.is_live ≡ false → SoundLink link → SoundLink (link_after_reclaim (list_form desk) link gone)
 reclaim_sound desk link gone shut sound = without_sound desk link (end_of link.callers gone) gone refl shut sound
 
 opened_between : {D : Type 0} (callers : List (Option End)) (sends receives : End) (capacity book : ℕ) (desk : D) → IsSoundBetween callers sends receives true (opened_lane capacity book desk)
 opened_between callers sends receives capacity book desk = record { lane = opened_lane_sound capacity book desk; whole = λ _. refl; users = tt; sender = tt; receiver = tt }
 
 -- a reopened link is sound
-pub reopen_sound : {D : Type 0} (desk : DeskMeaning D) (link : LinkState D) → SoundLink (reopened (list_form desk) link)
+pub reopen_sound : {D : Type 0} (desk : DeskMeaning D) (link : LinkState D) → SoundLink (link_after_reopen (list_form desk) link)
 reopen_sound desk link = record {
   to_host = opened_between link.callers side.Remote side.Host _ _ _;
   to_remote = opened_between link.callers side.Host side.Remote _ _ _;
@@ -224,5 +224,5 @@ without_hands_none desk link (Some side.Remote) gone = record { to_host = refl; 
 without_hands_none desk link None gone = record { to_host = refl; to_remote = refl }
 
 -- no reclaim hands a message over
-pub reclaim_hands_none : {D : Type 0} (desk : DeskMeaning D) (link : LinkState D) (gone : ℕ) → HandsNone link (reclaimed (list_form desk) link gone)
+pub reclaim_hands_none : {D : Type 0} (desk : DeskMeaning D) (link : LinkState D) (gone : ℕ) → HandsNone link (link_after_reclaim (list_form desk) link gone)
 reclaim_hands_none desk link gone = without_hands_none desk link (end_of link.callers gone) gone

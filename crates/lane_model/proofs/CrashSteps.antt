@@ -11,7 +11,7 @@ use Rattle.lane_model.specs.declared.stages.Work.TheVariants as work
 use Rattle.lane_model.specs.declared.stages.Turn.{Turn}
 use Rattle.lane_model.specs.declared.stages.Turn.TheVariants as turn
 use Rattle.lane_model.specs.Lanes.{OfCall, holds}
-use Rattle.lane_model.specs.Crashes.{ended_turn, held_by_others, send_ended, receive_ended, opened_lane}
+use Rattle.lane_model.specs.Crashes.{ended_turn, held_by_others, after_send_end, after_receive_end, opened_lane}
 use Rattle.lane_model.specs.Conditions.{HasRoomAt, IsFitWork}
 use Rattle.lane_model.specs.Soundness.{is_held, AreHandedOnce, IsSoundLane}
 
@@ -77,7 +77,7 @@ work_stays_fit (work.Bind address) lane caller other differ fit = tt
 work_stays_fit (work.Unbind address) lane caller other differ fit = tt
 
 -- a lane without the send of a caller
-pub send_ended_sound : {D : Type 0} (state : LaneState D) (caller : ℕ) → IsSoundLane state → IsSoundLane (send_ended state caller)
+pub send_ended_sound : {D : Type 0} (state : LaneState D) (caller : ℕ) → IsSoundLane state → IsSoundLane (after_send_end state caller)
 send_ended_sound state caller sound = record {
   counts = sound.counts;
   handed = sound.handed;
@@ -89,7 +89,7 @@ send_ended_sound state caller sound = record {
 }
 
 -- a lane without the call of a caller and without what it holds
-pub receive_ended_sound : {D : Type 0} (state : LaneState D) (caller : ℕ) → IsSoundLane state → IsSoundLane (receive_ended state caller)
+pub receive_ended_sound : {D : Type 0} (state : LaneState D) (caller : ℕ) → IsSoundLane state → IsSoundLane (after_receive_end state caller)
 receive_ended_sound state caller sound = record {
   counts = let fewer = others_fewer state.lane.held caller in omega (arith, fewer, sound.counts);
   handed = sound.handed;

@@ -17,7 +17,7 @@ use Rattle.lane_model.proofs.Ends.{lists_of}
 work_agrees : {L D : Type 0} (form : FormMeaning L D) (desk : DeskMeaning D) (is : IsForm form desk) (lanes : Lanes L) (caller follows : ℕ) (first : Work)
     → lists_of form (receive_first form lanes caller follows first).state ≡ (receive_first (list_form desk) (lists_of form lanes) caller follows first).state
 work_agrees {L} {D} form desk is lanes caller follows first =
-    ap (λ (incoming : LaneState D). record { outgoing = form.state lanes.outgoing; incoming = incoming }) (is.receive_begun lanes.incoming caller follows first)
+    ap (λ (incoming : LaneState D). record { outgoing = form.state lanes.outgoing; incoming = incoming }) (is.after_receive_start lanes.incoming caller follows first)
 
 later_agrees : {L D : Type 0} (form : FormMeaning L D) (desk : DeskMeaning D) (is : IsForm form desk) (era : Era) (lanes : Lanes L) (sends : Bool)
     → lists_of form (cond sends (send_later form era lanes) (receive_later form desk era lanes)).state
@@ -28,7 +28,7 @@ later_agrees {L} {D} form desk is era lanes false = ap (λ (incoming : LaneState
 lanes_agree : {L D : Type 0} (form : FormMeaning L D) (desk : DeskMeaning D) (is : IsForm form desk) (era : Era) (lanes : Lanes L) (caller follows : ℕ) (wished : Option Wish)
     → lists_of form (lanes_step form desk era lanes caller follows wished).state ≡ (lanes_step (list_form desk) desk era (lists_of form lanes) caller follows wished).state
 lanes_agree {L} {D} form desk is era lanes caller follows (Some (wish.Send message)) =
-    ap (λ (outgoing : LaneState D). record { outgoing = outgoing; incoming = form.state lanes.incoming }) (is.send_begun lanes.outgoing caller follows message)
+    ap (λ (outgoing : LaneState D). record { outgoing = outgoing; incoming = form.state lanes.incoming }) (is.after_send_start lanes.outgoing caller follows message)
 lanes_agree form desk is era lanes caller follows (Some wish.Take) = work_agrees form desk is lanes caller follows _
 lanes_agree form desk is era lanes caller follows (Some (wish.Give number)) = work_agrees form desk is lanes caller follows _
 lanes_agree form desk is era lanes caller follows (Some (wish.Bind address)) = work_agrees form desk is lanes caller follows _

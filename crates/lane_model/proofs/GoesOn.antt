@@ -27,7 +27,7 @@ use Rattle.lane_model.specs.Receives.{receive_step, receiver_step}
 use Rattle.lane_model.specs.Forms.{list_form}
 use Rattle.lane_model.specs.Links.{LinkState, Lanes, lanes_of, end_of, begun_outcome, first_step, send_first, receive_first, send_later, receive_later, lanes_step, on_lanes, caller_step}
 use Rattle.lane_model.specs.Conditions.{MayLanesStep, MayEndStep, MayStep, is_in_call}
-use Rattle.lane_model.specs.WholeCalls.{Ended, ended_or, form_to_end, steps_to_end, turn_left, send_left, work_left, lanes_left, left_of, WhereOn, HasEnd}
+use Rattle.lane_model.specs.WholeCalls.{Ended, ended_or, form_to_end, steps_to_end, steps_left_of_turn, steps_left_of_send, steps_left_of_work, steps_left_on, left_of, WhereOn, HasEnd}
 
 -- what holds where a step goes on may be weakened
 pub where_on : (told : Outcome) {P Q : Type 0} → (P → Q) → WhereOn told P → WhereOn told Q
@@ -44,7 +44,7 @@ begins_on of_call turn.Manager caller call left few = tt
 
 -- the caller has a call under way, with fewer steps left
 abbrev IsUnderWay : {D : Type 0} → ℕ → ℕ → Lanes (LaneState D) → Type 0
-IsUnderWay caller left lanes = (is_in_call lanes caller ≡ true) × (lanes_left lanes caller None < left)
+IsUnderWay caller left lanes = (is_in_call lanes caller ≡ true) × (steps_left_on lanes caller None < left)
 
 -- a caller who sends is under way, whatever the other lane is
 sends_under_way : {D : Type 0} (lanes : Lanes (LaneState D)) (caller left : ℕ) → IsOn sending_left caller left lanes.outgoing.sender → IsUnderWay caller left lanes
@@ -60,7 +60,7 @@ receives_under_way lanes caller left silent on = (ap (λ b. b || has_call lanes.
 abbrev LanesGoOn : {D : Type 0} → ℕ → ℕ → Stepped (Lanes (LaneState D)) → Type 0
 LanesGoOn caller left step = WhereOn step.outcome (IsUnderWay caller left step.state)
 
-work_begins : {D : Type 0} (desk : DeskMeaning D) (lanes : Lanes (LaneState D)) (caller follows : ℕ) (first : Work) → has_call lanes.outgoing.sender caller ≡ false → work_left first < 6
+work_begins : {D : Type 0} (desk : DeskMeaning D) (lanes : Lanes (LaneState D)) (caller follows : ℕ) (first : Work) → has_call lanes.outgoing.sender caller ≡ false → steps_left_of_work first < 6
     → LanesGoOn caller 6 (receive_first (list_form desk) lanes caller follows first)
 work_begins desk lanes caller follows first silent few =
     where_on (begun_outcome (holder lanes.incoming.receiver)) (receives_under_way (receive_first (list_form desk) lanes caller follows first).state caller 6 silent)
@@ -77,26 +77,26 @@ first_goes_on desk lanes caller follows (wish.Bind address) silent = work_begins
 first_goes_on desk lanes caller follows (wish.Unbind address) silent = work_begins desk lanes caller follows _ silent (omega arith)
 
 later_goes_on : {D : Type 0} (desk : DeskMeaning D) (era : Era) (lanes : Lanes (LaneState D)) (caller : ℕ) (sends : Bool) → has_call lanes.outgoing.sender caller ≡ sends → is_in_call lanes caller ≡ true
-    → LanesGoOn caller (cond sends (turn_left sending_left lanes.outgoing.sender) (turn_left receiving_left lanes.incoming.receiver))
+    → LanesGoOn caller (cond sends (steps_left_of_turn sending_left lanes.outgoing.sender) (steps_left_of_turn receiving_left lanes.incoming.receiver))
     (cond sends (send_later (list_form desk) era lanes) (receive_later (list_form desk) desk era lanes))
 later_goes_on desk era lanes caller true is calls =
-    where_on (sender_step era lanes.outgoing).outcome (sends_under_way (send_later (list_form desk) era lanes).state caller (turn_left sending_left lanes.outgoing.sender))
+    where_on (sender_step era lanes.outgoing).outcome (sends_under_way (send_later (list_form desk) era lanes).state caller (steps_left_of_turn sending_left lanes.outgoing.sender))
     (turn_goes_on sending_left (λ state. state.sender) lanes.outgoing (record lanes.outgoing { sender = turn.Free }) (λ other s. send_step era lanes.outgoing other s s.stage) lanes.outgoing.sender caller is
     (λ other s. send_on era lanes.outgoing other s s.stage))
 later_goes_on desk era lanes caller false is calls =
     let receives : has_call lanes.incoming.receiver caller ≡ true = sym (ap (λ b. b || has_call lanes.incoming.receiver caller) is) ∙ calls in
-    where_on (receiver_step desk era lanes.incoming).outcome (receives_under_way (receive_later (list_form desk) desk era lanes).state caller (turn_left receiving_left lanes.incoming.receiver) is)
+    where_on (receiver_step desk era lanes.incoming).outcome (receives_under_way (receive_later (list_form desk) desk era lanes).state caller (steps_left_of_turn receiving_left lanes.incoming.receiver) is)
     (turn_goes_on receiving_left (λ state. state.receiver) lanes.incoming (record lanes.incoming { receiver = turn.Free }) (λ other r. receive_step desk era lanes.incoming other r r.work) lanes.incoming.receiver caller receives
     (λ other r. receive_on desk era lanes.incoming other r r.work))
 
 lanes_go_on : {D : Type 0} (desk : DeskMeaning D) (era : Era) (lanes : Lanes (LaneState D)) (caller follows : ℕ) (wished : Option Wish) → MayLanesStep lanes caller wished
-    → LanesGoOn caller (lanes_left lanes caller wished) (lanes_step (list_form desk) desk era lanes caller follows wished)
+    → LanesGoOn caller (steps_left_on lanes caller wished) (lanes_step (list_form desk) desk era lanes caller follows wished)
 lanes_go_on desk era lanes caller follows (Some wished) may = first_goes_on desk lanes caller follows wished (or_parts _ _ may.0).0
 lanes_go_on desk era lanes caller follows None may = later_goes_on desk era lanes caller (has_call lanes.outgoing.sender caller) refl may
 
 -- how many steps may follow, by the end of the caller
 abbrev end_left : {D : Type 0} → LinkState D → Option End → ℕ → Option Wish → ℕ
-end_left link found caller wished = option_map_or (λ end. lanes_left (lanes_of link end) caller wished) found 0
+end_left link found caller wished = option_map_or (λ end. steps_left_on (lanes_of link end) caller wished) found 0
 
 abbrev step_at : {D : Type 0} → DeskMeaning D → LinkState D → Option End → ℕ → ℕ → Option Wish → Stepped (LinkState D)
 step_at desk link found caller follows wished = on_lanes link found (λ lanes. lanes_step (list_form desk) desk link.era lanes caller follows wished)
@@ -143,14 +143,14 @@ ends_within (suc n) desk link caller follows wished may few =
     ends_after step.outcome step.state (steps_to_end (suc n) desk step.state caller follows None)
     (where_on step.outcome (λ on. ends_within n desk step.state caller follows None on.0 (omega (arith, on.1, few))) (goes_on desk link caller follows wished may))
 
-most_send : (now : SendStage) → send_left now ≤ 5
+most_send : (now : SendStage) → steps_left_of_send now ≤ 5
 most_send stage.Turn = omega arith
 most_send stage.Era = omega arith
 most_send stage.Look = omega arith
 most_send stage.Buffer = omega arith
 most_send stage.Entry = omega arith
 
-most_work : (now : Work) → work_left now ≤ 5
+most_work : (now : Work) → steps_left_of_work now ≤ 5
 most_work (work.Take take_stage.Turn) = omega arith
 most_work (work.Take take_stage.Era) = omega arith
 most_work (work.Take take_stage.Look) = omega arith
@@ -160,14 +160,14 @@ most_work (work.Give number give_stage.Entry) = omega arith
 most_work (work.Bind address) = omega arith
 most_work (work.Unbind address) = omega arith
 
-most_turn : {C : Type 0} (of_call : C → ℕ) → ((call : C) → of_call call ≤ 5) → (now : Turn C) → turn_left of_call now ≤ 5
+most_turn : {C : Type 0} (of_call : C → ℕ) → ((call : C) → of_call call ≤ 5) → (now : Turn C) → steps_left_of_turn of_call now ≤ 5
 most_turn of_call most turn.Free = omega arith
 most_turn of_call most (turn.Taken caller call) = most call
 most_turn of_call most (turn.Leaving caller ended) = omega arith
 most_turn of_call most turn.Manager = omega arith
 
 -- at most five steps may follow the next one of a call under way
-most_later : {D : Type 0} (lanes : Lanes (LaneState D)) (caller : ℕ) → lanes_left lanes caller None ≤ 5
+most_later : {D : Type 0} (lanes : Lanes (LaneState D)) (caller : ℕ) → steps_left_on lanes caller None ≤ 5
 most_later lanes caller =
     cond_both (has_call lanes.outgoing.sender caller) _ _ (λ n. n ≤ 5) (λ _. most_turn sending_left (λ s. most_send s.stage) lanes.outgoing.sender)
     (λ _. most_turn receiving_left (λ r. most_work r.work) lanes.incoming.receiver)

@@ -8,7 +8,14 @@ pub mod SoundKept
 pub mod Ends
 pub mod CrashSteps
 pub mod CrashLaws
+pub mod CrashMay
 pub mod AskSteps
 pub mod FormSteps
 pub mod PartSteps
 pub mod AtOnce
+pub mod Numbering
+pub mod LaneMoves
+pub mod LaneFacts
+pub mod Judgement
+pub mod Traces
+pub mod LinkRuns

@@ -27,7 +27,7 @@ pub record KeepsOther {D : Type 0} (other : ℕ) (before after : LaneState D) : 
   pub receiver : has_call after.receiver other ≡ has_call before.receiver other
   pub held : (number : ℕ) → IsTrue (holds before.lane.held number other) → IsTrue (holds after.lane.held number other)
 
-as_it_was : {D : Type 0} (other : ℕ) (state : LaneState D) → KeepsOther other state state
+pub as_it_was : {D : Type 0} (other : ℕ) (state : LaneState D) → KeepsOther other state state
 as_it_was other state = record { sender = refl; receiver = refl; held = λ number has. has }
 
 taken_keeps : {C : Type 0} (now : Turn C) (caller other : ℕ) (call : C) → caller ≢ other → has_call (taken_by now caller call) other ≡ has_call now other
@@ -105,7 +105,7 @@ in_call_stays : {D : Type 0} (before after : Lanes (LaneState D)) (caller : ℕ)
 in_call_stays before after caller outgoing incoming =
     ap (λ b. b || has_call after.incoming.receiver caller) outgoing.sender ∙ ap (λ b. has_call before.outgoing.sender caller || b) incoming.receiver
 
-may_stays : {D : Type 0} (before after : Lanes (LaneState D)) (caller : ℕ) (wished : Option Wish) → KeepsOther caller before.outgoing after.outgoing → KeepsOther caller before.incoming after.incoming
+pub may_stays : {D : Type 0} (before after : Lanes (LaneState D)) (caller : ℕ) (wished : Option Wish) → KeepsOther caller before.outgoing after.outgoing → KeepsOther caller before.incoming after.incoming
     → MayLanesStep before caller wished → MayLanesStep after caller wished
 may_stays before after caller (Some wished) outgoing incoming may =
     (in_call_stays before after caller outgoing incoming ∙ may.0, wish_stays wished caller before.incoming after.incoming incoming may.1)

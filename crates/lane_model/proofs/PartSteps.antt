@@ -12,8 +12,8 @@ use Rattle.lane_model.specs.declared.recoveries.ReclaimPart.TheVariants as part
 use Rattle.lane_model.specs.declared.recoveries.LaneTurn.{LaneTurn}
 use Rattle.lane_model.specs.declared.recoveries.LaneTurn.TheVariants as lane_turn
 use Rattle.lane_model.specs.Lanes.{OfCall, has_call}
-use Rattle.lane_model.specs.Crashes.{ended_turn, held_by_others, has_held, send_ended, receive_ended}
-use Rattle.lane_model.specs.Parts.{manager_takes, manager_leaves, lane_taken, lane_left, turn_left_without, lanes_part, callers_part, part_done, MayPart}
+use Rattle.lane_model.specs.Crashes.{ended_turn, held_by_others, has_held, after_send_end, after_receive_end}
+use Rattle.lane_model.specs.Parts.{manager_takes, manager_leaves, with_manager, without_manager, turn_left_without, lanes_part, callers_part, part_done, MayPart}
 use Rattle.lane_model.specs.Links.{LinkState, Lanes, lanes_of, end_of}
 use Rattle.lane_model.specs.Conditions.{IsFitReceiver}
 use Rattle.lane_model.specs.Soundness.{IsUser, AreUsers, IsSoundLane, IsSoundTurn, IsSoundBetween, IsAlone, SoundLink}
@@ -59,16 +59,16 @@ left_had (turn.Leaving other ended) caller has = has
 left_had turn.Manager caller has = has
 
 -- a lane whose turn the manager takes or leaves
-pub lane_taken_sound : {D : Type 0} (state : LaneState D) (which : LaneTurn) → IsSoundLane state → IsSoundLane (lane_taken state which)
+pub lane_taken_sound : {D : Type 0} (state : LaneState D) (which : LaneTurn) → IsSoundLane state → IsSoundLane (with_manager state which)
 lane_taken_sound state lane_turn.Sender sound = sender_changed state _ sound (taken_of _ state.sender sound.room)
 lane_taken_sound state lane_turn.Receiver sound = receiver_changed state _ state.desk sound (taken_of _ state.receiver sound.fit)
 
-pub lane_left_sound : {D : Type 0} (state : LaneState D) (which : LaneTurn) → IsSoundLane state → IsSoundLane (lane_left state which)
+pub lane_left_sound : {D : Type 0} (state : LaneState D) (which : LaneTurn) → IsSoundLane state → IsSoundLane (without_manager state which)
 lane_left_sound state lane_turn.Sender sound = sender_changed state _ sound (left_of _ state.sender sound.room)
 lane_left_sound state lane_turn.Receiver sound = receiver_changed state _ state.desk sound (left_of _ state.receiver sound.fit)
 
 taken_between : {D : Type 0} (callers : List (Option End)) (sends receives : End) (live : Bool) (state : LaneState D) (which : LaneTurn) → IsSoundBetween callers sends receives live state
-    → IsSoundBetween callers sends receives live (lane_taken state which)
+    → IsSoundBetween callers sends receives live (with_manager state which)
 taken_between callers sends receives live state lane_turn.Sender sound = record {
   lane = lane_taken_sound state lane_turn.Sender sound.lane;
   whole = sound.whole;
@@ -85,7 +85,7 @@ taken_between callers sends receives live state lane_turn.Receiver sound = recor
 }
 
 left_between : {D : Type 0} (callers : List (Option End)) (sends receives : End) (live : Bool) (state : LaneState D) (which : LaneTurn) → IsSoundBetween callers sends receives live state
-    → IsSoundBetween callers sends receives live (lane_left state which)
+    → IsSoundBetween callers sends receives live (without_manager state which)
 left_between callers sends receives live state lane_turn.Sender sound = record {
   lane = lane_left_sound state lane_turn.Sender sound.lane;
   whole = sound.whole;
@@ -102,25 +102,25 @@ left_between callers sends receives live state lane_turn.Receiver sound = record
 }
 
 -- a pair of lanes of which one is changed so that no new call has a turn
-alone_taken : {D : Type 0} (outgoing incoming : LaneState D) (which : LaneTurn) → IsAlone outgoing incoming → IsAlone (lane_taken outgoing which) incoming
+alone_taken : {D : Type 0} (outgoing incoming : LaneState D) (which : LaneTurn) → IsAlone outgoing incoming → IsAlone (with_manager outgoing which) incoming
 alone_taken outgoing incoming lane_turn.Sender alone = λ caller sends. alone caller (taken_had outgoing.sender caller sends)
 alone_taken outgoing incoming lane_turn.Receiver alone = alone
 
-alone_beside_taken : {D : Type 0} (outgoing incoming : LaneState D) (which : LaneTurn) → IsAlone outgoing incoming → IsAlone outgoing (lane_taken incoming which)
+alone_beside_taken : {D : Type 0} (outgoing incoming : LaneState D) (which : LaneTurn) → IsAlone outgoing incoming → IsAlone outgoing (with_manager incoming which)
 alone_beside_taken outgoing incoming lane_turn.Sender alone = alone
 alone_beside_taken outgoing incoming lane_turn.Receiver alone = λ caller sends. not_then _ _ (taken_had incoming.receiver caller) (alone caller sends)
 
-alone_left : {D : Type 0} (outgoing incoming : LaneState D) (which : LaneTurn) → IsAlone outgoing incoming → IsAlone (lane_left outgoing which) incoming
+alone_left : {D : Type 0} (outgoing incoming : LaneState D) (which : LaneTurn) → IsAlone outgoing incoming → IsAlone (without_manager outgoing which) incoming
 alone_left outgoing incoming lane_turn.Sender alone = λ caller sends. alone caller (left_had outgoing.sender caller sends)
 alone_left outgoing incoming lane_turn.Receiver alone = alone
 
-alone_beside_left : {D : Type 0} (outgoing incoming : LaneState D) (which : LaneTurn) → IsAlone outgoing incoming → IsAlone outgoing (lane_left incoming which)
+alone_beside_left : {D : Type 0} (outgoing incoming : LaneState D) (which : LaneTurn) → IsAlone outgoing incoming → IsAlone outgoing (without_manager incoming which)
 alone_beside_left outgoing incoming lane_turn.Sender alone = alone
 alone_beside_left outgoing incoming lane_turn.Receiver alone = λ caller sends. not_then _ _ (left_had incoming.receiver caller) (alone caller sends)
 
 -- the manager's taking of a turn of either lane keeps a link sound
 pub manager_takes_sound : {D : Type 0} (link : LinkState D) (which : LaneTurn) → SoundLink link
-    → SoundLink (record link { to_host = lane_taken link.to_host which }) × SoundLink (record link { to_remote = lane_taken link.to_remote which })
+    → SoundLink (record link { to_host = with_manager link.to_host which }) × SoundLink (record link { to_remote = with_manager link.to_remote which })
 manager_takes_sound link which sound = (
   record {
     to_host = taken_between link.callers side.Remote side.Host link.era.is_live link.to_host which sound.to_host;
@@ -138,7 +138,7 @@ manager_takes_sound link which sound = (
 
 -- the manager's leaving of a turn of either lane keeps a link sound
 pub manager_leaves_sound : {D : Type 0} (link : LinkState D) (which : LaneTurn) → SoundLink link
-    → SoundLink (record link { to_host = lane_left link.to_host which }) × SoundLink (record link { to_remote = lane_left link.to_remote which })
+    → SoundLink (record link { to_host = without_manager link.to_host which }) × SoundLink (record link { to_remote = without_manager link.to_remote which })
 manager_leaves_sound link which sound = (
   record {
     to_host = left_between link.callers side.Remote side.Host link.era.is_live link.to_host which sound.to_host;
@@ -188,7 +188,7 @@ left_without_sound state caller is sound = record {
 }
 
 outgoing_ends : {D : Type 0} (callers : List (Option End)) (own other : End) (state : LaneState D) (caller : ℕ) → IsSoundBetween callers own other false state
-    → IsSoundBetween callers own other false (send_ended state caller)
+    → IsSoundBetween callers own other false (after_send_end state caller)
 outgoing_ends callers own other state caller sound = record {
   lane = send_ended_sound state caller sound.lane;
   whole = sound.whole;
@@ -198,7 +198,7 @@ outgoing_ends callers own other state caller sound = record {
 }
 
 incoming_ends : {D : Type 0} (callers : List (Option End)) (own other : End) (state : LaneState D) (caller : ℕ) → IsSoundBetween callers other own false state
-    → IsSoundBetween callers other own false (receive_ended state caller)
+    → IsSoundBetween callers other own false (after_receive_end state caller)
 incoming_ends callers own other state caller sound = record {
   lane = receive_ended_sound state caller sound.lane;
   whole = λ is. absurd (false≢true is);
@@ -219,13 +219,13 @@ part_lanes_sound callers own other lanes caller part.TakesTurn differ user may s
 part_lanes_sound {D} callers own other lanes caller part.EndsCall differ user may sound =
     record {
       outgoing = outgoing_ends callers own other lanes.outgoing caller sound.outgoing;
-      incoming = cond_both (has_call lanes.incoming.receiver caller) (receive_ended lanes.incoming caller) lanes.incoming (λ (state : LaneState D). IsSoundBetween callers other own false state)
+      incoming = cond_both (has_call lanes.incoming.receiver caller) (after_receive_end lanes.incoming caller) lanes.incoming (λ (state : LaneState D). IsSoundBetween callers other own false state)
           (λ _. incoming_ends callers own other lanes.incoming caller sound.incoming) (λ _. sound.incoming);
       alone = λ n sends.
           let silent = sound.alone n (ended_had lanes.outgoing.sender caller n sends) in
-          cond_both (has_call lanes.incoming.receiver caller) (receive_ended lanes.incoming caller) lanes.incoming (λ (state : LaneState D). has_call state.receiver n ≡ false)
+          cond_both (has_call lanes.incoming.receiver caller) (after_receive_end lanes.incoming caller) lanes.incoming (λ (state : LaneState D). has_call state.receiver n ≡ false)
           (λ _. not_then _ _ (ended_had lanes.incoming.receiver caller n) silent) (λ _. silent);
-      others = cond_both (has_call lanes.incoming.receiver caller) (receive_ended lanes.incoming caller) lanes.incoming (λ (state : LaneState D). IsAlone state (send_ended lanes.outgoing caller))
+      others = cond_both (has_call lanes.incoming.receiver caller) (after_receive_end lanes.incoming caller) lanes.incoming (λ (state : LaneState D). IsAlone state (after_send_end lanes.outgoing caller))
           (λ _. sound.others) (λ _. sound.others);
     }
 part_lanes_sound callers own other lanes caller part.LeavesTurn differ user may sound = record {

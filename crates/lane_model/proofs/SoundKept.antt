@@ -20,7 +20,7 @@ use Rattle.lane_model.specs.declared.calls.LinkConfig.{LinkConfig}
 use Rattle.lane_model.specs.Desks.{DeskMeaning}
 use Rattle.lane_model.specs.Lanes.{taken_by, has_call, is_live_in}
 use Rattle.lane_model.specs.Sends.{send_step, sender_step}
-use Rattle.lane_model.specs.Receives.{receive_step, receiver_step, take_handed}
+use Rattle.lane_model.specs.Receives.{receive_step, receiver_step, after_handing}
 use Rattle.lane_model.specs.Crashes.{opened_lane}
 use Rattle.lane_model.specs.Forms.{list_form}
 use Rattle.lane_model.specs.Links.{LinkState, Lanes, lanes_of, end_of, lanes_step, first_step, send_first, receive_first, send_later, receive_later, on_lanes, caller_step, opened_link, free_number, with_caller}
@@ -72,7 +72,7 @@ receiver_had {D} desk era state other =
 abbrev IsWhole : {D : Type 0} → Bool → LaneState D → Type 0
 IsWhole live state = live ≡ true → state.lane.returned + length state.lane.held ≡ length state.lane.takers
 
-handed_whole : {D : Type 0} (desk : DeskMeaning D) (live : Bool) (state : LaneState D) (caller : ℕ) → IsWhole live state → IsWhole live (take_handed desk state caller)
+handed_whole : {D : Type 0} (desk : DeskMeaning D) (live : Bool) (state : LaneState D) (caller : ℕ) → IsWhole live state → IsWhole live (after_handing desk state caller)
 handed_whole desk live state caller whole = λ is.
     let old = state.lane in
     let one_taker = length-more old.takers caller in
@@ -86,7 +86,7 @@ receive_whole desk era live state caller r (work.Take take_stage.Turn) sound fit
 receive_whole desk era live state caller r (work.Take take_stage.Era) sound fit whole = whole
 receive_whole desk era live state caller r (work.Take take_stage.Look) sound fit whole = whole
 receive_whole desk era live state caller r (work.Take take_stage.Buffer) sound fit whole =
-    cond_both (is_live_in era r.follows) (take_handed desk state caller) (record state { receiver = turn.Leaving caller (end.Dead era) }) (IsWhole live)
+    cond_both (is_live_in era r.follows) (after_handing desk state caller) (record state { receiver = turn.Leaving caller (end.Dead era) }) (IsWhole live)
     (λ _. handed_whole desk live state caller whole) (λ _. whole)
 receive_whole desk era live state caller r (work.Give number give_stage.Turn) sound fit whole = whole
 receive_whole desk era live state caller r (work.Give number give_stage.Entry) sound fit whole = λ is.

@@ -20,8 +20,8 @@ use Rattle.lane_model.specs.declared.calls.CallEnd.{CallEnd}
 use Rattle.lane_model.specs.declared.calls.CallEnd.TheVariants as end
 use Rattle.lane_model.specs.Desks.{DeskMeaning}
 use Rattle.lane_model.specs.Lanes.{Stepped, turn_step, OfCall, taken_by, holds, is_live_in}
-use Rattle.lane_model.specs.Sends.{send_begun, send_step, sender_step, after_send_look, with_accepted}
-use Rattle.lane_model.specs.Receives.{receive_begun, take_handed, take_step, give_step, desk_step, receive_step, receiver_step, after_take_look, with_handed, with_returned}
+use Rattle.lane_model.specs.Sends.{after_send_start, send_step, sender_step, after_send_look, with_accepted}
+use Rattle.lane_model.specs.Receives.{after_receive_start, after_handing, take_step, give_step, desk_step, receive_step, receiver_step, after_take_look, with_handed, with_returned}
 use Rattle.lane_model.specs.Conditions.{HasRoomAt, HasRoom, HasMessageAt, IsFitWork, IsFitReceiver}
 use Rattle.lane_model.specs.Soundness.{AreHandedOnce, IsSoundLane}
 use Rattle.lane_model.proofs.Holdings.{length-more, handed_once, without_once, length-without-one}
@@ -134,7 +134,7 @@ sent_on_sound era state sound =
     (λ caller s is. send_sound era state caller s s.stage sound (subst (λ now. HasRoom now state.lane) is sound.room))
 
 -- step 1 of a send
-pub send_begun_sound : {D : Type 0} (state : LaneState D) (caller follows : ℕ) (message : List ℕ) → IsSoundLane state → IsSoundLane (send_begun state caller follows message)
+pub send_begun_sound : {D : Type 0} (state : LaneState D) (caller follows : ℕ) (message : List ℕ) → IsSoundLane state → IsSoundLane (after_send_start state caller follows message)
 send_begun_sound state caller follows message sound =
     sender_changed state _ sound (taken_has (λ sender (s : Sending). HasRoomAt s.stage state.lane) state.sender caller _ sound.room (λ sought. absurd (false≢true sought)))
 
@@ -179,7 +179,7 @@ take_sound desk era state caller r take_stage.Turn sound fit =
 take_sound desk era state caller r take_stage.Era sound fit = receiver_changed state _ state.desk sound (message_if_looked state.lane caller r sound.handed)
 take_sound desk era state caller r take_stage.Look sound fit = receiver_changed state _ state.desk sound (λ sought. fit refl)
 take_sound desk era state caller r take_stage.Buffer sound fit =
-    cond_both (is_live_in era r.follows) (take_handed desk state caller) (record state { receiver = turn.Leaving caller (end.Dead era) }) IsSoundLane
+    cond_both (is_live_in era r.follows) (after_handing desk state caller) (record state { receiver = turn.Leaving caller (end.Dead era) }) IsSoundLane
     (λ _. handed_sound state caller _ _ sound (fit refl)) (λ _. receiver_changed state (turn.Leaving caller (end.Dead era)) state.desk sound tt)
 
 give_sound : {D : Type 0} (state : LaneState D) (caller : ℕ) (r : Receiving) (number : ℕ) (now : GiveStage) → IsSoundLane state → IsTrue (holds state.lane.held number caller)
@@ -209,6 +209,6 @@ received_on_sound desk era state sound =
 
 -- step 1 of the other calls
 pub receive_begun_sound : {D : Type 0} (state : LaneState D) (caller follows : ℕ) (first : Work) → IsSoundLane state → IsFitWork first state.lane caller
-    → IsSoundLane (receive_begun state caller follows first)
+    → IsSoundLane (after_receive_start state caller follows first)
 receive_begun_sound state caller follows first sound fit =
     receiver_changed state _ state.desk sound (taken_has (λ receiver (r : Receiving). IsFitWork r.work state.lane receiver) state.receiver caller _ sound.fit fit)

@@ -25,8 +25,8 @@ use Rattle.lane_model.specs.declared.calls.Outcome.TheVariants as outcome
 use Rattle.lane_model.specs.Desks.{DeskMeaning}
 use Rattle.lane_model.specs.Lanes.{Stepped, turn_step, holds, has_call, is_live_in}
 use Rattle.lane_model.specs.Sends.{send_step, sender_step}
-use Rattle.lane_model.specs.Receives.{receive_step, take_step, take_handed, give_step, desk_step, receiver_step}
-use Rattle.lane_model.specs.WholeCalls.{turn_left, send_left, work_left, WhereOn}
+use Rattle.lane_model.specs.Receives.{receive_step, take_step, after_handing, give_step, desk_step, receiver_step}
+use Rattle.lane_model.specs.WholeCalls.{steps_left_of_turn, steps_left_of_send, steps_left_of_work, WhereOn}
 use Rattle.lane_model.specs.Soundness.{IsUser, AreUsers, IsSoundTurn}
 use Rattle.lane_model.proofs.Holdings.{others_hold, handed_users, without_users}
 use Rattle.lane_model.proofs.SoundLanes.{turn_step_has}
@@ -45,11 +45,11 @@ IsWith caller now = (other : ℕ) → has_call now other ≡ (caller == other)
 
 -- the turn is with a call of this caller, of which fewer steps are left
 abbrev pub IsOn : {C : Type 0} → (C → ℕ) → ℕ → ℕ → Turn C → Type 0
-IsOn of_call caller left next = IsWith caller next × (turn_left of_call next < left)
+IsOn of_call caller left next = IsWith caller next × (steps_left_of_turn of_call next < left)
 
 pub turn_goes_on : {S C : Type 0} (of_call : C → ℕ) (turn_of : S → Turn C) (state freed : S) (goes : ℕ → C → Stepped S) (now : Turn C) (caller : ℕ) → has_call now caller ≡ true
     → ((other : ℕ) (call : C) → IsOn of_call other (of_call call) (turn_of (goes other call).state))
-    → WhereOn (turn_step state freed goes now).outcome (IsOn of_call caller (turn_left of_call now) (turn_of (turn_step state freed goes now).state))
+    → WhereOn (turn_step state freed goes now).outcome (IsOn of_call caller (steps_left_of_turn of_call now) (turn_of (turn_step state freed goes now).state))
 turn_goes_on of_call turn_of state freed goes turn.Free caller is on = absurd (false≢true is)
 turn_goes_on of_call turn_of state freed goes (turn.Taken other call) caller is on =
     subst (λ n. WhereOn (goes other call).outcome (IsOn of_call n (of_call call) (turn_of (goes other call).state))) (eqb-true _ _ is) (where_any (goes other call).outcome (on other call))
@@ -81,13 +81,13 @@ with_sound callers end caller (turn.Leaving n ended) user with = subst (IsUser c
 with_sound callers end caller turn.Manager user with = tt
 
 abbrev pub sending_left : Sending → ℕ
-sending_left s = send_left s.stage
+sending_left s = steps_left_of_send s.stage
 
 abbrev pub receiving_left : Receiving → ℕ
-receiving_left r = work_left r.work
+receiving_left r = steps_left_of_work r.work
 
 pub send_on : {D : Type 0} (era : Era) (state : LaneState D) (caller : ℕ) (s : Sending) (now : SendStage)
-    → IsOn sending_left caller (send_left now) (send_step era state caller s now).state.sender
+    → IsOn sending_left caller (steps_left_of_send now) (send_step era state caller s now).state.sender
 send_on era state caller s stage.Turn =
     cond_both (is_live_in era s.follows) _ _ (IsOn sending_left caller 5) (λ _. (λ other. refl, omega arith)) (λ _. (λ other. refl, omega arith))
 send_on era state caller s stage.Era =
@@ -98,7 +98,7 @@ send_on era state caller s stage.Buffer = (λ other. refl, omega arith)
 send_on era state caller s stage.Entry = (λ other. refl, omega arith)
 
 take_on : {D : Type 0} (desk : DeskMeaning D) (era : Era) (state : LaneState D) (caller : ℕ) (r : Receiving) (now : TakeStage)
-    → IsOn receiving_left caller (work_left (work.Take now)) (take_step desk era state caller r now).state.receiver
+    → IsOn receiving_left caller (steps_left_of_work (work.Take now)) (take_step desk era state caller r now).state.receiver
 take_on desk era state caller r take_stage.Turn =
     cond_both (is_live_in era r.follows) _ _ (IsOn receiving_left caller 4) (λ _. (λ other. refl, omega arith)) (λ _. (λ other. refl, omega arith))
 take_on desk era state caller r take_stage.Era =
@@ -108,7 +108,7 @@ take_on {D} desk era state caller r take_stage.Buffer =
     cond_both (is_live_in era r.follows) _ _ (λ (next : LaneState D). IsOn receiving_left caller 1 next.receiver) (λ _. (λ other. refl, omega arith)) (λ _. (λ other. refl, omega arith))
 
 give_on : {D : Type 0} (state : LaneState D) (caller : ℕ) (r : Receiving) (number : ℕ) (now : GiveStage)
-    → IsOn receiving_left caller (work_left (work.Give number now)) (give_step state caller r number now).state.receiver
+    → IsOn receiving_left caller (steps_left_of_work (work.Give number now)) (give_step state caller r number now).state.receiver
 give_on state caller r number give_stage.Turn = (λ other. refl, omega arith)
 give_on state caller r number give_stage.Entry = (λ other. refl, omega arith)
 
@@ -118,7 +118,7 @@ desk_on {D} era state caller r desk ended =
     cond_both (is_live_in era r.follows) _ _ (λ (next : LaneState D). IsOn receiving_left caller 1 next.receiver) (λ _. (λ other. refl, omega arith)) (λ _. (λ other. refl, omega arith))
 
 pub receive_on : {D : Type 0} (desk : DeskMeaning D) (era : Era) (state : LaneState D) (caller : ℕ) (r : Receiving) (now : Work)
-    → IsOn receiving_left caller (work_left now) (receive_step desk era state caller r now).state.receiver
+    → IsOn receiving_left caller (steps_left_of_work now) (receive_step desk era state caller r now).state.receiver
 receive_on desk era state caller r (work.Take now) = take_on desk era state caller r now
 receive_on desk era state caller r (work.Give number now) = give_on state caller r number now
 receive_on desk era state caller r (work.Bind address) = desk_on era state caller r _ _
@@ -159,7 +159,7 @@ or_before : (a b : Bool) → IsTrue a → IsTrue (a || b)
 or_before true b has = has
 or_before false b has = absurd (false≢true has)
 
-handed_own : {D : Type 0} (desk : DeskMeaning D) (state : LaneState D) (caller : ℕ) → IsReceiversOwn caller state (take_handed desk state caller)
+handed_own : {D : Type 0} (desk : DeskMeaning D) (state : LaneState D) (caller : ℕ) → IsReceiversOwn caller state (after_handing desk state caller)
 handed_own desk state caller = record {
   sender = refl;
   accepted = refl;
@@ -174,7 +174,7 @@ take_own desk era state caller r take_stage.Turn = lane_stays caller state _ sta
 take_own desk era state caller r take_stage.Era = lane_stays caller state _ state.desk
 take_own desk era state caller r take_stage.Look = lane_stays caller state _ state.desk
 take_own desk era state caller r take_stage.Buffer =
-    cond_both (is_live_in era r.follows) (take_handed desk state caller) (record state { receiver = turn.Leaving caller (end.Dead era) }) (IsReceiversOwn caller state)
+    cond_both (is_live_in era r.follows) (after_handing desk state caller) (record state { receiver = turn.Leaving caller (end.Dead era) }) (IsReceiversOwn caller state)
     (λ _. handed_own desk state caller) (λ _. lane_stays caller state (turn.Leaving caller (end.Dead era)) state.desk)
 
 give_own : {D : Type 0} (state : LaneState D) (caller : ℕ) (r : Receiving) (number : ℕ) (now : GiveStage) → IsReceiversOwn caller state (give_step state caller r number now).state

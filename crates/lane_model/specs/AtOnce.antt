@@ -20,19 +20,19 @@ use Rattle.lane_model.specs.Links.{LinkState, form_step}
 abbrev pub after_send : {L D : Type 0} → FormMeaning L D → L → Era → ℕ → List ℕ → L
 after_send {L} form lane era caller message =
     let on : L → L = λ l. form.sent_on l era in
-    on (on (on (on (on (on (form.send_begun lane caller era.inc message))))))
+    on (on (on (on (on (on (form.after_send_start lane caller era.inc message))))))
 
 -- the lane after the six steps of a take in this era
 abbrev pub after_take : {L D : Type 0} → FormMeaning L D → L → Era → ℕ → L
 after_take {L} form lane era caller =
     let on : L → L = λ l. form.received_on l era in
-    on (on (on (on (on (form.receive_begun lane caller era.inc (work.Take take_stage.Turn))))))
+    on (on (on (on (on (form.after_receive_start lane caller era.inc (work.Take take_stage.Turn))))))
 
 -- the lane after the four steps of a give in this era
 abbrev pub after_give : {L D : Type 0} → FormMeaning L D → L → Era → ℕ → ℕ → L
 after_give {L} form lane era caller number =
     let on : L → L = λ l. form.received_on l era in
-    on (on (on (form.receive_begun lane caller era.inc (work.Give number give_stage.Turn))))
+    on (on (on (form.after_receive_start lane caller era.inc (work.Give number give_stage.Turn))))
 
 -- a send in a live era is refused nowhere: the turn is free, there is room, and the book isn't full
 pub record SendsAtOnce {D : Type 0} (state : LaneState D) : Type 0 where

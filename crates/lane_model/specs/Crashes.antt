@@ -31,12 +31,12 @@ abbrev pub has_held : List Holding → ℕ → Bool
 has_held held caller = list_any (λ holding. holding.caller == caller) held
 
 -- the lane on which a caller sends, without its call
-abbrev pub send_ended : {D : Type 0} → LaneState D → ℕ → LaneState D
-send_ended state caller = record state { sender = ended_turn state.sender caller }
+abbrev pub after_send_end : {D : Type 0} → LaneState D → ℕ → LaneState D
+after_send_end state caller = record state { sender = ended_turn state.sender caller }
 
 -- the lane from which a caller takes, without its call and without what it holds
-abbrev pub receive_ended : {D : Type 0} → LaneState D → ℕ → LaneState D
-receive_ended state caller = record state {
+abbrev pub after_receive_end : {D : Type 0} → LaneState D → ℕ → LaneState D
+after_receive_end state caller = record state {
   receiver = ended_turn state.receiver caller;
   lane = record state.lane { held = held_by_others state.lane.held caller };
 }

@@ -16,3 +16,5 @@ pub mod Recoveries
 pub mod LinkLaws
 pub mod Parts
 pub mod AtOnce
+pub mod Handings
+pub mod Moves

@@ -65,14 +65,14 @@ begun_outcome (Some holder) = outcome.Ended (end.Busy holder)
 -- step 1 of a send
 abbrev pub send_first : {L D : Type 0} → FormMeaning L D → Lanes L → ℕ → ℕ → List ℕ → Stepped (Lanes L)
 send_first form lanes caller follows message = record {
-  state = record lanes { outgoing = form.send_begun lanes.outgoing caller follows message };
+  state = record lanes { outgoing = form.after_send_start lanes.outgoing caller follows message };
   outcome = begun_outcome (holder (form.state lanes.outgoing).sender);
 }
 
 -- step 1 of a call that needs the receiver's turn
 abbrev pub receive_first : {L D : Type 0} → FormMeaning L D → Lanes L → ℕ → ℕ → Work → Stepped (Lanes L)
 receive_first form lanes caller follows first = record {
-  state = record lanes { incoming = form.receive_begun lanes.incoming caller follows first };
+  state = record lanes { incoming = form.after_receive_start lanes.incoming caller follows first };
   outcome = begun_outcome (holder (form.state lanes.incoming).receiver);
 }
 
@@ -110,8 +110,8 @@ on_lanes link (Some end) step = record { state = with_lanes link end (step (lane
 on_lanes link None step = still link
 
 -- step 1 of a call that needs the receiver's turn, on a link with lanes of some form
-abbrev pub work_begun : {L D : Type 0} → FormMeaning L D → LaneLink L → ℕ → ℕ → Work → Stepped (LaneLink L)
-work_begun form link caller follows first = on_lanes link (end_of link.callers caller) (λ lanes. receive_first form lanes caller follows first)
+abbrev pub after_work_start : {L D : Type 0} → FormMeaning L D → LaneLink L → ℕ → ℕ → Work → Stepped (LaneLink L)
+after_work_start form link caller follows first = on_lanes link (end_of link.callers caller) (λ lanes. receive_first form lanes caller follows first)
 
 -- a step of a caller's call on a link with lanes of some form. The call follows an incarnation; the wish is there where it has done no step
 abbrev pub form_step : {L D : Type 0} → FormMeaning L D → DeskMeaning D → LaneLink L → ℕ → ℕ → Option Wish → Stepped (LaneLink L)

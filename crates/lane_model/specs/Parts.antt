@@ -9,7 +9,7 @@ use Rattle.lane_model.specs.declared.recoveries.ReclaimPart.TheVariants as part
 use Rattle.lane_model.specs.declared.recoveries.LaneTurn.{LaneTurn}
 use Rattle.lane_model.specs.declared.recoveries.LaneTurn.TheVariants as lane_turn
 use Rattle.lane_model.specs.Lanes.{has_call, holder}
-use Rattle.lane_model.specs.Crashes.{send_ended, receive_ended, held_by_others, has_held}
+use Rattle.lane_model.specs.Crashes.{after_send_end, after_receive_end, held_by_others, has_held}
 use Rattle.lane_model.specs.Links.{LinkState, Lanes, lanes_of, with_lanes}
 use Rattle.lane_model.specs.Conditions.{is_in_call}
 
@@ -28,14 +28,14 @@ manager_leaves (turn.Leaving caller end) = turn.Leaving caller end
 manager_leaves turn.Manager = turn.Free
 
 -- a lane one of whose turns the manager takes
-abbrev pub lane_taken : {D : Type 0} → LaneState D → LaneTurn → LaneState D
-lane_taken state lane_turn.Sender = record state { sender = manager_takes state.sender }
-lane_taken state lane_turn.Receiver = record state { receiver = manager_takes state.receiver }
+abbrev pub with_manager : {D : Type 0} → LaneState D → LaneTurn → LaneState D
+with_manager state lane_turn.Sender = record state { sender = manager_takes state.sender }
+with_manager state lane_turn.Receiver = record state { receiver = manager_takes state.receiver }
 
 -- a lane one of whose turns the manager leaves
-abbrev pub lane_left : {D : Type 0} → LaneState D → LaneTurn → LaneState D
-lane_left state lane_turn.Sender = record state { sender = manager_leaves state.sender }
-lane_left state lane_turn.Receiver = record state { receiver = manager_leaves state.receiver }
+abbrev pub without_manager : {D : Type 0} → LaneState D → LaneTurn → LaneState D
+without_manager state lane_turn.Sender = record state { sender = manager_leaves state.sender }
+without_manager state lane_turn.Receiver = record state { receiver = manager_leaves state.receiver }
 
 -- a lane without what this caller holds, whose receiver's turn the manager leaves
 abbrev pub turn_left_without : {D : Type 0} → LaneState D → ℕ → LaneState D
@@ -46,10 +46,10 @@ turn_left_without state caller = record state {
 
 -- the lanes of a caller after a part of its reclaim
 abbrev pub lanes_part : {D : Type 0} → Lanes (LaneState D) → ℕ → ReclaimPart → Lanes (LaneState D)
-lanes_part lanes caller part.TakesTurn = record lanes { incoming = lane_taken lanes.incoming lane_turn.Receiver }
+lanes_part lanes caller part.TakesTurn = record lanes { incoming = with_manager lanes.incoming lane_turn.Receiver }
 lanes_part lanes caller part.EndsCall = record {
-  outgoing = send_ended lanes.outgoing caller;
-  incoming = if has_call lanes.incoming.receiver caller then receive_ended lanes.incoming caller else lanes.incoming;
+  outgoing = after_send_end lanes.outgoing caller;
+  incoming = if has_call lanes.incoming.receiver caller then after_receive_end lanes.incoming caller else lanes.incoming;
 }
 lanes_part lanes caller part.LeavesTurn = record lanes { incoming = turn_left_without lanes.incoming caller }
 lanes_part lanes caller part.FreesNumber = lanes

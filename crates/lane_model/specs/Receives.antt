@@ -33,8 +33,8 @@ abbrev pub with_returned : Lane → ℕ → ℕ → Lane
 with_returned lane number caller = record lane { held = without lane.held number caller; returned = lane.returned + 1 }
 
 -- step 1 where the turn is free, and no change where it is not
-abbrev pub receive_begun : {D : Type 0} → LaneState D → ℕ → ℕ → Work → LaneState D
-receive_begun state caller follows first =
+abbrev pub after_receive_start : {D : Type 0} → LaneState D → ℕ → ℕ → Work → LaneState D
+after_receive_start state caller follows first =
     record state { receiver = taken_by state.receiver caller (record { follows = follows; work = first }) }
 
 -- the receiver's turn after a step that leaves the call under way
@@ -53,8 +53,8 @@ after_take_look lane caller r =
     else turn.Taken caller (record r { work = work.Take take_stage.Look })
 
 -- the handing: the desk judges the message that is next
-abbrev pub take_handed : {D : Type 0} → DeskMeaning D → LaneState D → ℕ → LaneState D
-take_handed desk state caller =
+abbrev pub after_handing : {D : Type 0} → DeskMeaning D → LaneState D → ℕ → LaneState D
+after_handing desk state caller =
     let number = length state.lane.takers in
     let message = message_at state.lane.accepted number in
     record state {
@@ -69,7 +69,7 @@ take_step desk era state caller r take_stage.Turn = receiver_at state (after_tak
 take_step desk era state caller r take_stage.Era = receiver_at state (after_take_look state.lane caller r) 3
 take_step desk era state caller r take_stage.Look = receiver_at state (turn.Taken caller (record r { work = work.Take take_stage.Buffer })) 4
 take_step desk era state caller r take_stage.Buffer = record {
-  state = if is_live_in era r.follows then take_handed desk state caller else record state { receiver = turn.Leaving caller (end.Dead era) };
+  state = if is_live_in era r.follows then after_handing desk state caller else record state { receiver = turn.Leaving caller (end.Dead era) };
   outcome = outcome.At 5;
 }
 

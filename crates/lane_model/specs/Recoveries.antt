@@ -20,8 +20,8 @@ use Rattle.lane_model.specs.Crashes.{needed_holder, turn_out, least_held}
 use Rattle.lane_model.specs.Links.{LinkState, Lanes, lanes_of, with_lanes, end_of}
 
 -- the link after a close of this incarnation
-abbrev pub closed : {L : Type 0} → LaneLink L → ℕ → LaneLink L
-closed link inc = if is_live_in link.era inc then record link { era = record { inc = inc; is_live = false } } else link
+abbrev pub link_after_close : {L : Type 0} → LaneLink L → ℕ → LaneLink L
+link_after_close link inc = if is_live_in link.era inc then record link { era = record { inc = inc; is_live = false } } else link
 
 -- the era that keeps a close from changing anything: another one, or closed
 abbrev pub unclosed_by : Era → ℕ → Option Era
@@ -40,7 +40,7 @@ handed_back call held (reclaim_refusal.Busy holder) = reclaim_fault.Busy holder 
 
 -- the lanes without this caller's call and without what it holds
 abbrev pub ended_lanes : {L D : Type 0} → FormMeaning L D → Lanes L → ℕ → Lanes L
-ended_lanes form lanes caller = record { outgoing = form.send_ended lanes.outgoing caller; incoming = form.receive_ended lanes.incoming caller }
+ended_lanes form lanes caller = record { outgoing = form.after_send_end lanes.outgoing caller; incoming = form.after_receive_end lanes.incoming caller }
 
 -- the link without this caller, whose number is free
 abbrev pub without_caller : {L D : Type 0} → FormMeaning L D → LaneLink L → Option End → ℕ → LaneLink L
@@ -49,8 +49,8 @@ without_caller form link (Some end) caller =
 without_caller form link None caller = link
 
 -- the link after a reclaim of this caller, where nothing refuses it
-abbrev pub reclaimed : {L D : Type 0} → FormMeaning L D → LaneLink L → ℕ → LaneLink L
-reclaimed form link caller = without_caller form link (end_of link.callers caller) caller
+abbrev pub link_after_reclaim : {L D : Type 0} → FormMeaning L D → LaneLink L → ℕ → LaneLink L
+link_after_reclaim form link caller = without_caller form link (end_of link.callers caller) caller
 
 -- why the link is not reopened: the era is live, a turn is out, a buffer is held, or no incarnation is left
 abbrev pub unopened_by : {D : Type 0} → LinkState D → Option ReopenFault
@@ -61,9 +61,9 @@ unopened_by link =
     (if link.era.inc == 2 ^ 32 - 1 then Some reopen_fault.IncarnationsSpent else None)))
 
 -- the link in its next incarnation, live
-abbrev pub reopened : {L D : Type 0} → FormMeaning L D → LaneLink L → LaneLink L
-reopened form link =
-    record link { era = record { inc = link.era.inc + 1; is_live = true }; to_host = form.reopened link.to_host; to_remote = form.reopened link.to_remote }
+abbrev pub link_after_reopen : {L D : Type 0} → FormMeaning L D → LaneLink L → LaneLink L
+link_after_reopen form link =
+    record link { era = record { inc = link.era.inc + 1; is_live = true }; to_host = form.link_after_reopen link.to_host; to_remote = form.link_after_reopen link.to_remote }
 
 -- nothing was handed over on either lane
 pub record HandsNone {D : Type 0} (before after : LinkState D) : Type 0 where

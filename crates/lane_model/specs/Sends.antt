@@ -18,8 +18,8 @@ abbrev pub with_accepted : Lane → ℕ → List ℕ → Lane
 with_accepted lane caller message = record lane { accepted = lane.accepted ++ record { caller = caller; message = message } ∷ [] }
 
 -- step 1 where the turn is free, and no change where it is not
-abbrev pub send_begun : {D : Type 0} → LaneState D → ℕ → ℕ → List ℕ → LaneState D
-send_begun state caller follows message =
+abbrev pub after_send_start : {D : Type 0} → LaneState D → ℕ → ℕ → List ℕ → LaneState D
+after_send_start state caller follows message =
     record state { sender = taken_by state.sender caller (record { follows = follows; message = message; stage = stage.Turn }) }
 
 -- the sender's turn after a step that leaves the send under way

@@ -44,41 +44,41 @@ abbrev pub steps_to_end : {D : Type 0} → ℕ → DeskMeaning D → LinkState D
 steps_to_end n desk link caller follows wished = form_to_end n (list_form desk) desk link caller follows wished
 
 -- how many steps may follow the next one of a call that has a turn: none, where its end is settled
-abbrev pub turn_left : {C : Type 0} → (C → ℕ) → Turn C → ℕ
-turn_left of_call turn.Free = 0
-turn_left of_call (turn.Taken caller call) = of_call call
-turn_left of_call (turn.Leaving caller end) = 0
-turn_left of_call turn.Manager = 0
+abbrev pub steps_left_of_turn : {C : Type 0} → (C → ℕ) → Turn C → ℕ
+steps_left_of_turn of_call turn.Free = 0
+steps_left_of_turn of_call (turn.Taken caller call) = of_call call
+steps_left_of_turn of_call (turn.Leaving caller end) = 0
+steps_left_of_turn of_call turn.Manager = 0
 
 -- how many steps of a send may follow the next one
-abbrev pub send_left : SendStage → ℕ
-send_left stage.Turn = 5
-send_left stage.Era = 4
-send_left stage.Look = 3
-send_left stage.Buffer = 2
-send_left stage.Entry = 1
+abbrev pub steps_left_of_send : SendStage → ℕ
+steps_left_of_send stage.Turn = 5
+steps_left_of_send stage.Era = 4
+steps_left_of_send stage.Look = 3
+steps_left_of_send stage.Buffer = 2
+steps_left_of_send stage.Entry = 1
 
 -- how many steps of the other calls may follow the next one
-abbrev pub work_left : Work → ℕ
-work_left (work.Take take_stage.Turn) = 4
-work_left (work.Take take_stage.Era) = 3
-work_left (work.Take take_stage.Look) = 2
-work_left (work.Take take_stage.Buffer) = 1
-work_left (work.Give number give_stage.Turn) = 2
-work_left (work.Give number give_stage.Entry) = 1
-work_left (work.Bind address) = 1
-work_left (work.Unbind address) = 1
+abbrev pub steps_left_of_work : Work → ℕ
+steps_left_of_work (work.Take take_stage.Turn) = 4
+steps_left_of_work (work.Take take_stage.Era) = 3
+steps_left_of_work (work.Take take_stage.Look) = 2
+steps_left_of_work (work.Take take_stage.Buffer) = 1
+steps_left_of_work (work.Give number give_stage.Turn) = 2
+steps_left_of_work (work.Give number give_stage.Entry) = 1
+steps_left_of_work (work.Bind address) = 1
+steps_left_of_work (work.Unbind address) = 1
 
 -- how many steps of a caller's call may follow the next one: six, where it has done none
-abbrev pub lanes_left : {D : Type 0} → Lanes (LaneState D) → ℕ → Option Wish → ℕ
-lanes_left lanes caller (Some wished) = 6
-lanes_left lanes caller None =
-    if has_call lanes.outgoing.sender caller then turn_left (λ (s : Sending). send_left s.stage) lanes.outgoing.sender
-    else turn_left (λ (r : Receiving). work_left r.work) lanes.incoming.receiver
+abbrev pub steps_left_on : {D : Type 0} → Lanes (LaneState D) → ℕ → Option Wish → ℕ
+steps_left_on lanes caller (Some wished) = 6
+steps_left_on lanes caller None =
+    if has_call lanes.outgoing.sender caller then steps_left_of_turn (λ (s : Sending). steps_left_of_send s.stage) lanes.outgoing.sender
+    else steps_left_of_turn (λ (r : Receiving). steps_left_of_work r.work) lanes.incoming.receiver
 
 -- how many steps of a caller's call may follow the next one
 abbrev pub left_of : {D : Type 0} → LinkState D → ℕ → Option Wish → ℕ
-left_of link caller wished = option_map_or (λ end. lanes_left (lanes_of link end) caller wished) (end_of link.callers caller) 0
+left_of link caller wished = option_map_or (λ end. steps_left_on (lanes_of link end) caller wished) (end_of link.callers caller) 0
 
 -- a fact that holds where a step leaves its call under way
 abbrev pub WhereOn : Outcome → Type 0 → Type 0

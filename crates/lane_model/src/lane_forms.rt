@@ -15,7 +15,7 @@ pub trait LaneForm: Drop {
     ghost use Rattle.lane_model.specs.Lanes.{holder, has_call, holds};
     ghost use Rattle.lane_model.specs.Sends.{sender_step};
     ghost use Rattle.lane_model.specs.Receives.{receiver_step};
-    ghost use Rattle.lane_model.specs.Crashes.{needed_holder, turn_out, least_held};
+    ghost use Rattle.lane_model.specs.Crashes.{has_held, needed_holder, turn_out, least_held};
     ghost use Rattle.lane_model.specs.Forms.{FormMeaning, IsForm};
     ghost use Rattle.lane_model.specs.Conditions.{IsFirst, IsFitWork};
     ghost use Rattle.lane_model.specs.Answers.{outcome_of};
@@ -38,6 +38,10 @@ pub trait LaneForm: Drop {
     /// Whether this caller holds the buffer of the message of this number.
     fn holds(&self, number: u64, caller: CallerNo) -> bool
         ensures { result ≡ holds (form.state self.now).lane.held number caller };
+
+    /// Whether this caller holds a buffer.
+    fn has_held(&self, caller: CallerNo) -> bool
+        ensures { result ≡ has_held (form.state self.now).lane.held caller };
 
     /// How many messages were accepted.
     fn accepted(&self) -> u64
@@ -66,14 +70,14 @@ pub trait LaneForm: Drop {
         body: &[u8],
     ) -> Option<CallerNo>
         requires { length head.now + length body.now ≤ MESSAGE_MOST }
-        ensures left { self.new ≡ form.send_begun self.old caller follows (head.now ++ body.now) }
+        ensures left { self.new ≡ form.after_send_start self.old caller follows (head.now ++ body.now) }
         ensures holder { result ≡ holder (form.state self.old).sender };
 
     /// Step 1 of the other calls: takes the receiver's turn where it is free. Answers who else has it.
     fn begin_receive(&mut self, caller: CallerNo, follows: Inc, first: Work) -> Option<CallerNo>
         requires first { IsFirst first }
         requires fit { IsFitWork first (form.state self.old).lane caller }
-        ensures left { self.new ≡ form.receive_begun self.old caller follows first }
+        ensures left { self.new ≡ form.after_receive_start self.old caller follows first }
         ensures holder { result ≡ holder (form.state self.old).receiver };
 
     /// The next step of the send that has the sender's turn. Where it ends, `end` says how.
@@ -107,18 +111,18 @@ pub trait LaneForm: Drop {
 
     /// Ends the send of this caller, where one is under way.
     fn end_send(&mut self, caller: CallerNo)
-        ensures { self.new ≡ form.send_ended self.old caller };
+        ensures { self.new ≡ form.after_send_end self.old caller };
 
     /// Ends the call of this caller that has the receiver's turn, where one has it, and takes back
     /// what it holds.
     fn end_receive(&mut self, caller: CallerNo)
-        ensures { self.new ≡ form.receive_ended self.old caller };
+        ensures { self.new ≡ form.after_receive_end self.old caller };
 
     /// Begins a new incarnation in this room. Answers the book of the one before and to whom its
     /// messages were handed.
     fn reopen(&mut self, room: LaneRoom) -> LaneBook
         requires { room ≡ (form.state self.old).lane.book }
-        ensures left { self.new ≡ form.reopened self.old }
+        ensures left { self.new ≡ form.link_after_reopen self.old }
         ensures accepted { result.accepted.entries ≡ (form.state self.old).lane.accepted }
         ensures takers { result.takers.items ≡ (form.state self.old).lane.takers };
 

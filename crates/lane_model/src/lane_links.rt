@@ -21,7 +21,7 @@ pub struct LaneLink<L> {
 impl<L: LaneForm> LaneLink<L> {
     ghost use Rattle.rp_base.specs.declared.limits.TheConstants.{MESSAGE_MOST};
     ghost use Rattle.lane_model.specs.declared.calls.Wish.TheVariants as wish;
-    ghost use Rattle.lane_model.specs.Links.{link_of, opened, form_step, caller_step, work_begun, end_of, with_caller};
+    ghost use Rattle.lane_model.specs.Links.{link_of, opened, form_step, caller_step, after_work_start, end_of, with_caller};
     ghost use Rattle.lane_model.specs.Conditions.{MayStep, MayWork, is_calling, is_holding};
     ghost use Rattle.lane_model.specs.Forms.{list_form};
     ghost use Rattle.lane_model.specs.WholeCalls.{form_to_end, steps_to_end};
@@ -154,9 +154,9 @@ impl<L: LaneForm> LaneLink<L> {
         end: &mut CallEnd,
     ) -> Step
         requires { MayWork (link_of L.form self.old) (end_of self.old.callers caller) caller first }
-        ensures whole { self.new ≡ (work_begun L.form self.old caller follows first).state }
-        ensures left { link_of L.form self.new ≡ (work_begun (list_form L.Desk.meaning) (link_of L.form self.old) caller follows first).state }
-        ensures outcome { outcome_of result end.new ≡ (work_begun (list_form L.Desk.meaning) (link_of L.form self.old) caller follows first).outcome }
+        ensures whole { self.new ≡ (after_work_start L.form self.old caller follows first).state }
+        ensures left { link_of L.form self.new ≡ (after_work_start (list_form L.Desk.meaning) (link_of L.form self.old) caller follows first).state }
+        ensures outcome { outcome_of result end.new ≡ (after_work_start (list_form L.Desk.meaning) (link_of L.form self.old) caller follows first).outcome }
     {
         let holder = match self.callers[caller as usize] {
             Some(End::Host) => self.to_host.begin_receive(caller, follows, first),

@@ -1,17 +1,21 @@
 //! Laws of the lane machine. Each is the contract of an empty function, and speaks of definitions alone.
 
-ghost use Rattle.std.specs.Prelude.{◌≡◌, ◌≢◌, ℕ, ◌<◌, Option, Some, None, false};
+ghost use Rattle.std.specs.Prelude.{◌≡◌, ◌≢◌, ℕ, ◌<◌, List, Option, Some, None, false};
 ghost use Rattle.rp_base.specs.declared.kinds.End.{End};
+ghost use Rattle.rp_base.specs.declared.kinds.BoundEndpoint.{BoundEndpoint};
 ghost use Rattle.lane_model.specs.declared.calls.Wish.{Wish};
 ghost use Rattle.lane_model.specs.declared.calls.LinkConfig.{LinkConfig};
 ghost use Rattle.lane_model.specs.declared.recoveries.ReclaimPart.{ReclaimPart};
 ghost use Rattle.lane_model.specs.declared.recoveries.LaneTurn.{LaneTurn};
-ghost use Rattle.lane_model.specs.Parts.{part_done, MayPart, lane_taken, lane_left};
+ghost use Rattle.lane_model.specs.Parts.{part_done, MayPart, with_manager, without_manager};
 ghost use Rattle.lane_model.specs.Links.{lanes_of, end_of, LinkState, caller_step, opened_link, with_caller, free_number};
 ghost use Rattle.lane_model.specs.Forms.{list_form};
-ghost use Rattle.lane_model.specs.Recoveries.{closed, reclaimed, reopened, HandsNone, IsEmptyLane};
+ghost use Rattle.lane_model.specs.Recoveries.{link_after_close, link_after_reclaim, link_after_reopen, HandsNone, IsEmptyLane};
 ghost use Rattle.lane_model.specs.Conditions.{MayStep};
 ghost use Rattle.lane_model.specs.Soundness.{SoundLink};
+ghost use Rattle.lane_model.specs.Desks.{IsFreshDesk, IsBound};
+ghost use Rattle.lane_model.specs.Handings.{with_numbers, handed_front, messages_of, due, got, IsPrefix};
+ghost use Rattle.lane_model.specs.Moves.{Move, MayMoves, Recorded, no_handings, after_moves, lane_to, handings_to, IsNewLink, WasBound};
 ghost use Rattle.lane_model.specs.WholeCalls.{WhereOn, left_of, HasEnd, steps_to_end};
 
 use crate::desks::Desk;
@@ -60,18 +64,18 @@ pub fn caller_sound<D: Desk>()
 
 /// A close keeps a link sound.
 pub fn close_sound<D: Desk>()
-    ensures { (link : LinkState D) (inc : ℕ) → SoundLink link → SoundLink (closed link inc) }
+    ensures { (link : LinkState D) (inc : ℕ) → SoundLink link → SoundLink (link_after_close link inc) }
 {}
 
 /// A reclaim, which needs a closed era, keeps a link sound.
 pub fn reclaim_sound<D: Desk>()
     ensures { (link : LinkState D) (caller : ℕ) → link.era.is_live ≡ false → SoundLink link
-        → SoundLink (reclaimed (list_form D.meaning) link caller) }
+        → SoundLink (link_after_reclaim (list_form D.meaning) link caller) }
 {}
 
 /// A reopened link is sound.
 pub fn reopen_sound<D: Desk>()
-    ensures { (link : LinkState D) → SoundLink (reopened (list_form D.meaning) link) }
+    ensures { (link : LinkState D) → SoundLink (link_after_reopen (list_form D.meaning) link) }
 {}
 
 /// No step of a call hands a message over in a closed era.
@@ -82,13 +86,13 @@ pub fn closed_hands_none<D: Desk>()
 
 /// No reclaim hands a message over.
 pub fn reclaim_hands_none<D: Desk>()
-    ensures { (link : LinkState D) (caller : ℕ) → HandsNone link (reclaimed (list_form D.meaning) link caller) }
+    ensures { (link : LinkState D) (caller : ℕ) → HandsNone link (link_after_reclaim (list_form D.meaning) link caller) }
 {}
 
 /// After a reopening both lanes are empty, so what is handed over in an incarnation was accepted in it.
 pub fn fresh<D: Desk>()
-    ensures { (link : LinkState D) → IsEmptyLane (reopened (list_form D.meaning) link).to_host
-        × IsEmptyLane (reopened (list_form D.meaning) link).to_remote }
+    ensures { (link : LinkState D) → IsEmptyLane (link_after_reopen (list_form D.meaning) link).to_host
+        × IsEmptyLane (link_after_reopen (list_form D.meaning) link).to_remote }
 {}
 
 /// Each part of a reclaim, which needs a closed era, keeps a link sound.
@@ -101,7 +105,66 @@ pub fn part_sound<D: Desk>()
 /// A turn that the manager takes or leaves, on either lane, keeps a link sound.
 pub fn manager_sound<D: Desk>()
     ensures takes { (link : LinkState D) (which : LaneTurn) → SoundLink link
-        → SoundLink (record link { to_host = lane_taken link.to_host which }) × SoundLink (record link { to_remote = lane_taken link.to_remote which }) }
+        → SoundLink (record link { to_host = with_manager link.to_host which }) × SoundLink (record link { to_remote = with_manager link.to_remote which }) }
     ensures leaves { (link : LinkState D) (which : LaneTurn) → SoundLink link
-        → SoundLink (record link { to_host = lane_left link.to_host which }) × SoundLink (record link { to_remote = lane_left link.to_remote which }) }
+        → SoundLink (record link { to_host = without_manager link.to_host which }) × SoundLink (record link { to_remote = without_manager link.to_remote which }) }
+{}
+
+/// A new link is at the start of its incarnation.
+pub fn opened_new<D: Desk>()
+    ensures { (config : LinkConfig) (host remote : D) → IsFreshDesk D.meaning host → IsFreshDesk D.meaning remote
+        → IsNewLink D.meaning (opened_link config host remote) }
+{}
+
+/// A reopened link is at the start of its incarnation.
+pub fn reopened_new<D: Desk>()
+    ensures { (link : LinkState D) → IsNewLink D.meaning (link_after_reopen (list_form D.meaning) link) }
+{}
+
+/// What was accepted stays in the book under its number, and what was handed over stays so, whatever befalls the link in its incarnation.
+pub fn book_grows<D: Desk>()
+    ensures { (start : Recorded D) (moves : List Move) (end : End) → SoundLink start.link → MayMoves D.meaning start.link moves
+        → let now = after_moves D.meaning start moves in
+        IsPrefix (lane_to start.link end).lane.accepted (lane_to now.link end).lane.accepted × IsPrefix (handings_to start end) (handings_to now end) }
+{}
+
+/// What a link hands over to an end in an incarnation is, in order, the first messages of the book of that lane: each number once, with
+/// its sender and its bytes, and as many as were handed over.
+pub fn once<D: Desk>()
+    ensures { (start : LinkState D) (moves : List Move) (end : End) → IsNewLink D.meaning start → MayMoves D.meaning start moves
+        → let now = after_moves D.meaning (no_handings start) moves in
+        messages_of (handings_to now end) ≡ with_numbers 0 (handed_front (lane_to now.link end).lane) }
+{}
+
+/// What an endpoint got from a sender, from its binding on, is a prefix of what is due to it. While it is bound, that is all that is due of
+/// the messages that were handed over. Once it is bound no more it gets nothing more, and its address and generation name no other.
+pub fn prefix<D: Desk>()
+    ensures handed { (start : LinkState D) (before since : List Move) (end : End) (bound : BoundEndpoint) (sender : ℕ)
+        → WasBound D.meaning start before since end bound
+        → let now = after_moves D.meaning (after_moves D.meaning (no_handings start) before) since in
+        let lane = lane_to now.link end in
+        IsPrefix (got bound.endpoint sender (handings_to now end)) (due D.meaning lane.desk bound sender lane.lane.accepted) }
+    ensures while_bound { (start : LinkState D) (before since : List Move) (end : End) (bound : BoundEndpoint) (sender : ℕ)
+        → WasBound D.meaning start before since end bound
+        → let now = after_moves D.meaning (after_moves D.meaning (no_handings start) before) since in
+        let lane = lane_to now.link end in
+        IsBound D.meaning lane.desk bound
+        → got bound.endpoint sender (handings_to now end) ≡ due D.meaning lane.desk bound sender (handed_front lane.lane) }
+    ensures unbound { (start : LinkState D) (before since later : List Move) (end : End) (bound : BoundEndpoint) (sender : ℕ)
+        → WasBound D.meaning start before since end bound
+        → let now = after_moves D.meaning (after_moves D.meaning (no_handings start) before) since in
+        (IsBound D.meaning (lane_to now.link end).desk bound → ⊥) → MayMoves D.meaning now.link later
+        → got bound.endpoint sender (handings_to (after_moves D.meaning now later) end) ≡ got bound.endpoint sender (handings_to now end) }
+    ensures same { (start : LinkState D) (before since : List Move) (end : End) (bound other : BoundEndpoint)
+        → WasBound D.meaning start before since end bound
+        → let now = after_moves D.meaning (after_moves D.meaning (no_handings start) before) since in
+        IsBound D.meaning (lane_to now.link end).desk other → other.endpoint ≡ bound.endpoint → other ≡ bound }
+{}
+
+/// From a close on, whatever befalls the link in that incarnation, nothing is handed over to either end.
+pub fn closed<D: Desk>()
+    ensures handings { (start : Recorded D) (moves : List Move) (end : End) → start.link.era.is_live ≡ false
+        → handings_to (after_moves D.meaning start moves) end ≡ handings_to start end }
+    ensures takers { (start : Recorded D) (moves : List Move) → start.link.era.is_live ≡ false
+        → HandsNone start.link (after_moves D.meaning start moves).link }
 {}

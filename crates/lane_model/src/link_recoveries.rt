@@ -1,7 +1,7 @@
 ghost use Rattle.std.specs.Prelude.{◌≡◌, ◌⊎◌, length, Some, None, IfOk, IfErr};
 ghost use Rattle.std.specs.Option.{option_map, option_or};
 ghost use Rattle.lane_model.specs.declared.recoveries.ReopenFault.TheVariants as reopen_fault;
-ghost use Rattle.lane_model.specs.Recoveries.{closed, unclosed_by, unreclaimed_by, handed_back, reclaimed, unopened_by, reopened};
+ghost use Rattle.lane_model.specs.Recoveries.{link_after_close, unclosed_by, unreclaimed_by, handed_back, link_after_reclaim, unopened_by, link_after_reopen};
 
 use crate::helds::Held;
 use crate::lane_forms::LaneForm;
@@ -17,8 +17,8 @@ impl<L: LaneForm> LaneLink<L> {
 
     /// Closes this incarnation. It is refused exactly where the era is another one, or closed.
     pub fn close(&mut self, inc: Inc) -> Result<(), Already>
-        ensures whole { self.new ≡ closed self.old inc }
-        ensures left { link_of L.form self.new ≡ closed (link_of L.form self.old) inc }
+        ensures whole { self.new ≡ link_after_close self.old inc }
+        ensures left { link_of L.form self.new ≡ link_after_close (link_of L.form self.old) inc }
         ensures done { IfOk result (λ _. unclosed_by self.old.era inc ≡ None) }
         ensures refused { IfErr result (λ already. unclosed_by self.old.era inc ≡ Some already.0) }
     {
@@ -53,8 +53,8 @@ impl<L: LaneForm> LaneLink<L> {
     /// Ends a caller whom nothing keeps from being reclaimed: its call is gone, its turn is free, what
     /// it held is back, and its number is free.
     pub fn end_caller(&mut self, caller: CallerNo)
-        ensures whole { self.new ≡ reclaimed L.form self.old caller }
-        ensures left { link_of L.form self.new ≡ reclaimed (list_form L.Desk.meaning) (link_of L.form self.old) caller }
+        ensures whole { self.new ≡ link_after_reclaim L.form self.old caller }
+        ensures left { link_of L.form self.new ≡ link_after_reclaim (list_form L.Desk.meaning) (link_of L.form self.old) caller }
     {
         match self.end_of(u64::from(caller)) {
             None => return,
@@ -78,8 +78,8 @@ impl<L: LaneForm> LaneLink<L> {
         call: Option<LinkCall>,
         held: Vec<Held>,
     ) -> Result<(), ReclaimByFault<LinkCall>>
-        ensures done { IfOk result (λ _. (unreclaimed_by (link_of L.form self.old) caller ≡ None) × (self.new ≡ reclaimed L.form self.old caller)) }
-        ensures left { IfOk result (λ _. link_of L.form self.new ≡ reclaimed (list_form L.Desk.meaning) (link_of L.form self.old) caller) }
+        ensures done { IfOk result (λ _. (unreclaimed_by (link_of L.form self.old) caller ≡ None) × (self.new ≡ link_after_reclaim L.form self.old caller)) }
+        ensures left { IfOk result (λ _. link_of L.form self.new ≡ link_after_reclaim (list_form L.Desk.meaning) (link_of L.form self.old) caller) }
         ensures refused { IfErr result (λ fault. (self.new ≡ self.old)
             × (option_map (λ why. handed_back call held why) (unreclaimed_by (link_of L.form self.old) caller) ≡ Some fault)) }
     {
@@ -120,8 +120,8 @@ impl<L: LaneForm> LaneLink<L> {
         ensures refused { IfErr result (λ fault. (self.new ≡ self.old) × ((unopened_by (link_of L.form self.old) ≡ Some fault)
             ⊎ ((fault ≡ reopen_fault.NoMemory) × (unopened_by (link_of L.form self.old) ≡ None)))) }
         ensures open { IfOk result (λ _. unopened_by (link_of L.form self.old) ≡ None) }
-        ensures whole { IfOk result (λ _. self.new ≡ reopened L.form self.old) }
-        ensures left { IfOk result (λ _. link_of L.form self.new ≡ reopened (list_form L.Desk.meaning) (link_of L.form self.old)) }
+        ensures whole { IfOk result (λ _. self.new ≡ link_after_reopen L.form self.old) }
+        ensures left { IfOk result (λ _. link_of L.form self.new ≡ link_after_reopen (list_form L.Desk.meaning) (link_of L.form self.old)) }
         ensures inc { IfOk result (λ books. books.inc ≡ self.old.era.inc) }
         ensures to_host { IfOk result (λ books. (books.to_host.entries ≡ (L.form.state self.old.to_host).lane.accepted)
             × (books.to_host_takers.items ≡ (L.form.state self.old.to_host).lane.takers)

@@ -66,7 +66,7 @@ impl<D: Desk> ListLane<D> {
     ghost use Rattle.lane_model.specs.Lanes.{call_of, message_at};
     ghost use Rattle.lane_model.specs.Sends.{sender_step, with_accepted};
     ghost use Rattle.lane_model.specs.AtOnce.{SendsAtOnce, TakesAtOnce, took_next};
-    ghost use Rattle.lane_model.specs.Receives.{receiver_step, take_handed, with_handed, with_returned};
+    ghost use Rattle.lane_model.specs.Receives.{receiver_step, after_handing, with_handed, with_returned};
     ghost use Rattle.lane_model.specs.Crashes.{opened_lane};
     ghost use Rattle.lane_model.specs.Conditions.{HasMessageAt, IsFitWork};
     ghost use Rattle.lane_model.specs.Answers.{outcome_of};
@@ -168,7 +168,7 @@ impl<D: Desk> ListLane<D> {
     pub fn hand(&mut self, message: &Message)
         requires found { message.now ≡ message_at self.old.lane.accepted (length self.old.lane.takers) }
         requires turn { option_map (λ (r : Receiving). r.work) (call_of self.old.receiver) ≡ Some (work.Take take_stage.Buffer) }
-        ensures { (caller : ℕ) (r : Receiving) → self.old.receiver ≡ turn.Taken caller r → self.new ≡ take_handed D.meaning self.old caller }
+        ensures { (caller : ℕ) (r : Receiving) → self.old.receiver ≡ turn.Taken caller r → self.new ≡ after_handing D.meaning self.old caller }
     {
         let Turn::Taken(caller, _) = self.receiver else {
             unreachable!();
@@ -342,7 +342,7 @@ impl<D: Desk> ListLane<D> {
     /// Hands over the next message of the book.
     fn hand_next(&mut self)
         requires turn { option_map (λ (r : Receiving). r.work) (call_of self.old.receiver) ≡ Some (work.Take take_stage.Buffer) }
-        ensures { (caller : ℕ) (r : Receiving) → self.old.receiver ≡ turn.Taken caller r → self.new ≡ take_handed D.meaning self.old caller }
+        ensures { (caller : ℕ) (r : Receiving) → self.old.receiver ≡ turn.Taken caller r → self.new ≡ after_handing D.meaning self.old caller }
     {
         let Turn::Taken(caller, _) = self.receiver else {
             unreachable!();
@@ -440,13 +440,13 @@ impl<D: Desk> LaneForm for ListLane<D> {
     ghost form = { list_form D.meaning };
 
     ghost is_form = { record {
-      send_begun = λ lane caller follows message. refl;
-      receive_begun = λ lane caller follows first. refl;
+      after_send_start = λ lane caller follows message. refl;
+      after_receive_start = λ lane caller follows first. refl;
       sent_on = λ lane era. refl;
       received_on = λ lane era. refl;
-      send_ended = λ lane caller. refl;
-      receive_ended = λ lane caller. refl;
-      reopened = λ lane. refl;
+      after_send_end = λ lane caller. refl;
+      after_receive_end = λ lane caller. refl;
+      link_after_reopen = λ lane. refl;
     } };
 
     fn is_sending(&self, caller: CallerNo) -> bool {
@@ -575,6 +575,10 @@ impl<D: Desk> LaneForm for ListLane<D> {
 
     fn book(&self) -> u32 {
         self.accepted.room()
+    }
+
+    fn has_held(&self, caller: CallerNo) -> bool {
+        has_held(&self.held, caller)
     }
 
     fn needed_holder(&self, caller: CallerNo) -> Option<CallerNo> {

@@ -16,7 +16,7 @@ use Rattle.lane_model.specs.declared.stages.Turn.TheVariants as turn
 use Rattle.lane_model.specs.Lanes.{holder, message_at}
 use Rattle.lane_model.specs.Desks.{DeskMeaning}
 use Rattle.lane_model.specs.Sends.{with_accepted}
-use Rattle.lane_model.specs.Receives.{take_handed, with_handed, with_returned}
+use Rattle.lane_model.specs.Receives.{after_handing, with_handed, with_returned}
 use Rattle.lane_model.specs.Conditions.{IsFitWork}
 use Rattle.lane_model.specs.AtOnce.{after_send, after_take, after_give, SendsAtOnce, TakesAtOnce}
 use Rattle.lane_model.proofs.AtOnce.{free_is, live_in}
@@ -43,7 +43,7 @@ ring_sent D meaning s era caller message may live =
     let call : SendStage → Turn Sending = λ last. turn.Taken caller (record { follows = era.inc; message = message; stage = last }) in
     let left : Turn Sending → RingState D = λ t. record { lane = record s.lane { lane = with_accepted s.lane.lane caller message; sender = t }; rings = sent_rings s.rings accepted message } in
     let free = free_is s.lane.sender may.free in
-    let b : (ring_form meaning).send_begun s caller era.inc message ≡ at (call stage.Turn) = ap (λ (t : Turn Sending). (ring_form meaning).send_begun (at t) caller era.inc message) free in
+    let b : (ring_form meaning).after_send_start s caller era.inc message ≡ at (call stage.Turn) = ap (λ (t : Turn Sending). (ring_form meaning).after_send_start (at t) caller era.inc message) free in
     let e1 : on (at (call stage.Turn)) ≡ at (call stage.Era) = ap (λ v. at (cond v (call stage.Era) (turn.Leaving caller (end.Dead era)))) (live_in era live) in
     let e2 : on (at (call stage.Era)) ≡ at (call stage.Look) =
     ap₂ (λ v w. at (cond v (turn.Leaving caller (end.NoBuffer accepted s.lane.lane.returned)) (cond w (turn.Leaving caller (end.BookFull accepted)) (call stage.Look)))) may.room may.book in
@@ -74,15 +74,15 @@ ring_taken D meaning s era caller may live =
     } in
     let out : RingState D = record { lane = record s.lane { receiver = call (work.Take take_stage.Buffer) }; rings = take_leaves s.rings handed true caller take_stage.Look } in
     let free = free_is s.lane.receiver may.free in
-    let b : (ring_form meaning).receive_begun s caller era.inc (work.Take take_stage.Turn) ≡ at (call (work.Take take_stage.Turn)) =
-    ap (λ (t : Turn Receiving). (ring_form meaning).receive_begun (at t) caller era.inc (work.Take take_stage.Turn)) free in
+    let b : (ring_form meaning).after_receive_start s caller era.inc (work.Take take_stage.Turn) ≡ at (call (work.Take take_stage.Turn)) =
+    ap (λ (t : Turn Receiving). (ring_form meaning).after_receive_start (at t) caller era.inc (work.Take take_stage.Turn)) free in
     let e1 : on (at (call (work.Take take_stage.Turn))) ≡ at (call (work.Take take_stage.Era)) =
     ap (λ v. at (cond v (call (work.Take take_stage.Era)) (turn.Leaving caller (end.Dead era)))) (live_in era live) in
     let e2 : on (at (call (work.Take take_stage.Era))) ≡ at (call (work.Take take_stage.Look)) =
     ap (λ v. at (cond v (turn.Leaving caller (end.Empty (length s.lane.lane.accepted))) (call (work.Take take_stage.Look)))) may.some in
-    let e3 : on out ≡ record { lane = take_handed meaning out.lane caller; rings = taken_rings s.rings handed caller } =
+    let e3 : on out ≡ record { lane = after_handing meaning out.lane caller; rings = taken_rings s.rings handed caller } =
     ap (λ v. record {
-      lane = cond v (take_handed meaning out.lane caller) (record out.lane { receiver = turn.Leaving caller (end.Dead era) });
+      lane = cond v (after_handing meaning out.lane caller) (record out.lane { receiver = turn.Leaving caller (end.Dead era) });
       rings = take_leaves out.rings handed v caller take_stage.Buffer;
     }) (live_in era live) in
     let all : after_take (ring_form meaning) s era caller ≡ left turn.Free =
@@ -102,7 +102,7 @@ ring_given D meaning s era caller number may =
     let left : Turn Receiving → RingState D = λ t. record { lane = record s.lane { lane = with_returned s.lane.lane number caller; receiver = t }; rings = given_rings s.rings s.lane.lane.returned number } in
     let free = free_is s.lane.receiver may in
     let all : after_give (ring_form meaning) s era caller number ≡ left turn.Free =
-    ap (λ (t : Turn Receiving). on (on (on ((ring_form meaning).receive_begun (at t) caller era.inc (work.Give number give_stage.Turn))))) free in
+    ap (λ (t : Turn Receiving). on (on (on ((ring_form meaning).after_receive_start (at t) caller era.inc (work.Give number give_stage.Turn))))) free in
     ap left free ∙ sym all
 
 -- whole calls keep the rings sound

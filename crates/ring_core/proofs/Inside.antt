@@ -17,7 +17,7 @@ use Rattle.lane_model.specs.declared.stages.Turn.TheVariants as turn
 use Rattle.lane_model.specs.Lanes.{holder, has_call, is_live_in, message_at}
 use Rattle.lane_model.specs.Desks.{DeskMeaning}
 use Rattle.lane_model.specs.Sends.{sender_step}
-use Rattle.lane_model.specs.Receives.{receiver_step, take_handed}
+use Rattle.lane_model.specs.Receives.{receiver_step, after_handing}
 use Rattle.ring_core.specs.declared.states.Rings.{Rings}
 use Rattle.ring_core.specs.declared.states.RingState.{RingState}
 use Rattle.ring_core.specs.declared.ring_lanes.RingLane.TheInside.{Inside}
@@ -162,20 +162,20 @@ taking_at s sound at =
 -- the state after the handing, in the incarnation that the take follows, live
 handed_parts : (D : Type 0) (meaning : DeskMeaning D) (lane : Lane) (sender : Turn Sending) (receiver : Turn Receiving) (desk : D) (rings : Rings) (era : Era) (caller follows : ℕ)
     → receiver ≡ turn.Taken caller (record { follows = follows; work = work.Take take_stage.Buffer }) → is_live_in era follows ≡ true
-    → record { lane = take_handed meaning (record { lane = lane; sender = sender; receiver = receiver; desk = desk }) caller; rings = take_leaves rings (length lane.takers) true caller take_stage.Buffer }
+    → record { lane = after_handing meaning (record { lane = lane; sender = sender; receiver = receiver; desk = desk }) caller; rings = take_leaves rings (length lane.takers) true caller take_stage.Buffer }
     ≡ (ring_form meaning).received_on (record { lane = record { lane = lane; sender = sender; receiver = receiver; desk = desk }; rings = rings }) era
 handed_parts D meaning lane sender receiver desk rings era caller follows turn_is live =
     let at : Turn Receiving → RingState D = λ t. record { lane = record { lane = lane; sender = sender; receiver = t; desk = desk }; rings = rings } in
     let taken : Turn Receiving = turn.Taken caller (record { follows = follows; work = work.Take take_stage.Buffer }) in
     sym (ap (λ (t : Turn Receiving). (ring_form meaning).received_on (at t) era) turn_is
     ∙ ap (λ b. record {
-      lane = cond b (take_handed meaning (at taken).lane caller) (record { lane = lane; sender = sender; receiver = turn.Leaving caller (end.Dead era); desk = desk });
+      lane = cond b (after_handing meaning (at taken).lane caller) (record { lane = lane; sender = sender; receiver = turn.Leaving caller (end.Dead era); desk = desk });
       rings = take_leaves rings (length lane.takers) b caller take_stage.Buffer;
     }) live)
 
 pub handed_at : (D : Type 0) (meaning : DeskMeaning D) (s : RingState D) (era : Era) (caller follows : ℕ) (after : LaneState D) (rings : Rings)
     → s.lane.receiver ≡ turn.Taken caller (record { follows = follows; work = work.Take take_stage.Buffer }) → is_live_in era follows ≡ true
-    → after ≡ take_handed meaning s.lane caller → rings ≡ take_leaves s.rings (length s.lane.lane.takers) true caller take_stage.Buffer
+    → after ≡ after_handing meaning s.lane caller → rings ≡ take_leaves s.rings (length s.lane.lane.takers) true caller take_stage.Buffer
     → record { lane = after; rings = rings } ≡ (ring_form meaning).received_on s era
 handed_at D meaning s era caller follows after rings turn_is live lane left =
     ap₂ (λ (x : LaneState D) (y : Rings). record { lane = x; rings = y }) lane left

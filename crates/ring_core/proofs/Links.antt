@@ -13,7 +13,7 @@ use Rattle.lane_model.specs.Links.{send_later, receive_later}
 use Rattle.lane_model.specs.declared.lane_links.LaneLink.{LaneLink}
 use Rattle.lane_model.specs.Desks.{DeskMeaning}
 use Rattle.lane_model.specs.Lanes.{has_call, is_live_in}
-use Rattle.lane_model.specs.Recoveries.{closed, reclaimed, reopened, without_caller}
+use Rattle.lane_model.specs.Recoveries.{link_after_close, link_after_reclaim, link_after_reopen, without_caller}
 use Rattle.ring_core.proofs.Reclaims.{send_ended_sound, receive_ended_sound, reopened_sound}
 use Rattle.lane_model.specs.Links.{Lanes, lanes_of, lanes_step, on_lanes, end_of, form_step, link_of}
 use Rattle.lane_model.specs.Conditions.{MayLanesStep, MayEndStep, MayStep, IsConfig}
@@ -94,7 +94,7 @@ close_if : {D : Type 0} (b : Bool) (link : LaneLink (RingState D)) (inc : ℕ) �
 close_if true link inc sound = record { to_host = sound.to_host; to_remote = sound.to_remote }
 close_if false link inc sound = sound
 
-pub close_kept : {D : Type 0} (link : LaneLink (RingState D)) (inc : ℕ) → HasSoundRings link → HasSoundRings (closed link inc)
+pub close_kept : {D : Type 0} (link : LaneLink (RingState D)) (inc : ℕ) → HasSoundRings link → HasSoundRings (link_after_close link inc)
 close_kept link inc sound = close_if (is_live_in link.era inc) link inc sound
 
 reclaim_at : {D : Type 0} (meaning : DeskMeaning D) (link : LaneLink (RingState D)) (end : Option End) (caller : ℕ) → HasSoundRings link → HasSoundRings (without_caller (ring_form meaning) link end caller)
@@ -104,8 +104,8 @@ reclaim_at meaning link (Some side.Remote) caller sound =
     record { to_host = send_ended_sound meaning link.to_host caller sound.to_host; to_remote = receive_ended_sound meaning link.to_remote caller sound.to_remote }
 reclaim_at meaning link None caller sound = sound
 
-pub reclaim_kept : {D : Type 0} (meaning : DeskMeaning D) (link : LaneLink (RingState D)) (caller : ℕ) → HasSoundRings link → HasSoundRings (reclaimed (ring_form meaning) link caller)
+pub reclaim_kept : {D : Type 0} (meaning : DeskMeaning D) (link : LaneLink (RingState D)) (caller : ℕ) → HasSoundRings link → HasSoundRings (link_after_reclaim (ring_form meaning) link caller)
 reclaim_kept meaning link caller sound = reclaim_at meaning link (end_of link.callers caller) caller sound
 
-pub reopen_kept : {D : Type 0} (meaning : DeskMeaning D) (link : LaneLink (RingState D)) → HasSoundRings link → HasSoundRings (reopened (ring_form meaning) link)
+pub reopen_kept : {D : Type 0} (meaning : DeskMeaning D) (link : LaneLink (RingState D)) → HasSoundRings link → HasSoundRings (link_after_reopen (ring_form meaning) link)
 reopen_kept meaning link sound = record { to_host = reopened_sound meaning link.to_host sound.to_host; to_remote = reopened_sound meaning link.to_remote sound.to_remote }

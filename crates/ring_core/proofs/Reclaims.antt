@@ -31,7 +31,7 @@ both P Q (turn.Leaving caller end) p q = tt
 both P Q turn.Manager p q = tt
 
 -- without the send of a caller
-pub send_ended_sound : {D : Type 0} (meaning : DeskMeaning D) (s : RingState D) (caller : ℕ) → IsSoundRings s → IsSoundRings ((ring_form meaning).send_ended s caller)
+pub send_ended_sound : {D : Type 0} (meaning : DeskMeaning D) (s : RingState D) (caller : ℕ) → IsSoundRings s → IsSoundRings ((ring_form meaning).after_send_end s caller)
 send_ended_sound meaning s caller sound =
     let room : ℕ → Sending → Type 0 = λ other send. HasRoomAt send.stage s.lane.lane in
     let source : ℕ → Sending → Type 0 = λ other send. HasSource s.rings.sizes s.rings.forward s.rings.returns s.rings.buffers s.rings.sending (length s.lane.lane.accepted) send.message send.stage in
@@ -64,7 +64,7 @@ work_stands sizes forward returns hands taking handed returned caller other (wor
 work_stands sizes forward returns hands taking handed returned caller other (work.Unbind address) lane holdings apart differ fit has = tt
 
 -- without the call of a caller that has the receiver's turn, and with its buffers aside
-pub receive_ended_sound : {D : Type 0} (meaning : DeskMeaning D) (s : RingState D) (caller : ℕ) → IsSoundRings s → IsSoundRings ((ring_form meaning).receive_ended s caller)
+pub receive_ended_sound : {D : Type 0} (meaning : DeskMeaning D) (s : RingState D) (caller : ℕ) → IsSoundRings s → IsSoundRings ((ring_form meaning).after_receive_end s caller)
 receive_ended_sound meaning s caller sound =
     let rings = s.rings in
     let lane = s.lane.lane in
@@ -103,7 +103,7 @@ receive_ended_sound meaning s caller sound =
     }
 
 -- a new incarnation
-pub reopened_sound : {D : Type 0} (meaning : DeskMeaning D) (s : RingState D) → IsSoundRings s → IsSoundRings ((ring_form meaning).reopened s)
+pub reopened_sound : {D : Type 0} (meaning : DeskMeaning D) (s : RingState D) → IsSoundRings s → IsSoundRings ((ring_form meaning).link_after_reopen s)
 reopened_sound {D} meaning s sound =
     let sized = sound.sized in
     let sizes = s.rings.sizes in

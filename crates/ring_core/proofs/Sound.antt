@@ -23,8 +23,8 @@ use Rattle.lane_model.specs.declared.calls.CallEnd.{CallEnd}
 use Rattle.lane_model.specs.Lanes.{is_live_in, message_at, holds, without, OfCall}
 use Rattle.lane_model.specs.Desks.{DeskMeaning}
 use Rattle.lane_model.specs.Conditions.{HasRoomAt, HasRoom, HasMessageAt, IsFitWork, IsFitReceiver, IsFirst}
-use Rattle.lane_model.specs.Sends.{send_begun, with_accepted, after_send_era, after_send_look}
-use Rattle.lane_model.specs.Receives.{receive_begun, with_handed, with_returned, after_take_era, after_take_look}
+use Rattle.lane_model.specs.Sends.{after_send_start, with_accepted, after_send_era, after_send_look}
+use Rattle.lane_model.specs.Receives.{after_receive_start, with_handed, with_returned, after_take_era, after_take_look}
 use Rattle.vring_layout.specs.declared.words.UsedWord.{UsedWord}
 use Rattle.ring_core.specs.declared.states.Hand.{Hand}
 use Rattle.ring_core.specs.declared.states.RingSizes.{RingSizes}
@@ -527,14 +527,14 @@ received_on_sound meaning s era sound = receiver_sound meaning s.lane.lane s.lan
 -- step 1 of a send
 send-begun : {D : Type 0} (lane : Lane) (sender : Turn Sending) (receiver : Turn Receiving) (desk : D) (rings : Rings) (caller follows : ℕ) (message : List ℕ)
     → IsSoundRings (made lane sender receiver desk rings)
-    → IsSoundRings (record { lane = send_begun (record { lane = lane; sender = sender; receiver = receiver; desk = desk }) caller follows message; rings = rings })
+    → IsSoundRings (record { lane = after_send_start (record { lane = lane; sender = sender; receiver = receiver; desk = desk }) caller follows message; rings = rings })
 send-begun lane turn.Free receiver desk rings caller follows message sound = send-turned lane receiver desk rings turn.Free (turn.Taken caller (record { follows = follows; message = message; stage = stage.Turn })) sound (λ sought. absurd (cc)) tt
 send-begun lane (turn.Taken other send) receiver desk rings caller follows message sound = sound
 send-begun lane (turn.Leaving other end) receiver desk rings caller follows message sound = sound
 send-begun lane turn.Manager receiver desk rings caller follows message sound = sound
 
 pub send_begun_sound : {D : Type 0} (meaning : DeskMeaning D) (s : RingState D) (caller follows : ℕ) (message : List ℕ) → IsSoundRings s
-    → IsSoundRings ((ring_form meaning).send_begun s caller follows message)
+    → IsSoundRings ((ring_form meaning).after_send_start s caller follows message)
 send_begun_sound meaning s caller follows message sound = send-begun s.lane.lane s.lane.sender s.lane.receiver s.lane.desk s.rings caller follows message sound
 
 -- a call that has done its first step has read and stored nothing
@@ -548,7 +548,7 @@ work-first sizes forward returns hands taking handed returned (work.Unbind addre
 -- step 1 of the other calls
 receive-begun : {D : Type 0} (lane : Lane) (sender : Turn Sending) (receiver : Turn Receiving) (desk : D) (rings : Rings) (caller follows : ℕ) (first : Work)
     → IsFirst first → IsFitWork first lane caller → IsSoundRings (made lane sender receiver desk rings)
-    → IsSoundRings (record { lane = receive_begun (record { lane = lane; sender = sender; receiver = receiver; desk = desk }) caller follows first; rings = rings })
+    → IsSoundRings (record { lane = after_receive_start (record { lane = lane; sender = sender; receiver = receiver; desk = desk }) caller follows first; rings = rings })
 receive-begun lane sender turn.Free desk rings caller follows first is_first fit sound =
     receive-turned lane sender rings desk desk turn.Free (turn.Taken caller (record { follows = follows; work = first })) sound fit
     (work-first rings.sizes rings.forward rings.returns rings.hands rings.taking (length lane.takers) lane.returned first is_first)
@@ -557,6 +557,6 @@ receive-begun lane sender (turn.Leaving other end) desk rings caller follows fir
 receive-begun lane sender turn.Manager desk rings caller follows first is_first fit sound = sound
 
 pub receive_begun_sound : {D : Type 0} (meaning : DeskMeaning D) (s : RingState D) (caller follows : ℕ) (first : Work) → IsFirst first → IsFitWork first s.lane.lane caller → IsSoundRings s
-    → IsSoundRings ((ring_form meaning).receive_begun s caller follows first)
+    → IsSoundRings ((ring_form meaning).after_receive_start s caller follows first)
 receive_begun_sound meaning s caller follows first is_first fit sound =
     receive-begun s.lane.lane s.lane.sender s.lane.receiver s.lane.desk s.rings caller follows first is_first fit sound

@@ -16,9 +16,9 @@ use Rattle.lane_model.specs.declared.stages.GiveStage.TheVariants as give_stage
 use Rattle.lane_model.specs.Lanes.{is_live_in}
 use Rattle.lane_model.specs.Desks.{DeskMeaning}
 use Rattle.lane_model.specs.Forms.{FormMeaning}
-use Rattle.lane_model.specs.Sends.{send_begun, sender_step}
-use Rattle.lane_model.specs.Receives.{receive_begun, receiver_step}
-use Rattle.lane_model.specs.Crashes.{send_ended, receive_ended, reopened_lane}
+use Rattle.lane_model.specs.Sends.{after_send_start, sender_step}
+use Rattle.lane_model.specs.Receives.{after_receive_start, receiver_step}
+use Rattle.lane_model.specs.Crashes.{after_send_end, after_receive_end, reopened_lane}
 use Rattle.ring_core.specs.declared.states.Hand.{Hand}
 use Rattle.ring_core.specs.declared.states.Rings.{Rings}
 use Rattle.ring_core.specs.declared.states.RingState.{RingState}
@@ -96,8 +96,8 @@ hands_of_others hands caller = filter (λ hand. not (hand.caller == caller)) han
 abbrev pub ring_form : {D : Type 0} → DeskMeaning D → FormMeaning (RingState D) D
 ring_form desk = record {
   state = λ s. s.lane;
-  send_begun = λ s caller follows message. record s { lane = send_begun s.lane caller follows message };
-  receive_begun = λ s caller follows first. record s { lane = receive_begun s.lane caller follows first };
+  after_send_start = λ s caller follows message. record s { lane = after_send_start s.lane caller follows message };
+  after_receive_start = λ s caller follows first. record s { lane = after_receive_start s.lane caller follows first };
   sent_on = λ s era. record {
     lane = (sender_step era s.lane).state;
     rings = by_call s.lane.sender s.rings (λ caller call. send_leaves s.rings (length s.lane.lane.accepted) call.message call.stage);
@@ -106,13 +106,13 @@ ring_form desk = record {
     lane = (receiver_step desk era s.lane).state;
     rings = by_call s.lane.receiver s.rings (λ caller call. receive_leaves s (is_live_in era call.follows) caller call.work);
   };
-  send_ended = λ s caller. record s { lane = send_ended s.lane caller };
-  receive_ended = λ s caller. record {
-    lane = receive_ended s.lane caller;
+  after_send_end = λ s caller. record s { lane = after_send_end s.lane caller };
+  after_receive_end = λ s caller. record {
+    lane = after_receive_end s.lane caller;
     rings = record s.rings {
       hands = hands_of_others s.rings.hands caller;
       aside = s.rings.aside ++ buffers_of s.rings.hands caller;
     };
   };
-  reopened = λ s. record { lane = reopened_lane desk s.lane; rings = opened_rings s.rings.sizes s.rings.buffers };
+  link_after_reopen = λ s. record { lane = reopened_lane desk s.lane; rings = opened_rings s.rings.sizes s.rings.buffers };
 }

@@ -5,7 +5,7 @@ ghost use Rattle.lane_model.specs.declared.calls.LinkConfig.{LinkConfig};
 ghost use Rattle.lane_model.specs.declared.calls.Wish.{Wish};
 ghost use Rattle.lane_model.specs.declared.lane_links.LaneLink.{LaneLink};
 ghost use Rattle.lane_model.specs.Links.{form_step, link_of};
-ghost use Rattle.lane_model.specs.Recoveries.{closed, reclaimed, reopened};
+ghost use Rattle.lane_model.specs.Recoveries.{link_after_close, link_after_reclaim, link_after_reopen};
 ghost use Rattle.lane_model.specs.Conditions.{IsConfig, MayStep};
 ghost use Rattle.lane_model.specs.Soundness.{SoundLink};
 ghost use Rattle.ring_core.specs.declared.states.RingState.{RingState};
@@ -41,16 +41,16 @@ pub fn sound_kept<D: Desk>()
 
 /// A close keeps the rings of a link sound.
 pub fn close_sound<D: Desk>()
-    ensures { (link : LaneLink (RingState D)) (inc : ℕ) → HasSoundRings link → HasSoundRings (closed link inc) }
+    ensures { (link : LaneLink (RingState D)) (inc : ℕ) → HasSoundRings link → HasSoundRings (link_after_close link inc) }
 {}
 
 /// A reclaim keeps the rings of a link sound, so each buffer has one owner still.
 pub fn reclaim_sound<D: Desk>()
-    ensures { (link : LaneLink (RingState D)) (caller : ℕ) → HasSoundRings link → HasSoundRings (reclaimed (ring_form D.meaning) link caller) }
+    ensures { (link : LaneLink (RingState D)) (caller : ℕ) → HasSoundRings link → HasSoundRings (link_after_reclaim (ring_form D.meaning) link caller) }
 {}
 
 /// A reopening keeps the rings of a link sound, and leaves no buffer aside.
 pub fn reopen_sound<D: Desk>()
-    ensures sound { (link : LaneLink (RingState D)) → HasSoundRings link → HasSoundRings (reopened (ring_form D.meaning) link) }
-    ensures aside { (link : LaneLink (RingState D)) → ((reopened (ring_form D.meaning) link).to_host.rings.aside ≡ []) × ((reopened (ring_form D.meaning) link).to_remote.rings.aside ≡ []) }
+    ensures sound { (link : LaneLink (RingState D)) → HasSoundRings link → HasSoundRings (link_after_reopen (ring_form D.meaning) link) }
+    ensures aside { (link : LaneLink (RingState D)) → ((link_after_reopen (ring_form D.meaning) link).to_host.rings.aside ≡ []) × ((link_after_reopen (ring_form D.meaning) link).to_remote.rings.aside ≡ []) }
 {}

@@ -349,13 +349,13 @@ impl<D: Desk> LaneForm for RingLane<D> {
     ghost form = { ring_form D.meaning };
 
     ghost is_form = { record {
-      send_begun = λ lane caller follows message. refl;
-      receive_begun = λ lane caller follows first. refl;
+      after_send_start = λ lane caller follows message. refl;
+      after_receive_start = λ lane caller follows first. refl;
       sent_on = λ lane era. refl;
       received_on = λ lane era. refl;
-      send_ended = λ lane caller. refl;
-      receive_ended = λ lane caller. refl;
-      reopened = λ lane. refl;
+      after_send_end = λ lane caller. refl;
+      after_receive_end = λ lane caller. refl;
+      link_after_reopen = λ lane. refl;
     } };
 
     fn is_sending(&self, caller: CallerNo) -> bool {
@@ -438,6 +438,10 @@ impl<D: Desk> LaneForm for RingLane<D> {
 
     fn book(&self) -> u32 {
         self.lane.book()
+    }
+
+    fn has_held(&self, caller: CallerNo) -> bool {
+        self.lane.has_held(caller)
     }
 
     fn needed_holder(&self, caller: CallerNo) -> Option<CallerNo> {

@@ -1,0 +1,8 @@
+use Rattle.lane_model.proofs.LinkRuns.{moves_hand_none, moves_record_none}
+use Rattle.lane_model.proofs.laws.closed.Goals as goal
+
+pub returns : goal.returns
+returns g c = record {
+  handings = λ start moves end shut. moves_record_none g.D.Desk.meaning start moves end shut;
+  takers = λ start moves shut. moves_hand_none g.D.Desk.meaning start moves shut;
+}
