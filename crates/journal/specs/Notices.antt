@@ -5,6 +5,7 @@ use Rattle.word_kinds.specs.Texts.{Word, Fixed, Name, Number, Digits}
 use Rattle.word_kinds.specs.Lines.{line_of}
 use Rattle.word_kinds.specs.declared.causes.Cause.{Cause}
 use Rattle.word_kinds.specs.declared.causes.Cause.TheVariants as cause
+use Rattle.journal.specs.TableLines.{table_words}
 use Rattle.journal.specs.declared.notices.Notice.{Notice}
 use Rattle.journal.specs.declared.notices.Notice.TheVariants as notice
 
@@ -29,10 +30,10 @@ notice_words (notice.Missing name) = Fixed (codes "missing") ∷ Name name ∷ [
 notice_words (notice.TooLarge name) = Fixed (codes "too-large") ∷ Name name ∷ []
 notice_words (notice.Fault number None) = Fixed (codes "fault") ∷ Number number ∷ []
 notice_words (notice.Fault number (Some index)) = Fixed (codes "fault") ∷ Number number ∷ Number index ∷ []
-notice_words notice.TableUnread = Fixed (codes "table unread") ∷ []
 notice_words (notice.Start entry) = Fixed (codes "start") ∷ Digits entry ∷ []
 notice_words (notice.Segment index da file_len memory_len) =
     Fixed (codes "segment") ∷ Number index ∷ Digits da ∷ Number file_len ∷ Number memory_len ∷ []
+notice_words (notice.Table line) = table_words line
 notice_words notice.Loads = Fixed (codes "ok") ∷ []
 
 -- the line of a notice

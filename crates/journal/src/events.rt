@@ -1,17 +1,36 @@
-use rp_base::{Data, End, Endpoint, Era, Name, NsKind};
+use crate::tables::TableLine;
+use rp_base::{
+    CrashKind, Da, Data, DriverKind, End, Endpoint, Era, LifeState, Name, NsKind, Switch,
+};
 
-/// What a run tells: one line of the transcript. The first field of most is the name of the link,
-/// and the second the number of a caller.
+/// What a run tells: one line of the transcript. The first field of most is the name of the link or
+/// the core, and the second of those of a call is the number of its caller.
 #[derive(Drop)]
 pub enum Event {
-    /// There is no link of this name.
+    /// There is no link or core of this name that the command could be for.
     Unknown(Name),
-    /// A link of this name is there already.
+    /// The core has no link.
+    NoLink(Name),
+    /// A link or a core of this name is there already.
     Exists(Name),
-    /// There are as many links as there may be.
+    /// There are as many links and cores as there may be.
     ObjectsFull,
     /// The link is live in this incarnation.
     Open(Name, u64),
+    /// The link was closed: the incarnation that ended.
+    Closed(Name, u64),
+    /// The link was closed before, or is in another incarnation.
+    Already(Name, Era),
+    /// The link is live in this incarnation, and must not be.
+    StillOpen(Name, u64),
+    /// A caller holds the buffer of this message: caller, number.
+    StillHeld(Name, u64, u64),
+    /// The link has had its last incarnation.
+    IncarnationsSpent(Name),
+    /// What a caller held is taken back.
+    Reclaimed(Name, u64),
+    /// A turn that is needed is this caller's, or the manager's.
+    BusyTurn(Name, u64),
     /// A caller was made: its number and its end.
     Caller(Name, u64, End),
     /// As many callers are in use as there may be.
@@ -80,4 +99,61 @@ pub enum Event {
     StillTurn(Name, u64),
     /// The receiver of a pump is on the sender's end.
     WrongSide(Name, u64),
+    /// A channel of the name service: its name and address, and the endpoint that was bound for it.
+    Channel(Name, Name, u64, Option<Endpoint>),
+    /// The core has no power.
+    Offline(Name),
+    /// The core has power, and must not have.
+    NotOffline(Name),
+    /// A region was added: its place among the core's, from 0.
+    Region(Name, u64),
+    /// A driver was declared: the name of its channels, and what it does.
+    Driver(Name, Name, DriverKind),
+    /// A driver of this name is declared already.
+    DriverTaken(Name, Name),
+    /// There are as many drivers as there may be.
+    DriversFull(Name),
+    /// The core runs, in this incarnation.
+    Running(Name, u64),
+    /// How many users the core has.
+    Users(Name, u64),
+    /// There is no image of this name.
+    Missing(Name, Name),
+    /// The image of this name is longer than it may be.
+    TooLarge(Name, Name),
+    /// What was asked for is refused: the number of the fault.
+    Fault(Name, u64),
+    /// What was asked for is refused: the number of the fault, and of the segment, the entry or the
+    /// caller that it is about.
+    FaultAt(Name, u64, u64),
+    /// The core crashed.
+    Crashed(Name, CrashKind),
+    /// The core had crashed before.
+    AlreadyCrashed(Name),
+    /// Whether a core that crashes is recovered at once.
+    Recovery(Name, Switch),
+    /// The state of the core, its users and its incarnation.
+    State(Name, LifeState, u64, u64),
+    /// The worker of the core did what it must not: the number of the fault.
+    WorkerFault(Name, u64),
+    /// A drive ended, since nothing was left to do.
+    Idle(Name),
+    /// A drive ended with its count.
+    Paused(Name),
+    /// A drive ended, since the core crashed.
+    Stopped(Name),
+    /// The core doesn't run.
+    NotRunning(Name),
+    /// No image is loaded.
+    NotLoaded(Name),
+    /// A line about the resource table.
+    Table(Name, TableLine),
+    /// A trace: its place among the traces of the table, from 0, and its text.
+    Trace(Name, u64, Data),
+    /// There is no such trace.
+    NoTrace(Name, u64),
+    /// Bytes of the core's memory: where they begin, and the bytes.
+    Mem(Name, Da, Data),
+    /// Not all of these bytes are in one memory block: where they begin, and how many.
+    Unmapped(Name, Da, u64),
 }

@@ -2,10 +2,17 @@
 #![tactic(auto)]
 
 mod events;
+mod forms;
+pub mod laws;
 mod lines;
 mod notices;
+mod readers;
 mod shapes;
+mod table_shapes;
+mod tables;
 
 pub use events::Event;
 pub use lines::{line, push_notice};
 pub use notices::Notice;
+pub use readers::{LineFault, read_line};
+pub use tables::TableLine;

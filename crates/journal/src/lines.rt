@@ -5,12 +5,17 @@ ghost use Rattle.journal.specs.Notices.{notice_line};
 use crate::events::Event;
 use crate::notices::Notice;
 use crate::shapes::{
-    called, called_bound, called_with, called_with_two, caller_made, counted, counted_two, dead,
-    dumped, fixed, lane, named, numbered, numbered_two, refused, segment, start, took,
-    took_dropped, took_service, took_to, worded, worded_with,
+    caller_word, caller_word_endpoint, caller_word_number, caller_word_two_numbers, channel_line,
+    crash_line, dead_call, driver_line, lane_counts, memory_hole, memory_row, name_word,
+    name_word_era, name_word_name, name_word_number, name_word_two_numbers, new_caller,
+    recovery_line, refusal, ring_line, ring_row, segment, start, state_line, take_of_service,
+    take_to, take_without_endpoint, take_word, text_line, trace_line, word_name, word_name_number,
+    word_number, word_two_numbers,
 };
+use crate::table_shapes::table_line;
 use rp_base::NoMemory;
 use std::alloc::Global;
+use word_kinds::Piece;
 
 /// Appends the line of an event, with its line feed. Where memory is wanting, the text stays as it
 /// was.
@@ -20,54 +25,100 @@ pub fn line(_alloc: Global, event: &Event, out: &mut Vec<u8>) -> Result<(), NoMe
     ensures same { OnErr result (out.new.items ≡ out.old.items) }
 {
     match event {
-        Event::Unknown(x) => worded(out, "* unknown", x),
-        Event::Exists(x) => named(out, x, "exists"),
-        Event::ObjectsFull => fixed(out, "* objects-full"),
-        Event::Open(x, inc) => counted(out, x, "open", *inc),
-        Event::Caller(x, c, end) => caller_made(out, x, *c, *end),
-        Event::CallersFull(x) => named(out, x, "callers-full"),
-        Event::NoCaller(x, c) => counted(out, x, "no-caller", *c),
-        Event::InCall(x, c) => called(out, x, *c, "in-call"),
-        Event::NoCall(x, c) => called(out, x, *c, "no-call"),
-        Event::NotHeld(x, c, number) => called_with(out, x, *c, "not-held", *number),
-        Event::TooLong(x, c, len) => called_with(out, x, *c, "too-long", *len),
-        Event::Begun(x, c) => called(out, x, *c, "begun"),
-        Event::At(x, c, step) => called_with(out, x, *c, "at", *step),
-        Event::Sent(x, c, number) => called_with(out, x, *c, "sent", *number),
-        Event::Gave(x, c, number) => called_with(out, x, *c, "gave", *number),
-        Event::Bound(x, c, endpoint) => called_bound(out, x, *c, "bound", *endpoint),
-        Event::Unbound(x, c, endpoint) => called_bound(out, x, *c, "unbound", *endpoint),
-        Event::Busy(x, c, holder) => called_with(out, x, *c, "busy", *holder),
-        Event::Dead(x, c, era) => dead(out, x, *c, *era),
-        Event::NoBuffer(x, c, accepted, returned) => {
-            called_with_two(out, x, *c, "no-buffer", *accepted, *returned)
+        Event::Unknown(x) => word_name(out, "* unknown", x),
+        Event::NoLink(x) => name_word(out, x, "no-link"),
+        Event::Exists(x) => name_word(out, x, "exists"),
+        Event::ObjectsFull => text_line(out, "* objects-full"),
+        Event::Open(x, inc) => name_word_number(out, x, "open", *inc),
+        Event::Closed(x, inc) => name_word_number(out, x, "closed", *inc),
+        Event::Already(x, era) => name_word_era(out, x, "already", *era),
+        Event::StillOpen(x, inc) => name_word_number(out, x, "still-open", *inc),
+        Event::StillHeld(x, c, number) => {
+            name_word_two_numbers(out, x, "still-held", *c, *number)
         }
-        Event::BookFull(x, c, accepted) => called_with(out, x, *c, "book-full", *accepted),
-        Event::Empty(x, c, accepted) => called_with(out, x, *c, "empty", *accepted),
-        Event::AddressTaken(x, c, address) => called_with(out, x, *c, "address-taken", *address),
-        Event::EndpointsFull(x, c) => called(out, x, *c, "endpoints-full"),
-        Event::NotBound(x, c, address) => called_with(out, x, *c, "not-bound", *address),
+        Event::IncarnationsSpent(x) => name_word(out, x, "incarnations-spent"),
+        Event::Reclaimed(x, c) => name_word_number(out, x, "reclaimed", *c),
+        Event::BusyTurn(x, holder) => name_word_number(out, x, "busy", *holder),
+        Event::Caller(x, c, end) => new_caller(out, x, *c, *end),
+        Event::CallersFull(x) => name_word(out, x, "callers-full"),
+        Event::NoCaller(x, c) => name_word_number(out, x, "no-caller", *c),
+        Event::InCall(x, c) => caller_word(out, x, *c, "in-call"),
+        Event::NoCall(x, c) => caller_word(out, x, *c, "no-call"),
+        Event::NotHeld(x, c, number) => caller_word_number(out, x, *c, "not-held", *number),
+        Event::TooLong(x, c, len) => caller_word_number(out, x, *c, "too-long", *len),
+        Event::Begun(x, c) => caller_word(out, x, *c, "begun"),
+        Event::At(x, c, step) => caller_word_number(out, x, *c, "at", *step),
+        Event::Sent(x, c, number) => caller_word_number(out, x, *c, "sent", *number),
+        Event::Gave(x, c, number) => caller_word_number(out, x, *c, "gave", *number),
+        Event::Bound(x, c, endpoint) => caller_word_endpoint(out, x, *c, "bound", *endpoint),
+        Event::Unbound(x, c, endpoint) => caller_word_endpoint(out, x, *c, "unbound", *endpoint),
+        Event::Busy(x, c, holder) => caller_word_number(out, x, *c, "busy", *holder),
+        Event::Dead(x, c, era) => dead_call(out, x, *c, *era),
+        Event::NoBuffer(x, c, accepted, returned) => {
+            caller_word_two_numbers(out, x, *c, "no-buffer", *accepted, *returned)
+        }
+        Event::BookFull(x, c, accepted) => caller_word_number(out, x, *c, "book-full", *accepted),
+        Event::Empty(x, c, accepted) => caller_word_number(out, x, *c, "empty", *accepted),
+        Event::AddressTaken(x, c, address) => caller_word_number(
+            out,
+            x,
+            *c,
+            "address-taken",
+            *address,
+        ),
+        Event::EndpointsFull(x, c) => caller_word(out, x, *c, "endpoints-full"),
+        Event::NotBound(x, c, address) => caller_word_number(out, x, *c, "not-bound", *address),
         Event::TookFromTo(x, c, number, source, endpoint, payload) => {
-            took_to(out, x, *c, *number, *source, *endpoint, payload)
+            take_to(out, x, *c, *number, *source, *endpoint, payload)
         }
         Event::TookFromDropped(x, c, number, source, destination, payload) => {
-            took_dropped(out, x, *c, *number, *source, *destination, payload)
+            take_without_endpoint(out, x, *c, *number, *source, *destination, payload)
         }
-        Event::TookMalformed(x, c, number) => took(out, x, *c, *number, "malformed"),
+        Event::TookMalformed(x, c, number) => take_word(out, x, *c, *number, "malformed"),
         Event::TookNs(x, c, number, what, channel, address) => {
-            took_service(out, x, *c, *number, *what, channel, *address)
+            take_of_service(out, x, *c, *number, *what, channel, *address)
         }
-        Event::TookNsMalformed(x, c, number) => took(out, x, *c, *number, "ns malformed"),
+        Event::TookNsMalformed(x, c, number) => take_word(out, x, *c, *number, "ns malformed"),
         Event::LaneAcceptedHandedReturned(x, lane_no, accepted, handed, returned) => {
-            lane(out, x, *lane_no, *accepted, *handed, *returned)
+            lane_counts(out, x, *lane_no, *accepted, *handed, *returned)
         }
-        Event::Pumped(x, turns) => counted(out, x, "pumped", *turns),
-        Event::Image(x, len) => worded_with(out, "* image", x, *len),
-        Event::ImageExists(x) => worded(out, "* image-exists", x),
-        Event::Ring(x, lane_no, len) => counted_two(out, x, "ring", *lane_no, *len),
-        Event::Dump(x, offset, bytes) => dumped(out, x, *offset, bytes),
-        Event::StillTurn(x, c) => counted(out, x, "still-turn", *c),
-        Event::WrongSide(x, c) => called(out, x, *c, "wrong-side"),
+        Event::Pumped(x, turns) => name_word_number(out, x, "pumped", *turns),
+        Event::Image(x, len) => word_name_number(out, "* image", x, *len),
+        Event::ImageExists(x) => word_name(out, "* image-exists", x),
+        Event::Ring(x, lane_no, len) => ring_line(out, x, *lane_no, *len),
+        Event::Dump(x, offset, bytes) => ring_row(out, x, *offset, bytes),
+        Event::StillTurn(x, c) => name_word_number(out, x, "still-turn", *c),
+        Event::WrongSide(x, c) => caller_word(out, x, *c, "wrong-side"),
+        Event::Channel(x, channel, address, endpoint) => {
+            channel_line(out, x, channel, *address, *endpoint)
+        }
+        Event::Offline(x) => name_word(out, x, "offline"),
+        Event::NotOffline(x) => name_word(out, x, "not-offline"),
+        Event::Region(x, index) => name_word_number(out, x, "region", *index),
+        Event::Driver(x, driver, kind) => driver_line(out, x, driver, *kind),
+        Event::DriverTaken(x, driver) => name_word_name(out, x, "driver-taken", driver),
+        Event::DriversFull(x) => name_word(out, x, "drivers-full"),
+        Event::Running(x, inc) => name_word_number(out, x, "running", *inc),
+        Event::Users(x, users) => name_word_number(out, x, "users", *users),
+        Event::Missing(x, image) => name_word_name(out, x, "missing", image),
+        Event::TooLarge(x, image) => name_word_name(out, x, "too-large", image),
+        Event::Fault(x, number) => name_word_number(out, x, "fault", *number),
+        Event::FaultAt(x, number, index) => name_word_two_numbers(out, x, "fault", *number, *index),
+        Event::Crashed(x, kind) => crash_line(out, x, *kind),
+        Event::AlreadyCrashed(x) => name_word(out, x, "already"),
+        Event::Recovery(x, switch) => recovery_line(out, x, *switch),
+        Event::State(x, state, users, inc) => state_line(out, x, *state, *users, *inc),
+        Event::WorkerFault(x, number) => name_word_number(out, x, "worker fault", *number),
+        Event::Idle(x) => name_word(out, x, "idle"),
+        Event::Paused(x) => name_word(out, x, "paused"),
+        Event::Stopped(x) => name_word(out, x, "stopped"),
+        Event::NotRunning(x) => name_word(out, x, "not-running"),
+        Event::NotLoaded(x) => name_word(out, x, "not-loaded"),
+        Event::Table(x, entry) => table_line(out, &[Piece::Name(x)], entry),
+        Event::Trace(x, index, text) => trace_line(out, x, *index, text),
+        Event::NoTrace(x, index) => name_word_number(out, x, "no-trace", *index),
+        Event::Mem(x, da, bytes) => memory_row(out, x, *da, bytes),
+        Event::Unmapped(x, da, len) => memory_hole(out, x, *da, *len),
     }
 }
 
@@ -78,21 +129,20 @@ pub fn push_notice(_alloc: Global, notice: &Notice, out: &mut Vec<u8>) -> Result
     ensures same { OnErr result (out.new.items ≡ out.old.items) }
 {
     match notice {
-        Notice::Usage => fixed(
+        Notice::Usage => text_line(
             out,
             "usage: rproc run | check NAME | demo N | storm H R N K",
         ),
-        Notice::ReadFault => fixed(out, "* read fault"),
-        Notice::StoreFault => fixed(out, "* store fault"),
-        Notice::StepLimit => fixed(out, "* step limit"),
-        Notice::Refused(line_no, why) => refused(out, *line_no, *why),
-        Notice::Missing(name) => worded(out, "missing", name),
-        Notice::TooLarge(name) => worded(out, "too-large", name),
-        Notice::Fault(number, None) => numbered(out, "fault", u64::from(*number)),
+        Notice::ReadFault => text_line(out, "* read fault"),
+        Notice::StoreFault => text_line(out, "* store fault"),
+        Notice::StepLimit => text_line(out, "* step limit"),
+        Notice::Refused(line_no, why) => refusal(out, *line_no, *why),
+        Notice::Missing(name) => word_name(out, "missing", name),
+        Notice::TooLarge(name) => word_name(out, "too-large", name),
+        Notice::Fault(number, None) => word_number(out, "fault", u64::from(*number)),
         Notice::Fault(number, Some(index)) => {
-            numbered_two(out, "fault", u64::from(*number), u64::from(*index))
+            word_two_numbers(out, "fault", u64::from(*number), u64::from(*index))
         }
-        Notice::TableUnread => fixed(out, "table unread"),
         Notice::Start(entry) => start(out, *entry),
         Notice::Segment(index, da, file_len, memory_len) => segment(
             out,
@@ -101,6 +151,7 @@ pub fn push_notice(_alloc: Global, notice: &Notice, out: &mut Vec<u8>) -> Result
             *file_len,
             u64::from(*memory_len),
         ),
-        Notice::Loads => fixed(out, "ok"),
+        Notice::Table(entry) => table_line(out, &[], entry),
+        Notice::Loads => text_line(out, "ok"),
     }
 }

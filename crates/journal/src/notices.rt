@@ -1,3 +1,4 @@
+use crate::tables::TableLine;
 use rp_base::{Da, Name};
 use word_kinds::Cause;
 
@@ -18,14 +19,15 @@ pub enum Notice {
     Missing(Name),
     /// The image is longer than it may be.
     TooLarge(Name),
-    /// The image doesn't load: the number of the fault, and of the program header that it is about.
+    /// The image doesn't load: the number of the fault, and of the program header or the entry of the
+    /// resource table that it is about.
     Fault(u8, Option<u16>),
-    /// The image has a resource table, which is not read.
-    TableUnread,
     /// The address of the first instruction.
     Start(Da),
     /// A loaded segment: its number, its device address, its bytes in the image and in memory.
     Segment(u16, Da, u64, u32),
+    /// A line about the resource table.
+    Table(TableLine),
     /// The image loads.
     Loads,
 }

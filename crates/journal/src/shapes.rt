@@ -1,13 +1,16 @@
 ghost use Rattle.std.specs.Prelude.{◌≡◌, ◌++◌, ◌∷◌, [], OnOk, OnErr, codes};
-ghost use Rattle.word_kinds.specs.Texts.{Fixed, Name as Named, Number, Digits, Offset, Bytes, Escaped, Bound, Side, Open, Service};
+ghost use Rattle.word_kinds.specs.Texts.{Fixed, Name as Named, Number, Digits, Offset, Bytes, Row, Escaped, Trace, Lane, Bound, Side, Open, Service, State, Driver, OnOff};
 ghost use Rattle.word_kinds.specs.Lines.{line_of};
 ghost use Rattle.journal.specs.Notices.{cause_text};
+ghost use Rattle.journal.specs.Lines.{bound_word, crash_words};
 
-use rp_base::{Da, Data, End, Endpoint, Era, Name, NoMemory, NsKind};
+use rp_base::{
+    CrashKind, Da, Data, DriverKind, End, Endpoint, Era, LifeState, Name, NoMemory, NsKind, Switch,
+};
 use word_kinds::{Cause, Piece, push_line};
 
 /// A fixed text.
-pub(crate) fn fixed(out: &mut Vec<u8>, text: &str) -> Result<(), NoMemory>
+pub(crate) fn text_line(out: &mut Vec<u8>, text: &str) -> Result<(), NoMemory>
     ensures whole { OnOk result (out.new.items ≡ out.old.items ++ line_of (Fixed text.now ∷ [])) }
     ensures same { OnErr result (out.new.items ≡ out.old.items) }
 {
@@ -15,7 +18,11 @@ pub(crate) fn fixed(out: &mut Vec<u8>, text: &str) -> Result<(), NoMemory>
 }
 
 /// A name and a word.
-pub(crate) fn named<'w>(out: &mut Vec<u8>, name: &'w Name, word: &'w str) -> Result<(), NoMemory>
+pub(crate) fn name_word<'w>(
+    out: &mut Vec<u8>,
+    name: &'w Name,
+    word: &'w str,
+) -> Result<(), NoMemory>
     ensures whole { OnOk result (out.new.items ≡ out.old.items ++ line_of (Named name.now ∷ Fixed word.now ∷ [])) }
     ensures same { OnErr result (out.new.items ≡ out.old.items) }
 {
@@ -23,7 +30,11 @@ pub(crate) fn named<'w>(out: &mut Vec<u8>, name: &'w Name, word: &'w str) -> Res
 }
 
 /// A word and a name.
-pub(crate) fn worded<'w>(out: &mut Vec<u8>, word: &'w str, name: &'w Name) -> Result<(), NoMemory>
+pub(crate) fn word_name<'w>(
+    out: &mut Vec<u8>,
+    word: &'w str,
+    name: &'w Name,
+) -> Result<(), NoMemory>
     ensures whole { OnOk result (out.new.items ≡ out.old.items ++ line_of (Fixed word.now ∷ Named name.now ∷ [])) }
     ensures same { OnErr result (out.new.items ≡ out.old.items) }
 {
@@ -31,7 +42,7 @@ pub(crate) fn worded<'w>(out: &mut Vec<u8>, word: &'w str, name: &'w Name) -> Re
 }
 
 /// A word, a name and a number.
-pub(crate) fn worded_with<'w>(
+pub(crate) fn word_name_number<'w>(
     out: &mut Vec<u8>,
     word: &'w str,
     name: &'w Name,
@@ -47,7 +58,7 @@ pub(crate) fn worded_with<'w>(
 }
 
 /// A word and a number.
-pub(crate) fn numbered(out: &mut Vec<u8>, word: &str, number: u64) -> Result<(), NoMemory>
+pub(crate) fn word_number(out: &mut Vec<u8>, word: &str, number: u64) -> Result<(), NoMemory>
     ensures whole { OnOk result (out.new.items ≡ out.old.items ++ line_of (Fixed word.now ∷ Number number ∷ [])) }
     ensures same { OnErr result (out.new.items ≡ out.old.items) }
 {
@@ -55,7 +66,7 @@ pub(crate) fn numbered(out: &mut Vec<u8>, word: &str, number: u64) -> Result<(),
 }
 
 /// A word and two numbers.
-pub(crate) fn numbered_two(
+pub(crate) fn word_two_numbers(
     out: &mut Vec<u8>,
     word: &str,
     first: u64,
@@ -75,7 +86,7 @@ pub(crate) fn numbered_two(
 }
 
 /// A name, a word and two numbers.
-pub(crate) fn counted_two<'w>(
+pub(crate) fn name_word_two_numbers<'w>(
     out: &mut Vec<u8>,
     name: &'w Name,
     word: &'w str,
@@ -96,14 +107,30 @@ pub(crate) fn counted_two<'w>(
     )
 }
 
+/// A ring and how many bytes it has.
+pub(crate) fn ring_line(out: &mut Vec<u8>, name: &Name, lane: u64, len: u64) -> Result<(), NoMemory>
+    ensures whole { OnOk result (out.new.items ≡ out.old.items ++ line_of (Named name.now ∷ Fixed (codes "ring") ∷ Lane lane ∷ Number len ∷ [])) }
+    ensures same { OnErr result (out.new.items ≡ out.old.items) }
+{
+    push_line(
+        out,
+        &[
+            Piece::Name(name),
+            Piece::Fixed("ring"),
+            Piece::Lane(lane),
+            Piece::Number(len),
+        ],
+    )
+}
+
 /// A name, `dump`, an offset and bytes.
-pub(crate) fn dumped<'w>(
+pub(crate) fn ring_row<'w>(
     out: &mut Vec<u8>,
     name: &'w Name,
     offset: u32,
     bytes: &'w Data,
 ) -> Result<(), NoMemory>
-    ensures whole { OnOk result (out.new.items ≡ out.old.items ++ line_of (Named name.now ∷ Fixed (codes "dump") ∷ Offset offset ∷ Bytes bytes.now ∷ [])) }
+    ensures whole { OnOk result (out.new.items ≡ out.old.items ++ line_of (Named name.now ∷ Fixed (codes "dump") ∷ Offset offset ∷ Row 16 bytes.now ∷ [])) }
     ensures same { OnErr result (out.new.items ≡ out.old.items) }
 {
     push_line(
@@ -112,13 +139,13 @@ pub(crate) fn dumped<'w>(
             Piece::Name(name),
             Piece::Fixed("dump"),
             Piece::Offset(offset),
-            Piece::Bytes(bytes.bytes()),
+            Piece::Row(16, bytes.bytes()),
         ],
     )
 }
 
 /// A name, a word and a number.
-pub(crate) fn counted<'w>(
+pub(crate) fn name_word_number<'w>(
     out: &mut Vec<u8>,
     name: &'w Name,
     word: &'w str,
@@ -134,7 +161,7 @@ pub(crate) fn counted<'w>(
 }
 
 /// A name, a caller and a word.
-pub(crate) fn called<'w>(
+pub(crate) fn caller_word<'w>(
     out: &mut Vec<u8>,
     name: &'w Name,
     caller: u64,
@@ -150,7 +177,7 @@ pub(crate) fn called<'w>(
 }
 
 /// A name, a caller, a word and a number.
-pub(crate) fn called_with<'w>(
+pub(crate) fn caller_word_number<'w>(
     out: &mut Vec<u8>,
     name: &'w Name,
     caller: u64,
@@ -172,7 +199,7 @@ pub(crate) fn called_with<'w>(
 }
 
 /// A name, a caller, a word and two numbers.
-pub(crate) fn called_with_two<'w>(
+pub(crate) fn caller_word_two_numbers<'w>(
     out: &mut Vec<u8>,
     name: &'w Name,
     caller: u64,
@@ -196,7 +223,7 @@ pub(crate) fn called_with_two<'w>(
 }
 
 /// A name, a caller, a word and an endpoint.
-pub(crate) fn called_bound<'w>(
+pub(crate) fn caller_word_endpoint<'w>(
     out: &mut Vec<u8>,
     name: &'w Name,
     caller: u64,
@@ -218,7 +245,7 @@ pub(crate) fn called_bound<'w>(
 }
 
 /// That a caller was made.
-pub(crate) fn caller_made(
+pub(crate) fn new_caller(
     out: &mut Vec<u8>,
     name: &Name,
     caller: u64,
@@ -239,7 +266,12 @@ pub(crate) fn caller_made(
 }
 
 /// That a call follows an era that isn't live.
-pub(crate) fn dead(out: &mut Vec<u8>, name: &Name, caller: u64, era: Era) -> Result<(), NoMemory>
+pub(crate) fn dead_call(
+    out: &mut Vec<u8>,
+    name: &Name,
+    caller: u64,
+    era: Era,
+) -> Result<(), NoMemory>
     ensures whole { OnOk result (out.new.items ≡ out.old.items ++ line_of (Named name.now ∷ Number caller ∷ Fixed (codes "dead") ∷ Number era.inc ∷ Open era.is_live ∷ [])) }
     ensures same { OnErr result (out.new.items ≡ out.old.items) }
 {
@@ -256,7 +288,7 @@ pub(crate) fn dead(out: &mut Vec<u8>, name: &Name, caller: u64, era: Era) -> Res
 }
 
 /// A take of a message, and a word.
-pub(crate) fn took<'w>(
+pub(crate) fn take_word<'w>(
     out: &mut Vec<u8>,
     name: &'w Name,
     caller: u64,
@@ -279,7 +311,7 @@ pub(crate) fn took<'w>(
 }
 
 /// A take of a message for an endpoint.
-pub(crate) fn took_to<'w>(
+pub(crate) fn take_to<'w>(
     out: &mut Vec<u8>,
     name: &'w Name,
     caller: u64,
@@ -308,7 +340,7 @@ pub(crate) fn took_to<'w>(
 }
 
 /// A take of a message that goes nowhere.
-pub(crate) fn took_dropped<'w>(
+pub(crate) fn take_without_endpoint<'w>(
     out: &mut Vec<u8>,
     name: &'w Name,
     caller: u64,
@@ -337,7 +369,7 @@ pub(crate) fn took_dropped<'w>(
 }
 
 /// A take of a message of the name service.
-pub(crate) fn took_service<'w>(
+pub(crate) fn take_of_service<'w>(
     out: &mut Vec<u8>,
     name: &'w Name,
     caller: u64,
@@ -365,7 +397,7 @@ pub(crate) fn took_service<'w>(
 }
 
 /// The counts of a lane.
-pub(crate) fn lane(
+pub(crate) fn lane_counts(
     out: &mut Vec<u8>,
     name: &Name,
     lane: u64,
@@ -373,7 +405,7 @@ pub(crate) fn lane(
     handed: u64,
     returned: u64,
 ) -> Result<(), NoMemory>
-    ensures whole { OnOk result (out.new.items ≡ out.old.items ++ line_of (Named name.now ∷ Fixed (codes "lane") ∷ Number lane ∷ Fixed (codes "accepted") ∷ Number accepted ∷ Fixed (codes "handed") ∷ Number handed ∷ Fixed (codes "returned") ∷ Number returned ∷ [])) }
+    ensures whole { OnOk result (out.new.items ≡ out.old.items ++ line_of (Named name.now ∷ Fixed (codes "lane") ∷ Lane lane ∷ Fixed (codes "accepted") ∷ Number accepted ∷ Fixed (codes "handed") ∷ Number handed ∷ Fixed (codes "returned") ∷ Number returned ∷ [])) }
     ensures same { OnErr result (out.new.items ≡ out.old.items) }
 {
     push_line(
@@ -381,7 +413,7 @@ pub(crate) fn lane(
         &[
             Piece::Name(name),
             Piece::Fixed("lane"),
-            Piece::Number(lane),
+            Piece::Lane(lane),
             Piece::Fixed("accepted"),
             Piece::Number(accepted),
             Piece::Fixed("handed"),
@@ -392,8 +424,203 @@ pub(crate) fn lane(
     )
 }
 
+/// A name, a word and an era.
+pub(crate) fn name_word_era<'w>(
+    out: &mut Vec<u8>,
+    name: &'w Name,
+    word: &'w str,
+    era: Era,
+) -> Result<(), NoMemory>
+    ensures whole { OnOk result (out.new.items ≡ out.old.items ++ line_of (Named name.now ∷ Fixed word.now ∷ Number era.inc ∷ Open era.is_live ∷ [])) }
+    ensures same { OnErr result (out.new.items ≡ out.old.items) }
+{
+    push_line(
+        out,
+        &[
+            Piece::Name(name),
+            Piece::Fixed(word),
+            Piece::Number(u64::from(era.inc)),
+            Piece::Open(era.is_live),
+        ],
+    )
+}
+
+/// A name, a word and a name.
+pub(crate) fn name_word_name<'w>(
+    out: &mut Vec<u8>,
+    name: &'w Name,
+    word: &'w str,
+    other: &'w Name,
+) -> Result<(), NoMemory>
+    ensures whole { OnOk result (out.new.items ≡ out.old.items ++ line_of (Named name.now ∷ Fixed word.now ∷ Named other.now ∷ [])) }
+    ensures same { OnErr result (out.new.items ≡ out.old.items) }
+{
+    push_line(
+        out,
+        &[Piece::Name(name), Piece::Fixed(word), Piece::Name(other)],
+    )
+}
+
+/// A channel, and the endpoint that was bound for it.
+pub(crate) fn channel_line<'w>(
+    out: &mut Vec<u8>,
+    name: &'w Name,
+    channel: &'w Name,
+    address: u64,
+    endpoint: Option<Endpoint>,
+) -> Result<(), NoMemory>
+    ensures whole { OnOk result (out.new.items ≡ out.old.items ++ line_of (Named name.now ∷ Fixed (codes "channel") ∷ Escaped channel.now ∷ Number address ∷ bound_word endpoint ∷ [])) }
+    ensures same { OnErr result (out.new.items ≡ out.old.items) }
+{
+    let place = match endpoint {
+        Some(endpoint) => Piece::Bound(endpoint),
+        None => Piece::Fixed("-"),
+    };
+    push_line(
+        out,
+        &[
+            Piece::Name(name),
+            Piece::Fixed("channel"),
+            Piece::Escaped(channel.bytes()),
+            Piece::Number(address),
+            place,
+        ],
+    )
+}
+
+/// A driver.
+pub(crate) fn driver_line<'w>(
+    out: &mut Vec<u8>,
+    name: &'w Name,
+    driver: &'w Name,
+    kind: DriverKind,
+) -> Result<(), NoMemory>
+    ensures whole { OnOk result (out.new.items ≡ out.old.items ++ line_of (Named name.now ∷ Fixed (codes "driver") ∷ Named driver.now ∷ Driver kind ∷ [])) }
+    ensures same { OnErr result (out.new.items ≡ out.old.items) }
+{
+    push_line(
+        out,
+        &[
+            Piece::Name(name),
+            Piece::Fixed("driver"),
+            Piece::Name(driver),
+            Piece::Driver(kind),
+        ],
+    )
+}
+
+/// A crash.
+pub(crate) fn crash_line(out: &mut Vec<u8>, name: &Name, kind: CrashKind) -> Result<(), NoMemory>
+    ensures whole { OnOk result (out.new.items ≡ out.old.items ++ line_of (Named name.now ∷ Fixed (codes "crashed") ∷ crash_words kind)) }
+    ensures same { OnErr result (out.new.items ≡ out.old.items) }
+{
+    match kind {
+        CrashKind::Mmufault => name_word(out, name, "crashed mmufault"),
+        CrashKind::Watchdog => name_word(out, name, "crashed watchdog"),
+        CrashKind::Fatal => name_word(out, name, "crashed fatal error"),
+    }
+}
+
+/// Whether a core recovers.
+pub(crate) fn recovery_line(out: &mut Vec<u8>, name: &Name, switch: Switch) -> Result<(), NoMemory>
+    ensures whole { OnOk result (out.new.items ≡ out.old.items ++ line_of (Named name.now ∷ Fixed (codes "recovery") ∷ OnOff switch ∷ [])) }
+    ensures same { OnErr result (out.new.items ≡ out.old.items) }
+{
+    push_line(
+        out,
+        &[
+            Piece::Name(name),
+            Piece::Fixed("recovery"),
+            Piece::Switch(switch),
+        ],
+    )
+}
+
+/// The state of a core.
+pub(crate) fn state_line(
+    out: &mut Vec<u8>,
+    name: &Name,
+    state: LifeState,
+    users: u64,
+    inc: u64,
+) -> Result<(), NoMemory>
+    ensures whole { OnOk result (out.new.items ≡ out.old.items ++ line_of (Named name.now ∷ Fixed (codes "state") ∷ State state ∷ Fixed (codes "users") ∷ Number users ∷ Fixed (codes "incarnation") ∷ Number inc ∷ [])) }
+    ensures same { OnErr result (out.new.items ≡ out.old.items) }
+{
+    push_line(
+        out,
+        &[
+            Piece::Name(name),
+            Piece::Fixed("state"),
+            Piece::State(state),
+            Piece::Fixed("users"),
+            Piece::Number(users),
+            Piece::Fixed("incarnation"),
+            Piece::Number(inc),
+        ],
+    )
+}
+
+/// A trace and its text.
+pub(crate) fn trace_line<'w>(
+    out: &mut Vec<u8>,
+    name: &'w Name,
+    index: u64,
+    text: &'w Data,
+) -> Result<(), NoMemory>
+    ensures whole { OnOk result (out.new.items ≡ out.old.items ++ line_of (Named name.now ∷ Fixed (codes "trace") ∷ Number index ∷ Trace text.now ∷ [])) }
+    ensures same { OnErr result (out.new.items ≡ out.old.items) }
+{
+    push_line(
+        out,
+        &[
+            Piece::Name(name),
+            Piece::Fixed("trace"),
+            Piece::Number(index),
+            Piece::Trace(text.bytes()),
+        ],
+    )
+}
+
+/// Bytes of a core's memory.
+pub(crate) fn memory_row<'w>(
+    out: &mut Vec<u8>,
+    name: &'w Name,
+    da: Da,
+    bytes: &'w Data,
+) -> Result<(), NoMemory>
+    ensures whole { OnOk result (out.new.items ≡ out.old.items ++ line_of (Named name.now ∷ Fixed (codes "mem") ∷ Digits da ∷ Row 256 bytes.now ∷ [])) }
+    ensures same { OnErr result (out.new.items ≡ out.old.items) }
+{
+    push_line(
+        out,
+        &[
+            Piece::Name(name),
+            Piece::Fixed("mem"),
+            Piece::Digits(da),
+            Piece::Row(256, bytes.bytes()),
+        ],
+    )
+}
+
+/// Device addresses that no memory has.
+pub(crate) fn memory_hole(out: &mut Vec<u8>, name: &Name, da: Da, len: u64) -> Result<(), NoMemory>
+    ensures whole { OnOk result (out.new.items ≡ out.old.items ++ line_of (Named name.now ∷ Fixed (codes "unmapped") ∷ Digits da ∷ Number len ∷ [])) }
+    ensures same { OnErr result (out.new.items ≡ out.old.items) }
+{
+    push_line(
+        out,
+        &[
+            Piece::Name(name),
+            Piece::Fixed("unmapped"),
+            Piece::Digits(da),
+            Piece::Number(len),
+        ],
+    )
+}
+
 /// Where and why a script is refused.
-pub(crate) fn refused(out: &mut Vec<u8>, line: u32, why: Cause) -> Result<(), NoMemory>
+pub(crate) fn refusal(out: &mut Vec<u8>, line: u32, why: Cause) -> Result<(), NoMemory>
     ensures whole { OnOk result (out.new.items ≡ out.old.items ++ line_of (Fixed (codes "* refused") ∷ Number line ∷ Fixed (cause_text why) ∷ [])) }
     ensures same { OnErr result (out.new.items ≡ out.old.items) }
 {

@@ -1,6 +1,11 @@
 pub mod Parts
-pub mod Growing
+pub mod Fronts
 pub mod Splits
 pub mod Matches
 pub mod Joins
 pub mod Firsts
+pub mod Numbers
+pub mod Clean
+pub mod Rows
+pub mod Channels
+pub mod Goods

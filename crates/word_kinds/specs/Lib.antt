@@ -4,4 +4,6 @@ pub mod Kinds
 pub mod Places
 pub mod Texts
 pub mod Lines
-pub mod Growth
+pub mod Readings
+pub mod Rows
+pub mod Fronts

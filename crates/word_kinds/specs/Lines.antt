@@ -3,7 +3,7 @@ use Rattle.std.specs.Prelude.{ℕ, List, [], ◌∷◌, ◌++◌, map}
 use Rattle.std.specs.List.{join_with_byte}
 use Rattle.word_kinds.specs.declared.pieces.Piece.{Piece}
 use Rattle.word_kinds.specs.declared.pieces.Piece.TheVariants as piece
-use Rattle.word_kinds.specs.Texts.{Word, Fixed, Name, Number, Digits, Offset, Bytes, Escaped, Bound, Side, Open, Service, text}
+use Rattle.word_kinds.specs.Texts.{Word, Fixed, Name, Number, Digits, Offset, Bytes, Row, Escaped, Trace, Lane, Bound, Dotted, Side, Open, Service, State, Driver, OnOff, text}
 
 -- the texts of words with a space between two, and a line feed at the end
 unfoldable pub line_of : List Word → List ℕ
@@ -17,8 +17,15 @@ word_of (piece.Number number) = Number number
 word_of (piece.Digits number) = Digits number
 word_of (piece.Offset number) = Offset number
 word_of (piece.Bytes bytes) = Bytes bytes.now
+word_of (piece.Row most bytes) = Row most bytes.now
 word_of (piece.Escaped bytes) = Escaped bytes.now
+word_of (piece.Trace bytes) = Trace bytes.now
+word_of (piece.Lane lane) = Lane lane
 word_of (piece.Bound endpoint) = Bound endpoint
+word_of (piece.Dotted first second) = Dotted first second
 word_of (piece.Side end) = Side end
 word_of (piece.Open is_live) = Open is_live
 word_of (piece.Service what) = Service what
+word_of (piece.State state) = State state
+word_of (piece.Driver kind) = Driver kind
+word_of (piece.Switch switch) = OnOff switch

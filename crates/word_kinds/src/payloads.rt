@@ -7,7 +7,7 @@ use crate::digits::{decimal, hex_value, is_hex_digit};
 use std::alloc::{AllocError, Global};
 
 /// The byte of two hexadecimal digits.
-fn byte_of(high: u8, low: u8) -> u8
+pub(crate) fn byte_of(high: u8, low: u8) -> u8
     ensures { result ≡ byte_of high low }
 {
     16 * hex_value(high) + hex_value(low)
@@ -61,12 +61,12 @@ pub(crate) fn payload(alloc: Global, word: &[u8]) -> Result<Vec<u8>, AllocError>
     ensures { IfOk result (λ bytes. bytes.items ≡ bytes_in word.now) }
 {
     if is_repeated(word) {
-        return repeated(alloc, word);
+        return repeated_bytes(alloc, word);
     }
     pairs(alloc, word)
 }
 
-fn repeated(alloc: Global, word: &[u8]) -> Result<Vec<u8>, AllocError>
+fn repeated_bytes(alloc: Global, word: &[u8]) -> Result<Vec<u8>, AllocError>
     ensures { IfOk result (λ bytes. bytes.items ≡ repeated_bytes word.now) }
 {
     match word {
@@ -78,7 +78,8 @@ fn repeated(alloc: Global, word: &[u8]) -> Result<Vec<u8>, AllocError>
     }
 }
 
-fn pairs(alloc: Global, word: &[u8]) -> Result<Vec<u8>, AllocError>
+/// The bytes of pairs of digits.
+pub(crate) fn pairs(alloc: Global, word: &[u8]) -> Result<Vec<u8>, AllocError>
     ensures { IfOk result (λ bytes. bytes.items ≡ bytes_of_pairs word.now) }
 {
     let mut bytes = Vec::with_capacity(alloc, word.len() / 2)?;

@@ -1,11 +1,11 @@
 ghost use Rattle.std.specs.Prelude.{◌≡◌, ◌++◌, ◌∷◌, ◌<◌, [], OnOk, OnErr, map};
 ghost use Rattle.std.specs.Fmt.{decimal};
 ghost use Rattle.std.specs.List.{flat_map, join_with_byte};
-ghost use Rattle.word_kinds.specs.Texts.{hex_digit, hex_byte, eight_digits, four_digits, leading_digits, hex_bytes, escaped, is_plain, endpoint_text, end_text, service_text, text};
+ghost use Rattle.word_kinds.specs.Texts.{hex_digit, hex_byte, eight_digits, four_digits, leading_digits, hex_bytes, with_escapes, is_plain, dotted_text, end_text, service_text, state_text, driver_text, switch_text, text};
 ghost use Rattle.word_kinds.specs.Lines.{line_of, word_of};
-ghost use Rattle.word_kinds.specs.Growth.{Grown};
+ghost use Rattle.word_kinds.specs.Fronts.{IsFront};
 
-use rp_base::{End, Endpoint, Name, NoMemory, NsKind};
+use rp_base::{DriverKind, End, Endpoint, LifeState, Name, NoMemory, NsKind, Switch};
 use std::alloc::AllocError;
 
 /// A word of a line, with what is written there.
@@ -23,17 +23,31 @@ pub enum Piece<'a> {
     Offset(u32),
     /// Bytes as pairs of lower-case hexadecimal digits, or `-` where there is none.
     Bytes(&'a [u8]),
-    /// A name or a text with `%` and two digits for each byte that doesn't print as it is, or `%`
-    /// where it is empty.
+    /// From one to so many bytes as pairs of lower-case hexadecimal digits.
+    Row(usize, &'a [u8]),
+    /// A name with `%` and two digits for each byte that doesn't print as it is, or `%` where it is
+    /// empty.
     Escaped(&'a [u8]),
+    /// A text of any length, written as a name with escapes is.
+    Trace(&'a [u8]),
+    /// A lane: 0 or 1.
+    Lane(u64),
     /// An address and the number of its binding.
     Bound(Endpoint),
+    /// Two numbers with a dot between them.
+    Dotted(u64, u64),
     /// The end of a link.
     Side(End),
     /// Whether an incarnation is open.
     Open(bool),
     /// What the name service made of a message.
     Service(NsKind),
+    /// The state of a core.
+    State(LifeState),
+    /// What a driver does.
+    Driver(DriverKind),
+    /// Whether something is on.
+    Switch(Switch),
 }
 
 /// Appends the line of these words: a space between two, and a line feed at the end. Where memory
@@ -42,8 +56,17 @@ pub fn push_line(out: &mut Vec<u8>, words: &[Piece]) -> Result<(), NoMemory>
     ensures whole { OnOk result (out.new.items ≡ out.old.items ++ line_of (map word_of words.now)) }
     ensures same { OnErr result (out.new.items ≡ out.old.items) }
 {
+    push_line_behind(out, &[], words)
+}
+
+/// Appends the line of the words in front and of those behind them. Where memory is wanting, the
+/// text stays as it was.
+pub fn push_line_behind(out: &mut Vec<u8>, front: &[Piece], words: &[Piece]) -> Result<(), NoMemory>
+    ensures whole { OnOk result (out.new.items ≡ out.old.items ++ line_of (map word_of front.now ++ map word_of words.now)) }
+    ensures same { OnErr result (out.new.items ≡ out.old.items) }
+{
     let len = out.len();
-    if push_words(out, words).is_err() {
+    if push_behind(out, front, words).is_err() {
         out.truncate(len);
         return Err(NoMemory);
     }
@@ -51,9 +74,26 @@ pub fn push_line(out: &mut Vec<u8>, words: &[Piece]) -> Result<(), NoMemory>
 }
 
 #[tactic(auto, unfolding(crate::specs::Lines::line_of))]
+fn push_behind(out: &mut Vec<u8>, front: &[Piece], words: &[Piece]) -> Result<(), AllocError>
+    ensures whole { OnOk result (out.new.items ≡ out.old.items ++ line_of (map word_of front.now ++ map word_of words.now)) }
+    ensures front { IsFront out.old.items out.new.items }
+{
+    match front {
+        [] => push_words(out, words),
+        [first, more @ ..] => {
+            push_word(out, first)?;
+            push_more(out, more)?;
+            push_more(out, words)?;
+            out.push(b'\n')?;
+            Ok(())
+        }
+    }
+}
+
+#[tactic(auto, unfolding(crate::specs::Lines::line_of))]
 fn push_words(out: &mut Vec<u8>, words: &[Piece]) -> Result<(), AllocError>
     ensures whole { OnOk result (out.new.items ≡ out.old.items ++ line_of (map word_of words.now)) }
-    ensures front { Grown out.old.items out.new.items }
+    ensures front { IsFront out.old.items out.new.items }
 {
     push_joined(out, words)?;
     out.push(b'\n')?;
@@ -63,7 +103,7 @@ fn push_words(out: &mut Vec<u8>, words: &[Piece]) -> Result<(), AllocError>
 /// Appends words with a space between two.
 fn push_joined(out: &mut Vec<u8>, words: &[Piece]) -> Result<(), AllocError>
     ensures whole { OnOk result (out.new.items ≡ out.old.items ++ join_with_byte 32 (map text (map word_of words.now))) }
-    ensures front { Grown out.old.items out.new.items }
+    ensures front { IsFront out.old.items out.new.items }
 {
     match words {
         [] => Ok(()),
@@ -78,7 +118,7 @@ fn push_joined(out: &mut Vec<u8>, words: &[Piece]) -> Result<(), AllocError>
 /// Appends each word behind a space.
 fn push_more(out: &mut Vec<u8>, words: &[Piece]) -> Result<(), AllocError>
     ensures whole { OnOk result (out.new.items ≡ out.old.items ++ flat_map (λ word. 32 ∷ text (word_of word)) words.now) }
-    ensures front { Grown out.old.items out.new.items }
+    ensures front { IsFront out.old.items out.new.items }
 {
     for word in words {
         out.push(b' ')?;
@@ -89,7 +129,7 @@ fn push_more(out: &mut Vec<u8>, words: &[Piece]) -> Result<(), AllocError>
 
 fn push_word(out: &mut Vec<u8>, word: &Piece) -> Result<(), AllocError>
     ensures whole { OnOk result (out.new.items ≡ out.old.items ++ text (word_of word.now)) }
-    ensures front { Grown out.old.items out.new.items }
+    ensures front { IsFront out.old.items out.new.items }
 {
     match word {
         Piece::Fixed(bytes) => out.extend_from_slice(bytes.as_bytes()),
@@ -98,14 +138,23 @@ fn push_word(out: &mut Vec<u8>, word: &Piece) -> Result<(), AllocError>
         Piece::Digits(number) => push_digits(out, *number),
         Piece::Offset(number) => push_offset(out, *number),
         Piece::Bytes(bytes) => push_hex(out, bytes),
+        Piece::Row(_, bytes) => push_hex(out, bytes),
         Piece::Escaped(bytes) => push_escaped(out, bytes),
-        Piece::Bound(endpoint) => push_endpoint(out, *endpoint),
+        Piece::Trace(bytes) => push_escaped(out, bytes),
+        Piece::Lane(lane) => push_number(out, *lane),
+        Piece::Bound(endpoint) => {
+            push_dotted(out, u64::from(endpoint.address), endpoint.generation)
+        }
+        Piece::Dotted(first, second) => push_dotted(out, *first, *second),
         Piece::Side(end) => out.extend_from_slice(end_text(*end).as_bytes()),
         Piece::Open(is_live) => {
             let open = if *is_live { "open" } else { "closed" };
             out.extend_from_slice(open.as_bytes())
         }
         Piece::Service(what) => out.extend_from_slice(service_text(*what).as_bytes()),
+        Piece::State(state) => out.extend_from_slice(state_text(*state).as_bytes()),
+        Piece::Driver(kind) => out.extend_from_slice(driver_text(*kind).as_bytes()),
+        Piece::Switch(switch) => out.extend_from_slice(switch_text(*switch).as_bytes()),
     }
 }
 
@@ -130,21 +179,50 @@ fn service_text(what: NsKind) -> &'static str
     }
 }
 
+fn state_text(state: LifeState) -> &'static str
+    ensures { result.now ≡ state_text state }
+{
+    match state {
+        LifeState::Offline => "offline",
+        LifeState::Running => "running",
+        LifeState::Crashed => "crashed",
+    }
+}
+
+fn driver_text(kind: DriverKind) -> &'static str
+    ensures { result.now ≡ driver_text kind }
+{
+    match kind {
+        DriverKind::Sink => "sink",
+        DriverKind::Echo => "echo",
+        DriverKind::Sample => "sample",
+    }
+}
+
+fn switch_text(switch: Switch) -> &'static str
+    ensures { result.now ≡ switch_text switch }
+{
+    match switch {
+        Switch::On => "on",
+        Switch::Off => "off",
+    }
+}
+
 fn push_number(out: &mut Vec<u8>, number: u64) -> Result<(), AllocError>
     ensures whole { OnOk result (out.new.items ≡ out.old.items ++ decimal number) }
-    ensures front { Grown out.old.items out.new.items }
+    ensures front { IsFront out.old.items out.new.items }
 {
     let mut buffer = itoa::Buffer::new();
     out.extend_from_slice(buffer.format(number).as_bytes())
 }
 
-fn push_endpoint(out: &mut Vec<u8>, endpoint: Endpoint) -> Result<(), AllocError>
-    ensures whole { OnOk result (out.new.items ≡ out.old.items ++ endpoint_text endpoint) }
-    ensures front { Grown out.old.items out.new.items }
+fn push_dotted(out: &mut Vec<u8>, first: u64, second: u64) -> Result<(), AllocError>
+    ensures whole { OnOk result (out.new.items ≡ out.old.items ++ dotted_text first second) }
+    ensures front { IsFront out.old.items out.new.items }
 {
-    push_number(out, u64::from(endpoint.address))?;
+    push_number(out, first)?;
     out.push(b'.')?;
-    push_number(out, endpoint.generation)
+    push_number(out, second)
 }
 
 fn hex_digit(value: u8) -> u8
@@ -157,14 +235,14 @@ fn hex_digit(value: u8) -> u8
 /// Appends a byte as two hexadecimal digits.
 fn push_byte(out: &mut Vec<u8>, byte: u8) -> Result<(), AllocError>
     ensures whole { OnOk result (out.new.items ≡ out.old.items ++ hex_byte byte) }
-    ensures front { Grown out.old.items out.new.items }
+    ensures front { IsFront out.old.items out.new.items }
 {
     out.extend_from_slice(&[hex_digit(byte / 16), hex_digit(byte % 16)])
 }
 
 fn push_digits(out: &mut Vec<u8>, number: u32) -> Result<(), AllocError>
     ensures whole { OnOk result (out.new.items ≡ out.old.items ++ eight_digits number) }
-    ensures front { Grown out.old.items out.new.items }
+    ensures front { IsFront out.old.items out.new.items }
 {
     push_byte(out, (number / 16_777_216) as u8)?;
     push_byte(out, (number / 65_536 % 256) as u8)?;
@@ -174,7 +252,7 @@ fn push_digits(out: &mut Vec<u8>, number: u32) -> Result<(), AllocError>
 
 fn push_offset(out: &mut Vec<u8>, number: u32) -> Result<(), AllocError>
     ensures whole { OnOk result (out.new.items ≡ out.old.items ++ four_digits number) }
-    ensures front { Grown out.old.items out.new.items }
+    ensures front { IsFront out.old.items out.new.items }
 {
     push_leading(out, (number / 65_536) as u16)?;
     push_byte(out, (number / 256 % 256) as u8)?;
@@ -184,7 +262,7 @@ fn push_offset(out: &mut Vec<u8>, number: u32) -> Result<(), AllocError>
 /// Appends the digits of a number without leading zeros.
 fn push_leading(out: &mut Vec<u8>, number: u16) -> Result<(), AllocError>
     ensures whole { OnOk result (out.new.items ≡ out.old.items ++ leading_digits number) }
-    ensures front { Grown out.old.items out.new.items }
+    ensures front { IsFront out.old.items out.new.items }
 {
     let (high, low) = ((number / 256) as u8, (number % 256) as u8);
     match number {
@@ -204,7 +282,7 @@ fn push_leading(out: &mut Vec<u8>, number: u16) -> Result<(), AllocError>
 
 fn push_hex(out: &mut Vec<u8>, bytes: &[u8]) -> Result<(), AllocError>
     ensures whole { OnOk result (out.new.items ≡ out.old.items ++ hex_bytes bytes.now) }
-    ensures front { Grown out.old.items out.new.items }
+    ensures front { IsFront out.old.items out.new.items }
 {
     if bytes.is_empty() {
         return out.extend_from_slice(b"-");
@@ -222,8 +300,8 @@ fn is_plain(byte: u8) -> bool
 }
 
 fn push_escaped(out: &mut Vec<u8>, text: &[u8]) -> Result<(), AllocError>
-    ensures whole { OnOk result (out.new.items ≡ out.old.items ++ escaped text.now) }
-    ensures front { Grown out.old.items out.new.items }
+    ensures whole { OnOk result (out.new.items ≡ out.old.items ++ with_escapes text.now) }
+    ensures front { IsFront out.old.items out.new.items }
 {
     if text.is_empty() {
         return out.extend_from_slice(b"%");

@@ -62,7 +62,8 @@ pub fn bytes_at(alloc: Global, words: &[&[u8]], place: usize) -> Result<Data, Al
     Ok(Data::of(payload(alloc, word_at(words, place))?))
 }
 
-fn no_name() -> Name
+/// The empty name.
+pub(crate) fn no_name() -> Name
     ensures { result ≡ [] }
 {
     match Name::of(b"") {

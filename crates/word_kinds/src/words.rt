@@ -1,4 +1,4 @@
-ghost use Rattle.std.specs.Prelude.{◌≡◌, ◌≤◌, map, take};
+ghost use Rattle.std.specs.Prelude.{◌≡◌, ◌≤◌, length, map, take};
 ghost use Rattle.word_kinds.specs.Spellings.{words_of};
 
 use crate::cuts::cut_at;
@@ -9,6 +9,7 @@ pub const WORDS_MOST: usize = 9;
 /// The first nine words of a line, or all where there are fewer, and how many these are.
 pub fn first_words<'a>(line: &'a [u8], words: &mut [&'a [u8]; 9]) -> usize
     ensures most { result ≤ 9 }
+    ensures places { length words.new ≡ 9 }
     ensures words { map (λ word. word.now) (take result words.new) ≡ take 9 (words_of line.now) }
 {
     let mut count = 0;

@@ -3,23 +3,19 @@ use Rattle.journal.proofs.lines.push_notice.Goals as goal
 
 pub returns-in-Usage-clause-whole : goal.returns-in-Usage-clause-whole
 unfolding notice_line
-returns-in-Usage-clause-whole c = rw c.in-Usage.is c.fixed.ensures.whole
+returns-in-Usage-clause-whole c = rw c.in-Usage.is c.text_line.ensures.whole
 
 pub returns-in-StoreFault-clause-whole : goal.returns-in-StoreFault-clause-whole
 unfolding notice_line
-returns-in-StoreFault-clause-whole c = rw c.in-StoreFault.is c.fixed-in-StoreFault.ensures.whole
+returns-in-StoreFault-clause-whole c = rw c.in-StoreFault.is c.text_line-in-StoreFault.ensures.whole
 
 pub returns-in-StepLimit-clause-whole : goal.returns-in-StepLimit-clause-whole
 unfolding notice_line
-returns-in-StepLimit-clause-whole c = rw c.in-StepLimit.is c.fixed-in-StepLimit.ensures.whole
+returns-in-StepLimit-clause-whole c = rw c.in-StepLimit.is c.text_line-in-StepLimit.ensures.whole
 
 pub returns-in-TooLarge-clause-whole : goal.returns-in-TooLarge-clause-whole
 unfolding notice_line
-returns-in-TooLarge-clause-whole c = rw c.in-TooLarge.is c.worded-in-TooLarge.ensures.whole
-
-pub returns-in-TableUnread-clause-whole : goal.returns-in-TableUnread-clause-whole
-unfolding notice_line
-returns-in-TableUnread-clause-whole c = rw c.in-TableUnread.is c.fixed-in-TableUnread.ensures.whole
+returns-in-TooLarge-clause-whole c = rw c.in-TooLarge.is c.word_name-in-TooLarge.ensures.whole
 
 pub returns-in-Segment-clause-whole : goal.returns-in-Segment-clause-whole
 unfolding notice_line

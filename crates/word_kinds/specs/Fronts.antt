@@ -1,0 +1,7 @@
+-- A text that stands before another (own).
+use Rattle.std.specs.Prelude.{◌≡◌, ℕ, List, ◌++◌}
+
+-- the text before is a front of the text after: the same bytes, and then a rest that may be empty
+pub record IsFront (before after : List ℕ) : Type 0 where
+  pub rest : List ℕ
+  pub is : after ≡ before ++ rest
