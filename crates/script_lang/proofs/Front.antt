@@ -11,19 +11,32 @@ use Rattle.word_kinds.specs.declared.kinds.Kind.{Kind}
 use Rattle.word_kinds.specs.Kinds.{are_of}
 use Rattle.word_kinds.specs.Places.{word_at}
 use Rattle.word_kinds.specs.Spellings.{words_of}
+use Rattle.script_lang.specs.declared.call_forms.CallForm.{CallForm}
+use Rattle.script_lang.specs.declared.call_forms.CallForm.TheVariants as call
 use Rattle.script_lang.specs.declared.forms.Form.{Form}
 use Rattle.script_lang.specs.declared.forms.Form.TheVariants as form
 use Rattle.script_lang.specs.declared.recipe_forms.RecipeForm.{RecipeForm}
 use Rattle.script_lang.specs.declared.recipe_forms.RecipeForm.TheVariants as recipe_form
 use Rattle.script_lang.specs.declared.recipe_forms.Context.{Context}
-use Rattle.script_lang.specs.Forms.{kinds, plain_forms, begun_forms}
+use Rattle.script_lang.specs.CallForms.{call_kinds, begin_kinds, call_form_named}
+use Rattle.script_lang.specs.Forms.{kinds, form_named}
 use Rattle.script_lang.specs.Recipes.{recipe_kinds, recipe_form_named, is_allowed}
-use Rattle.script_lang.specs.Lines.{is_skipped, is_printable, form_named, form_or, is_other_call, outside_cause, inside_cause, form_of, misfit, unless_misfit, fitting_form, fitting_line, judged, recipe_judged}
+use Rattle.script_lang.specs.Lines.{is_skipped, is_printable, form_or, outside_cause, inside_cause, form_of, misfit, unless_misfit, fitting_form, fitting_line, form_of_line, recipe_form_of_line}
 use Rattle.script_lang.specs.declared.progress.Progress.{Progress}
 use Rattle.script_lang.specs.Steps.{OpenImage, Step, image_kinds, end_kinds, opened_step, command_step, outside_step, closed_step, added_step, inside_step, words_step, line_step, image_of}
 
 -- no form has more than eight words
+short_call : (f : CallForm) → leb (length (call_kinds f)) 8 ≡ true
+short_call call.Send = refl
+short_call f = refl
+
+short_begin : (f : CallForm) → leb (length (begin_kinds f)) 8 ≡ true
+short_begin call.Send = refl
+short_begin f = refl
+
 short : (f : Form) → leb (length (kinds f)) 8 ≡ true
+short (form.Call f) = short_call f
+short (form.Begin f) = short_begin f
 short form.Link = refl
 short f = refl
 
@@ -51,12 +64,12 @@ command_many words (Err why) h = refl
 
 outside_is : (words : List (List ℕ)) → 8 < length words → outside_step words ≡ outside_by (word_at words 0) (form_of words)
 outside_is words h =
-    ap (λ o. cond (bytes_eq (word_at words 0) (codes "image")) (opened_step words o) (command_step words (judged words))) (misfit_many image_kinds words refl h)
+    ap (λ o. cond (bytes_eq (word_at words 0) (codes "image")) (opened_step words o) (command_step words (form_of_line words))) (misfit_many image_kinds words refl h)
     ∙ ap (λ s. cond (bytes_eq (word_at words 0) (codes "image")) (Err cause.Words) s) (command_many words (form_of words) h)
 
 -- what so many words say within an image
 abbrev many_line : Context → List ℕ → Option RecipeForm → Result Step Cause
-many_line context first None = Err (inside_cause first (form_named plain_forms first))
+many_line context first None = Err (inside_cause first (form_named first))
 many_line context first (Some f) = cond (is_allowed context f) (Err cause.Words) (Err cause.Block)
 
 abbrev inside_by : Context → List ℕ → Result Step Cause
@@ -74,15 +87,15 @@ added_many image words (Some f) h =
 
 inside_is : (image : OpenImage) (words : List (List ℕ)) → 8 < length words → inside_step image words ≡ inside_by image.context (word_at words 0)
 inside_is image words h =
-    ap (λ o. cond (bytes_eq (word_at words 0) (codes "end")) (closed_step image o) (added_step image words (recipe_judged image.context words))) (misfit_many end_kinds words refl h)
+    ap (λ o. cond (bytes_eq (word_at words 0) (codes "end")) (closed_step image o) (added_step image words (recipe_form_of_line image.context words))) (misfit_many end_kinds words refl h)
     ∙ ap (λ s. cond (bytes_eq (word_at words 0) (codes "end")) (Err cause.Words) s) (added_many image words (recipe_form_named (word_at words 0)) h)
 
 -- the form by the first word, the fourth, and whether there are fewer than four
 abbrev form_by : List ℕ → List ℕ → Bool → Result Form Cause
 form_by first fourth few =
     cond (bytes_eq first (codes "begin"))
-    (cond few (Err cause.Words) (cond (is_other_call fourth) (Err cause.Command) (form_or cause.Value (form_named begun_forms fourth))))
-    (form_or (outside_cause first (recipe_form_named first)) (form_named plain_forms first))
+    (cond few (Err cause.Words) (form_or cause.Value (option_map form.Begin (call_form_named fourth))))
+    (form_or (outside_cause first (recipe_form_named first)) (form_named first))
 
 form_of_front : (words : List (List ℕ)) → 8 < length words → form_of (take 9 words) ≡ form_of words
 form_of_front words h =

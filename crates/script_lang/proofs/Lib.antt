@@ -1,5 +1,5 @@
 pub mod Cuts
 pub mod Front
 pub mod Walk
-pub mod Meanings
+pub mod Ranges
 pub mod Runnable

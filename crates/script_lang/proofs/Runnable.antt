@@ -10,41 +10,61 @@ use Rattle.word_kinds.specs.Kinds.{are_of}
 use Rattle.word_kinds.specs.Places.{word_at}
 use Rattle.word_kinds.specs.Spellings.{words_of}
 use Rattle.script_lang.specs.declared.commands.Command.{Command}
+use Rattle.script_lang.specs.declared.call_forms.CallForm.{CallForm}
+use Rattle.script_lang.specs.declared.call_forms.CallForm.TheVariants as call
 use Rattle.script_lang.specs.declared.forms.Form.{Form}
 use Rattle.script_lang.specs.declared.forms.Form.TheVariants as form
 use Rattle.script_lang.specs.declared.recipes.RecipeLine.{RecipeLine}
 use Rattle.script_lang.specs.declared.recipe_forms.RecipeForm.{RecipeForm}
 use Rattle.script_lang.specs.declared.recipe_forms.RecipeForm.TheVariants as recipe_form
 use Rattle.script_lang.specs.declared.recipe_forms.Context.{Context}
-use Rattle.script_lang.specs.Forms.{kinds, made}
+use Rattle.script_lang.specs.CallForms.{call_kinds, begin_kinds, call_command, begin_command}
+use Rattle.script_lang.specs.Forms.{kinds, command_of}
 use Rattle.script_lang.specs.Recipes.{recipe_kinds, recipe_line, recipe_form_named, is_allowed}
-use Rattle.script_lang.specs.Lines.{is_skipped, is_printable, form_of, misfit, unless_misfit, fitting_form, judged, fitting_line, recipe_judged}
+use Rattle.script_lang.specs.Lines.{is_skipped, is_printable, form_of, misfit, unless_misfit, fitting_form, form_of_line, fitting_line, recipe_form_of_line}
 use Rattle.script_lang.specs.Steps.{OpenImage, Step, image_kinds, end_kinds, opened_step, command_step, closed_step, added_step, words_step, line_step}
 use Rattle.script_lang.specs.Grammar.{Refusal, bad_line, onto, step_and_more, image_behind, at_end, commands_from, lines_of, script_of, IsScript}
 use Rattle.script_lang.specs.Runnable.{IsLine, IsRecipe, IsRunnable, AreRunnable}
-use Rattle.script_lang.proofs.Meanings.{AllMeant, all_meant}
+use Rattle.script_lang.proofs.Ranges.{AreInRange, all_in_range}
 
 -- the command of a form: its numbers, place by place
-form_runs : (f : Form) (w : List (List ℕ)) → AllMeant (kinds f) w 0 → IsRunnable (made f w)
+call_runs : (f : CallForm) (w : List (List ℕ)) → AreInRange (call_kinds f) w 0 → IsRunnable (call_command f w)
+call_runs call.Send w m = (m.1.1.0, m.1.1.1.0, m.1.1.1.1.0, m.1.1.1.1.1.0)
+call_runs call.Raw w m = (m.1.1.0, m.1.1.1.0)
+call_runs call.Take w m = m.1.1.0
+call_runs call.Give w m = (m.1.1.0, m.1.1.1.0)
+call_runs call.Bind w m = (m.1.1.0, m.1.1.1.0)
+call_runs call.Unbind w m = (m.1.1.0, m.1.1.1.0)
+
+begin_runs : (f : CallForm) (w : List (List ℕ)) → AreInRange (begin_kinds f) w 0 → IsRunnable (begin_command f w)
+begin_runs call.Send w m = (m.1.1.0, m.1.1.1.1.0, m.1.1.1.1.1.0, m.1.1.1.1.1.1.0)
+begin_runs call.Raw w m = (m.1.1.0, m.1.1.1.1.0)
+begin_runs call.Take w m = m.1.1.0
+begin_runs call.Give w m = (m.1.1.0, m.1.1.1.1.0)
+begin_runs call.Bind w m = (m.1.1.0, m.1.1.1.1.0)
+begin_runs call.Unbind w m = (m.1.1.0, m.1.1.1.1.0)
+
+form_runs : (f : Form) (w : List (List ℕ)) → AreInRange (kinds f) w 0 → IsRunnable (command_of f w)
+form_runs (form.Call f) w m = call_runs f w m
+form_runs (form.Begin f) w m = begin_runs f w m
 form_runs form.Link w m = (m.1.1.0, m.1.1.1.0, m.1.1.1.1.0)
+form_runs form.NsLink w m = (m.1.1.0, m.1.1.1.0, m.1.1.1.1.0)
 form_runs form.Caller w m = tt
-form_runs form.Send w m = (m.1.1.0, m.1.1.1.0, m.1.1.1.1.0, m.1.1.1.1.1.0)
-form_runs form.Take w m = m.1.1.0
-form_runs form.Give w m = (m.1.1.0, m.1.1.1.0)
-form_runs form.BeginSend w m = (m.1.1.0, m.1.1.1.1.0, m.1.1.1.1.1.0, m.1.1.1.1.1.1.0)
-form_runs form.BeginTake w m = m.1.1.0
-form_runs form.BeginGive w m = (m.1.1.0, m.1.1.1.1.0)
 form_runs form.Step w m = (m.1.1.0, m.1.1.1.0)
 form_runs form.Finish w m = m.1.1.0
 form_runs form.Pump w m = (m.1.1.0, m.1.1.1.0, m.1.1.1.1.0)
 form_runs form.Books w m = tt
 form_runs form.Ring w m = m.1.1.0
+form_runs form.Channels w m = tt
+form_runs form.Close w m = tt
+form_runs form.Reclaim w m = m.1.1.0
+form_runs form.Reopen w m = tt
 
 same_Ok : {A E : Type 0} (x y : A) → ◌≡◌ {A = Result A E} (Ok x) (Ok y) → x ≡ y
 same_Ok x y e = cc
 
 -- a recipe line likewise
-line_runs : (f : RecipeForm) (w : List (List ℕ)) → AllMeant (recipe_kinds f) w 0 → IsLine (recipe_line f w)
+line_runs : (f : RecipeForm) (w : List (List ℕ)) → AreInRange (recipe_kinds f) w 0 → IsLine (recipe_line f w)
 line_runs recipe_form.Entry w m = m.1.0
 line_runs recipe_form.Load w m = (m.1.0, m.1.1.0, m.1.1.1.0)
 line_runs recipe_form.Table w m = m.1.0
@@ -56,30 +76,30 @@ line_runs recipe_form.Vring w m = (m.1.0, m.1.1.0, m.1.1.1.0)
 line_runs recipe_form.Vendor w m = m.1.0
 
 -- words that fit their kinds
-fits : (ks : List Kind) (words : List (List ℕ)) (count kept : Bool) → are_of ks words ≡ kept → cond (not count) (Some cause.Words) (cond kept None (Some cause.Value)) ≡ None → AllMeant ks words 0
+fits : (ks : List Kind) (words : List (List ℕ)) (count kept : Bool) → are_of ks words ≡ kept → cond (not count) (Some cause.Words) (cond kept None (Some cause.Value)) ≡ None → AreInRange ks words 0
 fits ks words false kept h e = absurd (cc)
 fits ks words true false h e = absurd (cc)
-fits ks words true true h e = all_meant ks words 0 h
+fits ks words true true h e = all_in_range ks words 0 h
 
-fitting : {F : Type 0} (ks : List Kind) (words : List (List ℕ)) (g f : F) (found : Option Cause) → misfit ks words ≡ found → unless_misfit g found ≡ Ok f → (g ≡ f) × AllMeant ks words 0
-fitting ks words g f None h e = (cc, fits ks words (length words == length ks) (are_of ks words) refl h)
-fitting ks words g f (Some why) h e = absurd (cc)
+fit_of : {F : Type 0} (ks : List Kind) (words : List (List ℕ)) (g f : F) (found : Option Cause) → misfit ks words ≡ found → unless_misfit g found ≡ Ok f → (g ≡ f) × AreInRange ks words 0
+fit_of ks words g f None h e = (cc, fits ks words (length words == length ks) (are_of ks words) refl h)
+fit_of ks words g f (Some why) h e = absurd (cc)
 
-judged_runs : (words : List (List ℕ)) (found : Result Form Cause) (f : Form) → fitting_form words found ≡ Ok f → IsRunnable (made f words)
-judged_runs words (Ok g) f e =
-    let both = fitting (kinds g) words g f (misfit (kinds g) words) refl e in
-    subst (λ x. IsRunnable (made x words)) both.0 (form_runs g words both.1)
-judged_runs words (Err why) f e = absurd (cc)
+form_of_line_runs : (words : List (List ℕ)) (found : Result Form Cause) (f : Form) → fitting_form words found ≡ Ok f → IsRunnable (command_of f words)
+form_of_line_runs words (Ok g) f e =
+    let both = fit_of (kinds g) words g f (misfit (kinds g) words) refl e in
+    subst (λ x. IsRunnable (command_of x words)) both.0 (form_runs g words both.1)
+form_of_line_runs words (Err why) f e = absurd (cc)
 
 fitting_runs : (words : List (List ℕ)) (g f : RecipeForm) (allowed : Bool) → cond allowed (unless_misfit g (misfit (recipe_kinds g) words)) (Err cause.Block) ≡ Ok f → IsLine (recipe_line f words)
 fitting_runs words g f false e = absurd (cc)
 fitting_runs words g f true e =
-    let both = fitting (recipe_kinds g) words g f (misfit (recipe_kinds g) words) refl e in
+    let both = fit_of (recipe_kinds g) words g f (misfit (recipe_kinds g) words) refl e in
     subst (λ x. IsLine (recipe_line x words)) both.0 (line_runs g words both.1)
 
-line_judged_runs : (context : Context) (words : List (List ℕ)) (found : Option RecipeForm) (f : RecipeForm) → fitting_line context words found ≡ Ok f → IsLine (recipe_line f words)
-line_judged_runs context words None f e = absurd (cc)
-line_judged_runs context words (Some g) f e = fitting_runs words g f (is_allowed context g) e
+recipe_form_of_line_runs : (context : Context) (words : List (List ℕ)) (found : Option RecipeForm) (f : RecipeForm) → fitting_line context words found ≡ Ok f → IsLine (recipe_line f words)
+recipe_form_of_line_runs context words None f e = absurd (cc)
+recipe_form_of_line_runs context words (Some g) f e = fitting_runs words g f (is_allowed context g) e
 
 recipe_more : (lines : List RecipeLine) (line : RecipeLine) → IsRecipe lines → IsLine line → IsRecipe (lines ++ line ∷ [])
 recipe_more [] line h l = (l, tt)
@@ -97,27 +117,27 @@ opened_runs : (words : List (List ℕ)) (why : Option Cause) (step : Step) → o
 opened_runs words None step e = let same = same_Ok _ step e in subst Runs same (tt, tt)
 opened_runs words (Some why) step e = absurd (cc)
 
-command_runs : (words : List (List ℕ)) (found : Result Form Cause) (step : Step) → judged words ≡ found → command_step words found ≡ Ok step → Runs step
-command_runs words (Ok f) step h e = subst Runs (same_Ok _ step e) ((judged_runs words (form_of words) f h, tt), tt)
+command_runs : (words : List (List ℕ)) (found : Result Form Cause) (step : Step) → form_of_line words ≡ found → command_step words found ≡ Ok step → Runs step
+command_runs words (Ok f) step h e = subst Runs (same_Ok _ step e) ((form_of_line_runs words (form_of words) f h, tt), tt)
 command_runs words (Err why) step h e = absurd (cc)
 
 closed_runs : (image : OpenImage) (why : Option Cause) (step : Step) → IsRecipe image.lines → closed_step image why ≡ Ok step → Runs step
 closed_runs image None step h e = subst Runs (same_Ok _ step e) ((h, tt), tt)
 closed_runs image (Some why) step h e = absurd (cc)
 
-added_runs : (image : OpenImage) (words : List (List ℕ)) (found : Result RecipeForm Cause) (step : Step) → IsRecipe image.lines → recipe_judged image.context words ≡ found → added_step image words found ≡ Ok step → Runs step
+added_runs : (image : OpenImage) (words : List (List ℕ)) (found : Result RecipeForm Cause) (step : Step) → IsRecipe image.lines → recipe_form_of_line image.context words ≡ found → added_step image words found ≡ Ok step → Runs step
 added_runs image words (Ok f) step h j e =
-    subst Runs (same_Ok _ step e) (tt, recipe_more image.lines (recipe_line f words) h (line_judged_runs image.context words (recipe_form_named (word_at words 0)) f j))
+    subst Runs (same_Ok _ step e) (tt, recipe_more image.lines (recipe_line f words) h (recipe_form_of_line_runs image.context words (recipe_form_named (word_at words 0)) f j))
 added_runs image words (Err why) step h j e = absurd (cc)
 
-outside_runs : (words : List (List ℕ)) (test : Bool) (step : Step) → cond test (opened_step words (misfit image_kinds words)) (command_step words (judged words)) ≡ Ok step → Runs step
+outside_runs : (words : List (List ℕ)) (test : Bool) (step : Step) → cond test (opened_step words (misfit image_kinds words)) (command_step words (form_of_line words)) ≡ Ok step → Runs step
 outside_runs words true step e = opened_runs words (misfit image_kinds words) step e
-outside_runs words false step e = command_runs words (judged words) step refl e
+outside_runs words false step e = command_runs words (form_of_line words) step refl e
 
 inside_runs : (image : OpenImage) (words : List (List ℕ)) (test : Bool) (step : Step) → IsRecipe image.lines
-    → cond test (closed_step image (misfit end_kinds words)) (added_step image words (recipe_judged image.context words)) ≡ Ok step → Runs step
+    → cond test (closed_step image (misfit end_kinds words)) (added_step image words (recipe_form_of_line image.context words)) ≡ Ok step → Runs step
 inside_runs image words true step h e = closed_runs image (misfit end_kinds words) step h e
-inside_runs image words false step h e = added_runs image words (recipe_judged image.context words) step h refl e
+inside_runs image words false step h e = added_runs image words (recipe_form_of_line image.context words) step h refl e
 
 words_run : (image : Option OpenImage) (words : List (List ℕ)) (step : Step) → IsOpen image → words_step image words ≡ Ok step → Runs step
 words_run None words step h e = outside_runs words (bytes_eq (word_at words 0) (codes "image")) step e

@@ -1,3 +1,4 @@
+pub mod CallForms
 pub mod Forms
 pub mod Recipes
 pub mod Lines

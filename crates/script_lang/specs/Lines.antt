@@ -1,17 +1,19 @@
 -- The form of a line, or why it has none (own).
-use Rattle.std.specs.Prelude.{ℕ, Bool, true, ◌==◌, ◌&&◌, ◌||◌, not, nat_le, nat_lt, if◌then◌else◌, List, [], ◌∷◌, length, find, Option, Some, None, Result, Ok, Err, bytes_eq, codes}
+use Rattle.std.specs.Prelude.{ℕ, Bool, true, ◌==◌, ◌&&◌, ◌||◌, not, nat_le, nat_lt, if◌then◌else◌, List, [], ◌∷◌, length, Option, Some, None, option_map, Result, Ok, Err, bytes_eq, codes}
 use Rattle.std.specs.List.{slice_index}
 use Rattle.word_kinds.specs.declared.kinds.Kind.{Kind}
 use Rattle.word_kinds.specs.Kinds.{are_of}
 use Rattle.word_kinds.specs.Places.{word_at}
 use Rattle.word_kinds.specs.declared.causes.Cause.{Cause}
 use Rattle.word_kinds.specs.declared.causes.Cause.TheVariants as cause
+use Rattle.script_lang.specs.declared.call_forms.CallForm.TheVariants as call
 use Rattle.script_lang.specs.declared.forms.Form.{Form}
 use Rattle.script_lang.specs.declared.forms.Form.TheVariants as form
 use Rattle.script_lang.specs.declared.recipe_forms.RecipeForm.{RecipeForm}
 use Rattle.script_lang.specs.declared.recipe_forms.RecipeForm.TheVariants as recipe_form
 use Rattle.script_lang.specs.declared.recipe_forms.Context.{Context}
-use Rattle.script_lang.specs.Forms.{keyword, kinds, plain_forms, begun_forms}
+use Rattle.script_lang.specs.CallForms.{call_form_named}
+use Rattle.script_lang.specs.Forms.{kinds, form_named}
 use Rattle.script_lang.specs.Recipes.{recipe_form_named, recipe_kinds, is_allowed}
 
 -- a line without words, or whose first word begins with `#`, says nothing
@@ -23,24 +25,15 @@ is_skipped (word ∷ more) = slice_index word 0 == 35
 abbrev pub is_printable : ℕ → Bool
 is_printable byte = nat_le 32 byte && nat_le byte 126
 
--- the first of these forms that is told by this word
-abbrev pub form_named : List Form → List ℕ → Option Form
-form_named forms word = find (λ form. bytes_eq word (keyword form)) forms
-
 -- the form, or why there is none
 abbrev pub form_or : Cause → Option Form → Result Form Cause
 form_or why None = Err why
 form_or why (Some form) = Ok form
 
--- the calls that can't be begun yet
-abbrev pub is_other_call : List ℕ → Bool
-is_other_call word = bytes_eq word (codes "raw") || bytes_eq word (codes "bind") || bytes_eq word (codes "unbind")
-
 -- a call that is begun is told by the fourth word
-abbrev pub begun_form : List (List ℕ) → Result Form Cause
-begun_form words =
-    if nat_lt (length words) 4 then Err cause.Words
-    else (if is_other_call (word_at words 3) then Err cause.Command else form_or cause.Value (form_named begun_forms (word_at words 3)))
+abbrev pub begin_form : List (List ℕ) → Result Form Cause
+begin_form words =
+    if nat_lt (length words) 4 then Err cause.Words else form_or cause.Value (option_map form.Begin (call_form_named (word_at words 3)))
 
 -- the word that begins no command: outside of an image a recipe line is out of place, but for the words that later commands begin with
 abbrev pub outside_cause : List ℕ → Option RecipeForm → Cause
@@ -52,8 +45,8 @@ outside_cause word (Some form) = cause.Block
 -- any other command by the first
 abbrev pub form_of : List (List ℕ) → Result Form Cause
 form_of words =
-    if bytes_eq (word_at words 0) (codes "begin") then begun_form words
-    else form_or (outside_cause (word_at words 0) (recipe_form_named (word_at words 0))) (form_named plain_forms (word_at words 0))
+    if bytes_eq (word_at words 0) (codes "begin") then begin_form words
+    else form_or (outside_cause (word_at words 0) (recipe_form_named (word_at words 0))) (form_named (word_at words 0))
 
 -- why words don't fit these kinds: their number before their kinds
 abbrev pub misfit : List Kind → List (List ℕ) → Option Cause
@@ -70,21 +63,23 @@ fitting_form words (Ok form) = unless_misfit form (misfit (kinds form) words)
 fitting_form words (Err why) = Err why
 
 -- the form of these words outside of an image, or the first cause by which they have none
-abbrev pub judged : List (List ℕ) → Result Form Cause
-judged words = fitting_form words (form_of words)
+abbrev pub form_of_line : List (List ℕ) → Result Form Cause
+form_of_line words = fitting_form words (form_of words)
 
 -- a command within an image is out of place, but for the words that records begin with
 abbrev pub inside_cause : List ℕ → Option Form → Cause
 inside_cause word None = if bytes_eq word (codes "begin") || bytes_eq word (codes "image") then cause.Block else cause.Command
-inside_cause word (Some form.Send) = cause.Command
-inside_cause word (Some form.Take) = cause.Command
+inside_cause word (Some (form.Call call.Send)) = cause.Command
+inside_cause word (Some (form.Call call.Raw)) = cause.Command
+inside_cause word (Some (form.Call call.Take)) = cause.Command
+inside_cause word (Some (form.Call call.Bind)) = cause.Command
 inside_cause word (Some form) = cause.Block
 
 abbrev pub fitting_line : Context → List (List ℕ) → Option RecipeForm → Result RecipeForm Cause
-fitting_line context words None = Err (inside_cause (word_at words 0) (form_named plain_forms (word_at words 0)))
+fitting_line context words None = Err (inside_cause (word_at words 0) (form_named (word_at words 0)))
 fitting_line context words (Some form) =
     if is_allowed context form then unless_misfit form (misfit (recipe_kinds form) words) else Err cause.Block
 
 -- the form of these words within an image, or the first cause by which they have none: the place comes before the other words
-abbrev pub recipe_judged : Context → List (List ℕ) → Result RecipeForm Cause
-recipe_judged context words = fitting_line context words (recipe_form_named (word_at words 0))
+abbrev pub recipe_form_of_line : Context → List (List ℕ) → Result RecipeForm Cause
+recipe_form_of_line context words = fitting_line context words (recipe_form_named (word_at words 0))

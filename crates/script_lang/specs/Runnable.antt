@@ -55,18 +55,29 @@ IsRecipe (first ∷ more) = IsLine first × IsRecipe more
 -- a command whose numbers are within what the machine takes
 abbrev pub IsRunnable : Command → Type 0
 IsRunnable (command.Link name to_host to_remote book) = IsRingSize to_host × IsRingSize to_remote × IsBook book
+IsRunnable (command.NsLink name to_host to_remote book) = IsRingSize to_host × IsRingSize to_remote × IsBook book
 IsRunnable (command.Caller name end) = Unit {0}
 IsRunnable (command.Send name caller src dst payload) = IsCaller caller × IsNumber src × IsNumber dst × IsPayload payload
+IsRunnable (command.Raw name caller message) = IsCaller caller × IsPayload message
 IsRunnable (command.Take name caller) = IsCaller caller
 IsRunnable (command.Give name caller number) = IsCaller caller × IsNumber number
+IsRunnable (command.Bind name caller address) = IsCaller caller × IsNumber address
+IsRunnable (command.Unbind name caller address) = IsCaller caller × IsNumber address
 IsRunnable (command.BeginSend name caller src dst payload) = IsCaller caller × IsNumber src × IsNumber dst × IsPayload payload
+IsRunnable (command.BeginRaw name caller message) = IsCaller caller × IsPayload message
 IsRunnable (command.BeginTake name caller) = IsCaller caller
 IsRunnable (command.BeginGive name caller number) = IsCaller caller × IsNumber number
+IsRunnable (command.BeginBind name caller address) = IsCaller caller × IsNumber address
+IsRunnable (command.BeginUnbind name caller address) = IsCaller caller × IsNumber address
 IsRunnable (command.Step name caller count) = IsCaller caller × IsCount count
 IsRunnable (command.Finish name caller) = IsCaller caller
 IsRunnable (command.Pump name sender receiver count) = IsCaller sender × IsCaller receiver × IsCount count
 IsRunnable (command.Books name) = Unit {0}
 IsRunnable (command.Ring name lane) = IsLane lane
+IsRunnable (command.Channels name) = Unit {0}
+IsRunnable (command.Close name) = Unit {0}
+IsRunnable (command.Reclaim name caller) = IsCaller caller
+IsRunnable (command.Reopen name) = Unit {0}
 IsRunnable (command.Image name lines) = IsRecipe lines
 
 -- a list of such commands

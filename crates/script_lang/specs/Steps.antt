@@ -16,9 +16,9 @@ use Rattle.script_lang.specs.declared.recipe_forms.Context.{Context}
 use Rattle.script_lang.specs.declared.progress.Progress.{Progress}
 use Rattle.script_lang.specs.declared.progress.LineFault.{LineFault}
 use Rattle.script_lang.specs.declared.progress.LineFault.TheVariants as fault
-use Rattle.script_lang.specs.Forms.{made}
+use Rattle.script_lang.specs.Forms.{command_of}
 use Rattle.script_lang.specs.Recipes.{recipe_line, first_context, context_after}
-use Rattle.script_lang.specs.Lines.{is_skipped, is_printable, misfit, judged, recipe_judged}
+use Rattle.script_lang.specs.Lines.{is_skipped, is_printable, misfit, form_of_line, recipe_form_of_line}
 
 -- an image whose `end` has not come yet
 pub record OpenImage : Type 0 where
@@ -45,13 +45,13 @@ opened_step words (Some why) = Err why
 
 -- a command of one line
 abbrev pub command_step : List (List ℕ) → Result Form Cause → Result Step Cause
-command_step words (Ok form) = Ok (record { commands = made form words ∷ []; image = None })
+command_step words (Ok form) = Ok (record { commands = command_of form words ∷ []; image = None })
 command_step words (Err why) = Err why
 
 -- a line outside of an image
 abbrev pub outside_step : List (List ℕ) → Result Step Cause
 outside_step words =
-    if bytes_eq (word_at words 0) (codes "image") then opened_step words (misfit image_kinds words) else command_step words (judged words)
+    if bytes_eq (word_at words 0) (codes "image") then opened_step words (misfit image_kinds words) else command_step words (form_of_line words)
 
 -- an image ends
 abbrev pub closed_step : OpenImage → Option Cause → Result Step Cause
@@ -71,7 +71,7 @@ added_step image words (Err why) = Err why
 abbrev pub inside_step : OpenImage → List (List ℕ) → Result Step Cause
 inside_step image words =
     if bytes_eq (word_at words 0) (codes "end") then closed_step image (misfit end_kinds words)
-    else added_step image words (recipe_judged image.context words)
+    else added_step image words (recipe_form_of_line image.context words)
 
 abbrev pub words_step : Option OpenImage → List (List ℕ) → Result Step Cause
 words_step None words = outside_step words

@@ -13,20 +13,34 @@ pub enum Command {
     /// Makes a link: the entries of the ring to the host and of the ring to the remote, and how many
     /// messages each lane accepts.
     Link(Name, u64, u64, u64),
+    /// Makes a link whose ends have the name service, with the same numbers.
+    NsLink(Name, u64, u64, u64),
     /// Makes a caller at an end.
     Caller(Name, End),
     /// A whole send: caller, source and destination address, payload.
     Send(Name, u64, u64, u64, Data),
+    /// A whole send of a message as it stands, its header included: caller, message.
+    Raw(Name, u64, Data),
     /// A whole take: caller.
     Take(Name, u64),
     /// A whole give: caller, number of the message.
     Give(Name, u64, u64),
+    /// A whole bind: caller, address, or 2^32 - 1 for any.
+    Bind(Name, u64, u64),
+    /// A whole unbind: caller, address.
+    Unbind(Name, u64, u64),
     /// Begins a send and takes no step of it: caller, source and destination address, payload.
     BeginSend(Name, u64, u64, u64, Data),
+    /// Begins a send of a message as it stands: caller, message.
+    BeginRaw(Name, u64, Data),
     /// Begins a take: caller.
     BeginTake(Name, u64),
     /// Begins a give: caller, number of the message.
     BeginGive(Name, u64, u64),
+    /// Begins a bind: caller, address, or 2^32 - 1 for any.
+    BeginBind(Name, u64, u64),
+    /// Begins an unbind: caller, address.
+    BeginUnbind(Name, u64, u64),
     /// Takes so many steps of a caller's call, fewer where it ends before: caller, steps.
     Step(Name, u64, u64),
     /// Takes all the steps of a caller's call that are left: caller.
@@ -37,6 +51,14 @@ pub enum Command {
     Books(Name),
     /// The bytes of a lane's ring.
     Ring(Name, u64),
+    /// Tells the channels that the host's end of the link knows.
+    Channels(Name),
+    /// Closes the link.
+    Close(Name),
+    /// Takes from a caller of a closed link its call and what it holds: caller.
+    Reclaim(Name, u64),
+    /// Opens a closed link again, in its next incarnation.
+    Reopen(Name),
     /// Makes an image of this name by a recipe.
     Image(Name, Recipe),
 }

@@ -1,6 +1,7 @@
 // The script grammar: which texts are scripts, and the list of commands that each says.
 #![tactic(auto)]
 
+mod call_forms;
 mod commands;
 mod forms;
 mod grammar;

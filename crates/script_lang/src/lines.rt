@@ -1,10 +1,11 @@
 ghost use Rattle.std.specs.Prelude.{◌≡◌, true, IfOk, map};
 ghost use Rattle.std.specs.List.{list_all};
-ghost use Rattle.script_lang.specs.Forms.{plain_forms, begun_forms};
-ghost use Rattle.script_lang.specs.Lines.{is_skipped, is_printable, is_other_call, begun_form, outside_cause, form_named, form_of, misfit, judged, inside_cause, recipe_judged};
+ghost use Rattle.script_lang.specs.Forms.{form_named};
+ghost use Rattle.script_lang.specs.Lines.{is_skipped, is_printable, begin_form, outside_cause, form_of, misfit, form_of_line, inside_cause, recipe_form_of_line};
 ghost use Rattle.script_lang.specs.Recipes.{recipe_form_named, is_allowed};
 
-use crate::forms::{BEGUN, FORMS, Form, form_named, kinds};
+use crate::call_forms::{CallForm, call_form_named};
+use crate::forms::{Form, form_named, kinds};
 use crate::recipe_forms::{Context, RecipeForm, is_allowed, recipe_form_named, recipe_kinds};
 use word_kinds::{Cause, Kind, are_of, word_at};
 
@@ -25,25 +26,15 @@ pub(crate) fn is_printable(line: &[u8]) -> bool
     line.iter().all(|byte| matches!(*byte, b' '..=b'~'))
 }
 
-fn is_other_call(word: &[u8]) -> bool
-    ensures { result ≡ is_other_call word.now }
-{
-    word == b"raw".as_slice() || word == b"bind".as_slice() || word == b"unbind".as_slice()
-}
-
 /// The form of a call that is begun, by the fourth word.
-fn begun_form(words: &[&[u8]]) -> Result<Form, Cause>
-    ensures { result ≡ begun_form (map (λ word. word.now) words.now) }
+fn begin_form(words: &[&[u8]]) -> Result<Form, Cause>
+    ensures { result ≡ begin_form (map (λ word. word.now) words.now) }
 {
     if words.len() < 4 {
         return Err(Cause::Words);
     }
-    let word = word_at(words, 3);
-    if is_other_call(word) {
-        return Err(Cause::Command);
-    }
-    match form_named(&BEGUN, word) {
-        Some(form) => Ok(form),
+    match call_form_named(word_at(words, 3)) {
+        Some(call) => Ok(Form::Begin(call)),
         None => Err(Cause::Value),
     }
 }
@@ -69,9 +60,9 @@ fn form_of(words: &[&[u8]]) -> Result<Form, Cause>
 {
     let word = word_at(words, 0);
     if word == b"begin".as_slice() {
-        return begun_form(words);
+        return begin_form(words);
     }
-    match form_named(&FORMS, word) {
+    match form_named(word) {
         Some(form) => Ok(form),
         None => Err(outside_cause(word)),
     }
@@ -92,8 +83,8 @@ pub(crate) fn misfit(kinds: &[Kind], words: &[&[u8]]) -> Option<Cause>
 }
 
 /// The form of these words outside of an image, or why they have none.
-pub(crate) fn judged(words: &[&[u8]]) -> Result<Form, Cause>
-    ensures { result ≡ judged (map (λ word. word.now) words.now) }
+pub(crate) fn form_of_line(words: &[&[u8]]) -> Result<Form, Cause>
+    ensures { result ≡ form_of_line (map (λ word. word.now) words.now) }
 {
     let form = form_of(words)?;
     match misfit(kinds(form), words) {
@@ -104,22 +95,24 @@ pub(crate) fn judged(words: &[&[u8]]) -> Result<Form, Cause>
 
 /// Why a word begins no line within an image.
 fn inside_cause(word: &[u8]) -> Cause
-    ensures { result ≡ inside_cause word.now (form_named plain_forms word.now) }
+    ensures { result ≡ inside_cause word.now (form_named word.now) }
 {
-    match form_named(&FORMS, word) {
+    match form_named(word) {
         None => if word == b"begin".as_slice() || word == b"image".as_slice() {
             Cause::Block
         } else {
             Cause::Command
         },
-        Some(Form::Send | Form::Take) => Cause::Command,
+        Some(Form::Call(CallForm::Send | CallForm::Raw | CallForm::Take | CallForm::Bind)) => {
+            Cause::Command
+        }
         Some(_) => Cause::Block,
     }
 }
 
 /// The form of these words within an image, or why they have none.
-pub(crate) fn recipe_judged(context: Context, words: &[&[u8]]) -> Result<RecipeForm, Cause>
-    ensures form { result ≡ recipe_judged context (map (λ word. word.now) words.now) }
+pub(crate) fn recipe_form_of_line(context: Context, words: &[&[u8]]) -> Result<RecipeForm, Cause>
+    ensures form { result ≡ recipe_form_of_line context (map (λ word. word.now) words.now) }
     ensures allowed { IfOk result (λ form. is_allowed context form ≡ true) }
 {
     let word = word_at(words, 0);

@@ -3,8 +3,8 @@ ghost use Rattle.word_kinds.specs.Spellings.{words_of};
 ghost use Rattle.script_lang.specs.Steps.{image_kinds, end_kinds, outside_step, inside_step, line_step, image_of, IsStepped};
 
 use crate::commands::Command;
-use crate::forms::made;
-use crate::lines::{is_printable, is_skipped, judged, misfit, recipe_judged};
+use crate::forms::command_of;
+use crate::lines::{form_of_line, is_printable, is_skipped, misfit, recipe_form_of_line};
 use crate::recipe_forms::{Behind, Context, context_after, recipe_line};
 use crate::recipes::{Recipe, RecipeLine};
 use rp_base::Name;
@@ -96,9 +96,9 @@ fn take_outside(alloc: Global, progress: &mut Progress, words: &[&[u8]]) -> Resu
         };
         return Ok(());
     }
-    match judged(words) {
+    match form_of_line(words) {
         Ok(form) => {
-            let command = made(alloc, form, words)?;
+            let command = command_of(alloc, form, words)?;
             progress.commands.push(command)?;
             Ok(())
         }
@@ -127,7 +127,7 @@ fn take_inside(
         progress.image = None;
         return Ok(());
     }
-    match recipe_judged(progress.context, words) {
+    match recipe_form_of_line(progress.context, words) {
         Ok(form) => {
             let line = recipe_line(alloc, form, words)?;
             progress.lines.push(line)?;
