@@ -6,3 +6,4 @@ pub mod Sound
 pub mod WantedSound
 pub mod Steps
 pub mod RegionsSound
+pub mod Meant

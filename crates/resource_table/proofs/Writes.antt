@@ -8,7 +8,7 @@ use Rattle.std.proofs.lemmas.List.Elements.{All-nil, All-cons, All-head, All-tai
 use Rattle.rp_base.specs.Fields.{with_number}
 use Rattle.resource_table.specs.Entries.{entry_count, start_of, type_at, entries_of}
 use Rattle.resource_table.specs.Tables.{is_rpmsg, is_rpmsg_of_type, fixed_size}
-use Rattle.resource_table.specs.Patches.{Write, written, LeavesPlace, fix_writes, device_writes, patch_writes, is_fix_of}
+use Rattle.resource_table.specs.Patches.{Write, after_writes, LeavesPlace, fix_writes, device_writes, patch_writes, is_fix_of}
 use Rattle.resource_table.specs.declared.fixes.Fix.{Fix}
 use Rattle.resource_table.specs.declared.kinds.ResourceType.{ResourceType}
 use Rattle.resource_table.specs.declared.kinds.ResourceType.TheVariants as type
@@ -16,16 +16,16 @@ use Rattle.resource_table.proofs.Ranges.{range_more}
 use Rattle.resource_table.proofs.Sound.{HasRoom, IsSoundTable, sound_fix}
 
 -- writes that are made after others
-pub written_after : (xs ys : List Write) (bytes : List ℕ) → written (xs ++ ys) bytes ≡ written ys (written xs bytes)
+pub written_after : (xs ys : List Write) (bytes : List ℕ) → after_writes (xs ++ ys) bytes ≡ after_writes ys (after_writes xs bytes)
 written_after [] ys bytes = refl
 written_after (x ∷ xs) ys bytes = written_after xs ys (with_number x.width x.at x.value bytes)
 
 -- the entries from i on are set up where entry i is, and then the later ones
 pub device_more : (bytes patched : List ℕ) (i n : ℕ) → i < n
-    → written (flat_map (device_writes bytes) (range_with_len i (n - i))) patched
-    ≡ written (flat_map (device_writes bytes) (range_with_len (i + 1) (n - (i + 1)))) (written (device_writes bytes i) patched)
+    → after_writes (flat_map (device_writes bytes) (range_with_len i (n - i))) patched
+    ≡ after_writes (flat_map (device_writes bytes) (range_with_len (i + 1) (n - (i + 1)))) (after_writes (device_writes bytes i) patched)
 device_more bytes patched i n below =
-    ap (λ range. written (flat_map (device_writes bytes) range) patched) (range_more i n below)
+    ap (λ range. after_writes (flat_map (device_writes bytes) range) patched) (range_more i n below)
     ∙ written_after (device_writes bytes i) (flat_map (device_writes bytes) (range_with_len (i + 1) (n - (i + 1)))) patched
 
 -- a write lies in a table of so many bytes
@@ -70,7 +70,7 @@ still_within write more bytes within =
     rw len (All-tail (LiesIn (length bytes)) write more within)
 
 -- writes that lie in a table leave its length
-pub length-written : (writes : List Write) (bytes : List ℕ) → All (LiesIn (length bytes)) writes → length (written writes bytes) ≡ length bytes
+pub length-written : (writes : List Write) (bytes : List ℕ) → All (LiesIn (length bytes)) writes → length (after_writes writes bytes) ≡ length bytes
 length-written [] bytes within = refl
 length-written (write ∷ more) bytes within =
     length-written more (with_number write.width write.at write.value bytes) (still_within write more bytes within)
@@ -78,7 +78,7 @@ length-written (write ∷ more) bytes within =
 
 -- writes leave a place that none of them covers
 pub written-other : (writes : List Write) (bytes : List ℕ) (place : ℕ) → All (LiesIn (length bytes)) writes → All (LeavesPlace place) writes
-    → get_or (written writes bytes) place 0 ≡ get_or bytes place 0
+    → get_or (after_writes writes bytes) place 0 ≡ get_or bytes place 0
 written-other [] bytes place within leaves = refl
 written-other (write ∷ more) bytes place within leaves =
     written-other more (with_number write.width write.at write.value bytes) place (still_within write more bytes within) (All-tail (LeavesPlace place) write more leaves)

@@ -21,9 +21,9 @@ abbrev pub into : Field → ℕ → ℕ → Write
 into f start value = record { at = start + f.at; width = f.width; value = value }
 
 -- the bytes after writes that are made in order (own)
-abbrev pub written : List Write → List ℕ → List ℕ
-written [] bytes = bytes
-written (write ∷ more) bytes = written more (with_number write.width write.at write.value bytes)
+abbrev pub after_writes : List Write → List ℕ → List ℕ
+after_writes [] bytes = bytes
+after_writes (write ∷ more) bytes = after_writes more (with_number write.width write.at write.value bytes)
 
 -- whether an entry takes a fix: a carveout one that is for no ring, a device one for a ring that it has (own)
 abbrev pub takes_fix : Fix → Entry → Bool
@@ -74,7 +74,7 @@ patch_writes bytes fixes =
 
 -- the patched table (own)
 abbrev pub patched_of : List ℕ → List Fix → List ℕ
-patched_of bytes fixes = written (patch_writes bytes fixes) bytes
+patched_of bytes fixes = after_writes (patch_writes bytes fixes) bytes
 
 -- a place that a write leaves as it is: it stands before the field or behind it (own)
 abbrev pub LeavesPlace : ℕ → Write → Type 0

@@ -3,7 +3,7 @@ ghost use Rattle.std.specs.List.{flat_map, range_with_len};
 ghost use Rattle.rp_base.specs.Fields.{with_number};
 ghost use Rattle.resource_table.specs.Entries.{entries_of, entry_count};
 ghost use Rattle.resource_table.specs.Tables.{GoodTable};
-ghost use Rattle.resource_table.specs.Patches.{is_fix_of, patched_of, written, fix_writes, device_writes, rpmsg_writes, ring_writes, carveout_writes};
+ghost use Rattle.resource_table.specs.Patches.{is_fix_of, patched_of, after_writes, fix_writes, device_writes, rpmsg_writes, ring_writes, carveout_writes};
 
 use crate::entries::ring_start;
 use crate::header::{entry_count, entry_start};
@@ -47,7 +47,7 @@ fn write_fixes(bytes: &[u8], patched: &mut [u8], fixes: &[Fix])
     requires good { GoodTable bytes.now }
     requires fixes { All (λ fix. IsTrue (is_fix_of (entries_of bytes.now) fix)) fixes.now }
     requires same { length patched.old ≡ length bytes.now }
-    ensures { patched.new ≡ written (flat_map (fix_writes bytes.now) fixes.now) patched.old }
+    ensures { patched.new ≡ after_writes (flat_map (fix_writes bytes.now) fixes.now) patched.old }
 {
     for fix in fixes {
         write_fix(bytes, patched, fix);
@@ -59,7 +59,7 @@ fn write_fix(bytes: &[u8], patched: &mut [u8], fix: &Fix)
     requires good { GoodTable bytes.now }
     requires fix { is_fix_of (entries_of bytes.now) fix.now ≡ true }
     requires same { length patched.old ≡ length bytes.now }
-    ensures { patched.new ≡ written (fix_writes bytes.now fix.now) patched.old }
+    ensures { patched.new ≡ after_writes (fix_writes bytes.now fix.now) patched.old }
 {
     let start = entry_start(bytes, fix.entry);
     if fix.rings {
@@ -72,7 +72,7 @@ fn write_fix(bytes: &[u8], patched: &mut [u8], fix: &Fix)
 /// Writes a fix of the ring that begins at a place.
 fn write_ring(patched: &mut [u8], start: usize, fix: &Fix)
     requires { start + 20 ≤ length patched.old }
-    ensures { patched.new ≡ written (ring_writes fix.now start) patched.old }
+    ensures { patched.new ≡ after_writes (ring_writes fix.now start) patched.old }
 {
     put_u32(patched, start, fix.da);
     put_u32(patched, start + 12, fix.notify);
@@ -82,7 +82,7 @@ fn write_ring(patched: &mut [u8], start: usize, fix: &Fix)
 /// Writes a fix of the carveout that begins at a place.
 fn write_carveout(patched: &mut [u8], start: usize, fix: &Fix)
     requires { start + 56 ≤ length patched.old }
-    ensures { patched.new ≡ written (carveout_writes fix.now start) patched.old }
+    ensures { patched.new ≡ after_writes (carveout_writes fix.now start) patched.old }
 {
     put_u32(patched, start + 4, fix.da);
     put_u32(patched, start + 8, fix.pa);
@@ -93,7 +93,7 @@ fn write_carveout(patched: &mut [u8], start: usize, fix: &Fix)
 fn write_rpmsg(bytes: &[u8], patched: &mut [u8])
     requires good { GoodTable bytes.now }
     requires same { length patched.old ≡ length bytes.now }
-    ensures { patched.new ≡ written (flat_map (device_writes bytes.now) (range_with_len 0 (entry_count bytes.now))) patched.old }
+    ensures { patched.new ≡ after_writes (flat_map (device_writes bytes.now) (range_with_len 0 (entry_count bytes.now))) patched.old }
 {
     for index in 0..entry_count(bytes) as u16 {
         write_if_rpmsg(bytes, patched, index);
@@ -105,7 +105,7 @@ fn write_if_rpmsg(bytes: &[u8], patched: &mut [u8], index: u16)
     requires good { GoodTable bytes.now }
     requires among { index < entry_count bytes.now }
     requires same { length patched.old ≡ length bytes.now }
-    ensures { patched.new ≡ written (device_writes bytes.now index) patched.old }
+    ensures { patched.new ≡ after_writes (device_writes bytes.now index) patched.old }
 {
     if is_rpmsg(bytes, index) {
         let start = entry_start(bytes, index);
@@ -118,7 +118,7 @@ fn write_if_rpmsg(bytes: &[u8], patched: &mut [u8], index: u16)
 /// the status of a device whose driver is ready.
 fn write_device(patched: &mut [u8], start: usize, offered: DeviceFeatures)
     requires { start + 28 ≤ length patched.old }
-    ensures { patched.new ≡ written (rpmsg_writes offered.0 start) patched.old }
+    ensures { patched.new ≡ after_writes (rpmsg_writes offered.0 start) patched.old }
 {
     let agreed = offered.intersection(DeviceFeatures::NAME_SERVICE);
     let ready = DeviceStatus::ACKNOWLEDGE

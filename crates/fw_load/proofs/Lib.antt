@@ -1,0 +1,6 @@
+pub mod Bytes
+pub mod Steps
+pub mod Places
+pub mod Refusals
+pub mod Fitting
+pub mod Meant

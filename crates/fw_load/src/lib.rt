@@ -1,0 +1,16 @@
+// Loads a firmware image into the memory of a core: its segments and its patched resource table.
+#![tactic(auto)]
+
+mod faults;
+mod fixes;
+mod loading;
+mod mapped;
+mod rings;
+mod tables;
+mod traces;
+
+pub use faults::LoadFault;
+pub use loading::{Loaded, load};
+pub use mapped::bytes_at;
+pub use rings::RingPair;
+pub use traces::TraceAt;

@@ -1,0 +1,116 @@
+ghost use Rattle.std.specs.Prelude.{◌≡◌, ◌≢◌, None, Some, Ok, All, IfOk, IfErr, IfSome, OnOk};
+ghost use Rattle.memory_pool.specs.Placements.{placement};
+ghost use Rattle.addr_translate.specs.Maps.{IsMapOf};
+ghost use Rattle.fw_load.specs.Memory.{place_at};
+ghost use Rattle.fw_load.specs.Rings.{IsSoundPair, IsTraceIn, pair_from, traces_of};
+ghost use Rattle.fw_load.specs.Tables.{entries_in, section_fault, table_of, table_section};
+ghost use Rattle.fw_load.specs.Loading.{IsLoaded, Loads, load_fault};
+ghost use Rattle.fw_load.specs.declared.faults.LoadFault.TheVariants as fault;
+
+use crate::faults::LoadFault;
+use crate::fixes::{patched_table, ring_numbers};
+use crate::mapped::{copy_segments, copy_table, test_entry, test_segments};
+use crate::rings::{RingPair, ring_pair};
+use crate::tables::{place_entries, read_table};
+use crate::traces::{TraceAt, traces_of};
+use addr_translate::{CoreMemory, Map};
+use elf_image::{Image, Section};
+use memory_pool::{Placed, Regions};
+use resource_table::Table;
+use rp_base::{Da, NoMemory};
+use std::alloc::Global;
+
+/// An image that is loaded.
+#[derive(Drop)]
+pub struct Loaded {
+    /// The memory of the core: zeros, the segments of the image, and the patched table.
+    pub memory: CoreMemory,
+    /// What is mapped.
+    pub map: Map,
+    /// Where the resource table's entries are placed.
+    pub placed: Placed,
+    /// The patched table, and nothing where the image has none.
+    pub table: Vec<u8>,
+    /// The address of the first record.
+    pub entry: Da,
+    /// The rings of the device for RPMsg, where the table has one.
+    pub rings: Option<RingPair>,
+    /// The traces of the table, in order.
+    pub traces: Vec<TraceAt>,
+}
+
+/// Loads an image into the memory of a core that has regions.
+///
+/// Errors: the first of the tests that fails, in this order: the image; its resource table, whose
+/// section is `.resource_table`; the placement of what the table asks for; that one block of memory
+/// holds each segment whole, in order; that one holds the 16 bytes at the entry. Want of memory may
+/// come at any of them.
+pub fn load(alloc: Global, image: &[u8], regions: &Regions) -> Result<Loaded, LoadFault>
+    ensures loads { OnOk result (Loads image.now regions.now) }
+    ensures loaded { IfOk result (λ loaded. IsLoaded image.now regions.now loaded) }
+    ensures refused { IfErr result (λ refused. refused ≢ fault.NoMemory → load_fault image.now regions.now ≡ Some refused) }
+{
+    let read = Image::read(image)?;
+    let section = read.section(".resource_table");
+    let table = read_table(image, section)?;
+    let placed = place_entries(alloc, regions, &table)?;
+    let map = Map::of(alloc, regions, &placed)?;
+    test_segments(&map, &read)?;
+    test_entry(&map, read.entry())?;
+    Ok(filled(alloc, &read, regions, section, &table, placed, map)?)
+}
+
+/// Fills the memory of an image that passed all tests.
+fn filled(
+    alloc: Global,
+    image: &Image<'_>,
+    regions: &Regions,
+    section: Option<Section>,
+    table: &Option<Table<'_>>,
+    placed: Placed,
+    map: Map,
+) -> Result<Loaded, NoMemory>
+    requires section { section ≡ table_section image.now }
+    requires table { table.now ≡ table_of image.now }
+    requires good { section_fault image.now section ≡ None }
+    requires placed { placement regions.now (entries_in table.now) ≡ Ok placed.blocks.items }
+    requires map { IsMapOf regions.now placed.blocks.items map }
+    ensures { IfOk result (λ loaded. IsLoaded image.now regions.now loaded) }
+{
+    let patched = patched_table(alloc, table, &placed.blocks)?;
+    let mut memory = CoreMemory::new(alloc, regions)?;
+    copy_segments(&mut memory, &map, image);
+    copy_table(&mut memory, &map, section, &patched);
+    let (rings, traces) = devices(alloc, table, &placed, &map)?;
+    Ok(Loaded {
+        memory,
+        map,
+        placed,
+        table: patched,
+        entry: image.entry(),
+        rings,
+        traces,
+    })
+}
+
+/// The rings of the device for RPMsg, and the traces, of a table.
+fn devices(
+    alloc: Global,
+    table: &Option<Table<'_>>,
+    placed: &Placed,
+    map: &Map,
+) -> Result<(Option<RingPair>, Vec<TraceAt>), NoMemory>
+    ensures rings { IfOk result (λ devices. devices.0 ≡ pair_from (entries_in table.now) placed.now.blocks.items 0 (entries_in table.now)) }
+    ensures sound { IfOk result (λ devices. IfSome devices.0 IsSoundPair) }
+    ensures inside { IfOk result (λ devices. All (IsTraceIn map.now.memory_len) devices.1.items) }
+    ensures traces { IfOk result (λ devices. devices.1.items ≡ traces_of (place_at map.now) (entries_in table.now)) }
+{
+    match table {
+        Some(table) => {
+            let numbers = ring_numbers(alloc, table)?;
+            let rings = ring_pair(table, &numbers, &placed.blocks);
+            Ok((rings, traces_of(alloc, table, map)?))
+        }
+        None => Ok((None, Vec::new(alloc))),
+    }
+}
