@@ -9,18 +9,18 @@ use Rattle.endpoint_map.specs.Bindings.{Bindings}
 use Rattle.name_service.specs.declared.channels.Channel.{Channel}
 use Rattle.name_service.specs.Channels.{key_in, kind_of, with_endpoint}
 use Rattle.name_service.specs.Channels.{after_service as channels_after}
-use Rattle.channel_bus.specs.Sides.{EndState, endpoint_for, endpoint_of_channel, endpoint_told, without_endpoint, bindings_made, bindings_served, channels_served, service_verdict, after_service}
+use Rattle.channel_bus.specs.Sides.{EndState, endpoint_for, endpoint_of_channel, endpoint_in_verdict, without_endpoint, bindings_after_create, bindings_after_service, channels_after_service, service_verdict, after_service}
 
 -- an end once a service message did this
 abbrev pub served : EndState → ℕ → NsMessage → NsKind → EndState
-served side number ns kind = record side { bindings = bindings_served side number ns kind; channels = channels_served side number ns kind }
+served side number ns kind = record side { bindings = bindings_after_service side number ns kind; channels = channels_after_service side number ns kind }
 
 pub verdict_is : (side : EndState) (number : ℕ) (ns : NsMessage) (told : Option NsMessage) (kind : NsKind) (endpoint : Option Endpoint)
-    → told ≡ Some ns → kind ≡ kind_of side.channels ns → endpoint ≡ endpoint_told side number ns kind
+    → told ≡ Some ns → kind ≡ kind_of side.channels ns → endpoint ≡ endpoint_in_verdict side number ns kind
     → verdict.Service kind ns.name ns.address endpoint ≡ service_verdict side number told
 verdict_is side number ns told kind endpoint is does names =
     ap (λ (e : Option Endpoint). verdict.Service kind ns.name ns.address e) names
-    ∙ ap (λ (k : NsKind). verdict.Service k ns.name ns.address (endpoint_told side number ns k)) does
+    ∙ ap (λ (k : NsKind). verdict.Service k ns.name ns.address (endpoint_in_verdict side number ns k)) does
     ∙ ap (service_verdict side number) (sym is)
 
 pub left_is : (side : EndState) (number : ℕ) (ns : NsMessage) (told : Option NsMessage) (kind : NsKind) (left : EndState)
@@ -32,12 +32,12 @@ left_is side number ns told kind left is does stands = stands ∙ ap (served sid
 abbrev pub IsQuiet : NsKind → Type 0
 IsQuiet kind = (kind ≡ Duplicate) ⊎ ((kind ≡ Unknown) ⊎ (kind ≡ ChannelsFull))
 
-pub quiet_none : (side : EndState) (number : ℕ) (ns : NsMessage) (kind : NsKind) → IsQuiet kind → None ≡ endpoint_told side number ns kind
+pub quiet_none : (side : EndState) (number : ℕ) (ns : NsMessage) (kind : NsKind) → IsQuiet kind → None ≡ endpoint_in_verdict side number ns kind
 quiet_none side number ns kind quiet =
     elim quiet [
-      | inl is ↦ ap (endpoint_told side number ns) (sym is)
-      | inr (inl is) ↦ ap (endpoint_told side number ns) (sym is)
-      | inr (inr is) ↦ ap (endpoint_told side number ns) (sym is)
+      | inl is ↦ ap (endpoint_in_verdict side number ns) (sym is)
+      | inr (inl is) ↦ ap (endpoint_in_verdict side number ns) (sym is)
+      | inr (inr is) ↦ ap (endpoint_in_verdict side number ns) (sym is)
     ]
 
 pub quiet_left : (side : EndState) (number : ℕ) (ns : NsMessage) (kind : NsKind) → IsQuiet kind → record side { channels = channels_after side.channels ns } ≡ served side number ns kind
@@ -50,9 +50,9 @@ quiet_left side number ns kind quiet =
 
 pub created_left : (side : EndState) (number : ℕ) (ns : NsMessage) (kind : NsKind) (channels : List Channel) → kind ≡ Created
     → channels ≡ with_endpoint (key_in ns) (endpoint_for side number ns) (channels_after side.channels ns)
-    → record side { bindings = bindings_made side number ns; channels = channels } ≡ served side number ns kind
+    → record side { bindings = bindings_after_create side number ns; channels = channels } ≡ served side number ns kind
 created_left side number ns kind channels is made =
-    ap (λ (c : List Channel). record side { bindings = bindings_made side number ns; channels = c }) made ∙ ap (served side number ns) (sym is)
+    ap (λ (c : List Channel). record side { bindings = bindings_after_create side number ns; channels = c }) made ∙ ap (served side number ns) (sym is)
 
 pub destroyed_left : (side : EndState) (number : ℕ) (ns : NsMessage) (kind : NsKind) (bound : Option Endpoint) (bindings : Bindings) (channels : List Channel) → kind ≡ Destroyed
     → bound ≡ endpoint_of_channel side ns → bindings ≡ without_endpoint side.bindings bound → channels ≡ channels_after side.channels ns

@@ -18,7 +18,7 @@ use Rattle.lane_model.specs.Desks.{IsBound, KeepsBound, AreDeskLaws}
 use Rattle.endpoint_map.specs.Bindings.{Bindings, any_address, bound_at, bind_answer, after_bind, after_unbind, BindsOne}
 use Rattle.endpoint_map.proofs.Lookups.{binding, refused, unbinding}
 use Rattle.name_service.specs.Channels.{kind_of}
-use Rattle.channel_bus.specs.Sides.{EndState, is_service, is_probed, endpoint_of_channel, without_endpoint, bindings_served, service_verdict, after_service, endpoint_verdict, after_message, aim_of, side_bind_answer, side_bound, side_meaning}
+use Rattle.channel_bus.specs.Sides.{EndState, is_service, is_probed, endpoint_of_channel, without_endpoint, bindings_after_service, service_verdict, after_service, endpoint_verdict, after_message, aim_of, side_bind_answer, after_side_bind, side_meaning}
 
 -- who is bound after a change of the endpoints was bound before, or is new
 record KeepsBindings (before after : Bindings) (handed : ℕ) : Type 0 where
@@ -73,7 +73,7 @@ unbind_keeps : (bindings : Bindings) (address handed : ℕ) → KeepsBindings bi
 unbind_keeps bindings address handed = record { counts = omega arith; bound = λ one is. inl (unbound_before bindings address one is) }
 
 -- the change that a service message makes
-served_keeps : (side : EndState) (number : ℕ) (ns : NsMessage) (kind : NsKind) → KeepsBindings side.bindings (bindings_served side number ns kind) (number + 1)
+served_keeps : (side : EndState) (number : ℕ) (ns : NsMessage) (kind : NsKind) → KeepsBindings side.bindings (bindings_after_service side number ns kind) (number + 1)
 served_keeps side number ns Created =
     elim (is_probed side number ns.name) as (λ b. KeepsBindings side.bindings (cond b (after_bind side.bindings any_address (number + 1)) side.bindings) (number + 1)) [
       | true ↦ bind_keeps side.bindings any_address (number + 1)
@@ -111,7 +111,7 @@ message_keeps side number message =
     by None = keeps side side (number + 1) refl (same_bindings side.bindings (number + 1))
     by (Some ns) = keeps side (after_service side number (Some ns)) (number + 1) refl (served_keeps side number ns (kind_of side.channels ns))
 
-bound_keeps : (side : EndState) (address since : ℕ) → KeepsBound side_meaning side (side_bound side address since) since
+bound_keeps : (side : EndState) (address since : ℕ) → KeepsBound side_meaning side (after_side_bind side address since) since
 bound_keeps side address since =
     elim (is_service side address) as (λ b. KeepsBound side_meaning side (cond b side (record side { bindings = after_bind side.bindings address since })) since) [
       | true ↦ keeps side side since refl (same_bindings side.bindings since)
@@ -152,7 +152,7 @@ addressed_by true false served address find endpoint e = by (find address) e
 addressed_by false service served address find endpoint e = absurd cc
 
 answered_by : (side : EndState) (address since : ℕ) (endpoint : Endpoint) → side_bind_answer side address ≡ Ok endpoint
-    → IsBound side_meaning (side_bound side address since) (record { endpoint = endpoint; since = since })
+    → IsBound side_meaning (after_side_bind side address since) (record { endpoint = endpoint; since = since })
 answered_by side address since endpoint e =
     elim (is_service side address) as (λ b. cond b (Err (fault.AddressTaken address)) (bind_answer side.bindings address) ≡ Ok endpoint
     → IsBound side_meaning (cond b side (record side { bindings = after_bind side.bindings address since })) (record { endpoint = endpoint; since = since })) [

@@ -60,12 +60,12 @@ endpoint_of_channel side ns =
     option_and_then (λ endpoint. if_still_bound side.bindings endpoint) (endpoint_at (key_in ns) side.channels)
 
 -- the endpoint that a service message binds or unbinds
-abbrev pub endpoint_told : EndState → ℕ → NsMessage → NsKind → Option Endpoint
-endpoint_told side number ns Created = endpoint_for side number ns
-endpoint_told side number ns Destroyed = endpoint_of_channel side ns
-endpoint_told side number ns Duplicate = None
-endpoint_told side number ns Unknown = None
-endpoint_told side number ns ChannelsFull = None
+abbrev pub endpoint_in_verdict : EndState → ℕ → NsMessage → NsKind → Option Endpoint
+endpoint_in_verdict side number ns Created = endpoint_for side number ns
+endpoint_in_verdict side number ns Destroyed = endpoint_of_channel side ns
+endpoint_in_verdict side number ns Duplicate = None
+endpoint_in_verdict side number ns Unknown = None
+endpoint_in_verdict side number ns ChannelsFull = None
 
 -- the endpoints without one that goes
 abbrev pub without_endpoint : Bindings → Option Endpoint → Bindings
@@ -73,37 +73,37 @@ without_endpoint bindings None = bindings
 without_endpoint bindings (Some endpoint) = after_unbind bindings endpoint.address
 
 -- the endpoints after a new channel: one that is bound for it is bound when its message is handed over
-abbrev pub bindings_made : EndState → ℕ → NsMessage → Bindings
-bindings_made side number ns = if is_probed side number ns.name then after_bind side.bindings any_address (number + 1) else side.bindings
+abbrev pub bindings_after_create : EndState → ℕ → NsMessage → Bindings
+bindings_after_create side number ns = if is_probed side number ns.name then after_bind side.bindings any_address (number + 1) else side.bindings
 
 -- the endpoints after a service message
-abbrev pub bindings_served : EndState → ℕ → NsMessage → NsKind → Bindings
-bindings_served side number ns Created = bindings_made side number ns
-bindings_served side number ns Destroyed = without_endpoint side.bindings (endpoint_of_channel side ns)
-bindings_served side number ns Duplicate = side.bindings
-bindings_served side number ns Unknown = side.bindings
-bindings_served side number ns ChannelsFull = side.bindings
+abbrev pub bindings_after_service : EndState → ℕ → NsMessage → NsKind → Bindings
+bindings_after_service side number ns Created = bindings_after_create side number ns
+bindings_after_service side number ns Destroyed = without_endpoint side.bindings (endpoint_of_channel side ns)
+bindings_after_service side number ns Duplicate = side.bindings
+bindings_after_service side number ns Unknown = side.bindings
+bindings_after_service side number ns ChannelsFull = side.bindings
 
 -- the channels after a service message: a new one names its endpoint
-abbrev pub channels_served : EndState → ℕ → NsMessage → NsKind → List Channel
-channels_served side number ns Created = with_endpoint (key_in ns) (endpoint_for side number ns) (channels_after side.channels ns)
-channels_served side number ns Destroyed = channels_after side.channels ns
-channels_served side number ns Duplicate = channels_after side.channels ns
-channels_served side number ns Unknown = channels_after side.channels ns
-channels_served side number ns ChannelsFull = channels_after side.channels ns
+abbrev pub channels_after_service : EndState → ℕ → NsMessage → NsKind → List Channel
+channels_after_service side number ns Created = with_endpoint (key_in ns) (endpoint_for side number ns) (channels_after side.channels ns)
+channels_after_service side number ns Destroyed = channels_after side.channels ns
+channels_after_service side number ns Duplicate = channels_after side.channels ns
+channels_after_service side number ns Unknown = channels_after side.channels ns
+channels_after_service side number ns ChannelsFull = channels_after side.channels ns
 
 -- what a service message does, and what stands after it; number is that of the message
 abbrev pub service_verdict : EndState → ℕ → Option NsMessage → Verdict
 service_verdict side number None = verdict.ServiceMalformed
 service_verdict side number (Some ns) =
     let kind = kind_of side.channels ns in
-    verdict.Service kind ns.name ns.address (endpoint_told side number ns kind)
+    verdict.Service kind ns.name ns.address (endpoint_in_verdict side number ns kind)
 
 abbrev pub after_service : EndState → ℕ → Option NsMessage → EndState
 after_service side number None = side
 after_service side number (Some ns) =
     let kind = kind_of side.channels ns in
-    record side { bindings = bindings_served side number ns kind; channels = channels_served side number ns kind }
+    record side { bindings = bindings_after_service side number ns kind; channels = channels_after_service side number ns kind }
 
 -- the verdict on a message for an endpoint (rpmsg_recv_single)
 abbrev pub endpoint_verdict : ℕ → Option BoundEndpoint → Verdict
@@ -136,15 +136,15 @@ aim_of side message = if is_whole message && not (is_service side (destination_o
 abbrev pub side_bind_answer : EndState → ℕ → Result Endpoint BindFault
 side_bind_answer side address = if is_service side address then Err (fault.AddressTaken address) else bind_answer side.bindings address
 
-abbrev pub side_bound : EndState → ℕ → ℕ → EndState
-side_bound side address since = if is_service side address then side else record side { bindings = after_bind side.bindings address since }
+abbrev pub after_side_bind : EndState → ℕ → ℕ → EndState
+after_side_bind side address since = if is_service side address then side else record side { bindings = after_bind side.bindings address since }
 
 -- an unbinding by a call: the name service stays
 abbrev pub side_unbind_answer : EndState → ℕ → Result Endpoint BindFault
 side_unbind_answer side address = if is_service side address then Err (fault.NotBound address) else unbind_answer side.bindings address
 
-abbrev pub side_unbound : EndState → ℕ → EndState
-side_unbound side address = if is_service side address then side else record side { bindings = after_unbind side.bindings address }
+abbrev pub after_side_unbind : EndState → ℕ → EndState
+after_side_unbind side address = if is_service side address then side else record side { bindings = after_unbind side.bindings address }
 
 -- the start of an incarnation: nothing is bound and no channel is there; service and drivers stay
 abbrev pub side_fresh : EndState → EndState
@@ -159,8 +159,8 @@ side_meaning = record {
   verdict = verdict_on;
   delivered = after_message;
   bind_answer = λ side address since. side_bind_answer side address;
-  bound = side_bound;
+  bound = after_side_bind;
   unbind_answer = side_unbind_answer;
-  unbound = side_unbound;
+  unbound = after_side_unbind;
   fresh = side_fresh;
 }

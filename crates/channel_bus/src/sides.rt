@@ -1,7 +1,7 @@
 ghost use Rattle.std.specs.Prelude.{◌≡◌, IfOk, []};
 ghost use Rattle.rpmsg_header.specs.Services.{service_of};
 ghost use Rattle.endpoint_map.specs.Bindings.{no_bindings};
-ghost use Rattle.channel_bus.specs.Sides.{is_service, has_driver, endpoint_for, endpoint_of_channel, bindings_made, service_verdict, after_service};
+ghost use Rattle.channel_bus.specs.Sides.{is_service, has_driver, endpoint_for, endpoint_of_channel, bindings_after_create, service_verdict, after_service};
 
 use endpoint_map::{ANY_ADDRESS, Endpoints};
 use lane_model::Desk;
@@ -102,7 +102,7 @@ impl Side {
     /// is declared and an endpoint fits.
     fn bind_for(&mut self, number: u64, ns: &NsMessage) -> Option<Endpoint>
         ensures endpoint { result ≡ endpoint_for self.old number ns.now }
-        ensures left { self.new ≡ record self.old { bindings = bindings_made self.old number ns.now } }
+        ensures left { self.new ≡ record self.old { bindings = bindings_after_create self.old number ns.now } }
     {
         if number < u64::MAX && self.has_driver(&ns.name) {
             self.endpoints.bind(ANY_ADDRESS, number + 1).ok()

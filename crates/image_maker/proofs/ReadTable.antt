@@ -6,7 +6,7 @@ use Rattle.std.specs.List.{range_with_len, find, sum_by}
 use Rattle.std.proofs.lemmas.Bool.{le-ltb, ne_eqb}
 use Rattle.std.proofs.lemmas.List.{length-replicate}
 use Rattle.std.proofs.lemmas.List.Sums.{sum_by-cons}
-use Rattle.rp_base.specs.Texts.{padded}
+use Rattle.rp_base.specs.Texts.{padded_name}
 use Rattle.elf_image.specs.Layout.{elf32}
 use Rattle.elf_image.specs.Headers.{section_header as section_header_read, file_header as file_header_read}
 use Rattle.elf_image.specs.Faults.{fault_if, first_fault}
@@ -22,7 +22,7 @@ use Rattle.image_maker.specs.Images.{section_names, section_headers}
 use Rattle.image_maker.proofs.ReadFields.{IsHeader, behind, section_read}
 use Rattle.image_maker.proofs.ReadSegments.{file_is, passes}
 
-length_padded : (name : List ℕ) → length name ≤ 31 → length (padded name) ≡ 32
+length_padded : (name : List ℕ) → length name ≤ 31 → length (padded_name name) ≡ 32
 length_padded name h = omega (arith, length-append name (replicate (32 - length name) 0), length-replicate {A = ℕ} (32 - length name) 0)
 
 one_offset : (offset : ℕ) (line : RecipeLine) → length (offset_of offset line) ≡ 4 * entries_of line
@@ -34,8 +34,8 @@ length_offsets [] offset = refl
 length_offsets (line ∷ more) offset =
     omega (arith, length-append (offset_of offset line) (offsets (offset + entry_len line) more), one_offset offset line, length_offsets more (offset + entry_len line), sum_by-cons entries_of line more)
 
-behind_words : (words name : List ℕ) → length name ≤ 31 → length (words ++ padded name) ≡ length words + 32
-behind_words words name h = length-append words (padded name) ∙ ap (λ n. length words + n) (length_padded name h)
+behind_words : (words name : List ℕ) → length name ≤ 31 → length (words ++ padded_name name) ≡ length words + 32
+behind_words words name h = length-append words (padded_name name) ∙ ap (λ n. length words + n) (length_padded name h)
 
 one_entry : (rings : ℕ) (line : RecipeLine) → IsLine line → length (entry_bytes rings line) ≡ entry_len line
 one_entry rings (recipe.Carveout da len name) r = behind_words (word_fields (0 ∷ da ∷ 0 ∷ len ∷ 0 ∷ 0 ∷ [])) name r.2

@@ -1,7 +1,7 @@
 -- The resource table of a recipe (Linux include/linux/remoteproc.h). What the recipe doesn't say is 0.
 use Rattle.std.specs.Prelude.{ℕ, ◌+◌, ◌*◌, ◌==◌, Bool, true, false, if◌then◌else◌, List, [], ◌∷◌, ◌++◌, sum_by}
 use Rattle.std.specs.List.{prefix_len}
-use Rattle.rp_base.specs.Texts.{padded}
+use Rattle.rp_base.specs.Texts.{padded_name}
 use Rattle.script_lang.specs.declared.recipes.RecipeLine.{RecipeLine}
 use Rattle.script_lang.specs.declared.recipes.RecipeLine.TheVariants as recipe
 use Rattle.image_maker.specs.Fields.{byte_field, word_field, word_fields}
@@ -23,9 +23,9 @@ entries_of line = 0
 -- the bytes of a line in the table, where so many vrings follow it: fw_rsc_carveout, fw_rsc_devmem, fw_rsc_trace, fw_rsc_vdev,
 -- fw_rsc_vdev_vring, fw_rsc_hdr
 abbrev pub entry_bytes : ℕ → RecipeLine → List ℕ
-entry_bytes rings (recipe.Carveout da len name) = word_fields (0 ∷ da ∷ 0 ∷ len ∷ 0 ∷ 0 ∷ []) ++ padded name
-entry_bytes rings (recipe.Devmem da pa len name) = word_fields (1 ∷ da ∷ pa ∷ len ∷ 0 ∷ 0 ∷ []) ++ padded name
-entry_bytes rings (recipe.Trace da len name) = word_fields (2 ∷ da ∷ len ∷ 0 ∷ []) ++ padded name
+entry_bytes rings (recipe.Carveout da len name) = word_fields (0 ∷ da ∷ 0 ∷ len ∷ 0 ∷ 0 ∷ []) ++ padded_name name
+entry_bytes rings (recipe.Devmem da pa len name) = word_fields (1 ∷ da ∷ pa ∷ len ∷ 0 ∷ 0 ∷ []) ++ padded_name name
+entry_bytes rings (recipe.Trace da len name) = word_fields (2 ∷ da ∷ len ∷ 0 ∷ []) ++ padded_name name
 entry_bytes rings (recipe.Vdev id features) = word_fields (3 ∷ id ∷ 0 ∷ features ∷ 0 ∷ 0 ∷ []) ++ 0 ∷ (byte_field rings ++ 0 ∷ 0 ∷ [])
 entry_bytes rings (recipe.Vring da align entries) = word_fields (da ∷ align ∷ entries ∷ 0 ∷ 0 ∷ [])
 entry_bytes rings (recipe.Vendor type) = word_fields (type ∷ [])

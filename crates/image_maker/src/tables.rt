@@ -1,5 +1,5 @@
 ghost use Rattle.std.specs.Prelude.{◌≡◌, ◌+◌, ◌++◌, OnOk};
-ghost use Rattle.rp_base.specs.Texts.{padded};
+ghost use Rattle.rp_base.specs.Texts.{padded_name};
 ghost use Rattle.image_maker.specs.Tables.{entry_bytes, rings_in_front, entries, offset_of, offsets, table_bytes};
 
 use crate::fields::{put_byte, put_word, put_words};
@@ -85,7 +85,7 @@ fn put_entry(out: &mut Vec<u8>, line: &RecipeLine, more: &[RecipeLine]) -> Resul
 
 /// Appends a name with zeros behind it, 32 bytes in all.
 fn put_name(out: &mut Vec<u8>, name: &Name) -> Result<(), AllocError>
-    ensures { OnOk result (out.new.items ≡ out.old.items ++ padded name.now) }
+    ensures { OnOk result (out.new.items ≡ out.old.items ++ padded_name name.now) }
 {
     let bytes = name.bytes();
     out.extend_from_slice(bytes)?;

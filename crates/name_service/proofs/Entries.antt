@@ -6,7 +6,7 @@ use Rattle.std.specs.Cmp.{nat_eq_equiv}
 use Rattle.std.proofs.lemmas.Cmp.{lists_equiv}
 use Rattle.std.proofs.lemmas.List.{length-map, map-append}
 use Rattle.std.proofs.lemmas.List.Folds.{find-append}
-use Rattle.rp_base.specs.Texts.{padded}
+use Rattle.rp_base.specs.Texts.{padded_name}
 use Rattle.rp_base.specs.declared.kinds.Endpoint.{Endpoint}
 use Rattle.rp_base.specs.declared.kinds.NsKind.{NsKind}
 use Rattle.rp_base.specs.declared.kinds.NsKind.TheVariants.{Created, Duplicate, Destroyed, Unknown, ChannelsFull}
@@ -58,7 +58,7 @@ endpoint_is key (entry ∷ rest) =
 
 same_as_itself : (key : Key) → is_same_key key key ≡ true
 same_as_itself key =
-    ap (λ t. t && (key.1 == key.1)) ((lists_equiv nat_eq_equiv).refl (padded key.0)) ∙ nat_eq_equiv.refl key.1
+    ap (λ t. t && (key.1 == key.1)) ((lists_equiv nat_eq_equiv).refl (padded_name key.0)) ∙ nat_eq_equiv.refl key.1
 
 some_either : {X : Type 0} (o : Option X) (x : X) → is_some (option_or o (Some x)) ≡ true
 some_either None x = refl

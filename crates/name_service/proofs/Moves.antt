@@ -8,12 +8,12 @@ use Rattle.std.proofs.lemmas.List.Elements.{filter-append}
 use Rattle.std.proofs.lemmas.List.Sums.{length-filter, count_by-le-length}
 use Rattle.indexmap.specs.IndexMap.{IndexMap, insert_entry}
 use Rattle.indexmap.proofs.CallerLemmas.{insert_entry-new}
-use Rattle.rp_base.specs.Texts.{padded}
+use Rattle.rp_base.specs.Texts.{padded_name}
 use Rattle.name_service.specs.Channels.{Key, is_same_name, is_same_key}
 
 same_either_way : (a b : Key) → is_same_key a b ≡ is_same_key b a
 same_either_way a b =
-    ap (λ t. t && (a.1 == b.1)) ((lists_equiv nat_eq_equiv).symm (padded a.0) (padded b.0)) ∙ ap (λ t. is_same_name b.0 a.0 && t) (nat_eq_equiv.symm a.1 b.1)
+    ap (λ t. t && (a.1 == b.1)) ((lists_equiv nat_eq_equiv).symm (padded_name a.0) (padded_name b.0)) ∙ ap (λ t. is_same_name b.0 a.0 && t) (nat_eq_equiv.symm a.1 b.1)
 
 -- what holds of each key holds of one in the middle
 at_middle : {V : Type 0} (P : Key → Type 0) (done : List (Key × V)) (entry : Key × V) (rest : List (Key × V)) → AllByRecursion P (keys_of (done ++ entry ∷ rest)) → P entry.0

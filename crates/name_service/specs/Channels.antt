@@ -1,6 +1,6 @@
 -- The channels that the name service keeps (`rpmsg_ns_cb`, `rpmsg_register_device` and `rpmsg_unregister_device` of Linux drivers/rpmsg/rpmsg_ns.c and rpmsg_core.c; the limit is own).
 use Rattle.std.specs.Prelude.{ℕ, Bool, ◌&&◌, ◌||◌, not, nat_le, ◌==◌, if◌then◌else◌, bytes_eq, List, [], ◌∷◌, ◌++◌, length, filter, find, Option, None, is_some, option_and_then}
-use Rattle.rp_base.specs.Texts.{padded}
+use Rattle.rp_base.specs.Texts.{padded_name}
 use Rattle.rp_base.specs.declared.kinds.Endpoint.{Endpoint}
 use Rattle.rp_base.specs.declared.kinds.NsKind.{NsKind}
 use Rattle.rp_base.specs.declared.kinds.NsKind.TheVariants.{Created, Duplicate, Destroyed, Unknown, ChannelsFull}
@@ -14,7 +14,7 @@ Key = List ℕ × ℕ
 
 -- two names are one where their fields of 32 bytes agree (struct rpmsg_channel_info, name)
 abbrev pub is_same_name : List ℕ → List ℕ → Bool
-is_same_name a b = bytes_eq (padded a) (padded b)
+is_same_name a b = bytes_eq (padded_name a) (padded_name b)
 
 -- whether name and address agree (rpmsg_device_match of rpmsg_core.c)
 abbrev pub is_same_key : Key → Key → Bool

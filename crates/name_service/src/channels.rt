@@ -130,6 +130,23 @@ impl Channels {
         })
     }
 
+    /// All channels, in the order of creation.
+    ///
+    /// Errors: only for want of memory.
+    pub fn to_vec(&self, alloc: Global) -> Result<Vec<Channel>, NoMemory>
+        ensures { IfOk result (λ channels. channels.items ≡ self.now) }
+    {
+        let mut copied = Vec::with_capacity(alloc, self.channels.len())?;
+        for (key, endpoint) in &self.channels {
+            copied.push(Channel {
+                name: key.0,
+                address: key.1,
+                endpoint: *endpoint,
+            })?;
+        }
+        Ok(copied)
+    }
+
     /// Forgets all channels.
     pub fn reset(&mut self)
         ensures { self.new ≡ [] }

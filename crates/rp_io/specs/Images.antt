@@ -10,8 +10,8 @@ abbrev pub named_images : List (List ℕ × Vec ℕ Global) → List (List ℕ �
 named_images images = map (λ image. (image.0, image.1.items)) images
 
 -- the first image of this name, with its name (own)
-abbrev pub image_named : List (List ℕ × List ℕ) → List ℕ → Option (List ℕ × List ℕ)
-image_named images name = find (λ image. bytes_eq image.0 name) images
+abbrev pub find_image : List (List ℕ × List ℕ) → List ℕ → Option (List ℕ × List ℕ)
+find_image images name = find (λ image. bytes_eq image.0 name) images
 
 -- an image that was found, unless it is longer than an image may be (own)
 abbrev pub image_within_limit : Option (List ℕ × List ℕ) → Result (List ℕ) FetchFault
@@ -20,7 +20,7 @@ image_within_limit (Some image) = if nat_le (length image.1) IMAGE_MOST then Ok 
 
 -- what a store of these images has under this name (own)
 abbrev pub fetch_answer : List (List ℕ × List ℕ) → List ℕ → Result (List ℕ) FetchFault
-fetch_answer images name = image_within_limit (image_named images name)
+fetch_answer images name = image_within_limit (find_image images name)
 
 -- where told: an answer that is neither a failure nor want of memory is what the store has (own)
 abbrev pub IsFetched : Option (List (List ℕ × List ℕ)) → List ℕ → Result (Vec ℕ Global) FetchFault → Type 0

@@ -1,5 +1,5 @@
 ghost use Rattle.std.specs.Prelude.{◌≡◌, ◌≢◌, ◌≤◌, length, IfOk, Some, Err, map, option_copied, option_map};
-ghost use Rattle.rp_io.specs.Images.{IsFetched, image_named, named_images};
+ghost use Rattle.rp_io.specs.Images.{IsFetched, find_image, named_images};
 
 use crate::faults::FetchFault;
 use rp_base::{IMAGE_MOST, Name};
@@ -31,7 +31,7 @@ impl ImageList {
 
     /// The first image of this name.
     fn find(&self, name: &[u8]) -> Option<&[u8]>
-        ensures { option_copied result ≡ option_map (λ image. image.1) (image_named self.now name.now) }
+        ensures { option_copied result ≡ option_map (λ image. image.1) (find_image self.now name.now) }
     {
         let image = self.images.iter().find(|image| image.0.bytes() == name)?;
         Some(&image.1)

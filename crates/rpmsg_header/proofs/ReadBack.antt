@@ -7,7 +7,7 @@ use Rattle.std.proofs.Math.Seq.{take-append-add}
 use Rattle.byteorder.specs.Endian.{little_bytes}
 use Rattle.byteorder.specs.Numbers.{little_number-reads_back}
 use Rattle.rp_base.specs.Fields.{number_at}
-use Rattle.rp_base.specs.Texts.{padded, text_before_zero}
+use Rattle.rp_base.specs.Texts.{padded_name, text_before_zero}
 use Rattle.rp_base.proofs.Zeros.{text_before_zero-append, text_before_zero-is_clear}
 use Rattle.rpmsg_header.specs.Headers.{header_bytes, is_whole, source_of, destination_of, payload_length, payload_of}
 use Rattle.rpmsg_header.specs.Services.{IsSayable, service_bytes, service_in, service_of}
@@ -31,21 +31,21 @@ whole_read src dst payload short =
     let len = length_read src dst payload short in
     grind (arith, nat_tests)
 
-length-padded : (name : List ℕ) → length name ≤ 31 → length (padded name) ≡ 32
+length-padded : (name : List ℕ) → length name ≤ 31 → length (padded_name name) ≡ 32
 length-padded name short =
     omega (arith, length-append name (replicate (32 - length name) 0), length-replicate {A = ℕ} (32 - length name) 0)
 
 -- the last of the 32 bytes is a zero, so the first 31 have the whole name
-front-padded : (name rest : List ℕ) → length name ≤ 31 → take 31 (padded name ++ rest) ≡ name ++ replicate (31 - length name) 0
+front-padded : (name rest : List ℕ) → length name ≤ 31 → take 31 (padded_name name ++ rest) ≡ name ++ replicate (31 - length name) 0
 front-padded name rest short =
     let less = 31 - length name in
     let whole : 31 ≡ length name + less = omega arith in
-    take-append-le 31 (padded name) rest (omega (arith, length-padded name short))
-    ∙ ap (λ n. take n (padded name)) whole
+    take-append-le 31 (padded_name name) rest (omega (arith, length-padded name short))
+    ∙ ap (λ n. take n (padded_name name)) whole
     ∙ take-append-add name (replicate (32 - length name) 0) less
     ∙ ap (λ zeros. name ++ zeros) (take-replicate less (32 - length name) 0 (omega arith))
 
-name_read : (name rest : List ℕ) → length name ≤ 31 → text_before_zero name ≡ name → text_before_zero (take 31 (padded name ++ rest)) ≡ name
+name_read : (name rest : List ℕ) → length name ≤ 31 → text_before_zero name ≡ name → text_before_zero (take 31 (padded_name name ++ rest)) ≡ name
 name_read name rest short text =
     ap text_before_zero (front-padded name rest short)
     ∙ text_before_zero-append name (31 - length name) (subst (λ bytes. list_any (λ byte. eqb byte 0) bytes ≡ false) text (text_before_zero-is_clear name))
@@ -61,7 +61,7 @@ same_fields ns name address destroy named addressed flagged =
 
 pub service_read : (ns : NsMessage) → IsSayable ns → service_of (service_bytes ns) ≡ Some ns
 service_read ns can =
-    let name = padded ns.name in
+    let name = padded_name ns.name in
     let address = little_bytes 4 ns.address in
     let flags = little_bytes 4 (cond ns.destroy 1 0) in
     let sized = length-padded ns.name can.short in

@@ -2,13 +2,13 @@
 use Rattle.std.specs.Prelude.{◌≡◌, ℕ, ◌^◌, ◌<◌, ◌≤◌, List, ◌++◌, Option, Some, None, ◌==◌, if◌then◌else◌, length, take, bit_and}
 use Rattle.byteorder.specs.Endian.{little_bytes}
 use Rattle.rp_base.specs.Fields.{number_at}
-use Rattle.rp_base.specs.Texts.{padded, text_before_zero}
+use Rattle.rp_base.specs.Texts.{padded_name, text_before_zero}
 use Rattle.rpmsg_header.specs.declared.services.NsMessage.{NsMessage}
 
 -- the payload that is written (rpmsg_ns_msg); of the flags only RPMSG_NS_DESTROY, the lowest bit, may be set
 abbrev pub service_bytes : NsMessage → List ℕ
 service_bytes ns =
-    padded ns.name ++ little_bytes 4 ns.address ++ little_bytes 4 (if ns.destroy then 1 else 0)
+    padded_name ns.name ++ little_bytes 4 ns.address ++ little_bytes 4 (if ns.destroy then 1 else 0)
 
 -- what 40 bytes say (rpmsg_ns_msg): the last byte of the name counts as zero, flags above the lowest bit are ignored (own)
 abbrev pub service_in : List ℕ → NsMessage
