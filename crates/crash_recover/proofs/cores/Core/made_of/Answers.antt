@@ -1,0 +1,18 @@
+use Rattle.std.proofs.Common.{◌+◌, ◌≤◌, arith}
+use Rattle.crash_recover.proofs.CoreLoads.{load_configs, load_is}
+use Rattle.crash_recover.proofs.Loads.{load_sound}
+use Rattle.crash_recover.proofs.cores.Core.made_of.Goals as goal
+
+pub bench_of-requires : goal.bench_of-requires
+bench_of-requires c =
+    let first : 1 ≤ c.incarnation-first.result + 1 = omega arith in
+    load_configs c.args.image.now c.self.inside.regions c.in_ok-loaded.loaded c.self.inside.book (c.incarnation-first.result + 1) c.in_ok-loaded.ensures.loaded
+    c.self.invariant.book.0 c.self.invariant.book.1 first
+
+pub returns-clause-loaded : goal.returns-clause-loaded
+returns-clause-loaded c = rw (← c.self.view_is) (load_is c.args.image.now c.self.inside.regions c.in_ok-loaded.loaded c.in_ok-loaded.ensures.loaded)
+
+pub returns-clause-sound : goal.returns-clause-sound
+returns-clause-sound c =
+    rw (← c.self.view_is)
+    (load_sound c.args.image.now c.self.inside.regions c.in_ok-loaded.loaded c.as_slice.ensures.sound c.in_ok-loaded.ensures.loads c.in_ok-loaded.ensures.loaded)

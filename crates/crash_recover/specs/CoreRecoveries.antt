@@ -1,0 +1,115 @@
+-- What a recovery of a core answers and leaves (`rproc_trigger_recovery` of Linux remoteproc_core.c; the faults and their order, and what becomes of the callers, are own).
+use Rattle.std.specs.Prelude.{◌≡◌, ◌≢◌, ℕ, ◌==◌, Bool, List, Option, Some, None, option_map, option_and_then, if◌then◌else◌}
+use Rattle.std.specs.Option.{option_or}
+use Rattle.rp_base.specs.declared.kinds.End.TheVariants as side
+use Rattle.rp_base.specs.declared.kinds.LifeState.{LifeState}
+use Rattle.rp_base.specs.declared.kinds.LifeState.TheVariants.{Offline, Running, Crashed}
+use Rattle.fw_load.specs.Loading.{load_fault}
+use Rattle.fw_load.specs.declared.rings.RingPair.{RingPair}
+use Rattle.proc_state.specs.Lives.{CoreLife, most, life_after_recovery}
+use Rattle.proc_state.specs.declared.answers.LifeFault.{LifeFault}
+use Rattle.proc_state.specs.declared.answers.LifeFault.TheVariants as life_fault
+use Rattle.lane_model.specs.Recoveries.{unopened_by, unreclaimed_by}
+use Rattle.lane_model.specs.declared.recoveries.ReclaimRefusal.{ReclaimRefusal}
+use Rattle.lane_model.specs.declared.recoveries.ReclaimRefusal.TheVariants as refusal
+use Rattle.lane_model.specs.declared.recoveries.ReopenFault.{ReopenFault}
+use Rattle.lane_model.specs.declared.recoveries.ReopenFault.TheVariants as reopen
+use Rattle.crash_recover.specs.declared.core_faults.CoreFault.{CoreFault}
+use Rattle.crash_recover.specs.declared.core_faults.CoreFault.TheVariants as fault
+use Rattle.crash_recover.specs.Benches.{BenchState}
+use Rattle.crash_recover.specs.BenchCrashes.{after_reclaim, after_reopen}
+use Rattle.crash_recover.specs.CoreBoots.{loaded_from}
+use Rattle.crash_recover.specs.CoreCrashes.{with_fresh_caller}
+use Rattle.crash_recover.specs.Cores.{CoreState, LoadState}
+
+-- why a core is not recovered, whatever the image, by its state
+abbrev pub unrecovered_in : LifeState → CoreLife → Option LifeFault
+unrecovered_in Offline life = Some life_fault.NotCrashed
+unrecovered_in Running life = Some life_fault.NotCrashed
+unrecovered_in Crashed life = if life.recovery then None else Some life_fault.RecoveryOff
+
+-- why a core is not recovered, whatever the image: it isn't crashed, or its recovery is off
+abbrev pub recovery_fault : CoreLife → Option LifeFault
+recovery_fault life = unrecovered_in life.state life
+
+-- the rings of what was loaded
+abbrev pub loaded_rings : Option LoadState → Option RingPair
+loaded_rings loaded = option_and_then (λ (load : LoadState). load.rings) loaded
+
+-- an image with which a core may be recovered: the core waits for it, it may be loaded, and its rings are those of the load before
+pub record IsReloadable (core : CoreState) (image : List ℕ) : Type 0 where
+  pub life_after_crash : recovery_fault core.life ≡ None
+  pub loads : load_fault image core.regions ≡ None
+  pub rings : loaded_rings core.loaded ≡ (loaded_from image core.regions).rings
+
+-- an image with other rings
+pub record HasOtherRings (core : CoreState) (image : List ℕ) : Type 0 where
+  pub life_after_crash : recovery_fault core.life ≡ None
+  pub loads : load_fault image core.regions ≡ None
+  pub rings : loaded_rings core.loaded ≢ (loaded_from image core.regions).rings
+
+-- why an image is refused, before anything changes
+abbrev pub IsReloadFault : CoreState → List ℕ → CoreFault → Type 0
+IsReloadFault core image (fault.Life why) = recovery_fault core.life ≡ Some why
+IsReloadFault core image (fault.Load why) = (recovery_fault core.life ≡ None) × (load_fault image core.regions ≡ Some why)
+IsReloadFault core image fault.RingsChanged = HasOtherRings core image
+IsReloadFault core image fault.NoMemory = recovery_fault core.life ≡ None
+IsReloadFault core image (fault.Fetch why) = ⊥
+IsReloadFault core image (fault.CallerOut caller) = ⊥
+IsReloadFault core image (fault.Reopen why) = ⊥
+
+-- a refused reclaim of caller 0, as a reopening names it
+abbrev pub unready_for : ReclaimRefusal → ReopenFault
+unready_for (refusal.StillOpen era) = reopen.StillOpen era
+unready_for (refusal.Busy holder) = reopen.StillTurn holder
+
+-- the bench with a new caller in place of caller 0
+abbrev pub with_new_host : BenchState → BenchState
+with_new_host bench = with_fresh_caller (after_reclaim bench 0) side.Host
+
+-- the same, unless something refuses the reclaim of caller 0
+abbrev pub renewed_unless : BenchState → Option ReclaimRefusal → BenchState
+renewed_unless bench None = with_new_host bench
+renewed_unless bench (Some why) = bench
+
+-- the bench that a reopening finds
+abbrev pub readied_bench : BenchState → BenchState
+readied_bench bench = renewed_unless bench (unreclaimed_by bench.link 0)
+
+-- why a bench is not reopened: caller 0 is not reclaimed, or the link behind it is not reopened
+abbrev pub unopened_unless : BenchState → Option ReclaimRefusal → Option ReopenFault
+unopened_unless bench None = unopened_by (with_new_host bench).link
+unopened_unless bench (Some why) = Some (unready_for why)
+
+abbrev pub reopen_refusal_of : BenchState → Option ReopenFault
+reopen_refusal_of bench = unopened_unless bench (unreclaimed_by bench.link 0)
+
+-- no incarnation is left
+abbrev pub spent_fault : Bool → Option CoreFault
+spent_fault is_spent = if is_spent then Some (fault.Life life_fault.IncarnationsSpent) else None
+
+-- why a link is not reopened for a core: something keeps it from being reopened, or no incarnation is left
+abbrev pub link_fault : BenchState → Bool → Option CoreFault
+link_fault bench is_spent = option_or (option_map fault.Reopen (reopen_refusal_of bench)) (spent_fault is_spent)
+
+-- the same of a core that may have none
+abbrev pub fault_with : Option BenchState → Bool → Option CoreFault
+fault_with None is_spent = spent_fault is_spent
+fault_with (Some bench) is_spent = link_fault bench is_spent
+
+-- why a core is not started again: its link is not reopened, or no incarnation is left
+abbrev pub reopen_fault : CoreState → Option CoreFault
+reopen_fault core = fault_with core.bench (core.life.incarnation == most)
+
+-- the core when its link was to be reopened: as soon as caller 0 is reclaimed there is a new host caller
+abbrev pub readied_core : CoreState → CoreState
+readied_core core = record core { bench = option_map readied_bench core.bench }
+
+-- the core with its link reopened
+abbrev pub reopened_core : CoreState → CoreState
+reopened_core core = record core { bench = option_map (λ bench. after_reopen (readied_bench bench)) core.bench }
+
+-- the core after a recovery with this image, where nothing refuses it
+abbrev pub after_recovery : CoreState → List ℕ → CoreState
+after_recovery core image =
+    record (reopened_core core) { life = (life_after_recovery core.life).life; loaded = Some (loaded_from image core.regions) }

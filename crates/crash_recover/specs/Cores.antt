@@ -1,0 +1,102 @@
+-- A remote core: its regions, its life, and what a boot gave it (the calls and states of the Linux remoteproc documentation; the rest is own).
+use Rattle.std.specs.Prelude.{◌≡◌, ℕ, ◌+◌, ◌≤◌, Bool, true, false, List, length, All, slice_get, slice_range, Option, Some, None, IfSome, option_map, option_and_then, if◌then◌else◌}
+use Rattle.rp_base.specs.declared.limits.TheConstants.{BOOK_MOST}
+use Rattle.rp_base.specs.declared.kinds.LifeState.{LifeState}
+use Rattle.rp_base.specs.declared.kinds.LifeState.TheVariants.{Offline, Running, Crashed}
+use Rattle.memory_pool.specs.Regions.{region_fault}
+use Rattle.memory_pool.specs.Soundness.{SoundPlacement}
+use Rattle.memory_pool.specs.declared.blocks.Block.{Block}
+use Rattle.memory_pool.specs.declared.regions.Region.{Region}
+use Rattle.memory_pool.specs.declared.faults.RegionFault.{RegionFault}
+use Rattle.memory_pool.specs.declared.faults.RegionFault.TheVariants as region
+use Rattle.addr_translate.specs.Maps.{IsMapOf}
+use Rattle.fw_load.specs.Memory.{memory_at}
+use Rattle.fw_load.specs.Rings.{IsTraceIn}
+use Rattle.fw_load.specs.declared.loading.Loaded.{Loaded}
+use Rattle.fw_load.specs.declared.rings.RingPair.{RingPair}
+use Rattle.fw_load.specs.declared.traces.TraceAt.{TraceAt}
+use Rattle.proc_state.specs.Lives.{CoreLife, new_life}
+use Rattle.crash_recover.specs.Benches.{BenchState}
+use Rattle.crash_recover.specs.declared.core_faults.AddFault.{AddFault}
+use Rattle.crash_recover.specs.declared.core_faults.AddFault.TheVariants as add
+
+-- what an image became: the memory of the core, what was placed, the patched table, the first record, the rings of the device for RPMsg and the traces
+pub record LoadState : Type 0 where
+  pub memory : List ℕ
+  pub placed : List Block
+  pub table : List ℕ
+  pub entry : ℕ
+  pub rings : Option RingPair
+  pub traces : List TraceAt
+
+-- what contracts see of a load
+abbrev pub load_view : Loaded → LoadState
+load_view loaded = record {
+  memory = loaded.memory;
+  placed = loaded.placed.blocks.items;
+  table = loaded.table.items;
+  entry = loaded.entry;
+  rings = loaded.rings;
+  traces = loaded.traces.items;
+}
+
+-- a core: its regions, how many messages a lane of its link accepts in one incarnation, its life, and from a boot to the last shutdown the name of the image, what it became, and its link where the image has a device for RPMsg
+pub record CoreState : Type 0 where
+  pub regions : List Region
+  pub book : ℕ
+  pub life : CoreLife
+  pub image : Option (List ℕ)
+  pub loaded : Option LoadState
+  pub bench : Option BenchState
+
+-- a core that was never booted
+abbrev pub new_core : List Region → ℕ → CoreState
+new_core regions book = record { regions = regions; book = book; life = new_life; image = None; loaded = None; bench = None }
+
+-- whether a core has no power
+abbrev pub is_offline : LifeState → Bool
+is_offline Offline = true
+is_offline Running = false
+is_offline Crashed = false
+
+-- why a region is not added to a core
+abbrev pub add_fault : CoreState → Region → Option AddFault
+add_fault core added = if is_offline core.life.state then option_map add.Region (region_fault core.regions added) else Some add.NotOffline
+
+-- the refusal of a region, where want of memory stands alone
+abbrev pub add_fault_of : RegionFault → AddFault
+add_fault_of region.RegionOverlap = add.Region region.RegionOverlap
+add_fault_of region.RegionRange = add.Region region.RegionRange
+add_fault_of region.RegionsFull = add.Region region.RegionsFull
+add_fault_of region.NoMemory = add.NoMemory
+
+-- so many bytes of a memory at a place, if there is one
+abbrev pub bytes_at : List ℕ → ℕ → Option ℕ → Option (List ℕ)
+bytes_at memory len at = option_map (λ at. slice_range memory at (at + len)) at
+
+-- the bytes of a range of device addresses: the core is loaded, and one block of memory holds them
+abbrev pub core_memory : CoreState → ℕ → ℕ → Option (List ℕ)
+core_memory core da len = option_and_then (λ (load : LoadState). bytes_at load.memory len (memory_at core.regions load.placed da len)) core.loaded
+
+-- the bytes of the trace of a number: the core is loaded, and there is such a trace, which has a place
+abbrev pub core_trace : CoreState → ℕ → Option (List ℕ)
+core_trace core index = option_and_then (λ (load : LoadState). option_and_then (λ (trace : TraceAt). bytes_at load.memory trace.len trace.at) (slice_get load.traces index)) core.loaded
+
+-- a load over regions: its map is that of what was placed, and its traces lie in its memory
+pub record IsSoundLoad (regions : List Region) (loaded : Loaded) : Type 0 where
+  pub placed : SoundPlacement regions loaded.placed.blocks.items
+  pub map : IsMapOf regions loaded.placed.blocks.items loaded.map
+  pub length : length loaded.memory ≡ loaded.map.memory_len
+  pub traces : All (IsTraceIn loaded.map.memory_len) loaded.traces.items
+
+-- a core without users has no image, no load and no link
+pub record IsUnloaded {L B : Type 0} (name : Option (List ℕ)) (given : Option L) (link : Option B) : Type 0 where
+  pub image : name ≡ None
+  pub loaded : given ≡ None
+  pub bench : link ≡ None
+
+-- what a core keeps: its book is one that a lane may have, and what it was given is sound
+pub record SoundCore (regions : List Region) (messages : ℕ) (life : CoreLife) (name : Option (List ℕ)) (given : Option Loaded) (link : Option BenchState) : Type 0 where
+  pub book : (1 ≤ messages) × (messages ≤ BOOK_MOST)
+  pub loaded : IfSome given (IsSoundLoad regions)
+  pub offline : life.users ≡ 0 → IsUnloaded name given link

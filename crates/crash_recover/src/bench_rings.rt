@@ -1,0 +1,72 @@
+ghost use Rattle.std.specs.Prelude.{◌≡◌, ◌⊎◌, ◌<◌, ◌^◌, IfOk, IfErr, None, Some, length};
+ghost use Rattle.std.specs.Option.{option_map};
+ghost use Rattle.lane_model.specs.Lanes.{holder};
+ghost use Rattle.vring_layout.specs.declared.snapshots.SnapshotFault.TheVariants as snapshot_fault;
+ghost use Rattle.rp_base.specs.Limits.{IsRingSize, ring_capacity};
+ghost use Rattle.crash_recover.specs.BenchRings.{lane_bytes, lane_words, turn_holder};
+
+use crate::benches::Bench;
+use name_service::Channel;
+use rp_base::{CallerNo, NoMemory};
+use std::alloc::Global;
+use vring_layout::{RingWords, SnapshotFault, ring_bytes, vring_size};
+
+impl Bench {
+    /// Who has the first turn of the link that is out: of lane 0's sender and receiver, then of lane
+    /// 1's.
+    pub fn turn_holder(&self) -> Option<CallerNo>
+        ensures { result ≡ turn_holder self.now.link }
+    {
+        if let Some(holder) = self.link.to_host.sender_holder() {
+            return Some(holder);
+        }
+        if let Some(holder) = self.link.to_host.receiver_holder() {
+            return Some(holder);
+        }
+        if let Some(holder) = self.link.to_remote.sender_holder() {
+            return Some(holder);
+        }
+        self.link.to_remote.receiver_holder()
+    }
+
+    /// The channels of the host end, in the order of creation.
+    ///
+    /// # Errors
+    ///
+    /// [`SnapshotFault::StillTurn`] exactly where a caller has the turn of lane 0's receiver, or want of
+    /// memory.
+    pub fn channels(&self, alloc: Global) -> Result<Vec<Channel>, SnapshotFault>
+        ensures free { IfOk result (λ _. holder self.now.link.to_host.receiver ≡ None) }
+        ensures channels { IfOk result (λ channels. channels.items ≡ self.now.link.to_host.desk.channels) }
+        ensures refused { IfErr result (λ why. (option_map snapshot_fault.StillTurn (holder self.now.link.to_host.receiver) ≡ Some why)
+            ⊎ ((why ≡ snapshot_fault.NoMemory) × (holder self.now.link.to_host.receiver ≡ None))) }
+    {
+        match self.link.to_host.receiver_holder() {
+            Some(holder) => Err(SnapshotFault::StillTurn(holder)),
+            None => Ok(self.link.to_host.desk().channels().to_vec(alloc)?),
+        }
+    }
+
+    /// The words of a lane's rings: lane 0 to the host, 1 to the remote.
+    fn lane_words(&self, alloc: Global, lane: u64) -> Result<RingWords, NoMemory>
+        ensures words { IfOk result (λ words. words ≡ lane_words self.now.rings lane) }
+        ensures sizes { IfOk result (λ words. IsRingSize words.num × (words.capacity ≡ ring_capacity words.num)) }
+        ensures long { IfOk result (λ words. (length words.avail ≡ words.num) × (length words.used ≡ words.num)) }
+    {
+        if lane == 0 {
+            return self.link.to_host.words(alloc, 0);
+        }
+        let base = 512 * u32::from(self.link.to_host.sizes().capacity);
+        self.link.to_remote.words(alloc, base)
+    }
+
+    /// The bytes of a lane's ring, as it lies in memory: lane 0 to the host, 1 to the remote.
+    pub fn ring_bytes(&self, alloc: Global, lane: u64) -> Result<Vec<u8>, NoMemory>
+        ensures bytes { IfOk result (λ bytes. bytes.items ≡ lane_bytes self.now.rings lane) }
+        ensures short { IfOk result (λ bytes. length bytes.items < 2 ^ 32) }
+    {
+        let words = self.lane_words(alloc, lane)?;
+        let _size = vring_size(words.num, 4);
+        ring_bytes(alloc, 4, &words)
+    }
+}

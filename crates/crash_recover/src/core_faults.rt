@@ -1,0 +1,100 @@
+use fw_load::LoadFault;
+use lane_model::ReopenFault;
+use memory_pool::RegionFault;
+use proc_state::LifeFault;
+use rp_base::{CallerNo, NoMemory};
+use rp_io::FetchFault;
+
+/// Why a region is not added to a core.
+#[derive(Debug, Drop)]
+pub enum AddFault {
+    /// The core is not offline.
+    NotOffline,
+    /// The region doesn't fit beside the others. It is never want of memory.
+    Region(RegionFault),
+    /// Memory ran out.
+    NoMemory,
+}
+
+impl From<RegionFault> for AddFault {
+    ghost use Rattle.std.specs.Prelude.{◌≡◌};
+    ghost use Rattle.crash_recover.specs.Cores.{add_fault_of};
+
+    ghost from_gives = { λ refused e. e ≡ add_fault_of refused };
+
+    fn from(refused: RegionFault) -> AddFault {
+        match refused {
+            RegionFault::NoMemory => AddFault::NoMemory,
+            _ => AddFault::Region(refused),
+        }
+    }
+}
+
+/// Why a core is not booted, shut down or recovered. A fault inside another is never want of memory.
+#[derive(Debug, Drop)]
+pub enum CoreFault {
+    /// The store gives no image.
+    Fetch(FetchFault),
+    /// The image is not loaded.
+    Load(LoadFault),
+    /// The life of the core refuses it.
+    Life(LifeFault),
+    /// The image of a recovery has other rings than the one before.
+    RingsChanged,
+    /// This host caller is in a call or holds a buffer.
+    CallerOut(CallerNo),
+    /// The link is not reopened.
+    Reopen(ReopenFault),
+    /// Memory ran out.
+    NoMemory,
+}
+
+impl From<NoMemory> for CoreFault {
+    ghost use Rattle.std.specs.Prelude.{◌≡◌};
+    ghost use Rattle.crash_recover.specs.declared.core_faults.CoreFault.TheVariants as fault;
+
+    ghost from_gives = { λ _ e. e ≡ fault.NoMemory };
+
+    fn from(_error: NoMemory) -> CoreFault {
+        CoreFault::NoMemory
+    }
+}
+
+impl From<LifeFault> for CoreFault {
+    ghost use Rattle.std.specs.Prelude.{◌≡◌};
+    ghost use Rattle.crash_recover.specs.declared.core_faults.CoreFault.TheVariants as fault;
+
+    ghost from_gives = { λ refused e. e ≡ fault.Life refused };
+
+    fn from(refused: LifeFault) -> CoreFault {
+        CoreFault::Life(refused)
+    }
+}
+
+impl From<LoadFault> for CoreFault {
+    ghost use Rattle.std.specs.Prelude.{◌≡◌};
+    ghost use Rattle.crash_recover.specs.CoreBoots.{core_fault_of_load};
+
+    ghost from_gives = { λ refused e. e ≡ core_fault_of_load refused };
+
+    fn from(refused: LoadFault) -> CoreFault {
+        match refused {
+            LoadFault::NoMemory => CoreFault::NoMemory,
+            _ => CoreFault::Load(refused),
+        }
+    }
+}
+
+impl From<FetchFault> for CoreFault {
+    ghost use Rattle.std.specs.Prelude.{◌≡◌};
+    ghost use Rattle.crash_recover.specs.CoreBoots.{core_fault_of_fetch};
+
+    ghost from_gives = { λ refused e. e ≡ core_fault_of_fetch refused };
+
+    fn from(refused: FetchFault) -> CoreFault {
+        match refused {
+            FetchFault::NoMemory => CoreFault::NoMemory,
+            _ => CoreFault::Fetch(refused),
+        }
+    }
+}

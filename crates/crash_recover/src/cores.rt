@@ -1,0 +1,158 @@
+ghost use Rattle.std.specs.Prelude.{◌≡◌, ◌≤◌, ◌+◌, ◌++◌, [], ◌∷◌, length, Some, OnOk, OnErr, IfOk, IfErr, IfSome, option_map};
+ghost use Rattle.fw_load.specs.Memory.{place_at};
+ghost use Rattle.std.specs.Option.{option_copied, option_or};
+ghost use Rattle.rp_base.specs.declared.limits.TheConstants.{BOOK_MOST};
+ghost use Rattle.crash_recover.specs.Cores.{add_fault, core_memory, core_trace, load_view, new_core};
+ghost use Rattle.crash_recover.specs.declared.core_faults.AddFault.TheVariants as add;
+
+use crate::benches::Bench;
+use crate::core_faults::AddFault;
+use addr_translate::Map;
+use fw_load::Loaded;
+use memory_pool::{Region, Regions};
+use proc_state::Life;
+use rp_base::{Da, LifeState, Name};
+use std::alloc::Global;
+use std::marker::Model;
+
+/// A remote core: its regions, its life, and from a boot to the last shutdown the name of its image,
+/// what that became in its memory, and its link where the image has a device for RPMsg.
+#[derive(Drop)]
+pub struct Core {
+    pub(crate) regions: Regions,
+    pub(crate) book: u32,
+    pub(crate) life: Life,
+    pub(crate) image: Option<Name>,
+    pub(crate) loaded: Option<Loaded>,
+    pub(crate) bench: Option<Bench>,
+}
+
+impl Model for Core {
+    ghost use Rattle.std.specs.Prelude.{option_map};
+    ghost use Rattle.crash_recover.specs.Cores.{CoreState, SoundCore, load_view};
+
+    ghost Value = { CoreState };
+
+    ghost view = { λ a. record {
+      regions = a.regions;
+      book = a.book;
+      life = a.life;
+      image = a.image;
+      loaded = option_map load_view a.loaded;
+      bench = a.bench;
+    } };
+
+    ghost invariant = { λ a. SoundCore a.regions a.book a.life a.image a.loaded a.bench };
+}
+
+impl Core {
+    /// A core with these regions that was never booted. Each lane of its link is to accept `book`
+    /// messages in one incarnation, from 1 to 262,144.
+    pub fn new(regions: Regions, book: u32) -> Core
+        requires some { 1 ≤ book }
+        requires most { book ≤ BOOK_MOST }
+        ensures { result ≡ new_core regions book }
+    {
+        Core {
+            regions,
+            book,
+            life: Life::new(),
+            image: None,
+            loaded: None,
+            bench: None,
+        }
+    }
+
+    /// Adds a region behind the others, and answers its number.
+    ///
+    /// # Errors
+    ///
+    /// [`AddFault::NotOffline`] where the core isn't offline, then [`AddFault::Region`] where the
+    /// region doesn't fit beside the others, then [`AddFault::NoMemory`]. The core is as it was then.
+    pub fn add_region(&mut self, alloc: Global, region: Region) -> Result<u16, AddFault>
+        ensures number { IfOk result (λ index. index ≡ length self.old.regions) }
+        ensures added { OnOk result (self.new ≡ record self.old { regions = self.old.regions ++ region ∷ [] }) }
+        ensures fits { OnOk result (add_fault self.old region ≡ None) }
+        ensures refused { IfErr result (λ why. option_or (add_fault self.old region) (Some add.NoMemory) ≡ Some why) }
+        ensures unchanged { OnErr result (self.new ≡ self.old) }
+    {
+        if self.life.state() != LifeState::Offline {
+            return Err(AddFault::NotOffline);
+        }
+        Ok(self.regions.add(alloc, region)?)
+    }
+
+    /// The life of the core.
+    pub fn life(&self) -> &Life
+        ensures { result.now ≡ self.now.life }
+    {
+        &self.life
+    }
+
+    /// Sets whether a crashed core may be recovered.
+    pub fn set_recovery(&mut self, on: bool)
+        ensures { self.new ≡ record self.old { life = record self.old.life { recovery = on } } }
+    {
+        self.life.set_recovery(on);
+    }
+
+    /// The name of the image that was booted. There is none exactly where the core has no users.
+    pub fn image(&self) -> Option<&Name>
+        ensures { option_copied result ≡ self.now.image }
+    {
+        self.image.as_ref()
+    }
+
+    /// What the image became. There is nothing exactly where the core has no users.
+    pub fn loaded(&self) -> Option<&Loaded>
+        ensures { option_map load_view (option_copied result) ≡ self.now.loaded }
+    {
+        self.loaded.as_ref()
+    }
+
+    /// The link of the core. There is none where the core has no users, or its image no device for
+    /// RPMsg.
+    pub fn link(&self) -> Option<&Bench>
+        ensures { option_copied result ≡ self.now.bench }
+    {
+        self.bench.as_ref()
+    }
+
+    /// The `len` bytes at the device address `da`, of which there is at least one. There are none
+    /// exactly where the core has no users, or no single block of memory holds them all.
+    pub fn memory(&self, da: Da, len: u32) -> Option<&[u8]>
+        requires { 1 ≤ len }
+        ensures { option_copied result ≡ core_memory self.now da len }
+    {
+        let Some(loaded) = &self.loaded else {
+            return None;
+        };
+        let _ = self.regions.as_slice();
+        match memory_place(&loaded.map, da, len) {
+            Some(at) => Some(loaded.memory.bytes(at, len)),
+            None => None,
+        }
+    }
+
+    /// The bytes of the trace of a number, from 0. There are none exactly where the core has no users,
+    /// or there is no such trace, or it is not in memory.
+    pub fn trace(&self, index: u16) -> Option<&[u8]>
+        ensures { option_copied result ≡ core_trace self.now index }
+    {
+        let loaded = self.loaded.as_ref()?;
+        let trace = loaded.traces.get(usize::from(index))?;
+        let at = trace.at?;
+        Some(loaded.memory.bytes(at, trace.len))
+    }
+}
+
+/// Where a range of device addresses stands in the core's memory, if one block of memory holds it
+/// whole.
+fn memory_place(map: &Map, da: Da, len: u32) -> Option<u32>
+    requires { 1 ≤ len }
+    ensures place { result ≡ place_at map.now da len }
+    ensures inside { IfSome result (λ at. at + len ≤ map.now.memory_len) }
+{
+    let place = map.translate(da, len)?;
+    place.at
+}

@@ -1,0 +1,23 @@
+// A link with its callers and the calls that they are in, and a remote core with its life, its memory and its link.
+#![tactic(auto)]
+
+mod bench_crashes;
+mod bench_ends;
+mod bench_holds;
+mod bench_rings;
+mod benches;
+mod core_boots;
+mod core_crashes;
+mod core_faults;
+mod core_links;
+mod core_recoveries;
+mod cores;
+mod steps;
+mod turns;
+mod whole_steps;
+
+pub use bench_crashes::Reclaim;
+pub use benches::{BegunCall, Bench, BenchFault, Progress, Reach};
+pub use core_faults::{AddFault, CoreFault};
+pub use cores::Core;
+pub use turns::TurnEnd;
