@@ -1,12 +1,9 @@
 mod Handed
 mod Ends
 mod RunSteps
-mod Walks
-mod Begun
-mod Turns
 mod SoFar
 mod Placing
 mod Fetches
-mod AtOnce
-mod RingWalks
 mod RingRows
+mod TableWalks
+mod LoadReports

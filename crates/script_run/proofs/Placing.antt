@@ -1,5 +1,5 @@
 -- A command on the link of its name, on none, or one that makes an image.
-use Rattle.std.proofs.Common.{◌≡◌, ◌≢◌, ◌<◌, ℕ, false, cond, List, [], ◌∷◌, ◌++◌, length, Option, Some, None, slice_get, slice_set, refl, sym, ap, subst, ◌∙◌, append-nil}
+use Rattle.std.proofs.Common.{◌≡◌, ◌≢◌, ◌<◌, ℕ, Bool, false, cond, List, [], ◌∷◌, ◌++◌, length, Option, Some, None, slice_get, slice_set, refl, sym, ap, subst, ◌∙◌, append-nil}
 use Rattle.std.proofs.lemmas.Bool.{lt-leb}
 use Rattle.rp_base.specs.declared.limits.TheConstants.{OBJECTS_MOST}
 use Rattle.script_lang.specs.declared.commands.Command.{Command}
@@ -11,9 +11,10 @@ use Rattle.journal.specs.declared.events.Event.{Event}
 use Rattle.journal.specs.declared.events.Event.TheVariants as event
 use Rattle.script_run.specs.NamedLinks.{NamedLink}
 use Rattle.script_run.specs.declared.statuses.Stop.{Stop}
-use Rattle.script_run.specs.Benches.{BenchState}
+use Rattle.lane_model.specs.declared.calls.LinkConfig.{LinkConfig}
+use Rattle.crash_recover.specs.Benches.{BenchState, new_bench_of}
 use Rattle.script_run.specs.Logs.{LogState, HasEffect, HasRunEffect}
-use Rattle.script_run.specs.Runs.{ObjectsState, RunState, RunEffect, command_name, effect_of, family_effect, found_effect, has_image, image_effect, image_wanted, link_effect, located_effect, made_effect, new_bench, place_of, placed_effect, run_tells, unnamed_effect, with_image, with_links}
+use Rattle.script_run.specs.Runs.{ObjectsState, RunState, RunEffect, command_name, effect_of, family_effect, found_effect, has_image, image_effect, image_wanted, link_effect, located_effect, made_effect, new_end, place_of, placed_effect, run_tells, unnamed_effect, with_image, with_links}
 
 -- a link of the same name with another bench
 with_bench : (now named : NamedLink) (bench : BenchState) → now.name ≡ named.name → now.bench ≡ bench → record named { bench = bench } ≡ now
@@ -24,18 +25,29 @@ with_bench now named bench name same =
 pub no_image : (wanted : Command) → ((name : List ℕ) (lines : List RecipeLine) → wanted ≢ command.Image name lines) → image_wanted wanted ≡ None
 no_image (command.Image name lines) other = absurd (other name lines refl)
 no_image (command.Link name to_host to_remote book) other = refl
+no_image (command.NsLink name to_host to_remote book) other = refl
 no_image (command.Caller name end) other = refl
 no_image (command.Send name caller src dst payload) other = refl
+no_image (command.Raw name caller message) other = refl
 no_image (command.Take name caller) other = refl
 no_image (command.Give name caller number) other = refl
+no_image (command.Bind name caller address) other = refl
+no_image (command.Unbind name caller address) other = refl
 no_image (command.BeginSend name caller src dst payload) other = refl
+no_image (command.BeginRaw name caller message) other = refl
 no_image (command.BeginTake name caller) other = refl
 no_image (command.BeginGive name caller number) other = refl
+no_image (command.BeginBind name caller address) other = refl
+no_image (command.BeginUnbind name caller address) other = refl
 no_image (command.Step name caller count) other = refl
 no_image (command.Finish name caller) other = refl
 no_image (command.Pump name sender receiver count) other = refl
 no_image (command.Ring name lane) other = refl
 no_image (command.Books name) other = refl
+no_image (command.Channels name) other = refl
+no_image (command.Close name) other = refl
+no_image (command.Reclaim name caller) other = refl
+no_image (command.Reopen name) other = refl
 
 module _ (run : RunState) (wanted : Command) where
   -- on the link at a place
@@ -95,13 +107,13 @@ module _ (run : RunState) (objects : ObjectsState) (before after : LogState) whe
   }
 
   -- a link of a new name is made
-  pub made_run : (name : List ℕ) (to_host to_remote book : ℕ) → length run.objects.links < OBJECTS_MOST
-      → objects ≡ record run.objects { links = run.objects.links ++ record { name = name; bench = new_bench to_host to_remote book } ∷ [] }
+  pub made_run : (name : List ℕ) (config : LinkConfig) (has_service : Bool) → length run.objects.links < OBJECTS_MOST
+      → objects ≡ record run.objects { links = run.objects.links ++ record { name = name; bench = new_bench_of config (new_end has_service) (new_end false) } ∷ [] }
       → before.steps ≡ run.steps → after ≡ record before { lines = before.lines ++ line (event.Open name 1) }
-      → HasRunEffect (made_effect run name to_host to_remote book) objects before after None
+      → HasRunEffect (made_effect run name config has_service) objects before after None
   unfolding made_effect
-  made_run name to_host to_remote book few is steps kept =
-      let made = with_links run (run.objects.links ++ record { name = name; bench = new_bench to_host to_remote book } ∷ []) in
+  made_run name config has_service few is steps kept =
+      let made = with_links run (run.objects.links ++ record { name = name; bench = new_bench_of config (new_end has_service) (new_end false) } ∷ []) in
       subst (λ full. HasRunEffect (cond full (run_tells run event.ObjectsFull) (run_tells made (event.Open name 1))) objects before after None) (sym (lt-leb OBJECTS_MOST (length run.objects.links) few))
       (tells_run made (event.Open name 1) is (ap (λ (log : LogState). log.steps) kept ∙ steps) (ap (λ (log : LogState). log.lines) kept))
 

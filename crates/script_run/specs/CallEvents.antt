@@ -1,7 +1,5 @@
 -- What the end of a call tells (own).
-use Rattle.std.specs.Prelude.{ℕ, List, [], ◌∷◌, Option, Some, None}
-use Rattle.rp_base.specs.declared.kinds.End.{End}
-use Rattle.rp_base.specs.declared.kinds.End.TheVariants as side
+use Rattle.std.specs.Prelude.{ℕ, List, [], ◌∷◌}
 use Rattle.rp_base.specs.declared.kinds.Verdict.{Verdict}
 use Rattle.rp_base.specs.declared.kinds.Verdict.TheVariants as verdict
 use Rattle.rp_base.specs.declared.kinds.BindFault.{BindFault}
@@ -9,21 +7,15 @@ use Rattle.rp_base.specs.declared.kinds.BindFault.TheVariants as bind_fault
 use Rattle.rpmsg_header.specs.Headers.{source_of, payload_of}
 use Rattle.lane_model.specs.declared.calls.CallEnd.{CallEnd}
 use Rattle.lane_model.specs.declared.calls.CallEnd.TheVariants as end
-use Rattle.lane_model.specs.Lanes.{message_at}
 use Rattle.lane_model.specs.Links.{LinkState, end_of}
 use Rattle.journal.specs.declared.events.Event.{Event}
 use Rattle.journal.specs.declared.events.Event.TheVariants as event
-use Rattle.script_run.specs.declared.benches.Reach.{Reach}
-use Rattle.script_run.specs.declared.benches.Reach.TheVariants as reach
-use Rattle.script_run.specs.declared.benches.BenchFault.{BenchFault}
-use Rattle.script_run.specs.declared.benches.BenchFault.TheVariants as fault
-use Rattle.script_run.specs.declared.desks.SilentDesk.{SilentDesk}
-
--- the message of a number on the lane that an end takes from, or no byte
-abbrev pub taken_on : LinkState SilentDesk → Option End → ℕ → List ℕ
-taken_on link (Some side.Host) number = message_at link.to_host.lane.accepted number
-taken_on link (Some side.Remote) number = message_at link.to_remote.lane.accepted number
-taken_on link None number = []
+use Rattle.crash_recover.specs.declared.benches.Reach.{Reach}
+use Rattle.crash_recover.specs.declared.benches.Reach.TheVariants as reach
+use Rattle.crash_recover.specs.declared.benches.BenchFault.{BenchFault}
+use Rattle.crash_recover.specs.declared.benches.BenchFault.TheVariants as fault
+use Rattle.channel_bus.specs.Sides.{EndState}
+use Rattle.crash_recover.specs.Benches.{taken_on}
 
 -- the end of a take, by the verdict; the addresses and the payload are the fields of the message
 abbrev pub took_event : List ℕ → ℕ → ℕ → List ℕ → Verdict → Event
@@ -43,7 +35,7 @@ refused_event name caller bind_fault.EndpointsFull = event.EndpointsFull name ca
 refused_event name caller (bind_fault.NotBound address) = event.NotBound name caller address
 
 -- the end of a call of a caller, which took a message of this link
-abbrev pub end_event : List ℕ → LinkState SilentDesk → ℕ → CallEnd → Event
+abbrev pub end_event : List ℕ → LinkState EndState → ℕ → CallEnd → Event
 end_event name link caller (end.Sent number) = event.Sent name caller number
 end_event name link caller (end.Took number judged) =
     took_event name caller number (taken_on link (end_of link.callers caller) number) judged
@@ -58,7 +50,7 @@ end_event name link caller (end.Empty accepted) = event.Empty name caller accept
 end_event name link caller (end.Refused why) = refused_event name caller why
 
 -- what a call tells that came so far: nothing where the run has no step left
-abbrev pub reach_events : List ℕ → LinkState SilentDesk → ℕ → Reach → List Event
+abbrev pub reach_events : List ℕ → LinkState EndState → ℕ → Reach → List Event
 reach_events name link caller (reach.At step) = event.At name caller step ∷ []
 reach_events name link caller (reach.Ended ended) = end_event name link caller ended ∷ []
 reach_events name link caller reach.Limit = []

@@ -12,11 +12,11 @@ use Rattle.journal.specs.declared.events.Event.{Event}
 use Rattle.journal.specs.declared.events.Event.TheVariants as event
 use Rattle.script_run.specs.declared.statuses.Stop.{Stop}
 use Rattle.script_run.specs.declared.statuses.Stop.TheVariants as stop
-use Rattle.script_run.specs.declared.benches.BenchFault.{BenchFault}
-use Rattle.script_run.specs.declared.benches.Reach.{Reach}
-use Rattle.script_run.specs.declared.benches.Reach.TheVariants as reach
-use Rattle.script_run.specs.declared.desks.SilentDesk.{SilentDesk}
-use Rattle.script_run.specs.Benches.{BenchState, BenchWalk, is_in_call, advance_walk, call_walk, with_new_caller, with_begun, ready_fault, advance_fault}
+use Rattle.crash_recover.specs.declared.benches.BenchFault.{BenchFault}
+use Rattle.crash_recover.specs.declared.benches.Reach.{Reach}
+use Rattle.crash_recover.specs.declared.benches.Reach.TheVariants as reach
+use Rattle.channel_bus.specs.Sides.{EndState}
+use Rattle.crash_recover.specs.Benches.{BenchState, BenchWalk, is_in_call, advance_walk, call_walk, with_new_caller, with_begun, ready_fault, advance_fault}
 use Rattle.script_run.specs.CallEvents.{reach_events, fault_event}
 
 -- what a command leaves of its bench, the steps of the run until then, what it tells, and why the run stops in its midst, if it does
@@ -51,14 +51,14 @@ unless_refused name bench steps caller None effect = effect
 unless_refused name bench steps caller (Some why) effect = tells bench steps (fault_event name caller why)
 
 -- a new caller under the least free number
-abbrev pub caller_made : List ℕ → BenchState → ℕ → End → Option ℕ → Effect
-caller_made name bench steps end None = tells bench steps (event.CallersFull name)
-caller_made name bench steps end (Some number) =
+abbrev pub new_caller_effect : List ℕ → BenchState → ℕ → End → Option ℕ → Effect
+new_caller_effect name bench steps end None = tells bench steps (event.CallersFull name)
+new_caller_effect name bench steps end (Some number) =
     tells (with_new_caller bench end (Some number)) steps (event.Caller name number end)
 
 -- `caller X END`
 unfoldable pub caller_effect : List ℕ → BenchState → ℕ → End → Effect
-caller_effect name bench steps end = caller_made name bench steps end (free_number bench.link.callers)
+caller_effect name bench steps end = new_caller_effect name bench steps end (free_number bench.link.callers)
 
 -- a whole call of a caller that may begin one
 unfoldable pub call_effect : List ℕ → BenchState → ℕ → ℕ → Wish → Effect
@@ -80,10 +80,10 @@ send_effect does name bench steps caller src dst payload =
     (if nat_le (length payload) PAYLOAD_MOST then does name bench steps caller (wish.Send (header_bytes src dst payload))
     else tells bench steps (event.TooLong name caller (length payload)))
 
--- `take X C` and its beginning
-unfoldable pub take_effect : Doing → List ℕ → BenchState → ℕ → ℕ → Effect
-take_effect does name bench steps caller =
-    unless_refused name bench steps caller (ready_fault bench caller) (does name bench steps caller wish.Take)
+-- `raw X C DATA`, `take X C`, `bind X C ADDR`, `unbind X C NUM` and their beginnings: any caller that is in use and in no call may begin such a call
+unfoldable pub plain_effect : Doing → List ℕ → BenchState → ℕ → ℕ → Wish → Effect
+plain_effect does name bench steps caller wanted =
+    unless_refused name bench steps caller (ready_fault bench caller) (does name bench steps caller wanted)
 
 -- a give of what the caller holds
 abbrev pub held_effect : Doing → List ℕ → BenchState → ℕ → ℕ → ℕ → Effect
@@ -103,7 +103,7 @@ step_effect name bench steps caller more =
     (walk_effect name caller (advance_walk bench more steps caller))
 
 -- the counts of a lane
-abbrev pub lane_event : List ℕ → ℕ → LaneState SilentDesk → Event
+abbrev pub lane_event : List ℕ → ℕ → LaneState EndState → Event
 lane_event name number state =
     event.LaneAcceptedHandedReturned name number (length state.lane.accepted) (length state.lane.takers) state.lane.returned
 

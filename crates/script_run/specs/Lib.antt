@@ -1,12 +1,13 @@
 pub mod Statuses
-pub mod SilentDesks
-pub mod Benches
 pub mod NamedLinks
 pub mod CallEvents
 pub mod Effects
 pub mod Pumps
 pub mod RingDumps
+pub mod Recoveries
+pub mod ChannelLists
 pub mod Runs
+pub mod TableRows
 pub mod Reports
 pub mod Asked
 pub mod Outputs

@@ -3,7 +3,7 @@ use Rattle.std.specs.Prelude.{◌≡◌, ℕ, List, ◌++◌, Option}
 use Rattle.std.specs.Io.KnownBytes.{Appends}
 use Rattle.journal.specs.Lines.{transcript}
 use Rattle.script_run.specs.declared.statuses.Stop.{Stop}
-use Rattle.script_run.specs.Benches.{BenchState}
+use Rattle.crash_recover.specs.Benches.{BenchState}
 use Rattle.script_run.specs.Effects.{Effect}
 use Rattle.script_run.specs.Runs.{ObjectsState, RunEffect}
 

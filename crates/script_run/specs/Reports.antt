@@ -1,17 +1,25 @@
--- What `check` reports of an image over the standard memory of a core, 65,536 bytes from device address 0 (own).
-use Rattle.std.specs.Prelude.{ℕ, ◌+◌, nat_le, Bool, true, false, List, [], ◌∷◌, ◌++◌, length, map, codes, if◌then◌else◌, Option, Some, None, Result, Ok, Err}
-use Rattle.rp_base.specs.declared.limits.TheConstants.{STANDARD_MEMORY}
-use Rattle.elf_image.specs.declared.faults.ElfFault.{ElfFault}
-use Rattle.elf_image.specs.declared.sections.Section.{Section}
-use Rattle.elf_image.specs.Faults.{fault_number, fault_index}
-use Rattle.elf_image.specs.Images.{image_fault, entry_of}
+-- What `check` reports of an image over the standard regions of a core (own).
+use Rattle.std.specs.Prelude.{ℕ, Bool, true, false, List, [], ◌∷◌, ◌++◌, length, map, Option, Some, None, Result, Ok, Err}
+use Rattle.std.specs.Option.{unwrap_or}
+use Rattle.elf_image.specs.Images.{entry_of}
 use Rattle.elf_image.specs.Segments.{SegmentAt, segments_of}
-use Rattle.elf_image.specs.Sections.{section_of}
+use Rattle.memory_pool.specs.declared.blocks.Block.{Block}
+use Rattle.memory_pool.specs.declared.faults.PlaceFault.{PlaceFault}
+use Rattle.memory_pool.specs.Placements.{placement}
+use Rattle.memory_pool.specs.Regions.{standard_regions}
+use Rattle.fw_load.specs.declared.faults.LoadFault.{LoadFault}
+use Rattle.fw_load.specs.Faults.{load_fault_number, load_fault_index}
+use Rattle.fw_load.specs.Loading.{load_fault}
+use Rattle.fw_load.specs.Memory.{memory_at}
+use Rattle.fw_load.specs.Rings.{traces_of}
+use Rattle.fw_load.specs.Tables.{table_of, entries_in, patched_in}
 use Rattle.rp_io.specs.declared.faults.FetchFault.{FetchFault}
 use Rattle.rp_io.specs.declared.faults.FetchFault.TheVariants as fetch_fault
 use Rattle.rp_io.specs.Images.{fetch_answer}
+use Rattle.journal.specs.declared.tables.TableLine.{TableLine}
 use Rattle.journal.specs.declared.notices.Notice.{Notice}
 use Rattle.journal.specs.declared.notices.Notice.TheVariants as notice
+use Rattle.script_run.specs.TableRows.{table_rows}
 
 -- whether an image loads, and the lines that say so
 pub record Report : Type 0 where
@@ -22,46 +30,41 @@ pub record Report : Type 0 where
 abbrev pub refusal : Notice → Report
 refusal why = record { loads = false; notices = why ∷ [] }
 
--- these bytes of a core lie in the standard memory
-abbrev pub is_mapped : ℕ → ℕ → Bool
-is_mapped da len = nat_le (da + len) STANDARD_MEMORY
-
--- the number of the first loaded segment that passes the end of the memory
-abbrev pub first_unmapped : List SegmentAt → Option ℕ
-first_unmapped [] = None
-first_unmapped (segment ∷ more) = if is_mapped segment.da segment.memory_len then first_unmapped more else Some segment.index
-
 -- the line of a loaded segment
 abbrev pub segment_notice : SegmentAt → Notice
 segment_notice segment = notice.Segment segment.index segment.da (length segment.file) segment.memory_len
 
--- an image that loads: its entry, its loaded segments, and a last line
-abbrev pub loads_report : ℕ → List SegmentAt → Report
-loads_report entry segments =
-    record { loads = true; notices = (notice.Start entry ∷ map segment_notice segments) ++ notice.Loads ∷ [] }
+-- an image that loads: its entry, its loaded segments, the lines of its table, and a last line
+abbrev pub loads_report : ℕ → List SegmentAt → List TableLine → Report
+loads_report entry segments rows =
+    record { loads = true; notices = (notice.Start entry ∷ map segment_notice segments) ++ map notice.Table rows ++ notice.Loads ∷ [] }
 
--- the 16 bytes of the first worker record lie in the memory, or fault 41
-abbrev pub entry_report : ℕ → List SegmentAt → Report
-entry_report entry segments = if is_mapped entry 16 then loads_report entry segments else refusal (notice.Fault 41 None)
+-- the blocks of a placement
+abbrev pub blocks_in : Result (List Block) PlaceFault → List Block
+blocks_in (Ok blocks) = blocks
+blocks_in (Err why) = []
 
--- each loaded segment lies in the memory, or fault 40
-abbrev pub placed_report : Option ℕ → ℕ → List SegmentAt → Report
-placed_report None entry segments = entry_report entry segments
-placed_report (Some index) entry segments = refusal (notice.Fault 40 (Some index))
+-- where the entries of an image's table are placed in the standard regions
+abbrev pub blocks_of : List ℕ → List Block
+blocks_of image = blocks_in (placement standard_regions (entries_in (table_of image)))
 
--- a resource table is not read
-abbrev pub table_report : Option Section → ℕ → List SegmentAt → Report
-table_report None entry segments = placed_report (first_unmapped segments) entry segments
-table_report (Some section) entry segments = refusal notice.TableUnread
+-- the lines of an image's table, as it is patched
+abbrev pub rows_of_image : List ℕ → List TableLine
+rows_of_image image =
+    table_rows (patched_in (table_of image) (blocks_of image)) (traces_of (memory_at standard_regions (blocks_of image)) (entries_in (table_of image)))
 
--- a good image, or its fault
-abbrev pub good_report : Option ElfFault → List ℕ → Report
-good_report None image = table_report (section_of image (codes ".resource_table")) (entry_of image) (segments_of image)
-good_report (Some fault) image = refusal (notice.Fault (fault_number fault) (fault_index fault))
+-- the line of a fault
+abbrev pub fault_notice : LoadFault → Notice
+fault_notice why = notice.Fault (unwrap_or (load_fault_number why) 0) (load_fault_index why)
+
+-- an image that loads, or the first of its faults
+abbrev pub loaded_report : List ℕ → Option LoadFault → Report
+loaded_report image None = loads_report (entry_of image) (segments_of image) (rows_of_image image)
+loaded_report image (Some why) = refusal (fault_notice why)
 
 -- the report of an image, by its bytes
 unfoldable pub image_report : List ℕ → Report
-image_report image = good_report (image_fault image) image
+image_report image = loaded_report image (load_fault image standard_regions)
 
 -- the report of what a store has under a name; its faults and want of memory are no such answers, and have no report of their own
 abbrev pub fetched_report : List ℕ → Result (List ℕ) FetchFault → Report

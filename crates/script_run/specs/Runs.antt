@@ -1,8 +1,9 @@
 -- The run of a script: what each command leaves and tells, from nothing on (own).
-use Rattle.std.specs.Prelude.{ℕ, Bool, is_some, ◌-◌, nat_le, List, [], ◌∷◌, ◌++◌, length, slice_get, slice_set, Option, Some, None, bytes_eq, if◌then◌else◌}
+use Rattle.std.specs.Prelude.{ℕ, Bool, true, false, is_some, ◌-◌, nat_le, List, [], ◌∷◌, ◌++◌, length, slice_get, slice_set, Option, Some, None, bytes_eq, if◌then◌else◌}
 use Rattle.std.specs.List.{position}
 use Rattle.rp_base.specs.declared.limits.TheConstants.{OBJECTS_MOST}
 use Rattle.lane_model.specs.declared.calls.LinkConfig.{LinkConfig}
+use Rattle.lane_model.specs.declared.calls.Wish.TheVariants as wish
 use Rattle.script_lang.specs.declared.commands.Command.{Command}
 use Rattle.script_lang.specs.declared.commands.Command.TheVariants as command
 use Rattle.script_lang.specs.declared.recipes.RecipeLine.{RecipeLine}
@@ -11,10 +12,14 @@ use Rattle.journal.specs.declared.events.Event.{Event}
 use Rattle.journal.specs.declared.events.Event.TheVariants as event
 use Rattle.script_run.specs.declared.statuses.Stop.{Stop}
 use Rattle.script_run.specs.NamedLinks.{NamedLink}
-use Rattle.script_run.specs.Benches.{BenchState, new_bench_of}
+use Rattle.endpoint_map.specs.Bindings.{no_bindings}
+use Rattle.channel_bus.specs.Sides.{EndState}
+use Rattle.crash_recover.specs.Benches.{new_bench_of}
 use Rattle.script_run.specs.Pumps.{pump_effect}
+use Rattle.script_run.specs.Recoveries.{close_effect, reclaim_effect, reopen_effect}
 use Rattle.script_run.specs.RingDumps.{ring_effect}
-use Rattle.script_run.specs.Effects.{Effect, tells, caller_effect, call_effect, begun_effect, send_effect, take_effect, give_effect, step_effect, books_effect}
+use Rattle.script_run.specs.ChannelLists.{channels_effect}
+use Rattle.script_run.specs.Effects.{Effect, tells, caller_effect, call_effect, begun_effect, send_effect, plain_effect, give_effect, step_effect, books_effect}
 
 -- an image that a script made, under its name
 pub record ImageState : Type 0 where
@@ -44,13 +49,20 @@ run_tells run told = record { run = run; events = told ∷ []; ending = None }
 -- a command on the link of this name
 unfoldable pub link_effect : NamedLink → ℕ → Command → Effect
 link_effect named steps (command.Link name to_host to_remote book) = tells named.bench steps (event.Exists named.name)
+link_effect named steps (command.NsLink name to_host to_remote book) = tells named.bench steps (event.Exists named.name)
 link_effect named steps (command.Caller name end) = caller_effect named.name named.bench steps end
 link_effect named steps (command.Send name caller src dst payload) = send_effect call_effect named.name named.bench steps caller src dst payload
-link_effect named steps (command.Take name caller) = take_effect call_effect named.name named.bench steps caller
+link_effect named steps (command.Raw name caller message) = plain_effect call_effect named.name named.bench steps caller (wish.Send message)
+link_effect named steps (command.Take name caller) = plain_effect call_effect named.name named.bench steps caller wish.Take
 link_effect named steps (command.Give name caller number) = give_effect call_effect named.name named.bench steps caller number
+link_effect named steps (command.Bind name caller address) = plain_effect call_effect named.name named.bench steps caller (wish.Bind address)
+link_effect named steps (command.Unbind name caller address) = plain_effect call_effect named.name named.bench steps caller (wish.Unbind address)
 link_effect named steps (command.BeginSend name caller src dst payload) = send_effect begun_effect named.name named.bench steps caller src dst payload
-link_effect named steps (command.BeginTake name caller) = take_effect begun_effect named.name named.bench steps caller
+link_effect named steps (command.BeginRaw name caller message) = plain_effect begun_effect named.name named.bench steps caller (wish.Send message)
+link_effect named steps (command.BeginTake name caller) = plain_effect begun_effect named.name named.bench steps caller wish.Take
 link_effect named steps (command.BeginGive name caller number) = give_effect begun_effect named.name named.bench steps caller number
+link_effect named steps (command.BeginBind name caller address) = plain_effect begun_effect named.name named.bench steps caller (wish.Bind address)
+link_effect named steps (command.BeginUnbind name caller address) = plain_effect begun_effect named.name named.bench steps caller (wish.Unbind address)
 link_effect named steps (command.Step name caller count) = step_effect named.name named.bench steps caller (count - 1)
 link_effect named steps (command.Finish name caller) = step_effect named.name named.bench steps caller 6
 link_effect named steps (command.Pump name sender receiver count) = pump_effect named.name named.bench steps sender receiver count
@@ -58,23 +70,38 @@ link_effect named steps (command.Pump name sender receiver count) = pump_effect 
 link_effect named steps (command.Image name lines) = tells named.bench steps (event.Exists named.name)
 link_effect named steps (command.Ring name lane) = ring_effect named.name named.bench steps lane
 link_effect named steps (command.Books name) = books_effect named.name named.bench steps
+link_effect named steps (command.Channels name) = channels_effect named.name named.bench steps
+link_effect named steps (command.Close name) = close_effect named.name named.bench steps
+link_effect named steps (command.Reclaim name caller) = reclaim_effect named.name named.bench steps caller
+link_effect named steps (command.Reopen name) = reopen_effect named.name named.bench steps
 
 -- the name of the link that a command is about
 abbrev pub command_name : Command → List ℕ
 command_name (command.Link name to_host to_remote book) = name
+command_name (command.NsLink name to_host to_remote book) = name
 command_name (command.Caller name end) = name
 command_name (command.Send name caller src dst payload) = name
+command_name (command.Raw name caller message) = name
 command_name (command.Take name caller) = name
 command_name (command.Give name caller number) = name
+command_name (command.Bind name caller address) = name
+command_name (command.Unbind name caller address) = name
 command_name (command.BeginSend name caller src dst payload) = name
+command_name (command.BeginRaw name caller message) = name
 command_name (command.BeginTake name caller) = name
 command_name (command.BeginGive name caller number) = name
+command_name (command.BeginBind name caller address) = name
+command_name (command.BeginUnbind name caller address) = name
 command_name (command.Step name caller count) = name
 command_name (command.Finish name caller) = name
 command_name (command.Pump name sender receiver count) = name
 command_name (command.Image name lines) = name
 command_name (command.Ring name lane) = name
 command_name (command.Books name) = name
+command_name (command.Channels name) = name
+command_name (command.Close name) = name
+command_name (command.Reclaim name caller) = name
+command_name (command.Reopen name) = name
 
 -- the place of the link of this name
 abbrev pub place_of : List NamedLink → List ℕ → Option ℕ
@@ -84,23 +111,24 @@ place_of links name = position (λ named. bytes_eq named.name name) links
 abbrev pub config_of : ℕ → ℕ → ℕ → LinkConfig
 config_of to_host to_remote book = record { num0 = to_host; num1 = to_remote; book = book; first = 1; base = 0 }
 
--- a bench of a new link, on which nothing is begun
-abbrev pub new_bench : ℕ → ℕ → ℕ → BenchState
-new_bench to_host to_remote book = new_bench_of (config_of to_host to_remote book)
+-- an end with no endpoint, no channel and no driver
+abbrev pub new_end : Bool → EndState
+new_end has_service = record { has_service = has_service; drivers = []; bindings = no_bindings; channels = [] }
 
 -- the run with other links
 abbrev pub with_links : RunState → List NamedLink → RunState
 with_links run links = record run { objects = record run.objects { links = links } }
 
--- `link X RING RING BOOK` for a new name: there are at most eight links
-unfoldable pub made_effect : RunState → List ℕ → ℕ → ℕ → ℕ → RunEffect
-made_effect run name to_host to_remote book =
+-- a link of a new name: there are at most eight links, and the host end has the name service or not
+unfoldable pub made_effect : RunState → List ℕ → LinkConfig → Bool → RunEffect
+made_effect run name config has_service =
     if nat_le OBJECTS_MOST (length run.objects.links) then run_tells run event.ObjectsFull
-    else run_tells (with_links run (run.objects.links ++ record { name = name; bench = new_bench to_host to_remote book } ∷ [])) (event.Open name 1)
+    else run_tells (with_links run (run.objects.links ++ record { name = name; bench = new_bench_of config (new_end has_service) (new_end false) } ∷ [])) (event.Open name 1)
 
 -- a command whose name no link has
 unfoldable pub unnamed_effect : RunState → Command → RunEffect
-unnamed_effect run (command.Link name to_host to_remote book) = made_effect run name to_host to_remote book
+unnamed_effect run (command.Link name to_host to_remote book) = made_effect run name (config_of to_host to_remote book) false
+unnamed_effect run (command.NsLink name to_host to_remote book) = made_effect run name (config_of to_host to_remote book) true
 unnamed_effect run other = run_tells run (event.Unknown (command_name other))
 
 -- the run with what a command leaves of the link at this place
@@ -143,18 +171,29 @@ image_effect run name lines =
 abbrev pub image_wanted : Command → Option (List ℕ × List RecipeLine)
 image_wanted (command.Image name lines) = Some (name, lines)
 image_wanted (command.Link name to_host to_remote book) = None
+image_wanted (command.NsLink name to_host to_remote book) = None
 image_wanted (command.Caller name end) = None
 image_wanted (command.Send name caller src dst payload) = None
+image_wanted (command.Raw name caller message) = None
 image_wanted (command.Take name caller) = None
 image_wanted (command.Give name caller number) = None
+image_wanted (command.Bind name caller address) = None
+image_wanted (command.Unbind name caller address) = None
 image_wanted (command.BeginSend name caller src dst payload) = None
+image_wanted (command.BeginRaw name caller message) = None
 image_wanted (command.BeginTake name caller) = None
 image_wanted (command.BeginGive name caller number) = None
+image_wanted (command.BeginBind name caller address) = None
+image_wanted (command.BeginUnbind name caller address) = None
 image_wanted (command.Step name caller count) = None
 image_wanted (command.Finish name caller) = None
 image_wanted (command.Pump name sender receiver count) = None
 image_wanted (command.Ring name lane) = None
 image_wanted (command.Books name) = None
+image_wanted (command.Channels name) = None
+image_wanted (command.Close name) = None
+image_wanted (command.Reclaim name caller) = None
+image_wanted (command.Reopen name) = None
 
 -- an image is made, or a command is about a link
 abbrev pub family_effect : RunState → Command → Option (List ℕ × List RecipeLine) → RunEffect

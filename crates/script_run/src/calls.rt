@@ -3,14 +3,14 @@ ghost use Rattle.rp_base.specs.declared.limits.TheConstants.{MESSAGE_MOST, PAYLO
 ghost use Rattle.lane_model.specs.declared.calls.Wish.TheVariants as wish;
 ghost use Rattle.rpmsg_header.specs.Headers.{header_bytes};
 ghost use Rattle.script_run.specs.Logs.{HasEffect};
-ghost use Rattle.script_run.specs.Benches.{BenchWalk, begin_fault, reach_of, ready_fault};
-ghost use Rattle.script_run.specs.CallEvents.{end_event, fault_event, refused_event, taken_on, took_event};
-ghost use Rattle.script_run.specs.Effects.{begun_effect, call_effect, give_effect, send_effect, step_effect, take_effect, tells, walk_effect};
+ghost use Rattle.crash_recover.specs.Benches.{BenchWalk, begin_fault, reach_of, ready_fault, taken_on, wish_fault};
+ghost use Rattle.script_run.specs.CallEvents.{end_event, fault_event, refused_event, took_event};
+ghost use Rattle.script_run.specs.Effects.{begun_effect, call_effect, give_effect, plain_effect, send_effect, step_effect, tells, walk_effect};
 
-use crate::benches::{BenchFault, Progress};
 use crate::links::NamedBench;
 use crate::logs::RunLog;
 use crate::statuses::Stop;
+use crash_recover::{BenchFault, Progress};
 use journal::Event;
 use lane_model::{CallEnd, Wish};
 use rp_base::{BindFault, CallerNo, Data, Message, Name, NoMemory, PAYLOAD_MOST, Verdict};
@@ -47,21 +47,42 @@ impl NamedBench {
         self.call_send(caller, &head, payload.bytes(), log)
     }
 
-    /// A whole take.
-    #[tactic(auto, unfolding(crate::specs::Effects::take_effect))]
-    pub(crate) fn take(
+    /// A whole send of a message as it stands, its header included.
+    #[tactic(auto, unfolding(crate::specs::Effects::plain_effect))]
+    pub(crate) fn raw(
         &mut self,
         caller: CallerNo,
+        message: &Data,
         log: &mut RunLog,
     ) -> Result<Option<Stop>, NoMemory>
-        requires { caller < 64 }
+        requires caller { caller < 64 }
+        requires fits { length message.now ≤ MESSAGE_MOST }
         ensures name { self.new.name ≡ self.old.name }
-        ensures effect { IfOk result (λ ending. HasEffect (take_effect call_effect self.old.name self.old.bench log.old.steps caller) self.new.bench log.old log.new ending) }
+        ensures effect { IfOk result (λ ending. HasEffect (plain_effect call_effect self.old.name self.old.bench log.old.steps caller (wish.Send message.now)) self.new.bench log.old log.new ending) }
     {
         if let Some(fault) = self.bench.ready_fault(caller) {
             return self.refuse(caller, fault, log);
         }
-        self.call(caller, &Wish::Take, log)
+        self.call_send(caller, &[], message.bytes(), log)
+    }
+
+    /// A whole call that any caller in use may begin which is in no call: all but a give.
+    #[tactic(auto, unfolding(crate::specs::Effects::plain_effect))]
+    pub(crate) fn call_plain(
+        &mut self,
+        caller: CallerNo,
+        wished: &Wish,
+        log: &mut RunLog,
+    ) -> Result<Option<Stop>, NoMemory>
+        requires caller { caller < 64 }
+        requires plain { wish_fault self.old.bench caller wished.now ≡ None }
+        ensures name { self.new.name ≡ self.old.name }
+        ensures effect { IfOk result (λ ending. HasEffect (plain_effect call_effect self.old.name self.old.bench log.old.steps caller wished.now) self.new.bench log.old log.new ending) }
+    {
+        if let Some(fault) = self.bench.ready_fault(caller) {
+            return self.refuse(caller, fault, log);
+        }
+        self.call(caller, wished, log)
     }
 
     /// A whole give of the message of this number.
@@ -150,21 +171,23 @@ impl NamedBench {
         self.begin(caller, Wish::Send(written(src, dst, payload)), log)
     }
 
-    /// Begins a take.
-    #[tactic(auto, unfolding(crate::specs::Effects::take_effect))]
-    pub(crate) fn begin_take(
+    /// Begins a call that any caller in use may begin which is in no call: all but a give.
+    #[tactic(auto, unfolding(crate::specs::Effects::plain_effect))]
+    pub(crate) fn begin_plain(
         &mut self,
         caller: CallerNo,
+        wished: Wish,
         log: &mut RunLog,
     ) -> Result<Option<Stop>, NoMemory>
-        requires { caller < 64 }
+        requires caller { caller < 64 }
+        requires plain { wish_fault self.old.bench caller wished ≡ None }
         ensures name { self.new.name ≡ self.old.name }
-        ensures effect { IfOk result (λ ending. HasEffect (take_effect begun_effect self.old.name self.old.bench log.old.steps caller) self.new.bench log.old log.new ending) }
+        ensures effect { IfOk result (λ ending. HasEffect (plain_effect begun_effect self.old.name self.old.bench log.old.steps caller wished) self.new.bench log.old log.new ending) }
     {
         if let Some(fault) = self.bench.ready_fault(caller) {
             return self.refuse(caller, fault, log);
         }
-        self.begin(caller, Wish::Take, log)
+        self.begin(caller, wished, log)
     }
 
     /// Begins a give of the message of this number.
@@ -312,6 +335,16 @@ impl NamedBench {
             CallEnd::Refused(fault) => refused_event(name, number, fault),
         })
     }
+}
+
+/// The message of these bytes, its header included.
+pub(crate) fn message_of(bytes: &Data) -> Message
+    requires { length bytes.now ≤ MESSAGE_MOST }
+    ensures { result ≡ bytes.now }
+{
+    let mut message = Message::empty();
+    message.set(&[], bytes.bytes());
+    message
 }
 
 /// The message with a payload that fits.

@@ -3,13 +3,15 @@ ghost use Rattle.lane_model.specs.Links.{free_number};
 ghost use Rattle.script_lang.specs.Runnable.{IsRunnable};
 ghost use Rattle.journal.specs.declared.events.Event.TheVariants as event;
 ghost use Rattle.script_run.specs.Logs.{HasEffect};
-ghost use Rattle.script_run.specs.Effects.{books_effect, caller_effect, caller_made, tells};
+ghost use Rattle.script_run.specs.Effects.{books_effect, caller_effect, new_caller_effect, tells};
 ghost use Rattle.script_run.specs.Runs.{image_wanted, link_effect};
 
-use crate::benches::Bench;
+use crate::calls::message_of;
 use crate::logs::RunLog;
 use crate::statuses::Stop;
+use crash_recover::Bench;
 use journal::Event;
+use lane_model::Wish;
 use rp_base::{CallerNo, End, Name, NoMemory};
 use script_lang::Command;
 use std::marker::Model;
@@ -44,19 +46,40 @@ impl NamedBench {
         ensures effect { IfOk result (λ ending. HasEffect (link_effect self.old log.old.steps command.now) self.new.bench log.old log.new ending) }
     {
         match command {
-            Command::Link(_, _, _, _) => self.tell(&Event::Exists(self.name), log),
+            Command::Link(_, _, _, _) | Command::NsLink(_, _, _, _) => self.tell(
+                &Event::Exists(self.name),
+                log,
+            ),
             Command::Caller(_, end) => self.make_caller(*end, log),
             Command::Send(_, caller, src, dst, payload) => {
                 self.send(*caller as CallerNo, *src as u32, *dst as u32, payload, log)
             }
-            Command::Take(_, caller) => self.take(*caller as CallerNo, log),
+            Command::Raw(_, caller, message) => self.raw(*caller as CallerNo, message, log),
+            Command::Take(_, caller) => self.call_plain(*caller as CallerNo, &Wish::Take, log),
             Command::Give(_, caller, number) => self.give(*caller as CallerNo, *number, log),
+            Command::Bind(_, caller, address) => {
+                self.call_plain(*caller as CallerNo, &Wish::Bind(*address as u32), log)
+            }
+            Command::Unbind(_, caller, address) => {
+                self.call_plain(*caller as CallerNo, &Wish::Unbind(*address as u32), log)
+            }
             Command::BeginSend(_, caller, src, dst, payload) => {
                 self.begin_send(*caller as CallerNo, *src as u32, *dst as u32, payload, log)
             }
-            Command::BeginTake(_, caller) => self.begin_take(*caller as CallerNo, log),
+            Command::BeginRaw(_, caller, message) => {
+                self.begin_plain(*caller as CallerNo, Wish::Send(message_of(message)), log)
+            }
+            Command::BeginTake(_, caller) => {
+                self.begin_plain(*caller as CallerNo, Wish::Take, log)
+            }
             Command::BeginGive(_, caller, number) => {
                 self.begin_give(*caller as CallerNo, *number, log)
+            }
+            Command::BeginBind(_, caller, address) => {
+                self.begin_plain(*caller as CallerNo, Wish::Bind(*address as u32), log)
+            }
+            Command::BeginUnbind(_, caller, address) => {
+                self.begin_plain(*caller as CallerNo, Wish::Unbind(*address as u32), log)
             }
             Command::Step(_, caller, count) => {
                 self.advance(*caller as CallerNo, *count - 1, log)
@@ -68,6 +91,10 @@ impl NamedBench {
             Command::Ring(_, lane) => self.tell_ring(*lane, log),
             Command::Image(_, _) => unreachable!(),
             Command::Books(_) => self.tell_books(log),
+            Command::Channels(_) => self.tell_channels(log),
+            Command::Close(_) => self.close(log),
+            Command::Reclaim(_, caller) => self.reclaim(*caller as CallerNo, log),
+            Command::Reopen(_) => self.reopen(log),
         }
     }
 

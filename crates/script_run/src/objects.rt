@@ -1,13 +1,14 @@
-ghost use Rattle.std.specs.Prelude.{◌≡◌, ◌<◌, IfOk, IfSome, None, length};
+ghost use Rattle.std.specs.Prelude.{◌≡◌, ◌<◌, IfOk, IfSome, None, false, length};
 ghost use Rattle.lane_model.specs.Conditions.{IsConfig};
 ghost use Rattle.script_lang.specs.Runnable.{IsRunnable};
 ghost use Rattle.script_run.specs.Logs.{HasRunEffect};
 ghost use Rattle.script_run.specs.Runs.{command_name, config_of, effect_of, has_image, image_effect, image_place, image_wanted, made_effect, new_run, place_of, unnamed_effect};
 
-use crate::benches::Bench;
 use crate::links::NamedBench;
 use crate::logs::RunLog;
 use crate::statuses::Stop;
+use channel_bus::Side;
+use crash_recover::Bench;
 use journal::Event;
 use lane_model::LinkConfig;
 use rp_base::{Name, NoMemory, OBJECTS_MOST};
@@ -80,38 +81,42 @@ impl Objects {
         requires { IsRunnable command.now }
         ensures { IfOk result (λ ending. HasRunEffect (unnamed_effect (record { objects = self.old; steps = log.old.steps }) command.now) self.new log.old log.new ending) }
     {
-        if let Command::Link(name, to_host, to_remote, book) = command {
-            return self.make_link(*name, *to_host as u32, *to_remote as u32, *book as u32, log);
+        match command {
+            Command::Link(name, to_host, to_remote, book) => {
+                let config = config_of(*to_host as u32, *to_remote as u32, *book as u32);
+                self.make_link(*name, config, false, log)
+            }
+            Command::NsLink(name, to_host, to_remote, book) => {
+                let config = config_of(*to_host as u32, *to_remote as u32, *book as u32);
+                self.make_link(*name, config, true, log)
+            }
+            _ => {
+                log.tell(&Event::Unknown(*command_name(command)))?;
+                Ok(None)
+            }
         }
-        log.tell(&Event::Unknown(*command_name(command)))?;
-        Ok(None)
     }
 
-    /// Makes a link of a new name, unless there are as many as there may be.
+    /// Makes a link of a new name, unless there are as many as there may be. Where `has_service` is
+    /// set, its host end has the name service.
     #[tactic(auto, unfolding(crate::specs::Runs::made_effect))]
     fn make_link(
         &mut self,
         name: Name,
-        to_host: u32,
-        to_remote: u32,
-        book: u32,
+        config: LinkConfig,
+        has_service: bool,
         log: &mut RunLog,
     ) -> Result<Option<Stop>, NoMemory>
-        requires config { IsConfig (config_of to_host to_remote book) }
-        ensures { IfOk result (λ ending. HasRunEffect (made_effect (record { objects = self.old; steps = log.old.steps }) name to_host to_remote book) self.new log.old log.new ending) }
+        requires config { IsConfig config }
+        ensures { IfOk result (λ ending. HasRunEffect (made_effect (record { objects = self.old; steps = log.old.steps }) name config has_service) self.new log.old log.new ending) }
     {
         if self.links.len() >= OBJECTS_MOST {
             log.tell(&Event::ObjectsFull)?;
             return Ok(None);
         }
-        let config = LinkConfig {
-            num0: to_host,
-            num1: to_remote,
-            book,
-            first: 1,
-            base: 0,
-        };
-        let bench = Bench::new(self.alloc, config)?;
+        let host = Side::new(self.alloc, has_service, Vec::new(self.alloc))?;
+        let remote = Side::new(self.alloc, false, Vec::new(self.alloc))?;
+        let bench = Bench::new(self.alloc, config, host, remote)?;
         self.links.push(NamedBench { name, bench })?;
         log.tell(&Event::Open(name, 1))?;
         Ok(None)
@@ -163,6 +168,19 @@ impl ScriptImage {
     }
 }
 
+/// What a script's link begins with: it is live in incarnation 1, and its buffers begin at address 0.
+fn config_of(to_host: u32, to_remote: u32, book: u32) -> LinkConfig
+    ensures { result ≡ config_of to_host to_remote book }
+{
+    LinkConfig {
+        num0: to_host,
+        num1: to_remote,
+        book,
+        first: 1,
+        base: 0,
+    }
+}
+
 /// Whether an image of this name was made.
 fn has_image(images: &[ScriptImage], name: &[u8]) -> bool
     ensures { result ≡ has_image images.now name.now }
@@ -183,19 +201,30 @@ fn command_name(command: &Command) -> &Name
 {
     match command {
         Command::Link(name, _, _, _)
+        | Command::NsLink(name, _, _, _)
         | Command::Caller(name, _)
         | Command::Send(name, _, _, _, _)
+        | Command::Raw(name, _, _)
         | Command::Take(name, _)
         | Command::Give(name, _, _)
+        | Command::Bind(name, _, _)
+        | Command::Unbind(name, _, _)
         | Command::BeginSend(name, _, _, _, _)
+        | Command::BeginRaw(name, _, _)
         | Command::BeginTake(name, _)
         | Command::BeginGive(name, _, _)
+        | Command::BeginBind(name, _, _)
+        | Command::BeginUnbind(name, _, _)
         | Command::Step(name, _, _)
         | Command::Finish(name, _)
         | Command::Pump(name, _, _, _)
         | Command::Image(name, _)
         | Command::Ring(name, _)
-        | Command::Books(name) => name,
+        | Command::Books(name)
+        | Command::Channels(name)
+        | Command::Close(name)
+        | Command::Reclaim(name, _)
+        | Command::Reopen(name) => name,
     }
 }
 

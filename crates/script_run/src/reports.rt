@@ -1,21 +1,23 @@
-ghost use Rattle.std.specs.Prelude.{◌≡◌, IfOk, IfErr, codes};
+ghost use Rattle.std.specs.Prelude.{◌≡◌, ◌≢◌, ◌++◌, IfOk, IfErr, OnOk, map};
 ghost use Rattle.elf_image.specs.Segments.{segments_of};
 ghost use Rattle.elf_image.specs.Images.{entry_of};
-ghost use Rattle.elf_image.specs.Sections.{section_of};
-ghost use Rattle.script_run.specs.Reports.{image_report, is_mapped, first_unmapped, loads_report, refusal, table_report};
+ghost use Rattle.fw_load.specs.declared.faults.LoadFault.TheVariants as load_fault;
+ghost use Rattle.journal.specs.declared.notices.Notice.TheVariants as notice;
+ghost use Rattle.script_run.specs.TableRows.{table_rows};
+ghost use Rattle.script_run.specs.Reports.{fault_notice, image_report, loads_report, refusal, segment_notice};
 ghost use Rattle.script_run.specs.Endings.{IsFinal, IsReportOutput};
 ghost use Rattle.script_run.specs.ImageReports.{IsChecked, IsImageReport, IsReportFault, made_output};
 
 use crate::endings::{end_with, end_with_line};
 use crate::statuses::Status;
+use crate::table_rows::table_rows;
 use elf_image::{Image, Segments};
-use journal::Notice;
-use rp_base::{Da, Name, STANDARD_MEMORY};
+use fw_load::{LoadFault, Loaded, load};
+use journal::{Notice, TableLine};
+use memory_pool::Regions;
+use rp_base::{Name, NoMemory};
 use rp_io::{FetchFault, FirmwareStore, Sink};
-use std::alloc::{AllocError, Global};
-
-/// How many bytes a worker record has.
-const RECORD_LEN: u32 = 16;
+use std::alloc::Global;
 
 /// What `check` says of an image: whether it loads, and the lines that say so.
 #[derive(Drop)]
@@ -48,12 +50,12 @@ pub enum ReportFault {
     NoMemory,
 }
 
-impl From<AllocError> for ReportFault {
+impl From<NoMemory> for ReportFault {
     ghost use Rattle.script_run.specs.declared.reports.ReportFault.TheVariants as fault;
 
     ghost from_gives = { λ _ e. e ≡ fault.NoMemory };
 
-    fn from(_error: AllocError) -> ReportFault {
+    fn from(_error: NoMemory) -> ReportFault {
         ReportFault::NoMemory
     }
 }
@@ -98,19 +100,24 @@ fn fetch_report<F: FirmwareStore>(
     }
 }
 
-/// Whether an image loads.
+/// Whether an image loads into the standard regions.
 #[tactic(auto, unfolding(crate::specs::Reports::image_report))]
-fn report_image(alloc: Global, bytes: &[u8]) -> Result<ImageReport, AllocError>
+fn report_image(alloc: Global, bytes: &[u8]) -> Result<ImageReport, NoMemory>
     ensures { IfOk result (λ report. IsImageReport report (image_report bytes.now)) }
 {
-    match Image::read(bytes) {
-        Ok(image) => report_good(alloc, &image),
-        Err(fault) => refuse(alloc, Notice::Fault(fault.number(), fault.index())),
+    let image = match Image::read(bytes) {
+        Ok(image) => image,
+        Err(fault) => return refuse(alloc, Notice::Fault(fault.number(), fault.index())),
+    };
+    let regions = Regions::standard(alloc)?;
+    match load(alloc, bytes, &regions) {
+        Ok(loaded) => report_loaded(alloc, &image, &loaded),
+        Err(fault) => refuse_load(alloc, fault),
     }
 }
 
 /// The report of an image that doesn't load.
-fn refuse(alloc: Global, notice: Notice) -> Result<ImageReport, AllocError>
+fn refuse(alloc: Global, notice: Notice) -> Result<ImageReport, NoMemory>
     ensures { IfOk result (λ report. IsImageReport report (refusal notice)) }
 {
     Ok(ImageReport {
@@ -119,54 +126,47 @@ fn refuse(alloc: Global, notice: Notice) -> Result<ImageReport, AllocError>
     })
 }
 
-/// Whether an image that passes its own tests loads.
-fn report_good(alloc: Global, image: &Image<'_>) -> Result<ImageReport, AllocError>
-    ensures { IfOk result (λ report. IsImageReport report (table_report (section_of image.now (codes ".resource_table")) (entry_of image.now) (segments_of image.now))) }
+/// The report of an image that a load refuses. Want of memory is no refusal.
+fn refuse_load(alloc: Global, fault: LoadFault) -> Result<ImageReport, NoMemory>
+    ensures report { IfOk result (λ report. IsImageReport report (refusal (fault_notice fault))) }
+    ensures number { IfOk result (λ _. fault ≢ load_fault.NoMemory) }
 {
-    if image.section(".resource_table").is_some() {
-        return refuse(alloc, Notice::TableUnread);
+    match fault.number() {
+        Some(number) => refuse(alloc, Notice::Fault(number, fault.index())),
+        None => Err(NoMemory),
     }
-    if let Some(index) = first_unmapped(image.segments()) {
-        return refuse(alloc, Notice::Fault(40, Some(index)));
-    }
-    if !is_mapped(image.entry(), RECORD_LEN) {
-        return refuse(alloc, Notice::Fault(41, None));
-    }
+}
+
+/// The report of an image that loads: its entry, its loaded segments, and the lines of its table.
+fn report_loaded(alloc: Global, image: &Image<'_>, loaded: &Loaded) -> Result<ImageReport, NoMemory>
+    ensures { IfOk result (λ report. IsImageReport report
+        (loads_report (entry_of image.now) (segments_of image.now) (table_rows loaded.now.table.items loaded.now.traces.items))) }
+{
+    let mut notices = vec![in alloc; Notice::Start(image.entry())]?;
+    let rows = table_rows(alloc, &loaded.table, &loaded.traces)?;
+    push_lines(&mut notices, image.segments(), &rows)?;
+    notices.push(Notice::Loads)?;
     Ok(ImageReport {
         loads: true,
-        notices: loads(alloc, image.entry(), image.segments())?,
+        notices,
     })
 }
 
-/// Whether these bytes of a core lie in the standard memory.
-fn is_mapped(da: Da, len: u32) -> bool
-    ensures { result ≡ is_mapped da len }
+/// The lines of loaded segments, then those of a table.
+fn push_lines(
+    notices: &mut Vec<Notice>,
+    segments: Segments<'_>,
+    rows: &[TableLine],
+) -> Result<(), NoMemory>
+    ensures { OnOk result (notices.new.items ≡ notices.old.items ++ map segment_notice segments.entry ++ map notice.Table rows.now) }
 {
-    u64::from(da) + u64::from(len) <= u64::from(STANDARD_MEMORY)
-}
-
-/// The number of the first segment that passes the end of the memory.
-fn first_unmapped(segments: Segments<'_>) -> Option<u16>
-    ensures { result ≡ first_unmapped segments.entry }
-{
-    for segment in segments {
-        if !is_mapped(segment.da, segment.memory_len) {
-            return Some(segment.index);
-        }
-    }
-    None
-}
-
-/// The lines of an image that loads.
-fn loads(alloc: Global, entry: Da, segments: Segments<'_>) -> Result<Vec<Notice>, AllocError>
-    ensures { IfOk result (λ notices. notices.items ≡ (loads_report entry segments.entry).notices) }
-{
-    let mut notices = vec![in alloc; Notice::Start(entry)]?;
     for segment in segments {
         let file_len = segment.file.len() as u64;
         let notice = Notice::Segment(segment.index, segment.da, file_len, segment.memory_len);
         notices.push(notice)?;
     }
-    notices.push(Notice::Loads)?;
-    Ok(notices)
+    for row in rows {
+        notices.push(Notice::Table(*row))?;
+    }
+    Ok(())
 }

@@ -1,63 +1,17 @@
-ghost use Rattle.std.specs.Prelude.{◌≡◌, ◌++◌, ◌+◌, ◌<◌, ◌≤◌, ◌^◌, ◌==◌, IfOk, OnOk, None, length};
+ghost use Rattle.std.specs.Prelude.{◌≡◌, ◌++◌, ◌<◌, ◌≤◌, ◌^◌, ◌==◌, IfOk, OnOk, length};
 ghost use Rattle.std.specs.List.{list_all};
-ghost use Rattle.rp_base.specs.Limits.{IsRingSize, ring_capacity};
 ghost use Rattle.journal.specs.Lines.{transcript};
 ghost use Rattle.script_run.specs.Logs.{HasEffect};
-ghost use Rattle.script_run.specs.RingDumps.{dump_rows, lane_bytes, lane_words, ring_effect, row_count, row_events, turn_holder};
+ghost use Rattle.script_run.specs.RingDumps.{dump_rows, ring_effect, row_count, row_events};
 
-use crate::benches::Bench;
 use crate::links::NamedBench;
 use crate::logs::RunLog;
 use crate::statuses::Stop;
 use journal::Event;
-use rp_base::{CallerNo, Data, Name, NoMemory};
-use std::alloc::Global;
-use vring_layout::{RingWords, ring_bytes, vring_size};
+use rp_base::{Data, Name, NoMemory};
 
 /// The bytes of a line that tells of a ring.
 const ROW: usize = 16;
-
-impl Bench {
-    /// Who has the first turn of the link that is out: of lane 0's sender and receiver, then of lane
-    /// 1's.
-    pub fn turn_holder(&self) -> Option<CallerNo>
-        ensures { result ≡ turn_holder self.now.link }
-    {
-        if let Some(holder) = self.link.to_host.sender_holder() {
-            return Some(holder);
-        }
-        if let Some(holder) = self.link.to_host.receiver_holder() {
-            return Some(holder);
-        }
-        if let Some(holder) = self.link.to_remote.sender_holder() {
-            return Some(holder);
-        }
-        self.link.to_remote.receiver_holder()
-    }
-
-    /// The words of a lane's rings: lane 0 to the host, 1 to the remote.
-    fn lane_words(&self, alloc: Global, lane: u64) -> Result<RingWords, NoMemory>
-        ensures words { IfOk result (λ words. words ≡ lane_words self.now.rings lane) }
-        ensures sizes { IfOk result (λ words. IsRingSize words.num × (words.capacity ≡ ring_capacity words.num)) }
-        ensures long { IfOk result (λ words. (length words.avail ≡ words.num) × (length words.used ≡ words.num)) }
-    {
-        if lane == 0 {
-            return self.link.to_host.words(alloc, 0);
-        }
-        let base = 512 * u32::from(self.link.to_host.sizes().capacity);
-        self.link.to_remote.words(alloc, base)
-    }
-
-    /// The bytes of a lane's ring, as it lies in memory: lane 0 to the host, 1 to the remote.
-    pub fn ring_bytes(&self, alloc: Global, lane: u64) -> Result<Vec<u8>, NoMemory>
-        ensures bytes { IfOk result (λ bytes. bytes.items ≡ lane_bytes self.now.rings lane) }
-        ensures short { IfOk result (λ bytes. length bytes.items < 2 ^ 32) }
-    {
-        let words = self.lane_words(alloc, lane)?;
-        let _size = vring_size(words.num, 4);
-        ring_bytes(alloc, 4, &words)
-    }
-}
 
 impl NamedBench {
     /// Tells the bytes of a lane's ring, unless a turn of the link is out.

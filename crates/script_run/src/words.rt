@@ -23,12 +23,12 @@ pub(crate) fn read_words<'a>(words: &[&'a str]) -> Asked<'a>
 {
     match words {
         [only] if *only == "run" => Asked::Run,
-        [first, word] if *first == "check" => named(word),
+        [first, word] if *first == "check" => name_in_word(word),
         _ => Asked::Other,
     }
 }
 
-fn named(word: &str) -> Asked<'_>
+fn name_in_word(word: &str) -> Asked<'_>
     ensures form { asked_form result ≡ named_form (name_of word.now) }
     ensures named { IsNamed result }
 {

@@ -1,7 +1,7 @@
-use Rattle.std.proofs.Common.{◌≡◌, ◌+◌, ◌-◌, ◌*◌, ℕ, List, ◌++◌, [], drop, take, refl, sym, ap, ◌∙◌, append-nil, arith}
+use Rattle.std.proofs.Common.{◌≡◌, ◌-◌, ◌*◌, ℕ, List, ◌++◌, drop, take, sym, ap, ◌∙◌, append-nil, arith}
 use Rattle.journal.specs.Lines.{transcript}
 use Rattle.script_run.specs.Logs.{LogState}
-use Rattle.script_run.specs.RingDumps.{dump_rows, row_count, row_events}
+use Rattle.script_run.specs.RingDumps.{dump_rows, row_count}
 use Rattle.script_run.proofs.RingRows.{rows_none, row_bytes, row_told}
 use Rattle.script_run.proofs.rings.tell_rows.Goals as goal
 

@@ -1,0 +1,16 @@
+use Rattle.std.proofs.Common.{◌≡◌, ℕ, List, IfOk, ap, ◌∙◌, subst}
+use Rattle.elf_image.specs.Images.{entry_of}
+use Rattle.elf_image.specs.Segments.{segments_of}
+use Rattle.script_run.specs.TableRows.{table_rows}
+use Rattle.script_run.specs.Reports.{Report, image_report, loads_report}
+use Rattle.script_run.specs.ImageReports.{IsImageReport}
+use Rattle.script_run.proofs.LoadReports.{loaded_same}
+use Rattle.script_run.proofs.reports.report_image.Goals as goal
+
+pub returns-in-Ok-load : goal.returns-in-Ok-load
+returns-in-Ok-load c =
+    let rows = table_rows c.in-Ok-load.loaded.table.items c.in-Ok-load.loaded.traces.items in
+    subst (λ (told : Report). IfOk c.report_loaded.result (λ report. IsImageReport report told))
+    (ap (λ (image : List ℕ). loads_report (entry_of image) (segments_of image) rows) c.in-Ok.ensures.image
+    ∙ loaded_same c.args.bytes.now c.in_ok-regions.regions c.in-Ok-load.loaded c.in_ok-regions.ensures c.in-Ok-load.ensures.loads c.in-Ok-load.ensures.loaded)
+    c.report_loaded.ensures

@@ -1,0 +1,59 @@
+-- What a close, a reclaim and a reopening of a link leave of it and tell (own).
+use Rattle.std.specs.Prelude.{ℕ, ◌+◌, ◌==◌, List, [], ◌∷◌, Option, Some, None, Result, Ok, Err, if◌then◌else◌}
+use Rattle.rp_base.specs.declared.limits.TheConstants.{STEPS_MOST}
+use Rattle.rp_base.specs.declared.kinds.Era.{Era}
+use Rattle.lane_model.specs.declared.recoveries.ReopenFault.{ReopenFault}
+use Rattle.lane_model.specs.declared.recoveries.ReopenFault.TheVariants as reopen_fault
+use Rattle.lane_model.specs.Links.{end_of}
+use Rattle.lane_model.specs.Recoveries.{unclosed_by, unopened_by, unreclaimed_by}
+use Rattle.journal.specs.declared.events.Event.{Event}
+use Rattle.journal.specs.declared.events.Event.TheVariants as event
+use Rattle.script_run.specs.declared.statuses.Stop.TheVariants as stop
+use Rattle.crash_recover.specs.declared.benches.BenchFault.{BenchFault}
+use Rattle.crash_recover.specs.declared.bench_crashes.Reclaim.{Reclaim}
+use Rattle.crash_recover.specs.declared.bench_crashes.Reclaim.TheVariants as reclaim
+use Rattle.crash_recover.specs.Benches.{BenchState}
+use Rattle.crash_recover.specs.BenchCrashes.{after_close, after_reopen, reclaim_answer, reclaim_leaves}
+use Rattle.script_run.specs.CallEvents.{fault_event}
+use Rattle.script_run.specs.Effects.{Effect, tells}
+
+-- a close of this era, which it ended or found in this life
+abbrev pub close_event : List ℕ → Era → Option Era → Event
+close_event name era None = event.Closed name era.inc
+close_event name era (Some found) = event.Already name found
+
+-- `close X`: an exchange of the era is one step, where it changes nothing too
+unfoldable pub close_effect : List ℕ → BenchState → ℕ → Effect
+close_effect name bench steps =
+    if steps == STEPS_MOST then record { bench = bench; steps = steps; events = []; ending = Some stop.StepLimit }
+    else tells (after_close bench) (steps + 1) (close_event name bench.link.era (unclosed_by bench.link.era bench.link.era.inc))
+
+-- how a reclaim ended
+abbrev pub reclaim_event : List ℕ → ℕ → Result Reclaim BenchFault → Event
+reclaim_event name caller (Ok reclaim.Done) = event.Reclaimed name caller
+reclaim_event name caller (Ok (reclaim.StillOpen era)) = event.StillOpen name era.inc
+reclaim_event name caller (Ok (reclaim.Busy holder)) = event.BusyTurn name holder
+reclaim_event name caller (Err why) = fault_event name caller why
+
+-- `reclaim X C`: no step
+unfoldable pub reclaim_effect : List ℕ → BenchState → ℕ → ℕ → Effect
+reclaim_effect name bench steps caller =
+    let why = unreclaimed_by bench.link caller in
+    tells (reclaim_leaves bench caller why) steps (reclaim_event name caller (reclaim_answer (end_of bench.link.callers caller) why))
+
+-- why a link isn't opened again (want of memory isn't the link's refusal, and ends the run)
+abbrev pub reopen_events : List ℕ → ReopenFault → List Event
+reopen_events name (reopen_fault.StillOpen era) = event.StillOpen name era.inc ∷ []
+reopen_events name (reopen_fault.StillTurn caller) = event.StillTurn name caller ∷ []
+reopen_events name (reopen_fault.StillHeld caller number) = event.StillHeld name caller number ∷ []
+reopen_events name reopen_fault.IncarnationsSpent = event.IncarnationsSpent name ∷ []
+reopen_events name reopen_fault.NoMemory = []
+
+-- a link that nothing keeps from its next incarnation, or something
+abbrev pub opened_effect : List ℕ → BenchState → ℕ → Option ReopenFault → Effect
+opened_effect name bench steps None = tells (after_reopen bench) steps (event.Open name (bench.link.era.inc + 1))
+opened_effect name bench steps (Some why) = record { bench = bench; steps = steps; events = reopen_events name why; ending = None }
+
+-- `reopen X`: no step
+unfoldable pub reopen_effect : List ℕ → BenchState → ℕ → Effect
+reopen_effect name bench steps = opened_effect name bench steps (unopened_by bench.link)

@@ -1,0 +1,74 @@
+ghost use Rattle.std.specs.Prelude.{◌≡◌, ◌<◌, IfOk};
+ghost use Rattle.script_run.specs.Logs.{HasEffect};
+ghost use Rattle.script_run.specs.Recoveries.{close_effect, reclaim_effect, reopen_effect};
+
+use crate::links::NamedBench;
+use crate::logs::RunLog;
+use crate::statuses::Stop;
+use crash_recover::Reclaim;
+use journal::Event;
+use lane_model::{Already, ReopenFault};
+use rp_base::{CallerNo, NoMemory, STEPS_MOST};
+
+impl NamedBench {
+    /// Closes the link, in one step.
+    #[tactic(auto, unfolding(crate::specs::Recoveries::close_effect))]
+    pub(crate) fn close(&mut self, log: &mut RunLog) -> Result<Option<Stop>, NoMemory>
+        ensures name { self.new.name ≡ self.old.name }
+        ensures effect { IfOk result (λ ending. HasEffect (close_effect self.old.name self.old.bench log.old.steps) self.new.bench log.old log.new ending) }
+    {
+        let steps = log.steps();
+        if steps == STEPS_MOST {
+            return Ok(Some(Stop::StepLimit));
+        }
+        log.set_steps(steps + 1);
+        let inc = u64::from(self.bench.era().inc);
+        match self.bench.close() {
+            Ok(()) => self.tell(&Event::Closed(self.name, inc), log),
+            Err(Already(era)) => self.tell(&Event::Already(self.name, era), log),
+        }
+    }
+
+    /// Takes from a caller of a closed link its call, what it holds and its number.
+    #[tactic(auto, unfolding(crate::specs::Recoveries::reclaim_effect))]
+    pub(crate) fn reclaim(
+        &mut self,
+        caller: CallerNo,
+        log: &mut RunLog,
+    ) -> Result<Option<Stop>, NoMemory>
+        requires { caller < 64 }
+        ensures name { self.new.name ≡ self.old.name }
+        ensures effect { IfOk result (λ ending. HasEffect (reclaim_effect self.old.name self.old.bench log.old.steps caller) self.new.bench log.old log.new ending) }
+    {
+        match self.bench.reclaim(caller) {
+            Ok(Reclaim::Done) => { self.tell(&Event::Reclaimed(self.name, u64::from(caller)), log) }
+            Ok(Reclaim::StillOpen(era)) => {
+                self.tell(&Event::StillOpen(self.name, u64::from(era.inc)), log)
+            }
+            Ok(Reclaim::Busy(holder)) => {
+                self.tell(&Event::BusyTurn(self.name, u64::from(holder)), log)
+            }
+            Err(fault) => self.refuse(caller, fault, log),
+        }
+    }
+
+    /// Opens a closed link again, in its next incarnation.
+    #[tactic(auto, unfolding(crate::specs::Recoveries::reopen_effect))]
+    pub(crate) fn reopen(&mut self, log: &mut RunLog) -> Result<Option<Stop>, NoMemory>
+        ensures name { self.new.name ≡ self.old.name }
+        ensures effect { IfOk result (λ ending. HasEffect (reopen_effect self.old.name self.old.bench log.old.steps) self.new.bench log.old log.new ending) }
+    {
+        let name = self.name;
+        let event = match self.bench.reopen(log.alloc()) {
+            Ok(books) => Event::Open(name, u64::from(books.inc) + 1),
+            Err(ReopenFault::StillOpen(era)) => Event::StillOpen(name, u64::from(era.inc)),
+            Err(ReopenFault::StillTurn(caller)) => Event::StillTurn(name, u64::from(caller)),
+            Err(ReopenFault::StillHeld(caller, number)) => {
+                Event::StillHeld(name, u64::from(caller), number)
+            }
+            Err(ReopenFault::IncarnationsSpent) => Event::IncarnationsSpent(name),
+            Err(ReopenFault::NoMemory) => return Err(NoMemory),
+        };
+        self.tell(&event, log)
+    }
+}
