@@ -3,15 +3,21 @@
 
 #[cfg(test)]
 mod base;
+#[cfg(test)]
+mod cores;
 pub mod desks;
 #[cfg(test)]
 mod elf;
 #[cfg(test)]
 mod header;
 #[cfg(test)]
+mod lines;
+#[cfg(test)]
 mod links;
 #[cfg(test)]
 mod lives;
+#[cfg(test)]
+mod loading;
 #[cfg(test)]
 mod outside;
 #[cfg(test)]

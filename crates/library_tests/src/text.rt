@@ -1,6 +1,5 @@
 use image_maker::build;
-use journal::{Event, Notice, line, push_notice};
-use rp_base::{Data, End, Endpoint, Era, Name, NsKind};
+use rp_base::End;
 use script_lang::{Cause, Command, ParseFault, parse};
 use std::alloc::{AllocError, Global};
 use std::test::Fail;
@@ -39,6 +38,21 @@ const GOOD: [(usize, &str); 4] = [
         pump L 63 62 4000000\n\
         books L\n\
         books 9;\n\
+        ring L 1\n\
+        nslink L 4 0x8 262144\n\
+        raw L 0 -\n\
+        raw L 63 00*512\n\
+        bind L 0 any\n\
+        bind L 0 4294967295\n\
+        bind L 0 53\n\
+        unbind L 0 0xffffffff\n\
+        begin L 0 raw -\n\
+        begin L 0 bind any\n\
+        begin L 63 unbind 1\n\
+        channels L\n\
+        close L\n\
+        reclaim L 63\n\
+        reopen L\n\
         image a;end\n\
         image a;table 0;carveout any 4096 a;;# x;vendor 4;devmem 1 2 3 b;trace 1 2 c;end\n\
         image a;table 0;vdev 7 1;vring any 4096 16;vring 0 12 0;carveout 0 0 x;vdev 3 0;end\n\
@@ -73,22 +87,21 @@ const BAD: [(Cause, &str); 5] = [
         "frob L\n\
         Take L 0\n\
         takes L 0\n\
-        bind L 0 53\n\
-        raw L 0 -\n\
-        close L\n\
         images a\n\
-        begin L 0 raw -\n\
-        begin L 0 bind any\n\
-        begin L 64 unbind 1 2 3\n\
-        table 0\n\
-        trace L 0\n\
+        closed L\n\
+        driver C led echo\n\
+        drive C 1\n\
+        quiet on\n\
         code 0\n\
         halt\n\
+        log 0 1 2\n\
         image a;send L 0 1 2 -\n\
         image a;take L 0\n\
         image a;code 0\n\
         image a;raw L 0 -\n\
-        image a;close L\n\
+        image a;bind L 0 1\n\
+        image a;crash C fatal\n\
+        image a;driver C led echo\n\
         image a;frob",
     ),
     (
@@ -113,6 +126,17 @@ const BAD: [(Cause, &str); 5] = [
         step L 0\n\
         books\n\
         pump L 0 1\n\
+        nslink L 4 4\n\
+        raw L 0\n\
+        bind L 0\n\
+        unbind L 0 1 2\n\
+        begin L 64 raw\n\
+        begin L 64 bind any any\n\
+        begin L 64 unbind 1 2 3\n\
+        channels\n\
+        close L 0\n\
+        reclaim L\n\
+        reopen L 0\n\
         image\n\
         image a b\n\
         image a;end x\n\
@@ -157,6 +181,20 @@ const BAD: [(Cause, &str); 5] = [
         step L 0 0\n\
         step L 0 4000001\n\
         pump L 0 64 1\n\
+        ring L 2\n\
+        ring L 00\n\
+        ring L 0x1\n\
+        nslink L 4 12 16\n\
+        raw L 0 00*513\n\
+        raw L 64 -\n\
+        bind L 0 Any\n\
+        bind L 0 4294967296\n\
+        unbind L 0 any\n\
+        begin L 0 unbind any\n\
+        begin L 0 bind anyone\n\
+        begin L 0 Bind any\n\
+        channels .L\n\
+        reclaim L 64\n\
         image .a\n\
         image a;table any\n\
         image a;table 0;vendor 3\n\
@@ -178,6 +216,11 @@ const BAD: [(Cause, &str); 5] = [
         vendor 1 2 3\n\
         image a;image b\n\
         image a;link\n\
+        image a;nslink\n\
+        image a;unbind L 0 1\n\
+        image a;close L\n\
+        image a;reclaim\n\
+        image a;trace C 0\n\
         image a;begin L 0 take\n\
         image a;give L 0 0\n\
         image a;books\n\
@@ -203,7 +246,7 @@ fn counted(alloc: Global, text: &[u8]) -> Result<usize, ParseFault> {
 }
 
 /// The text that is written in one line with `;` for a line feed, and the number of its last line.
-fn unfolded(alloc: Global, text: &str) -> Result<(Vec<u8>, u32), AllocError> {
+pub(crate) fn unfolded(alloc: Global, text: &str) -> Result<(Vec<u8>, u32), AllocError> {
     let mut script = Vec::new(alloc);
     let mut last = 1u32;
     for byte in text.as_bytes() {
@@ -285,6 +328,64 @@ fn commands_say_their_fields(rt: HostRuntime) -> Result<(), Fail> {
     Ok(())
 }
 
+/// A line of a script, and the fields of its command behind the name.
+const FIELDS: [(&str, &str, [u64; 3]); 11] = [
+    ("nslink L 4 16 9", "nslink", [4, 16, 9]),
+    ("raw L 1 0aFf1B", "raw", [1, 3, 10]),
+    ("bind L 2 any", "bind", [2, 4_294_967_295, 0]),
+    ("unbind L 3 77", "unbind", [3, 77, 0]),
+    ("begin L 4 raw 01*2", "begin raw", [4, 2, 1]),
+    ("begin L 5 bind 0x4D", "begin bind", [5, 77, 0]),
+    ("begin L 6 unbind 8", "begin unbind", [6, 8, 0]),
+    ("channels L", "channels", [0; 3]),
+    ("close L", "close", [0; 3]),
+    ("reclaim L 7", "reclaim", [7, 0, 0]),
+    ("reopen L", "reopen", [0; 3]),
+];
+
+fn first_byte(bytes: &[u8]) -> u64 {
+    bytes.first().map_or(0, |byte| u64::from(*byte))
+}
+
+/// The fields of a command of a link: of bytes their number and the first.
+fn link_fields(command: &Command) -> Option<(&'static str, [u64; 3])> {
+    Some(match command {
+        Command::NsLink(_, to_host, to_remote, book) => ("nslink", [*to_host, *to_remote, *book]),
+        Command::Raw(_, caller, message) => {
+            let bytes = message.bytes();
+            ("raw", [*caller, bytes.len() as u64, first_byte(bytes)])
+        }
+        Command::Bind(_, caller, address) => ("bind", [*caller, *address, 0]),
+        Command::Unbind(_, caller, address) => ("unbind", [*caller, *address, 0]),
+        Command::BeginRaw(_, caller, message) => {
+            let bytes = message.bytes();
+            (
+                "begin raw",
+                [*caller, bytes.len() as u64, first_byte(bytes)],
+            )
+        }
+        Command::BeginBind(_, caller, address) => ("begin bind", [*caller, *address, 0]),
+        Command::BeginUnbind(_, caller, address) => ("begin unbind", [*caller, *address, 0]),
+        Command::Channels(_) => ("channels", [0; 3]),
+        Command::Close(_) => ("close", [0; 3]),
+        Command::Reclaim(_, caller) => ("reclaim", [*caller, 0, 0]),
+        Command::Reopen(_) => ("reopen", [0; 3]),
+        _ => return None,
+    })
+}
+
+#[test]
+fn commands_of_links_say_their_fields(rt: HostRuntime) -> Result<(), Fail> {
+    for (text, form, numbers) in FIELDS {
+        let script = parse(rt.alloc(), text.as_bytes()).ok().ok_or("refused")?;
+        let [command] = script.commands.as_slice() else {
+            return Err("one command".into());
+        };
+        assert_eq!(rt; link_fields(command), Some((form, numbers)), "at {text:?}");
+    }
+    Ok(())
+}
+
 /// A text of this length: this front, and then one byte again and again.
 fn filled(alloc: Global, front: &[u8], byte: u8, len: usize) -> Result<Vec<u8>, AllocError> {
     let mut text = Vec::from_slice(alloc, front)?;
@@ -322,159 +423,6 @@ fn scripts_have_their_sizes(rt: HostRuntime) -> Result<(), Fail> {
             wanted,
             "at {front} {len}"
         );
-    }
-    Ok(())
-}
-
-const FIRST: Endpoint = Endpoint {
-    address: 2000,
-    generation: 1,
-};
-
-const CLOSED: Era = Era {
-    inc: 1,
-    is_live: false,
-};
-
-const OPEN: Era = Era {
-    inc: 2,
-    is_live: true,
-};
-
-/// Events, each with its line: `l` is the name `L`, and `cc`, `hi` and `none` are these bytes.
-fn events(l: Name, cc: Data, hi: Data, none: Data) -> [(Event, &'static str); 38] {
-    [
-        (Event::Open(l, 1), "L open 1\n"),
-        (Event::Exists(l), "L exists\n"),
-        (Event::Unknown(l), "* unknown L\n"),
-        (Event::ObjectsFull, "* objects-full\n"),
-        (Event::Caller(l, 0, End::Remote), "L caller 0 remote\n"),
-        (Event::Caller(l, 1, End::Host), "L caller 1 host\n"),
-        (Event::CallersFull(l), "L callers-full\n"),
-        (Event::NoCaller(l, 5), "L no-caller 5\n"),
-        (Event::InCall(l, 0), "L 0 in-call\n"),
-        (Event::NoCall(l, 63), "L 63 no-call\n"),
-        (Event::NotHeld(l, 1, 7), "L 1 not-held 7\n"),
-        (Event::TooLong(l, 0, 497), "L 0 too-long 497\n"),
-        (Event::Begun(l, 0), "L 0 begun\n"),
-        (Event::At(l, 0, 3), "L 0 at 3\n"),
-        (Event::Sent(l, 0, 0), "L 0 sent 0\n"),
-        (Event::Gave(l, 1, 0), "L 1 gave 0\n"),
-        (Event::Bound(l, 1, FIRST), "L 1 bound 2000.1\n"),
-        (Event::Unbound(l, 1, FIRST), "L 1 unbound 2000.1\n"),
-        (Event::Busy(l, 1, 0), "L 1 busy 0\n"),
-        (Event::Dead(l, 1, CLOSED), "L 1 dead 1 closed\n"),
-        (Event::Dead(l, 1, OPEN), "L 1 dead 2 open\n"),
-        (Event::NoBuffer(l, 0, 4, 0), "L 0 no-buffer 4 0\n"),
-        (Event::BookFull(l, 0, 70_000), "L 0 book-full 70000\n"),
-        (Event::Empty(l, 1, 0), "L 1 empty 0\n"),
-        (Event::AddressTaken(l, 1, 2000), "L 1 address-taken 2000\n"),
-        (Event::EndpointsFull(l, 1), "L 1 endpoints-full\n"),
-        (Event::NotBound(l, 1, 3000), "L 1 not-bound 3000\n"),
-        (Event::TookMalformed(l, 1, 1), "L 1 took 1 malformed\n"),
-        (Event::TookNsMalformed(l, 1, 4), "L 1 took 4 ns malformed\n"),
-        (
-            Event::LaneAcceptedHandedReturned(l, 1, 3, 2, 1),
-            "L lane 1 accepted 3 handed 2 returned 1\n",
-        ),
-        (Event::Pumped(l, 230_000), "L pumped 230000\n"),
-        (Event::Image(l, 375), "* image L 375\n"),
-        (Event::ImageExists(l), "* image-exists L\n"),
-        (Event::WrongSide(l, 1), "L 1 wrong-side\n"),
-        (
-            Event::Open(l, 18_446_744_073_709_551_615),
-            "L open 18446744073709551615\n",
-        ),
-        (
-            Event::TookFromTo(l, 1, 2, 1, FIRST, cc),
-            "L 1 took 2 from 1 to 2000.1 cc\n",
-        ),
-        (
-            Event::TookFromDropped(l, 1, 0, 1, 1024, hi),
-            "L 1 took 0 from 1 dropped 1024 6869\n",
-        ),
-        (
-            Event::TookFromDropped(l, 1, 0, 1, 1024, none),
-            "L 1 took 0 from 1 dropped 1024 -\n",
-        ),
-    ]
-}
-
-/// What the name service did, the channel's name and address, and how they print.
-const SERVICE: [(NsKind, &[u8], u64, &str); 5] = [
-    (NsKind::Created, b"led", 1024, "created led 1024"),
-    (
-        NsKind::Duplicate,
-        b"a b%\x7f\xff!~",
-        1025,
-        "duplicate a%20b%25%7f%ff!~ 1025",
-    ),
-    (NsKind::Destroyed, b"", 0, "destroyed % 0"),
-    (
-        NsKind::Unknown,
-        b"led",
-        4_294_967_295,
-        "unknown led 4294967295",
-    ),
-    (NsKind::ChannelsFull, b"led", 1024, "full led 1024"),
-];
-
-#[test]
-fn each_event_is_one_line(rt: HostRuntime) -> Result<(), Fail> {
-    let alloc = rt.alloc();
-    let l = Name::of(b"L").ok_or("a name")?;
-    let cc = Data::copy_of(alloc, &[0xcc])?;
-    let hi = Data::copy_of(alloc, b"hi")?;
-    let none = Data::copy_of(alloc, b"")?;
-    for (event, wanted) in events(l, cc, hi, none) {
-        let mut out = Vec::new(alloc);
-        line(alloc, &event, &mut out)?;
-        assert_eq!(rt; out.as_slice(), wanted.as_bytes());
-    }
-    for (what, channel, address, words) in SERVICE {
-        let channel = Name::of(channel).ok_or("a name")?;
-        let event = Event::TookNs(l, 1, 0, what, channel, address);
-        let mut out = Vec::from_slice(alloc, b"L open 1\n")?;
-        line(alloc, &event, &mut out)?;
-        let wanted = format!(in alloc; "L open 1\nL 1 took 0 ns {words}\n")?;
-        assert_eq!(rt; out.as_slice(), wanted.as_bytes());
-    }
-    Ok(())
-}
-
-#[test]
-fn each_notice_is_one_line(rt: HostRuntime) -> Result<(), Fail> {
-    let name = Name::of(b"a.elf").ok_or("a name")?;
-    for (notice, wanted) in [
-        (
-            Notice::Usage,
-            "usage: rproc run | check NAME | demo N | storm H R N K\n",
-        ),
-        (Notice::ReadFault, "* read fault\n"),
-        (Notice::StoreFault, "* store fault\n"),
-        (Notice::StepLimit, "* step limit\n"),
-        (Notice::Refused(0, Cause::Size), "* refused 0 size\n"),
-        (
-            Notice::Refused(10_001, Cause::Lines),
-            "* refused 10001 lines\n",
-        ),
-        (Notice::Refused(2, Cause::Byte), "* refused 2 byte\n"),
-        (Notice::Refused(9, Cause::Block), "* refused 9 block\n"),
-        (Notice::Refused(3, Cause::Command), "* refused 3 command\n"),
-        (Notice::Missing(name), "missing a.elf\n"),
-        (Notice::TooLarge(name), "too-large a.elf\n"),
-        (Notice::Fault(50, None), "fault 50\n"),
-        (Notice::Fault(8, Some(255)), "fault 8 255\n"),
-        (Notice::Start(0x1a2b_3c4d), "start 1a2b3c4d\n"),
-        (
-            Notice::Segment(1, 0x40, 16, 65_536),
-            "segment 1 00000040 16 65536\n",
-        ),
-        (Notice::Loads, "ok\n"),
-    ] {
-        let mut out = Vec::new(rt.alloc());
-        push_notice(rt.alloc(), &notice, &mut out)?;
-        assert_eq!(rt; out.as_slice(), wanted.as_bytes());
     }
     Ok(())
 }
@@ -525,7 +473,7 @@ const LENGTHS: [(&str, usize); 5] = [
     ("image a\nload 0 63*16 16\nend", 100),
 ];
 
-fn built(alloc: Global, text: &str) -> Result<Vec<u8>, Fail> {
+pub(crate) fn built(alloc: Global, text: &str) -> Result<Vec<u8>, Fail> {
     let script = parse(alloc, text.as_bytes()).ok().ok_or("refused")?;
     match script.commands.as_slice() {
         [Command::Image(_, recipe)] => Ok(build(alloc, recipe)?),
