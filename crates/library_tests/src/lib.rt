@@ -3,8 +3,6 @@
 
 #[cfg(test)]
 mod base;
-#[cfg(test)]
-mod cores;
 pub mod desks;
 #[cfg(test)]
 mod elf;
