@@ -319,15 +319,21 @@ fn each_event_of_a_core_is_one_line(rt: HostRuntime) -> Result<(), Fail> {
         assert_eq!(rt; out.as_slice(), wanted.as_bytes());
         assert_eq!(rt; again.as_slice(), wanted.as_bytes());
     }
+    Ok(())
+}
+
+#[test]
+fn each_entry_of_a_table_is_one_line(rt: HostRuntime) -> Result<(), Fail> {
+    let alloc = rt.alloc();
+    let l = Name::of(b"L").ok_or("a name")?;
+    let n = Name::of(b"a b").ok_or("a name")?;
     let empty = Name::of(b"").ok_or("a name")?;
     for (entry, wanted) in table_lines(n, empty) {
-        let mut out = Vec::from_slice(alloc, b"L ")?;
-        push_notice(alloc, &Notice::Table(entry), &mut out)?;
-        line(alloc, &Event::Table(l, entry), &mut out)?;
-        let both = format!(in alloc; "L {wanted}L {wanted}")?;
-        assert_eq!(rt; out.as_slice(), both.as_bytes());
-        let (once, again) = both_ways(alloc, &Event::Table(l, entry))?;
-        assert_eq!(rt; once.as_slice(), again.as_slice());
+        let event = Event::Table(l, entry);
+        let (out, again) = both_ways(alloc, &event)?;
+        let text = format!(in alloc; "L {wanted}")?;
+        assert_eq!(rt; out.as_slice(), text.as_bytes());
+        assert_eq!(rt; again.as_slice(), text.as_bytes());
     }
     Ok(())
 }
