@@ -58,4 +58,16 @@ impl CoreMemory {
     {
         self.bytes[at as usize..at as usize + len as usize].fill(value);
     }
+
+    /// Copies the `len` bytes from the place `from` on to the place `to` on, as they were before.
+    pub fn copy(&mut self, from: u32, to: u32, len: u32)
+        requires source { from + len ≤ length self.old }
+        requires target { to + len ≤ length self.old }
+        ensures copied { self.new ≡ with_bytes to (slice_range self.old from (from + len)) self.old }
+        ensures length { length self.new ≡ length self.old }
+    {
+        let start = from as usize;
+        self.bytes
+            .copy_within(start..start + len as usize, to as usize);
+    }
 }

@@ -4,3 +4,4 @@ pub mod Places
 pub mod Refusals
 pub mod Fitting
 pub mod Meant
+pub mod Buffers

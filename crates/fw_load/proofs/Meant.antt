@@ -10,7 +10,7 @@ use Rattle.memory_pool.specs.declared.regions.Region.{Region}
 use Rattle.memory_pool.proofs.Meant.{OfUses, placement_uses}
 use Rattle.fw_load.specs.Uses.{HasRing, IsCarveout, IsUseOf}
 
-asked : (entries : List Entry) (index : ℕ) (one : Entry) → slice_get entries index ≡ Some one → OfUses (IsUseOf entries) index one
+asked : (entries : List Entry) (index : ℕ) (one : Entry) → slice_get entries index ≡ Some one → OfUses (λ purpose len. IsUseOf entries purpose) index one
 asked entries index (entry.Carveout da pa len name) is = let here : IsCarveout (slice_get entries index) = rw is tt in here
 asked entries index (entry.Devmem da pa len name) is = tt
 asked entries index (entry.Trace da len name) is = tt
@@ -23,4 +23,4 @@ asked entries index (entry.Skipped type) is = tt
 
 -- the blocks of a placement are for entries that ask for them
 pub placement_meant : (regions : List Region) (entries : List Entry) (blocks : List Block) → placement regions entries ≡ Ok blocks → All (λ block. IsUseOf entries block.what) blocks
-placement_meant regions entries blocks is = placement_uses (IsUseOf entries) regions entries blocks (asked entries) is
+placement_meant regions entries blocks is = placement_uses (λ purpose len. IsUseOf entries purpose) regions entries blocks (asked entries) is

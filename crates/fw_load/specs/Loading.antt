@@ -3,13 +3,14 @@ use Rattle.std.specs.Prelude.{◌≡◌, ℕ, IfSome, All, length, List, [], ◌
 use Rattle.elf_image.specs.Images.{entry_of, image_fault}
 use Rattle.elf_image.specs.Segments.{SegmentAt, segments_of}
 use Rattle.memory_pool.specs.Placements.{placement}
+use Rattle.memory_pool.specs.Soundness.{SoundPlacement}
 use Rattle.memory_pool.specs.declared.blocks.Block.{Block}
 use Rattle.memory_pool.specs.declared.faults.PlaceFault.{PlaceFault}
 use Rattle.memory_pool.specs.declared.regions.Region.{Region}
 use Rattle.addr_translate.specs.Maps.{IsMapOf}
 use Rattle.fw_load.specs.Faults.{fault_if, first_fault}
 use Rattle.fw_load.specs.Memory.{memory_at, memory_of}
-use Rattle.fw_load.specs.Rings.{IsSoundPair, IsTraceIn, pair_from, traces_of}
+use Rattle.fw_load.specs.Rings.{HasBuffers, IsSoundPair, IsTraceIn, pair_from, traces_of}
 use Rattle.fw_load.specs.Tables.{entries_in, patched_in, section_fault, table_of, table_section}
 use Rattle.fw_load.specs.declared.faults.LoadFault.{LoadFault}
 use Rattle.fw_load.specs.declared.faults.LoadFault.TheVariants as fault
@@ -53,6 +54,7 @@ Loads image regions = load_fault image regions ≡ None
 -- what a load gives (own)
 pub record IsLoaded (image : List ℕ) (regions : List Region) (loaded : Loaded) : Type 0 where
   pub placed : placement regions (entries_in (table_of image)) ≡ Ok loaded.placed.blocks.items
+  pub held : SoundPlacement regions loaded.placed.blocks.items
   pub map : IsMapOf regions loaded.placed.blocks.items loaded.map
   pub memory : loaded.memory ≡ memory_of image regions loaded.placed.blocks.items
   pub length : length loaded.memory ≡ loaded.map.memory_len
@@ -61,4 +63,5 @@ pub record IsLoaded (image : List ℕ) (regions : List Region) (loaded : Loaded)
   pub rings : loaded.rings ≡ pair_from (entries_in (table_of image)) loaded.placed.blocks.items 0 (entries_in (table_of image))
   pub traces : loaded.traces.items ≡ traces_of (memory_at regions loaded.placed.blocks.items) (entries_in (table_of image))
   pub sound : IfSome loaded.rings IsSoundPair
+  pub buffers : IfSome loaded.rings HasBuffers
   pub inside : All (IsTraceIn loaded.map.memory_len) loaded.traces.items

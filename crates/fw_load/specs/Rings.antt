@@ -1,7 +1,8 @@
 -- The rings of the device for RPMsg, and the traces of a table, where they were placed (own).
-use Rattle.std.specs.Prelude.{ℕ, ◌+◌, ◌≤◌, IfSome, ◌==◌, Bool, false, ◌&&◌, List, [], ◌∷◌, find, Option, Some, None, option_map, unwrap_or, if◌then◌else◌}
+use Rattle.std.specs.Prelude.{ℕ, ◌+◌, ◌*◌, ◌^◌, ◌≤◌, IfSome, ◌==◌, Bool, false, ◌&&◌, List, [], ◌∷◌, find, Option, Some, None, option_map, unwrap_or, if◌then◌else◌}
 use Rattle.std.specs.Int.RustNames.{bit_and}
 use Rattle.std.specs.List.{filter_map}
+use Rattle.rp_base.specs.Limits.{ring_capacity}
 use Rattle.resource_table.specs.declared.entries.Entry.{Entry}
 use Rattle.resource_table.specs.declared.entries.Entry.TheVariants as entry
 use Rattle.resource_table.specs.declared.entries.Ring.{Ring}
@@ -51,6 +52,10 @@ pair_of placed index before device = record {
 -- a pair of rings whose sizes and alignments are ones that rings may have (own)
 abbrev pub IsSoundPair : RingPair → Type 0
 IsSoundPair rings = IsSoundRing rings.to_host × IsSoundRing rings.to_remote
+
+-- the buffers of both lanes, 512 bytes each, end within the addresses of 32 bits (own)
+abbrev pub HasBuffers : RingPair → Type 0
+HasBuffers rings = rings.base + 512 * (ring_capacity rings.to_host.num + ring_capacity rings.to_remote.num) ≤ 2 ^ 32
 
 -- the rings of the first device for RPMsg, VIRTIO_ID_RPMSG 7, among entries of which the first has a number (own)
 abbrev pub pair_from : List Entry → List Block → ℕ → List Entry → Option RingPair

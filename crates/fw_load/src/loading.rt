@@ -1,5 +1,6 @@
 ghost use Rattle.std.specs.Prelude.{◌≡◌, ◌≢◌, None, Some, Ok, All, IfOk, IfErr, IfSome, OnOk};
 ghost use Rattle.memory_pool.specs.Placements.{placement};
+ghost use Rattle.memory_pool.specs.Soundness.{SoundPlacement};
 ghost use Rattle.addr_translate.specs.Maps.{IsMapOf};
 ghost use Rattle.fw_load.specs.Memory.{place_at};
 ghost use Rattle.fw_load.specs.Rings.{IsSoundPair, IsTraceIn, pair_from, traces_of};
@@ -74,6 +75,7 @@ fn filled(
     requires table { table.now ≡ table_of image.now }
     requires good { section_fault image.now section ≡ None }
     requires placed { placement regions.now (entries_in table.now) ≡ Ok placed.blocks.items }
+    requires sound { SoundPlacement regions.now placed.blocks.items }
     requires map { IsMapOf regions.now placed.blocks.items map }
     ensures { IfOk result (λ loaded. IsLoaded image.now regions.now loaded) }
 {

@@ -7,6 +7,7 @@ use Rattle.memory_pool.specs.Placements.{placement}
 use Rattle.fw_load.specs.Memory.{memory_at, place_at}
 use Rattle.fw_load.specs.Rings.{pair_from, traces_of}
 use Rattle.fw_load.specs.Tables.{bytes_in, entries_in, patched_in, table_of}
+use Rattle.fw_load.proofs.Buffers.{pair_buffers}
 use Rattle.fw_load.proofs.Meant.{placement_meant}
 use Rattle.fw_load.proofs.Places.{memory_filled, patched_fills, places_agree, segments_have, table_fills, traces_alike}
 use Rattle.fw_load.proofs.loading.filled.Goals as goal
@@ -43,6 +44,7 @@ returns c =
     (c.requires.table ∙ ap (option_map (bytes_in image)) (sym c.requires.section)) c.in_ok-patched.ensures.length) in
     record {
       placed = ap (λ table. placement c.args.regions.now (entries_in table)) (sym c.requires.table) ∙ c.requires.placed;
+      held = c.requires.sound;
       map = c.requires.map;
       memory =
           memory_filled image c.args.regions.now placed (place_at c.args.map) c.args.section c.deref-2.result.now c.in_ok-memory.memory c.copy_segments.new.memory c.copy_table.new.memory
@@ -52,6 +54,7 @@ returns c =
           c.copy_table.ensures.length ∙ c.copy_segments.ensures.length ∙ ap length c.in_ok-memory.ensures ∙ length-replicate (memory_len c.args.regions.now) 0
           ∙ sym c.requires.map.memory;
       sound = c.in_ok-rings.ensures.sound;
+      buffers = pair_buffers c.args.regions.now (entries_in c.args.table.now) placed c.in_ok-rings.rings c.requires.placed c.requires.sound c.in_ok-rings.ensures.rings;
       inside = c.in_ok-rings.ensures.inside;
       table = patched;
       entry = c.entry.ensures.entry;
