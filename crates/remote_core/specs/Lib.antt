@@ -1,0 +1,4 @@
+pub mod Named
+pub mod Workers
+pub mod Records
+pub mod Works

@@ -1,0 +1,108 @@
+ghost use Rattle.std.specs.Prelude.{◌≡◌, ◌+◌, ◌≤◌, ◌++◌, length, false, IfOk};
+ghost use Rattle.std.specs.Result.{result_map_both};
+ghost use Rattle.rp_base.specs.declared.limits.TheConstants.{MESSAGE_MOST};
+ghost use Rattle.lane_model.specs.declared.calls.Wish.TheVariants as wish;
+ghost use Rattle.remote_core.specs.Records.{has_large_operand, with_memory};
+ghost use Rattle.remote_core.specs.Works.{announcement, crash_kind, destination, work_of_record, memory_after_next, IsFitWork};
+
+use crate::named::named_place;
+use crate::workers::Work;
+use addr_translate::{CoreMemory, Map};
+use lane_model::Wish;
+use remote_code::{Record, WorkerFault};
+use rp_base::{CrashKind, MESSAGE_MOST, Message, put_u32};
+use rpmsg_header::head;
+
+/// The address of the name service.
+const SERVICE_ADDRESS: u32 = 53;
+
+/// The destination by which a record means the source of the last whole message.
+const LAST_SOURCE: u32 = 0xffff_ffff;
+
+const ANNOUNCEMENT_SIZE: usize = 40;
+
+/// Does the work of a record, if the bytes are there that it names. The source of the last whole message
+/// is `source`.
+pub(crate) fn perform(
+    op: Record,
+    memory: &mut CoreMemory,
+    map: &Map,
+    source: u32,
+) -> Result<Work, WorkerFault>
+    requires memory { length memory.old ≡ map.now.memory_len }
+    requires operands { has_large_operand op ≡ false }
+    ensures work { result ≡ result_map_both (work_of_record memory.old map.now source) (λ fault. fault) (with_memory map.now op) }
+    ensures memory { memory.new ≡ memory_after_next memory.old map.now (with_memory map.now op) }
+    ensures length { length memory.new ≡ length memory.old }
+    ensures fit { IfOk result IsFitWork }
+{
+    match op {
+        Record::Halt => Ok(Work::Halted),
+        Record::Announce(a, b, c) => {
+            let at = named_place(map, c, 32)?;
+            let payload = announcement(memory.bytes(at, 31), a, b);
+            Ok(send(&head(a, SERVICE_ADDRESS, 40), &payload))
+        }
+        Record::Bind(a) => Ok(Work::Ask(Wish::Bind(a))),
+        Record::Send(n, a, b, c) => {
+            let at = named_place(map, c, u32::from(n))?;
+            let payload = memory.bytes(at, u32::from(n));
+            Ok(send(&head(a, destination(source, b), n), payload))
+        }
+        Record::Raw(n, c) => {
+            let at = named_place(map, c, u32::from(n))?;
+            Ok(send(&[], memory.bytes(at, u32::from(n))))
+        }
+        Record::Take => Ok(Work::Ask(Wish::Take)),
+        Record::Trace(n, a, c) => {
+            let from = named_place(map, c, u32::from(n))?;
+            let to = named_place(map, a, u32::from(n))?;
+            memory.copy(from, to, u32::from(n));
+            Ok(Work::Nothing)
+        }
+        Record::Crash(a) => Ok(Work::Crash(crash_kind(a))),
+        Record::Loop(..) => Ok(Work::Nothing),
+    }
+}
+
+/// The wish to send the message of these bytes, those of `head` before those of `body`.
+fn send(head: &[u8], body: &[u8]) -> Work
+    requires { length head.now + length body.now ≤ MESSAGE_MOST }
+    ensures work { result ≡ Work.Ask (wish.Send (head.now ++ body.now)) }
+    ensures fit { IsFitWork result }
+{
+    let mut message = Message::empty();
+    message.set(head, body);
+    Work::Ask(Wish::Send(message))
+}
+
+/// The payload of an announcement: the first 31 bytes of the name as they stand and a 0, then the
+/// address and the flags.
+fn announcement(name: &[u8], address: u32, flags: u32) -> [u8; 40]
+    requires { length name.now ≡ 31 }
+    ensures { result ≡ announcement name.now address flags }
+{
+    let mut payload = [0; ANNOUNCEMENT_SIZE];
+    put_u32(&mut payload, 32, address);
+    put_u32(&mut payload, 36, flags);
+    payload[..name.len()].copy_from_slice(name);
+    payload
+}
+
+/// The address that a record sends to.
+fn destination(source: u32, b: u32) -> u32
+    ensures { result ≡ destination source b }
+{
+    if b == LAST_SOURCE { source } else { b }
+}
+
+/// The kind of a crash by its number, from 0 to 2.
+fn crash_kind(a: u32) -> CrashKind
+    ensures { result ≡ crash_kind a }
+{
+    match a {
+        0 => CrashKind::Mmufault,
+        1 => CrashKind::Watchdog,
+        _ => CrashKind::Fatal,
+    }
+}
