@@ -16,7 +16,7 @@ use Rattle.elf_image.specs.declared.faults.ElfFault.TheVariants as fault
 use Rattle.script_lang.specs.declared.recipes.RecipeLine.{RecipeLine}
 use Rattle.script_lang.specs.declared.recipes.RecipeLine.TheVariants as recipe
 use Rattle.script_lang.specs.Runnable.{IsRecipe}
-use Rattle.image_maker.specs.Segments.{data_of, segments_of, segment_count, data_len, program_header, program_headers, segment_bytes}
+use Rattle.image_maker.specs.Segments.{data_of, code_of, segments_of, segment_count, data_len, program_header, program_headers, segment_bytes}
 use Rattle.image_maker.specs.Images.{file_header, segments_part, data_start, data_end}
 use Rattle.image_maker.specs.ReadBack.{segments_from, HaveRoom}
 use Rattle.image_maker.proofs.ReadFields.{IsHeader, skip}
@@ -66,14 +66,14 @@ unfolding file_header
 layout_is entry segments place size sections names rest = refl
 
 -- where the parts of an image stand
-one_header : (offset : ℕ) (line : RecipeLine) → length (program_header offset line) ≡ 32 * segments_of line
-one_header offset (recipe.Load da bytes memory) = refl
-one_header offset line = refl
+one_header : (code offset : ℕ) (line : RecipeLine) → length (program_header code offset line) ≡ 32 * segments_of line
+one_header code offset (recipe.Load da bytes memory) = refl
+one_header code offset line = refl
 
 length_headers : (lines : List RecipeLine) (offset : ℕ) → length (program_headers offset lines) ≡ 32 * segment_count lines
 length_headers [] offset = refl
 length_headers (line ∷ more) offset =
-    omega (arith, length-append (program_header offset line) (program_headers (offset + length (data_of line)) more), one_header offset line, length_headers more (offset + length (data_of line)), sum_by-cons segments_of line more)
+    omega (arith, length-append (program_header (length (code_of more)) offset line) (program_headers (offset + length (data_of line)) more), one_header (length (code_of more)) offset line, length_headers more (offset + length (data_of line)), sum_by-cons segments_of line more)
 
 pub record HasParts (lines : List RecipeLine) (bytes tail : List ℕ) : Type 0 where
   pub headers : drop 52 bytes ≡ program_headers (data_start lines) lines ++ (segment_bytes lines ++ tail)

@@ -14,8 +14,9 @@ use Rattle.script_lang.specs.declared.recipes.RecipeLine.{RecipeLine}
 use Rattle.script_lang.specs.declared.recipes.RecipeLine.TheVariants as recipe
 use Rattle.script_lang.specs.Runnable.{IsRecipe}
 use Rattle.image_maker.specs.Fields.{word_fields}
-use Rattle.image_maker.specs.Segments.{data_of, segments_of, segment_count, data_len, program_headers, segment_bytes}
+use Rattle.image_maker.specs.Segments.{data_of, code_of, segments_of, segment_count, data_len, program_headers, segment_bytes}
 use Rattle.image_maker.specs.ReadBack.{segment_of, segments_from, HaveRoom}
+use Rattle.image_maker.proofs.CodeBytes.{code_front, code_fits}
 use Rattle.image_maker.proofs.ReadFields.{behind, load_read}
 
 -- a header that passes a test or not, and what is made of those that do
@@ -85,12 +86,34 @@ segments_are (recipe.Load da file memory ∷ more) index offset bytes headers fi
     ∙ mapped (segment_at bytes) (is_loaded (numbered_header elf32 (file_header_read elf32 bytes) bytes index)) (memory == 0) (numbered_header elf32 (file_header_read elf32 bytes) bytes index) _ _
     (tested header.kind header.memory_len memory read.0 read.4)
     (segment_is bytes file index header.offset header.physical_address header.file_len header.memory_len da memory read.2 read.4 (file_is offset header.file_len len bytes file _ header.offset read.3 read.1 there))
-    ∙ ap (λ z. segment_of index (recipe.Load da file memory) ++ z) rest
-segments_are (line ∷ more) index offset bytes headers files r small h f =
+    ∙ ap (λ z. segment_of (code_of more) index (recipe.Load da file memory) ++ z) rest
+segments_are (recipe.Code da ∷ more) index offset bytes headers files r small h f =
+    let table = (file_header_read elf32 bytes).program_table in
+    let start = table + 32 * index in
+    let file = code_of more in
+    let len = length file in
+    let word = word_fields (1 ∷ offset ∷ da ∷ da ∷ len ∷ len ∷ 7 ∷ 4 ∷ []) in
+    let here : drop start bytes ≡ word ++ (program_headers (offset + 0) more ++ headers) = h ∙ append_assoc word (program_headers (offset + 0) more) headers in
+    let front = code_front more in
+    let there : drop offset bytes ≡ file ++ (front.rest ++ files) = f ∙ ap (λ xs. xs ++ files) front.is ∙ append_assoc file front.rest files in
+    let fits = code_fits more len refl in
     let within : offset + data_len more < 2 ^ 32 = small in
+    let count : segment_count (recipe.Code da ∷ more) ≡ suc (segment_count more) = sum_by-cons segments_of (recipe.Code da) more ∙ one_more (segment_count more) in
+    let read = load_read start offset da len len bytes (program_headers (offset + 0) more ++ headers) (omega arith) (omega arith) (omega (arith, fits.1)) (omega (arith, fits.1)) here in
+    let header = program_header_read elf32 start bytes in
+    let rest = segments_are more (index + 1) (offset + 0) bytes headers files r.1 (omega arith) (next_header table index offset da len len bytes _ here) (ap (λ o. drop o bytes) (add-zero offset) ∙ f) in
+    ap (λ numbers. map (segment_at bytes) (filter is_loaded (map (numbered_header elf32 (file_header_read elf32 bytes) bytes) numbers))) (range_suc index (segment_count (recipe.Code da ∷ more)) (segment_count more) count)
+    ∙ mapped (segment_at bytes) (is_loaded (numbered_header elf32 (file_header_read elf32 bytes) bytes index)) (len == 0) (numbered_header elf32 (file_header_read elf32 bytes) bytes index) _ _
+    (tested header.kind header.memory_len len read.0 read.4)
+    (segment_is bytes file index header.offset header.physical_address header.file_len header.memory_len da len read.2 read.4 (file_is offset header.file_len len bytes file _ header.offset read.3 read.1 there))
+    ∙ ap (λ z. segment_of file index (recipe.Code da) ++ z) rest
+segments_are (line ∷ more) index offset bytes headers files r small h f =
+    let part = data_of line in
+    let data_more : data_len (line ∷ more) ≡ length part + data_len more = sum_by-cons (λ line. length (data_of line)) line more in
+    let there : drop offset bytes ≡ part ++ (segment_bytes more ++ files) = f ∙ append_assoc part (segment_bytes more) files in
     ap (λ i. map (segment_at bytes) (filter is_loaded (map (numbered_header elf32 (file_header_read elf32 bytes) bytes) (range_with_len i (segment_count more))))) (sym (add-zero index))
-    ∙ segments_are more (index + 0) (offset + 0) bytes headers files r.1 (omega arith) (ap (λ i. drop ((file_header_read elf32 bytes).program_table + 32 * i) bytes) (add-zero index) ∙ h)
-    (ap (λ o. drop o bytes) (add-zero offset) ∙ f)
+    ∙ segments_are more (index + 0) (offset + length part) bytes headers files r.1 (omega arith) (ap (λ i. drop ((file_header_read elf32 bytes).program_table + 32 * i) bytes) (add-zero index) ∙ h)
+    (next_file offset bytes part _ there)
 
 -- these segments have no fault in an image of this length
 pub segments_pass : (lines : List RecipeLine) (index offset total : ℕ) (bytes headers : List ℕ) → IsRecipe lines → HaveRoom lines → total < 2 ^ 32 → offset + data_len lines ≤ total
@@ -113,7 +136,24 @@ segments_pass (recipe.Load da file memory ∷ more) index offset total bytes hea
     (tested header.kind header.memory_len memory read.0 read.4)
     (λ some. sizes_pass total header.offset header.file_len header.memory_len offset len memory _ _ read.1 read.3 read.4 (room.0 (positive memory some)) (omega arith))
     rest
-segments_pass (line ∷ more) index offset total bytes headers r room small within h =
+segments_pass (recipe.Code da ∷ more) index offset total bytes headers r room small within h =
+    let table = (file_header_read elf32 bytes).program_table in
+    let start = table + 32 * index in
+    let len = length (code_of more) in
+    let word = word_fields (1 ∷ offset ∷ da ∷ da ∷ len ∷ len ∷ 7 ∷ 4 ∷ []) in
+    let here : drop start bytes ≡ word ++ (program_headers (offset + 0) more ++ headers) = h ∙ append_assoc word (program_headers (offset + 0) more) headers in
+    let fits = code_fits more len refl in
     let inside : offset + data_len more ≤ total = within in
+    let count : segment_count (recipe.Code da ∷ more) ≡ suc (segment_count more) = sum_by-cons segments_of (recipe.Code da) more ∙ one_more (segment_count more) in
+    let read = load_read start offset da len len bytes (program_headers (offset + 0) more ++ headers) (omega arith) (omega arith) (omega (arith, fits.1)) (omega (arith, fits.1)) here in
+    let header = program_header_read elf32 start bytes in
+    let rest = segments_pass more (index + 1) (offset + 0) total bytes headers r.1 room.1 small (omega arith) (next_header table index offset da len len bytes _ here) in
+    ap (λ numbers. first_fault (map (segment_fault total) (filter is_loaded (map (numbered_header elf32 (file_header_read elf32 bytes) bytes) numbers)))) (range_suc index (segment_count (recipe.Code da ∷ more)) (segment_count more) count)
+    ∙ unfaulted (segment_fault total) (is_loaded (numbered_header elf32 (file_header_read elf32 bytes) bytes index)) (len == 0) (numbered_header elf32 (file_header_read elf32 bytes) bytes index) _
+    (tested header.kind header.memory_len len read.0 read.4)
+    (λ some. sizes_pass total header.offset header.file_len header.memory_len offset len len _ _ read.1 read.3 read.4 (omega arith) (omega (arith, fits.1)))
+    rest
+segments_pass (line ∷ more) index offset total bytes headers r room small within h =
+    let data_more : data_len (line ∷ more) ≡ length (data_of line) + data_len more = sum_by-cons (λ line. length (data_of line)) line more in
     ap (λ i. first_fault (map (segment_fault total) (filter is_loaded (map (numbered_header elf32 (file_header_read elf32 bytes) bytes) (range_with_len i (segment_count more)))))) (sym (add-zero index))
-    ∙ segments_pass more (index + 0) (offset + 0) total bytes headers r.1 room.1 small (omega arith) (ap (λ i. drop ((file_header_read elf32 bytes).program_table + 32 * i) bytes) (add-zero index) ∙ h)
+    ∙ segments_pass more (index + 0) (offset + length (data_of line)) total bytes headers r.1 room.1 small (omega arith) (ap (λ i. drop ((file_header_read elf32 bytes).program_table + 32 * i) bytes) (add-zero index) ∙ h)

@@ -1,12 +1,13 @@
-ghost use Rattle.std.specs.Prelude.{◌≡◌, ◌++◌, None, Some, IfOk, OnOk};
-ghost use Rattle.image_maker.specs.Segments.{program_header, program_headers, segment_bytes};
+ghost use Rattle.std.specs.Prelude.{◌≡◌, ◌++◌, None, Some, IfOk, OnOk, length};
+ghost use Rattle.image_maker.specs.Segments.{code_of, program_header, program_headers, segment_bytes};
 ghost use Rattle.image_maker.specs.Images.{image_of, image_with, file_header, data_start, segments_part, section_headers};
 ghost use Rattle.image_maker.specs.Tables.{table_len};
 
+use crate::codes::{code_len, put_line_data};
 use crate::fields::{put_half, put_words};
 use crate::sizes::{
-    data_len, data_of, entries_len, entry_address, entry_count, plus, segment_count, table_address,
-    times,
+    data_len, data_len_of, entries_len, entry_address, entry_count, plus, segment_count,
+    table_address, times,
 };
 use crate::tables::put_table;
 use rp_base::NoMemory;
@@ -89,23 +90,36 @@ fn put_program_headers(out: &mut Vec<u8>, lines: &[RecipeLine], start: u64) -> R
     ensures { OnOk result (out.new.items ≡ out.old.items ++ program_headers start lines.now) }
 {
     let mut offset = start;
-    for line in lines {
-        put_program_header(out, line, offset)?;
-        offset = plus(offset, data_of(line).len() as u64)?;
+    let mut rest = lines;
+    while let [line, more @ ..] = rest {
+        put_program_header(out, line, more, offset)?;
+        offset = plus(offset, data_len_of(line))?;
+        rest = more;
     }
     Ok(())
 }
 
-fn put_program_header(out: &mut Vec<u8>, line: &RecipeLine, offset: u64) -> Result<(), AllocError>
-    ensures { OnOk result (out.new.items ≡ out.old.items ++ program_header offset line.now) }
+/// Appends the program header of a line, which these lines follow.
+fn put_program_header(
+    out: &mut Vec<u8>,
+    line: &RecipeLine,
+    more: &[RecipeLine],
+    offset: u64,
+) -> Result<(), NoMemory>
+    ensures { OnOk result (out.new.items ≡ out.old.items ++ program_header (length (code_of more.now)) offset line.now) }
 {
     match line {
         RecipeLine::Load(da, bytes, memory_len) => {
             let len = bytes.bytes().len() as u64;
-            put_words(out, &[1, offset, *da, *da, len, *memory_len, 7, 4])
+            put_words(out, &[1, offset, *da, *da, len, *memory_len, 7, 4])?;
         }
-        _ => Ok(()),
+        RecipeLine::Code(da) => {
+            let len = code_len(more)?;
+            put_words(out, &[1, offset, *da, *da, len, len, 7, 4])?;
+        }
+        _ => {}
     }
+    Ok(())
 }
 
 /// Appends the bytes of the segments.
@@ -113,7 +127,7 @@ fn put_data(out: &mut Vec<u8>, lines: &[RecipeLine]) -> Result<(), AllocError>
     ensures { OnOk result (out.new.items ≡ out.old.items ++ segment_bytes lines.now) }
 {
     for line in lines {
-        out.extend_from_slice(data_of(line))?;
+        put_line_data(out, line)?;
     }
     Ok(())
 }

@@ -1,6 +1,7 @@
 // Firmware images as recipes say: ELF32 headers, segments, and a resource table with its section.
 #![tactic(auto)]
 
+mod codes;
 mod fields;
 pub mod laws;
 mod layout;

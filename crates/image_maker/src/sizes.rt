@@ -1,8 +1,9 @@
-ghost use Rattle.std.specs.Prelude.{◌≡◌, ◌+◌, ◌*◌, IfOk, sum_by};
+ghost use Rattle.std.specs.Prelude.{◌≡◌, ◌+◌, ◌*◌, IfOk, length, sum_by};
 ghost use Rattle.image_maker.specs.Segments.{data_of, segments_of, segment_count, data_len};
 ghost use Rattle.image_maker.specs.Tables.{entries_of, entry_len, entry_count, is_vring, rings_in_front};
 ghost use Rattle.image_maker.specs.Images.{entry_address, table_address};
 
+use crate::codes::is_record;
 use rp_base::NoMemory;
 use script_lang::RecipeLine;
 
@@ -25,18 +26,18 @@ fn segments_of(line: &RecipeLine) -> u64
     ensures { result ≡ segments_of line.now }
 {
     match line {
-        RecipeLine::Load(..) => 1,
+        RecipeLine::Load(..) | RecipeLine::Code(_) => 1,
         _ => 0,
     }
 }
 
 /// How many bytes of segments a line has.
-pub(crate) fn data_of(line: &RecipeLine) -> &[u8]
-    ensures { result.now ≡ data_of line.now }
+pub(crate) fn data_len_of(line: &RecipeLine) -> u64
+    ensures { result ≡ length (data_of line.now) }
 {
     match line {
-        RecipeLine::Load(_, bytes, _) => bytes.bytes(),
-        _ => &[],
+        RecipeLine::Load(_, bytes, _) => bytes.bytes().len() as u64,
+        _ => if is_record(line) { 16 } else { 0 },
     }
 }
 
@@ -85,7 +86,7 @@ pub(crate) fn data_len(lines: &[RecipeLine]) -> Result<u64, NoMemory>
 {
     let mut len = 0;
     for line in lines {
-        len = plus(len, data_of(line).len() as u64)?;
+        len = plus(len, data_len_of(line))?;
     }
     Ok(len)
 }

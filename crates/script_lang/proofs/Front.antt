@@ -13,13 +13,19 @@ use Rattle.word_kinds.specs.Places.{word_at}
 use Rattle.word_kinds.specs.Spellings.{words_of}
 use Rattle.script_lang.specs.declared.call_forms.CallForm.{CallForm}
 use Rattle.script_lang.specs.declared.call_forms.CallForm.TheVariants as call
+use Rattle.script_lang.specs.declared.core_forms.CoreForm.{CoreForm}
+use Rattle.script_lang.specs.declared.core_forms.CoreForm.TheVariants as core
 use Rattle.script_lang.specs.declared.forms.Form.{Form}
 use Rattle.script_lang.specs.declared.forms.Form.TheVariants as form
+use Rattle.script_lang.specs.declared.record_forms.RecordForm.{RecordForm}
+use Rattle.script_lang.specs.declared.record_forms.RecordForm.TheVariants as record_form
 use Rattle.script_lang.specs.declared.recipe_forms.RecipeForm.{RecipeForm}
 use Rattle.script_lang.specs.declared.recipe_forms.RecipeForm.TheVariants as recipe_form
 use Rattle.script_lang.specs.declared.recipe_forms.Context.{Context}
 use Rattle.script_lang.specs.CallForms.{call_kinds, begin_kinds, call_form_named}
+use Rattle.script_lang.specs.CoreForms.{core_kinds}
 use Rattle.script_lang.specs.Forms.{kinds, form_named}
+use Rattle.script_lang.specs.RecordForms.{record_kinds}
 use Rattle.script_lang.specs.Recipes.{recipe_kinds, recipe_form_named, is_allowed}
 use Rattle.script_lang.specs.Lines.{is_skipped, is_printable, form_or, outside_cause, inside_cause, form_of, misfit, unless_misfit, fitting_form, fitting_line, form_of_line, recipe_form_of_line}
 use Rattle.script_lang.specs.declared.progress.Progress.{Progress}
@@ -34,13 +40,23 @@ short_begin : (f : CallForm) → leb (length (begin_kinds f)) 8 ≡ true
 short_begin call.Send = refl
 short_begin f = refl
 
+short_core : (f : CoreForm) → leb (length (core_kinds f)) 8 ≡ true
+short_core core.Core = refl
+short_core f = refl
+
 short : (f : Form) → leb (length (kinds f)) 8 ≡ true
 short (form.Call f) = short_call f
 short (form.Begin f) = short_begin f
+short (form.Core f) = short_core f
 short form.Link = refl
 short f = refl
 
+short_record : (f : RecordForm) → leb (length (record_kinds f)) 8 ≡ true
+short_record record_form.Halt = refl
+short_record f = refl
+
 short_line : (f : RecipeForm) → leb (length (recipe_kinds f)) 8 ≡ true
+short_line (recipe_form.Record f) = short_record f
 short_line recipe_form.Entry = refl
 short_line f = refl
 
@@ -69,7 +85,7 @@ outside_is words h =
 
 -- what so many words say within an image
 abbrev many_line : Context → List ℕ → Option RecipeForm → Result Step Cause
-many_line context first None = Err (inside_cause first (form_named first))
+many_line context first None = Err (inside_cause first)
 many_line context first (Some f) = cond (is_allowed context f) (Err cause.Words) (Err cause.Block)
 
 abbrev inside_by : Context → List ℕ → Result Step Cause
@@ -95,7 +111,7 @@ abbrev form_by : List ℕ → List ℕ → Bool → Result Form Cause
 form_by first fourth few =
     cond (bytes_eq first (codes "begin"))
     (cond few (Err cause.Words) (form_or cause.Value (option_map form.Begin (call_form_named fourth))))
-    (form_or (outside_cause first (recipe_form_named first)) (form_named first))
+    (form_or (outside_cause first) (form_named first))
 
 form_of_front : (words : List (List ℕ)) → 8 < length words → form_of (take 9 words) ≡ form_of words
 form_of_front words h =

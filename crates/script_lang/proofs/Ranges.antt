@@ -16,7 +16,7 @@ use Rattle.word_kinds.specs.Kinds.{is_of, are_of}
 use Rattle.word_kinds.specs.Spellings.{is_digit, is_letter, is_name_byte, is_name, is_digit_to, is_hex_digit, hex_value, digits_from, decimal_of, hexadecimal_of, number_of, number_in, is_number_with}
 use Rattle.word_kinds.specs.Payloads.{byte_of, is_pairs, is_repeated, is_count, repeated_bytes, bytes_of_pairs, bytes_in, is_payload}
 use Rattle.word_kinds.specs.Places.{word_at}
-use Rattle.script_lang.specs.Runnable.{IsShort, IsLane, IsCaller, IsNumber, IsPayload, IsCount, IsBook}
+use Rattle.script_lang.specs.Runnable.{IsShort, IsLane, IsCaller, IsNumber, IsPayload, IsCount, IsLength, IsRecordLength, IsBook}
 
 -- the range of what a word of a kind says
 abbrev pub IsInRange : Kind → List ℕ → Type 0
@@ -32,6 +32,14 @@ IsInRange kind.Ring word = IsRingSize (number_in word)
 IsInRange kind.Book word = IsBook (number_in word)
 IsInRange kind.Lane word = IsLane (number_in word)
 IsInRange kind.End word = Unit {0}
+IsInRange kind.Length word = IsLength (number_in word)
+IsInRange kind.RegionSet word = Unit {0}
+IsInRange kind.RegionKind word = Unit {0}
+IsInRange kind.CrashKind word = Unit {0}
+IsInRange kind.DriverKind word = Unit {0}
+IsInRange kind.Switch word = Unit {0}
+IsInRange kind.Destination word = IsNumber (cond (bytes_eq word (codes "last")) 4294967295 (number_in word))
+IsInRange kind.RecordLength word = IsRecordLength (number_in word)
 
 pub both : (a b : Bool) → (a && b) ≡ true → (a ≡ true) × (b ≡ true)
 both true b e = (refl, e)
@@ -144,6 +152,14 @@ in_range kind.Ring word e =
 in_range kind.Book word e = within 1 BOOK_MOST (number_in word) (number_test (λ number. leb 1 number && leb number BOOK_MOST) (number_of word) e)
 in_range kind.Lane word e = lane_number word (bytes_eq word (codes "0")) refl e
 in_range kind.End word e = tt
+in_range kind.Length word e = within 1 256 (number_in word) (number_test (λ number. leb 1 number && leb number 256) (number_of word) e)
+in_range kind.RegionSet word e = tt
+in_range kind.RegionKind word e = tt
+in_range kind.CrashKind word e = tt
+in_range kind.DriverKind word e = tt
+in_range kind.Switch word e = tt
+in_range kind.Destination word e = address_small (bytes_eq word (codes "last")) (number_in word) (number_small word)
+in_range kind.RecordLength word e = (within 0 65535 (number_in word) (number_test (λ number. leb 0 number && leb number 65535) (number_of word) e)).1
 
 -- the ranges of the words from a place on
 abbrev pub AreInRange : List Kind → List (List ℕ) → ℕ → Type 0

@@ -12,14 +12,20 @@ use Rattle.word_kinds.specs.Spellings.{words_of}
 use Rattle.script_lang.specs.declared.commands.Command.{Command}
 use Rattle.script_lang.specs.declared.call_forms.CallForm.{CallForm}
 use Rattle.script_lang.specs.declared.call_forms.CallForm.TheVariants as call
+use Rattle.script_lang.specs.declared.core_forms.CoreForm.{CoreForm}
+use Rattle.script_lang.specs.declared.core_forms.CoreForm.TheVariants as core
 use Rattle.script_lang.specs.declared.forms.Form.{Form}
 use Rattle.script_lang.specs.declared.forms.Form.TheVariants as form
 use Rattle.script_lang.specs.declared.recipes.RecipeLine.{RecipeLine}
+use Rattle.script_lang.specs.declared.record_forms.RecordForm.{RecordForm}
+use Rattle.script_lang.specs.declared.record_forms.RecordForm.TheVariants as record_form
 use Rattle.script_lang.specs.declared.recipe_forms.RecipeForm.{RecipeForm}
 use Rattle.script_lang.specs.declared.recipe_forms.RecipeForm.TheVariants as recipe_form
 use Rattle.script_lang.specs.declared.recipe_forms.Context.{Context}
 use Rattle.script_lang.specs.CallForms.{call_kinds, begin_kinds, call_command, begin_command}
+use Rattle.script_lang.specs.CoreForms.{core_kinds, core_command}
 use Rattle.script_lang.specs.Forms.{kinds, command_of}
+use Rattle.script_lang.specs.RecordForms.{record_kinds, record_line}
 use Rattle.script_lang.specs.Recipes.{recipe_kinds, recipe_line, recipe_form_named, is_allowed}
 use Rattle.script_lang.specs.Lines.{is_skipped, is_printable, form_of, misfit, unless_misfit, fitting_form, form_of_line, fitting_line, recipe_form_of_line}
 use Rattle.script_lang.specs.Steps.{OpenImage, Step, image_kinds, end_kinds, opened_step, command_step, closed_step, added_step, words_step, line_step}
@@ -44,9 +50,25 @@ begin_runs call.Give w m = (m.1.1.0, m.1.1.1.1.0)
 begin_runs call.Bind w m = (m.1.1.0, m.1.1.1.1.0)
 begin_runs call.Unbind w m = (m.1.1.0, m.1.1.1.1.0)
 
+core_runs : (f : CoreForm) (w : List (List ℕ)) → AreInRange (core_kinds f) w 0 → IsRunnable (core_command f w)
+core_runs core.Core w m = m.1.1.1.0
+core_runs core.Region w m = (m.1.1.1.0, m.1.1.1.1.0, m.1.1.1.1.1.0)
+core_runs core.Boot w m = tt
+core_runs core.Shutdown w m = tt
+core_runs core.State w m = tt
+core_runs core.Table w m = tt
+core_runs core.Trace w m = m.1.1.0
+core_runs core.Mem w m = (m.1.1.0, m.1.1.1.0)
+core_runs core.Crash w m = tt
+core_runs core.Recover w m = tt
+core_runs core.Recovery w m = tt
+core_runs core.Driver w m = tt
+core_runs core.Drive w m = m.1.1.0
+
 form_runs : (f : Form) (w : List (List ℕ)) → AreInRange (kinds f) w 0 → IsRunnable (command_of f w)
 form_runs (form.Call f) w m = call_runs f w m
 form_runs (form.Begin f) w m = begin_runs f w m
+form_runs (form.Core f) w m = core_runs f w m
 form_runs form.Link w m = (m.1.1.0, m.1.1.1.0, m.1.1.1.1.0)
 form_runs form.NsLink w m = (m.1.1.0, m.1.1.1.0, m.1.1.1.1.0)
 form_runs form.Caller w m = tt
@@ -59,9 +81,22 @@ form_runs form.Channels w m = tt
 form_runs form.Close w m = tt
 form_runs form.Reclaim w m = m.1.1.0
 form_runs form.Reopen w m = tt
+form_runs form.Quiet w m = tt
 
 same_Ok : {A E : Type 0} (x y : A) → ◌≡◌ {A = Result A E} (Ok x) (Ok y) → x ≡ y
 same_Ok x y e = cc
+
+-- a record likewise
+record_runs : (f : RecordForm) (w : List (List ℕ)) → AreInRange (record_kinds f) w 0 → IsLine (record_line f w)
+record_runs record_form.Halt w m = tt
+record_runs record_form.Announce w m = (m.1.0, m.1.1.0, m.1.1.1.0)
+record_runs record_form.Bind w m = m.1.0
+record_runs record_form.Send w m = (m.1.0, m.1.1.0, m.1.1.1.0, m.1.1.1.1.0)
+record_runs record_form.Raw w m = (m.1.0, m.1.1.0)
+record_runs record_form.Take w m = tt
+record_runs record_form.Log w m = (m.1.0, m.1.1.0, m.1.1.1.0)
+record_runs record_form.Crash w m = m.1.0
+record_runs record_form.Loop w m = (m.1.0, m.1.1.0)
 
 -- a recipe line likewise
 line_runs : (f : RecipeForm) (w : List (List ℕ)) → AreInRange (recipe_kinds f) w 0 → IsLine (recipe_line f w)
@@ -74,6 +109,8 @@ line_runs recipe_form.Trace w m = (m.1.0, m.1.1.0, m.1.1.1.0)
 line_runs recipe_form.Vdev w m = (m.1.0, m.1.1.0)
 line_runs recipe_form.Vring w m = (m.1.0, m.1.1.0, m.1.1.1.0)
 line_runs recipe_form.Vendor w m = m.1.0
+line_runs recipe_form.Code w m = m.1.0
+line_runs (recipe_form.Record f) w m = record_runs f w m
 
 -- words that fit their kinds
 fits : (ks : List Kind) (words : List (List ℕ)) (count kept : Bool) → are_of ks words ≡ kept → cond (not count) (Some cause.Words) (cond kept None (Some cause.Value)) ≡ None → AreInRange ks words 0

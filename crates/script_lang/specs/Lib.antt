@@ -1,5 +1,7 @@
 pub mod CallForms
+pub mod CoreForms
 pub mod Forms
+pub mod RecordForms
 pub mod Recipes
 pub mod Lines
 pub mod Steps

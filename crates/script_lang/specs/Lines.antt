@@ -1,16 +1,14 @@
 -- The form of a line, or why it has none (own).
-use Rattle.std.specs.Prelude.{ℕ, Bool, true, ◌==◌, ◌&&◌, ◌||◌, not, nat_le, nat_lt, if◌then◌else◌, List, [], ◌∷◌, length, Option, Some, None, option_map, Result, Ok, Err, bytes_eq, codes}
+use Rattle.std.specs.Prelude.{ℕ, Bool, true, ◌==◌, ◌&&◌, ◌||◌, not, nat_le, nat_lt, if◌then◌else◌, List, [], ◌∷◌, length, Option, Some, None, option_map, is_some, Result, Ok, Err, bytes_eq, codes}
 use Rattle.std.specs.List.{slice_index}
 use Rattle.word_kinds.specs.declared.kinds.Kind.{Kind}
 use Rattle.word_kinds.specs.Kinds.{are_of}
 use Rattle.word_kinds.specs.Places.{word_at}
 use Rattle.word_kinds.specs.declared.causes.Cause.{Cause}
 use Rattle.word_kinds.specs.declared.causes.Cause.TheVariants as cause
-use Rattle.script_lang.specs.declared.call_forms.CallForm.TheVariants as call
 use Rattle.script_lang.specs.declared.forms.Form.{Form}
 use Rattle.script_lang.specs.declared.forms.Form.TheVariants as form
 use Rattle.script_lang.specs.declared.recipe_forms.RecipeForm.{RecipeForm}
-use Rattle.script_lang.specs.declared.recipe_forms.RecipeForm.TheVariants as recipe_form
 use Rattle.script_lang.specs.declared.recipe_forms.Context.{Context}
 use Rattle.script_lang.specs.CallForms.{call_form_named}
 use Rattle.script_lang.specs.Forms.{kinds, form_named}
@@ -35,18 +33,15 @@ abbrev pub begin_form : List (List ℕ) → Result Form Cause
 begin_form words =
     if nat_lt (length words) 4 then Err cause.Words else form_or cause.Value (option_map form.Begin (call_form_named (word_at words 3)))
 
--- the word that begins no command: outside of an image a recipe line is out of place, but for the words that later commands begin with
-abbrev pub outside_cause : List ℕ → Option RecipeForm → Cause
-outside_cause word None = if bytes_eq word (codes "end") then cause.Block else cause.Command
-outside_cause word (Some recipe_form.Table) = cause.Command
-outside_cause word (Some recipe_form.Trace) = cause.Command
-outside_cause word (Some form) = cause.Block
+-- the word that begins no command: outside of an image a recipe line or an `end` is out of place
+abbrev pub outside_cause : List ℕ → Cause
+outside_cause word = if is_some (recipe_form_named word) || bytes_eq word (codes "end") then cause.Block else cause.Command
 
 -- any other command by the first
 abbrev pub form_of : List (List ℕ) → Result Form Cause
 form_of words =
     if bytes_eq (word_at words 0) (codes "begin") then begin_form words
-    else form_or (outside_cause (word_at words 0) (recipe_form_named (word_at words 0))) (form_named (word_at words 0))
+    else form_or (outside_cause (word_at words 0)) (form_named (word_at words 0))
 
 -- why words don't fit these kinds: their number before their kinds
 abbrev pub misfit : List Kind → List (List ℕ) → Option Cause
@@ -66,17 +61,13 @@ fitting_form words (Err why) = Err why
 abbrev pub form_of_line : List (List ℕ) → Result Form Cause
 form_of_line words = fitting_form words (form_of words)
 
--- a command within an image is out of place, but for the words that records begin with
-abbrev pub inside_cause : List ℕ → Option Form → Cause
-inside_cause word None = if bytes_eq word (codes "begin") || bytes_eq word (codes "image") then cause.Block else cause.Command
-inside_cause word (Some (form.Call call.Send)) = cause.Command
-inside_cause word (Some (form.Call call.Raw)) = cause.Command
-inside_cause word (Some (form.Call call.Take)) = cause.Command
-inside_cause word (Some (form.Call call.Bind)) = cause.Command
-inside_cause word (Some form) = cause.Block
+-- the word that begins no line of a recipe: within an image a command is out of place
+abbrev pub inside_cause : List ℕ → Cause
+inside_cause word =
+    if is_some (form_named word) || bytes_eq word (codes "begin") || bytes_eq word (codes "image") then cause.Block else cause.Command
 
 abbrev pub fitting_line : Context → List (List ℕ) → Option RecipeForm → Result RecipeForm Cause
-fitting_line context words None = Err (inside_cause (word_at words 0) (form_named (word_at words 0)))
+fitting_line context words None = Err (inside_cause (word_at words 0))
 fitting_line context words (Some form) =
     if is_allowed context form then unless_misfit form (misfit (recipe_kinds form) words) else Err cause.Block
 

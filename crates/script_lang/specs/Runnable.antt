@@ -27,6 +27,14 @@ IsPayload payload = length payload ≤ 512
 abbrev pub IsCount : ℕ → Type 0
 IsCount count = (1 ≤ count) × (count ≤ STEPS_MOST)
 
+-- how many bytes of memory are shown
+abbrev pub IsLength : ℕ → Type 0
+IsLength length = (1 ≤ length) × (length ≤ 256)
+
+-- the length that a worker's record names
+abbrev pub IsRecordLength : ℕ → Type 0
+IsRecordLength length = length ≤ 65535
+
 -- the messages that a lane accepts
 abbrev pub IsBook : ℕ → Type 0
 IsBook book = (1 ≤ book) × (book ≤ BOOK_MOST)
@@ -46,6 +54,16 @@ IsLine (recipe.Trace da len name) = IsNumber da × IsNumber len × IsShort name
 IsLine (recipe.Vdev id features) = IsNumber id × IsNumber features
 IsLine (recipe.Vring da align entries) = IsNumber da × IsNumber align × IsNumber entries
 IsLine (recipe.Vendor type) = IsNumber type
+IsLine (recipe.Code da) = IsNumber da
+IsLine recipe.Halt = Unit {0}
+IsLine (recipe.Announce address flags da) = IsNumber address × IsNumber flags × IsNumber da
+IsLine (recipe.Bind address) = IsNumber address
+IsLine (recipe.Send source destination da len) = IsNumber source × IsNumber destination × IsNumber da × IsRecordLength len
+IsLine (recipe.Raw da len) = IsNumber da × IsRecordLength len
+IsLine recipe.Take = Unit {0}
+IsLine (recipe.Log to from len) = IsNumber to × IsNumber from × IsRecordLength len
+IsLine (recipe.Crash kind) = IsNumber kind
+IsLine (recipe.Loop times target) = IsNumber times × IsNumber target
 
 -- a recipe of such lines
 abbrev pub IsRecipe : List RecipeLine → Type 0
@@ -78,6 +96,20 @@ IsRunnable (command.Channels name) = Unit {0}
 IsRunnable (command.Close name) = Unit {0}
 IsRunnable (command.Reclaim name caller) = IsCaller caller
 IsRunnable (command.Reopen name) = Unit {0}
+IsRunnable (command.Core name regions book) = IsBook book
+IsRunnable (command.Region name kind da pa len) = IsNumber da × IsNumber pa × IsNumber len
+IsRunnable (command.Boot name image) = Unit {0}
+IsRunnable (command.Shutdown name) = Unit {0}
+IsRunnable (command.State name) = Unit {0}
+IsRunnable (command.Table name) = Unit {0}
+IsRunnable (command.Trace name index) = IsNumber index
+IsRunnable (command.Mem name da len) = IsNumber da × IsLength len
+IsRunnable (command.Crash name kind) = Unit {0}
+IsRunnable (command.Recover name) = Unit {0}
+IsRunnable (command.Recovery name switch) = Unit {0}
+IsRunnable (command.Driver name channel kind) = Unit {0}
+IsRunnable (command.Drive name count) = IsCount count
+IsRunnable (command.Quiet switch) = Unit {0}
 IsRunnable (command.Image name lines) = IsRecipe lines
 
 -- a list of such commands

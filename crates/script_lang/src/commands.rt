@@ -2,12 +2,22 @@ ghost use Rattle.std.specs.Prelude.{◌≡◌};
 ghost use Rattle.script_lang.specs.declared.commands.ParseFault.TheVariants as fault;
 
 use crate::recipes::Recipe;
-use rp_base::{Data, End, Name};
+use rp_base::{CrashKind, Data, DriverKind, End, Name, RegionKind, Switch};
 use std::alloc::{AllocError, AllocFailed, Global};
 use word_kinds::Cause;
 
-/// A command of a script. Its first field is the name of the link that it works on. Numbers are at
-/// most 2^32 - 1, and those of callers at most 63.
+/// The regions of memory that a core begins with.
+#[derive(Clone, Copy)]
+pub enum RegionSet {
+    /// The standard ones.
+    Standard,
+    /// None.
+    Bare,
+}
+
+/// A command of a script. Its first field is the name of the link or the core that it works on, but
+/// for [`Quiet`](Command::Quiet).
+/// Numbers are at most 2^32 - 1, and those of callers at most 63.
 #[derive(Drop)]
 pub enum Command {
     /// Makes a link: the entries of the ring to the host and of the ring to the remote, and how many
@@ -59,6 +69,35 @@ pub enum Command {
     Reclaim(Name, u64),
     /// Opens a closed link again, in its next incarnation.
     Reopen(Name),
+    /// Makes a core: its first regions, and how many messages each lane of its link accepts.
+    Core(Name, RegionSet, u64),
+    /// Adds a region to a core: what it serves for, device address, physical address, length in
+    /// bytes.
+    Region(Name, RegionKind, u64, u64, u64),
+    /// Declares a driver of a core: the name of its channel, what it does.
+    Driver(Name, Name, DriverKind),
+    /// Boots a core with the image of this name, or adds a user.
+    Boot(Name, Name),
+    /// Takes a user away from a core, and shuts it down with the last.
+    Shutdown(Name),
+    /// The state of a core, its users and its incarnation.
+    State(Name),
+    /// The resource table of a core as it was loaded.
+    Table(Name),
+    /// The text of a trace buffer of a core: which of them, from 0.
+    Trace(Name, u64),
+    /// Bytes of a core's memory: device address, length from 1 to 256.
+    Mem(Name, u64, u64),
+    /// Reports a crash of a core.
+    Crash(Name, CrashKind),
+    /// Recovers a crashed core.
+    Recover(Name),
+    /// Whether a core is recovered by itself when it crashes.
+    Recovery(Name, Switch),
+    /// Takes so many steps of the actors of a core: steps.
+    Drive(Name, u64),
+    /// Whether a drive writes no lines of its calls.
+    Quiet(Switch),
     /// Makes an image of this name by a recipe.
     Image(Name, Recipe),
 }

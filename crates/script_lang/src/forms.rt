@@ -5,8 +5,9 @@ use crate::call_forms::{
     CallForm, begin_command, begin_kinds, call_command, call_keyword, call_kinds,
 };
 use crate::commands::Command;
+use crate::core_forms::{CoreForm, core_command, core_keyword, core_kinds};
 use std::alloc::{AllocError, Global};
-use word_kinds::{Kind, end_at, name_at, number_at};
+use word_kinds::{Kind, end_at, name_at, number_at, switch_at};
 
 /// The form of a command: its keyword, and the kinds of its words.
 #[derive(Clone, Copy, Drop)]
@@ -15,6 +16,8 @@ pub(crate) enum Form {
     Call(CallForm),
     /// The begin of a call.
     Begin(CallForm),
+    /// A command of a core.
+    Core(CoreForm),
     Link,
     NsLink,
     Caller,
@@ -27,10 +30,11 @@ pub(crate) enum Form {
     Close,
     Reclaim,
     Reopen,
+    Quiet,
 }
 
 /// The forms that are told by their first word.
-pub(crate) const FORMS: [Form; 18] = [
+pub(crate) const FORMS: [Form; 32] = [
     Form::Call(CallForm::Send),
     Form::Call(CallForm::Take),
     Form::Call(CallForm::Give),
@@ -49,6 +53,20 @@ pub(crate) const FORMS: [Form; 18] = [
     Form::Close,
     Form::Reclaim,
     Form::Reopen,
+    Form::Core(CoreForm::Core),
+    Form::Core(CoreForm::Region),
+    Form::Core(CoreForm::Boot),
+    Form::Core(CoreForm::Shutdown),
+    Form::Core(CoreForm::State),
+    Form::Core(CoreForm::Table),
+    Form::Core(CoreForm::Trace),
+    Form::Core(CoreForm::Mem),
+    Form::Core(CoreForm::Crash),
+    Form::Core(CoreForm::Recover),
+    Form::Core(CoreForm::Recovery),
+    Form::Core(CoreForm::Driver),
+    Form::Core(CoreForm::Drive),
+    Form::Quiet,
 ];
 
 /// The first word of a form.
@@ -58,6 +76,7 @@ fn keyword(form: Form) -> &'static str
     match form {
         Form::Call(call) => call_keyword(call),
         Form::Begin(_) => "begin",
+        Form::Core(core) => core_keyword(core),
         Form::Link => "link",
         Form::NsLink => "nslink",
         Form::Caller => "caller",
@@ -70,6 +89,7 @@ fn keyword(form: Form) -> &'static str
         Form::Close => "close",
         Form::Reclaim => "reclaim",
         Form::Reopen => "reopen",
+        Form::Quiet => "quiet",
     }
 }
 
@@ -80,6 +100,7 @@ pub(crate) fn kinds(form: Form) -> &'static [Kind]
     match form {
         Form::Call(call) => call_kinds(call),
         Form::Begin(call) => begin_kinds(call),
+        Form::Core(core) => core_kinds(core),
         Form::Link | Form::NsLink => &[
             Kind::Keyword,
             Kind::Name,
@@ -99,6 +120,7 @@ pub(crate) fn kinds(form: Form) -> &'static [Kind]
         ],
         Form::Books | Form::Channels | Form::Close | Form::Reopen => &[Kind::Keyword, Kind::Name],
         Form::Ring => &[Kind::Keyword, Kind::Name, Kind::Lane],
+        Form::Quiet => &[Kind::Keyword, Kind::Switch],
     }
 }
 
@@ -110,6 +132,7 @@ pub(crate) fn command_of(alloc: Global, form: Form, words: &[&[u8]]) -> Result<C
     match form {
         Form::Call(call) => call_command(alloc, call, words),
         Form::Begin(call) => begin_command(alloc, call, words),
+        Form::Core(core) => Ok(core_command(core, words)),
         Form::Link => {
             let to_host = number_at(words, 2);
             let to_remote = number_at(words, 3);
@@ -136,6 +159,7 @@ pub(crate) fn command_of(alloc: Global, form: Form, words: &[&[u8]]) -> Result<C
         Form::Close => Ok(Command::Close(name)),
         Form::Reclaim => Ok(Command::Reclaim(name, number_at(words, 2))),
         Form::Reopen => Ok(Command::Reopen(name)),
+        Form::Quiet => Ok(Command::Quiet(switch_at(words, 1))),
     }
 }
 

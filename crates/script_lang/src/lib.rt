@@ -3,6 +3,7 @@
 
 mod call_forms;
 mod commands;
+mod core_forms;
 mod forms;
 mod grammar;
 pub mod laws;
@@ -10,8 +11,9 @@ mod lines;
 mod progress;
 mod recipe_forms;
 mod recipes;
+mod record_forms;
 
-pub use commands::{Command, ParseFault, Script};
+pub use commands::{Command, ParseFault, RegionSet, Script};
 pub use grammar::parse;
 pub use recipes::{Recipe, RecipeLine};
 pub use word_kinds::{Cause, name};

@@ -1,10 +1,9 @@
 ghost use Rattle.std.specs.Prelude.{◌≡◌, true, IfOk, map};
 ghost use Rattle.std.specs.List.{list_all};
-ghost use Rattle.script_lang.specs.Forms.{form_named};
 ghost use Rattle.script_lang.specs.Lines.{is_skipped, is_printable, begin_form, outside_cause, form_of, misfit, form_of_line, inside_cause, recipe_form_of_line};
 ghost use Rattle.script_lang.specs.Recipes.{recipe_form_named, is_allowed};
 
-use crate::call_forms::{CallForm, call_form_named};
+use crate::call_forms::call_form_named;
 use crate::forms::{Form, form_named, kinds};
 use crate::recipe_forms::{Context, RecipeForm, is_allowed, recipe_form_named, recipe_kinds};
 use word_kinds::{Cause, Kind, are_of, word_at};
@@ -41,16 +40,12 @@ fn begin_form(words: &[&[u8]]) -> Result<Form, Cause>
 
 /// Why a word begins no command outside of an image.
 fn outside_cause(word: &[u8]) -> Cause
-    ensures { result ≡ outside_cause word.now (recipe_form_named word.now) }
+    ensures { result ≡ outside_cause word.now }
 {
-    match recipe_form_named(word) {
-        None => if word == b"end".as_slice() {
-            Cause::Block
-        } else {
-            Cause::Command
-        },
-        Some(RecipeForm::Table | RecipeForm::Trace) => Cause::Command,
-        Some(_) => Cause::Block,
+    if recipe_form_named(word).is_some() || word == b"end".as_slice() {
+        Cause::Block
+    } else {
+        Cause::Command
     }
 }
 
@@ -95,18 +90,12 @@ pub(crate) fn form_of_line(words: &[&[u8]]) -> Result<Form, Cause>
 
 /// Why a word begins no line within an image.
 fn inside_cause(word: &[u8]) -> Cause
-    ensures { result ≡ inside_cause word.now (form_named word.now) }
+    ensures { result ≡ inside_cause word.now }
 {
-    match form_named(word) {
-        None => if word == b"begin".as_slice() || word == b"image".as_slice() {
-            Cause::Block
-        } else {
-            Cause::Command
-        },
-        Some(Form::Call(CallForm::Send | CallForm::Raw | CallForm::Take | CallForm::Bind)) => {
-            Cause::Command
-        }
-        Some(_) => Cause::Block,
+    if form_named(word).is_some() || word == b"begin".as_slice() || word == b"image".as_slice() {
+        Cause::Block
+    } else {
+        Cause::Command
     }
 }
 

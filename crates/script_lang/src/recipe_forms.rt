@@ -2,6 +2,7 @@ ghost use Rattle.std.specs.Prelude.{◌≡◌, true, IfOk, map};
 ghost use Rattle.script_lang.specs.Recipes.{recipe_keyword, recipe_kinds, recipe_line, recipe_form_named, is_allowed, rings_of, context_after};
 
 use crate::recipes::RecipeLine;
+use crate::record_forms::{RecordForm, record_keyword, record_kinds, record_line};
 use std::alloc::{AllocError, Global};
 use word_kinds::{Kind, address_at, bytes_at, name_at, number_at};
 
@@ -17,10 +18,13 @@ pub(crate) enum RecipeForm {
     Vdev,
     Vring,
     Vendor,
+    Code,
+    /// A record of a worker's code.
+    Record(RecordForm),
 }
 
 /// The forms of recipe lines.
-pub(crate) const RECIPE_FORMS: [RecipeForm; 9] = [
+pub(crate) const RECIPE_FORMS: [RecipeForm; 19] = [
     RecipeForm::Entry,
     RecipeForm::Load,
     RecipeForm::Table,
@@ -30,13 +34,25 @@ pub(crate) const RECIPE_FORMS: [RecipeForm; 9] = [
     RecipeForm::Vdev,
     RecipeForm::Vring,
     RecipeForm::Vendor,
+    RecipeForm::Code,
+    RecipeForm::Record(RecordForm::Halt),
+    RecipeForm::Record(RecordForm::Announce),
+    RecipeForm::Record(RecordForm::Bind),
+    RecipeForm::Record(RecordForm::Send),
+    RecipeForm::Record(RecordForm::Raw),
+    RecipeForm::Record(RecordForm::Take),
+    RecipeForm::Record(RecordForm::Log),
+    RecipeForm::Record(RecordForm::Crash),
+    RecipeForm::Record(RecordForm::Loop),
 ];
 
 /// What the last line of a recipe was.
 #[derive(Clone, Copy, Drop)]
 pub(crate) enum Behind {
-    /// None of the table.
+    /// None of the table, and none of a code.
     Other,
+    /// The begin of a code, or a record of it.
+    Code,
     /// One of the table, and neither a device nor a ring.
     Table,
     /// A device or a ring of it: how many rings the device has.
@@ -64,6 +80,8 @@ fn recipe_keyword(form: RecipeForm) -> &'static str
         RecipeForm::Vdev => "vdev",
         RecipeForm::Vring => "vring",
         RecipeForm::Vendor => "vendor",
+        RecipeForm::Code => "code",
+        RecipeForm::Record(record) => record_keyword(record),
     }
 }
 
@@ -82,7 +100,8 @@ pub(crate) fn recipe_kinds(form: RecipeForm) -> &'static [Kind]
     ensures { result.now ≡ recipe_kinds form }
 {
     match form {
-        RecipeForm::Entry | RecipeForm::Table => &[Kind::Keyword, Kind::Number],
+        RecipeForm::Entry | RecipeForm::Table | RecipeForm::Code => &[Kind::Keyword, Kind::Number],
+        RecipeForm::Record(record) => record_kinds(record),
         RecipeForm::Load => &[Kind::Keyword, Kind::Number, Kind::Payload, Kind::Number],
         RecipeForm::Carveout => &[Kind::Keyword, Kind::Address, Kind::Number, Kind::Name],
         RecipeForm::Devmem => &[
@@ -138,6 +157,8 @@ pub(crate) fn recipe_line(
             Ok(RecipeLine::Vring(da, align, number_at(words, 3)))
         }
         RecipeForm::Vendor => Ok(RecipeLine::Vendor(number_at(words, 1))),
+        RecipeForm::Code => Ok(RecipeLine::Code(number_at(words, 1))),
+        RecipeForm::Record(record) => Ok(record_line(record, words)),
     }
 }
 
@@ -146,13 +167,14 @@ pub(crate) fn is_allowed(context: Context, form: RecipeForm) -> bool
     ensures { result ≡ is_allowed context form }
 {
     match form {
-        RecipeForm::Entry | RecipeForm::Load => true,
+        RecipeForm::Entry | RecipeForm::Load | RecipeForm::Code => true,
+        RecipeForm::Record(_) => matches!(context.behind, Behind::Code),
         RecipeForm::Table => !context.has_table,
         RecipeForm::Carveout
         | RecipeForm::Devmem
         | RecipeForm::Trace
         | RecipeForm::Vdev
-        | RecipeForm::Vendor => !matches!(context.behind, Behind::Other),
+        | RecipeForm::Vendor => matches!(context.behind, Behind::Table | Behind::Device(_)),
         RecipeForm::Vring => match context.behind {
             Behind::Device(rings) => rings < 255,
             _ => false,
@@ -169,6 +191,10 @@ pub(crate) fn context_after(context: Context, form: RecipeForm) -> Context
         RecipeForm::Entry | RecipeForm::Load => Context {
             has_table: context.has_table,
             behind: Behind::Other,
+        },
+        RecipeForm::Code | RecipeForm::Record(_) => Context {
+            has_table: context.has_table,
+            behind: Behind::Code,
         },
         RecipeForm::Table => Context {
             has_table: true,

@@ -24,6 +24,28 @@ pub enum RecipeLine {
     Vring(u64, u64, u64),
     /// A vendor's entry of the table: its type, from 4.
     Vendor(u64),
+    /// A segment of a worker's code: its device address. The records behind it are its bytes.
+    Code(u64),
+    /// A record: the worker ends.
+    Halt,
+    /// A record that announces a channel: address, flags, device address of the 32 bytes of its
+    /// name.
+    Announce(u64, u64, u64),
+    /// A record that binds an address, or any for 2^32 - 1.
+    Bind(u64),
+    /// A record that sends bytes: source, destination or 2^32 - 1 for the source of the last
+    /// message, device address, length up to 65,535.
+    Send(u64, u64, u64, u64),
+    /// A record that sends bytes as a whole message: device address, length up to 65,535.
+    Raw(u64, u64),
+    /// A record that takes a message and gives its buffer back.
+    Take,
+    /// A record that copies bytes: device address to, device address from, length up to 65,535.
+    Log(u64, u64, u64),
+    /// A record that reports a crash: its kind.
+    Crash(u64),
+    /// A record that goes to another: how many turns, or 0 for no end; the number of the record.
+    Loop(u64, u64),
 }
 
 /// How an image is made: its lines in order. Contracts see it as the list of these.

@@ -1,5 +1,5 @@
 ghost use Rattle.std.specs.Prelude.{◌≡◌, map};
-ghost use Rattle.word_kinds.specs.Kinds.{is_end, is_of, are_of};
+ghost use Rattle.word_kinds.specs.Kinds.{is_either, is_of, are_of};
 ghost use Rattle.word_kinds.specs.Spellings.{is_number_within};
 
 use crate::digits::{NUMBER_MOST, is_name, number};
@@ -34,6 +34,22 @@ pub enum Kind {
     Lane,
     /// The end of a link: `host` or `remote`.
     End,
+    /// How many bytes of memory are shown, from 1 to 256.
+    Length,
+    /// The regions that a core begins with: `std` or `bare`.
+    RegionSet,
+    /// What a region serves for: `tcm` or `pool`.
+    RegionKind,
+    /// What a crash report says: `mmufault`, `watchdog` or `fatal`.
+    CrashKind,
+    /// What a driver does: `sink`, `echo` or `sample`.
+    DriverKind,
+    /// `on` or `off`.
+    Switch,
+    /// A destination of a worker's send: a number, or `last` for 2^32 - 1.
+    Destination,
+    /// The length that a worker's record names: a number to 65,535.
+    RecordLength,
 }
 
 fn is_number_within(least: u64, most: u64, word: &[u8]) -> bool
@@ -54,6 +70,12 @@ fn is_ring(word: &[u8]) -> bool
     }
 }
 
+fn is_either(first: &str, second: &str, word: &[u8]) -> bool
+    ensures { result ≡ is_either first.now second.now word.now }
+{
+    word == first.as_bytes() || word == second.as_bytes()
+}
+
 /// Whether a word is of this kind.
 pub fn is_of(kind: Kind, word: &[u8]) -> bool
     ensures { result ≡ is_of kind word.now }
@@ -69,8 +91,16 @@ pub fn is_of(kind: Kind, word: &[u8]) -> bool
         Kind::Count => is_number_within(1, STEPS_MOST, word),
         Kind::Ring => is_ring(word),
         Kind::Book => is_number_within(1, u64::from(BOOK_MOST), word),
-        Kind::Lane => word == b"0".as_slice() || word == b"1".as_slice(),
-        Kind::End => word == b"host".as_slice() || word == b"remote".as_slice(),
+        Kind::Lane => is_either("0", "1", word),
+        Kind::End => is_either("host", "remote", word),
+        Kind::Length => is_number_within(1, 256, word),
+        Kind::RegionSet => is_either("std", "bare", word),
+        Kind::RegionKind => is_either("tcm", "pool", word),
+        Kind::CrashKind => word == b"mmufault".as_slice() || is_either("watchdog", "fatal", word),
+        Kind::DriverKind => word == b"sink".as_slice() || is_either("echo", "sample", word),
+        Kind::Switch => is_either("on", "off", word),
+        Kind::Destination => word == b"last".as_slice() || number(word).is_some(),
+        Kind::RecordLength => is_number_within(0, 65_535, word),
     }
 }
 

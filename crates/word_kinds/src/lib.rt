@@ -18,7 +18,10 @@ pub use cuts::cut_at;
 pub use digits::{is_name, name};
 pub use kinds::{Kind, are_of};
 pub use pieces::{Piece, push_line, push_line_behind};
-pub use places::{address_at, bytes_at, end_at, name_at, number_at, word_at};
+pub use places::{
+    address_at, bytes_at, crash_kind_at, destination_at, end_at, name_at, number_at,
+    region_kind_at, word_at,
+};
 pub use readings::{
     channel_at, decimal_at, dotted_at, driver_at, endpoint_at, hex_at, lane_at, open_at, row_at,
     service_at, state_at, switch_at, trace_at,

@@ -1,0 +1,110 @@
+ghost use Rattle.std.specs.Prelude.{◌≡◌, map};
+ghost use Rattle.script_lang.specs.CoreForms.{region_set_at, core_keyword, core_kinds, core_command};
+
+use crate::commands::{Command, RegionSet};
+use word_kinds::{
+    Kind, crash_kind_at, driver_at, name_at, number_at, region_kind_at, switch_at, word_at,
+};
+
+/// The form of a command of a core.
+#[derive(Clone, Copy, Drop)]
+pub(crate) enum CoreForm {
+    Core,
+    Region,
+    Boot,
+    Shutdown,
+    State,
+    Table,
+    Trace,
+    Mem,
+    Crash,
+    Recover,
+    Recovery,
+    Driver,
+    Drive,
+}
+
+/// The first word of a command of a core.
+pub(crate) fn core_keyword(form: CoreForm) -> &'static str
+    ensures { result.now ≡ core_keyword form }
+{
+    match form {
+        CoreForm::Core => "core",
+        CoreForm::Region => "region",
+        CoreForm::Boot => "boot",
+        CoreForm::Shutdown => "shutdown",
+        CoreForm::State => "state",
+        CoreForm::Table => "table",
+        CoreForm::Trace => "trace",
+        CoreForm::Mem => "mem",
+        CoreForm::Crash => "crash",
+        CoreForm::Recover => "recover",
+        CoreForm::Recovery => "recovery",
+        CoreForm::Driver => "driver",
+        CoreForm::Drive => "drive",
+    }
+}
+
+/// The kinds of the words of a command of a core.
+pub(crate) fn core_kinds(form: CoreForm) -> &'static [Kind]
+    ensures { result.now ≡ core_kinds form }
+{
+    match form {
+        CoreForm::Core => &[Kind::Keyword, Kind::Name, Kind::RegionSet, Kind::Book],
+        CoreForm::Region => &[
+            Kind::Keyword,
+            Kind::Name,
+            Kind::RegionKind,
+            Kind::Number,
+            Kind::Number,
+            Kind::Number,
+        ],
+        CoreForm::Boot => &[Kind::Keyword, Kind::Name, Kind::Name],
+        CoreForm::Shutdown | CoreForm::State | CoreForm::Table | CoreForm::Recover => {
+            &[Kind::Keyword, Kind::Name]
+        }
+        CoreForm::Trace => &[Kind::Keyword, Kind::Name, Kind::Number],
+        CoreForm::Mem => &[Kind::Keyword, Kind::Name, Kind::Number, Kind::Length],
+        CoreForm::Crash => &[Kind::Keyword, Kind::Name, Kind::CrashKind],
+        CoreForm::Recovery => &[Kind::Keyword, Kind::Name, Kind::Switch],
+        CoreForm::Driver => &[Kind::Keyword, Kind::Name, Kind::Name, Kind::DriverKind],
+        CoreForm::Drive => &[Kind::Keyword, Kind::Name, Kind::Count],
+    }
+}
+
+/// The set of regions in a place, or none where the word there is none.
+fn region_set_at(words: &[&[u8]], place: usize) -> RegionSet
+    ensures { result ≡ region_set_at (map (λ word. word.now) words.now) place }
+{
+    if word_at(words, place) == b"std".as_slice() {
+        RegionSet::Standard
+    } else {
+        RegionSet::Bare
+    }
+}
+
+/// The command of this form that the words say.
+pub(crate) fn core_command(form: CoreForm, words: &[&[u8]]) -> Command
+    ensures { result ≡ core_command form (map (λ word. word.now) words.now) }
+{
+    let name = name_at(words, 1);
+    match form {
+        CoreForm::Core => Command::Core(name, region_set_at(words, 2), number_at(words, 3)),
+        CoreForm::Region => {
+            let da = number_at(words, 3);
+            let pa = number_at(words, 4);
+            Command::Region(name, region_kind_at(words, 2), da, pa, number_at(words, 5))
+        }
+        CoreForm::Boot => Command::Boot(name, name_at(words, 2)),
+        CoreForm::Shutdown => Command::Shutdown(name),
+        CoreForm::State => Command::State(name),
+        CoreForm::Table => Command::Table(name),
+        CoreForm::Trace => Command::Trace(name, number_at(words, 2)),
+        CoreForm::Mem => Command::Mem(name, number_at(words, 2), number_at(words, 3)),
+        CoreForm::Crash => Command::Crash(name, crash_kind_at(words, 2)),
+        CoreForm::Recover => Command::Recover(name),
+        CoreForm::Recovery => Command::Recovery(name, switch_at(words, 2)),
+        CoreForm::Driver => Command::Driver(name, name_at(words, 2), driver_at(words, 3)),
+        CoreForm::Drive => Command::Drive(name, number_at(words, 2)),
+    }
+}
