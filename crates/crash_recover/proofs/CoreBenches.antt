@@ -19,15 +19,15 @@ with_host bench = with_new_caller bench side.Host (free_number bench.link.caller
 abbrev with_remote : BenchState → BenchState
 with_remote bench = with_new_caller bench side.Remote (free_number bench.link.callers)
 
-actors_are : (book first : ℕ) (rings : RingPair) → with_remote (with_host (new_bench_of (config_of rings book first) (fresh_end rings.service) (fresh_end false))) ≡ core_bench book first rings
+callers_are : (names : List (List ℕ)) (book first : ℕ) (rings : RingPair) → with_remote (with_host (new_bench_of (config_of rings book first) (fresh_end rings.service names) (fresh_end false []))) ≡ core_bench names book first rings
 unfolding core_bench
-actors_are book first rings = refl
+callers_are names book first rings = refl
 
 -- a new link with the two callers is the link of a core
-pub made_core_bench : (book first : ℕ) (rings : RingPair) (config : LinkConfig) (host remote : EndState) (made one both : BenchState) → config ≡ config_of rings book first
-    → host ≡ fresh_end rings.service → remote ≡ fresh_end false → made ≡ new_bench_of config host remote
+pub made_core_bench : (names : List (List ℕ)) (book first : ℕ) (rings : RingPair) (config : LinkConfig) (host remote : EndState) (made one both : BenchState) → config ≡ config_of rings book first
+    → host ≡ fresh_end rings.service names → remote ≡ fresh_end false [] → made ≡ new_bench_of config host remote
     → one ≡ with_new_caller made side.Host (free_number made.link.callers) → both ≡ with_new_caller one side.Remote (free_number one.link.callers)
-    → both ≡ core_bench book first rings
-made_core_bench book first rings config host remote made one both is here there begun with_one with_both =
-    let start = begun ∙ ap (λ config. new_bench_of config host remote) is ∙ ap (λ end. new_bench_of (config_of rings book first) end remote) here ∙ ap (new_bench_of (config_of rings book first) (fresh_end rings.service)) there in
-    with_both ∙ ap with_remote (with_one ∙ ap with_host start) ∙ actors_are book first rings
+    → both ≡ core_bench names book first rings
+made_core_bench names book first rings config host remote made one both is here there begun with_one with_both =
+    let start = begun ∙ ap (λ config. new_bench_of config host remote) is ∙ ap (λ end. new_bench_of (config_of rings book first) end remote) here ∙ ap (new_bench_of (config_of rings book first) (fresh_end rings.service names)) there in
+    with_both ∙ ap with_remote (with_one ∙ ap with_host start) ∙ callers_are names book first rings

@@ -10,3 +10,12 @@ pub mod CoreLoads
 pub mod CoreFaults
 pub mod RemoteEnds
 pub mod BenchMay
+pub mod RecordRuns
+pub mod ShortMoves
+pub mod LinkMoves
+pub mod CallMoves
+pub mod BenchMoves
+pub mod Handed
+pub mod Sendable
+pub mod CoreMoves
+pub mod CoreTurnWalks

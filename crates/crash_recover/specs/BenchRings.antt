@@ -1,5 +1,5 @@
 -- What a bench shows of its rings (VIRTIO 1.2 section 2.7 for their bytes, else own).
-use Rattle.std.specs.Prelude.{ℕ, ◌*◌, ◌==◌, List, Option, Some, None, if◌then◌else◌}
+use Rattle.std.specs.Prelude.{ℕ, ◌+◌, ◌*◌, ◌==◌, List, Option, Some, None, if◌then◌else◌}
 use Rattle.vring_layout.specs.declared.words.RingWords.{RingWords}
 use Rattle.vring_layout.specs.Rings.{ring_layout}
 use Rattle.channel_bus.specs.Sides.{EndState}
@@ -8,14 +8,21 @@ use Rattle.lane_model.specs.Links.{LinkState}
 use Rattle.ring_core.specs.RingWords.{words_of}
 use Rattle.crash_recover.specs.Benches.{RingsState}
 
--- the words of a lane's rings: the buffers of lane 0 begin at address 0, and those of lane 1 behind them
-abbrev pub lane_words : RingsState → ℕ → RingWords
-lane_words rings lane =
-    if lane == 0 then words_of rings.to_host.rings 0 else words_of rings.to_remote.rings (512 * rings.to_host.rings.sizes.capacity)
+-- where the buffers of a lane begin: those of lane 0, so many of 512 bytes, at the base, and those of lane 1 behind them
+abbrev pub lane_base : ℕ → ℕ → ℕ → ℕ
+lane_base base capacity lane = if lane == 0 then base else base + 512 * capacity
 
--- the bytes of a lane's ring, its used ring at a multiple of four
+-- the words of a lane's rings over buffers that begin at an address
+abbrev pub lane_words : RingsState → ℕ → ℕ → RingWords
+lane_words rings lane at = if lane == 0 then words_of rings.to_host.rings at else words_of rings.to_remote.rings at
+
+-- the bytes of a lane's ring over buffers that begin at an address, its used ring at a multiple of an alignment
+abbrev pub placed_bytes : RingsState → ℕ → ℕ → ℕ → List ℕ
+placed_bytes rings lane at align = ring_layout align (lane_words rings lane at)
+
+-- the bytes of a lane's ring of a link that no memory was given: its buffers from address 0 on, its used ring at a multiple of four
 abbrev pub lane_bytes : RingsState → ℕ → List ℕ
-lane_bytes rings lane = ring_layout 4 (lane_words rings lane)
+lane_bytes rings lane = placed_bytes rings lane (lane_base 0 rings.to_host.rings.sizes.capacity lane) 4
 
 -- the first of two holders
 abbrev pub first_holder : Option ℕ → Option ℕ → Option ℕ

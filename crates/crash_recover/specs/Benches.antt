@@ -160,6 +160,11 @@ advance_walk bench more steps caller = advance_steps bench more steps caller (be
 abbrev pub call_walk : BenchState → ℕ → ℕ → Wish → BenchWalk
 call_walk bench steps caller wanted = bench_walk bench (whole_call steps bench.link caller wanted) (call_rings 6 steps bench.rings caller bench.link.era.inc wanted)
 
+-- the first step of a call of a caller that is in none
+abbrev pub start_walk : BenchState → ℕ → ℕ → Wish → BenchWalk
+start_walk bench steps caller wanted =
+    bench_walk bench (call_steps 0 steps bench.link caller bench.link.era.inc wanted) (call_rings 0 steps bench.rings caller bench.link.era.inc wanted)
+
 -- the next step of each call that is begun may be done
 abbrev pub AreFitCalls : LinkState EndState → List (Option BegunCall) → Type 0
 AreFitCalls link begun =

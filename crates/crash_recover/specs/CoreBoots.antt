@@ -24,6 +24,7 @@ use Rattle.lane_model.specs.declared.calls.LinkConfig.{LinkConfig}
 use Rattle.crash_recover.specs.declared.core_faults.CoreFault.{CoreFault}
 use Rattle.crash_recover.specs.declared.core_faults.CoreFault.TheVariants as fault
 use Rattle.crash_recover.specs.Benches.{BenchState, new_bench_of, with_new_caller}
+use Rattle.crash_recover.specs.Actors.{driver_names, fresh_actors}
 use Rattle.crash_recover.specs.BenchHolds.{caller_out}
 use Rattle.crash_recover.specs.Cores.{CoreState, LoadState}
 
@@ -58,18 +59,18 @@ loaded_at image regions placed = record {
 unfoldable pub loaded_from : List ℕ → List Region → LoadState
 loaded_from image regions = loaded_at image regions (unwrap_or (result_ok (placement regions (entries_in (table_of image)))) [])
 
--- an end of a link without an endpoint or a channel, which may have the name service
-abbrev pub fresh_end : Bool → EndState
-fresh_end has_service = record { has_service = has_service; drivers = []; bindings = no_bindings; channels = [] }
+-- an end of a link without an endpoint or a channel, which may have the name service, with drivers of these names
+abbrev pub fresh_end : Bool → List (List ℕ) → EndState
+fresh_end has_service names = record { has_service = has_service; drivers = names; bindings = no_bindings; channels = [] }
 
 -- what the link of a core is made of: the rings of its device, the size of its books, and its incarnation; the addresses of its buffers are those of the load, and the link keeps none
 abbrev pub config_of : RingPair → ℕ → ℕ → LinkConfig
 config_of rings book first = record { num0 = rings.to_host.num; num1 = rings.to_remote.num; book = book; first = first; base = 0 }
 
--- the link of a core: the host end has the name service where the device has it, caller 0 is at the host end, and caller 1 at the remote end
-unfoldable pub core_bench : ℕ → ℕ → RingPair → BenchState
-core_bench book first rings =
-    with_new_caller (with_new_caller (new_bench_of (config_of rings book first) (fresh_end rings.service) (fresh_end false)) side.Host (Some 0)) side.Remote (Some 1)
+-- the link of a core: the host end has the core's drivers, and the name service where the device has it; caller 0 is at the host end, and caller 1 at the remote end
+unfoldable pub core_bench : List (List ℕ) → ℕ → ℕ → RingPair → BenchState
+core_bench names book first rings =
+    with_new_caller (with_new_caller (new_bench_of (config_of rings book first) (fresh_end rings.service names) (fresh_end false [])) side.Host (Some 0)) side.Remote (Some 1)
 
 -- whether a boot needs an image: a core with users counts one more, and one whose incarnations are spent is refused
 abbrev pub needs_image : CoreState → Bool
@@ -86,7 +87,8 @@ first_start core name given = record core {
   life = (life_after_boot core.life).life;
   image = Some name;
   loaded = Some given;
-  bench = option_map (core_bench core.book (core.life.incarnation + 1)) given.rings;
+  bench = option_map (core_bench (driver_names core.actors) core.book (core.life.incarnation + 1)) given.rings;
+  actors = fresh_actors core.actors given.entry;
 }
 
 -- the core after a boot of this image under this name, where nothing refuses it

@@ -16,6 +16,7 @@ use Rattle.lane_model.specs.declared.recoveries.ReopenFault.{ReopenFault}
 use Rattle.lane_model.specs.declared.recoveries.ReopenFault.TheVariants as reopen
 use Rattle.crash_recover.specs.declared.core_faults.CoreFault.{CoreFault}
 use Rattle.crash_recover.specs.declared.core_faults.CoreFault.TheVariants as fault
+use Rattle.crash_recover.specs.Actors.{fresh_actors}
 use Rattle.crash_recover.specs.Benches.{BenchState}
 use Rattle.crash_recover.specs.BenchCrashes.{after_reclaim, after_reopen}
 use Rattle.crash_recover.specs.CoreBoots.{loaded_from}
@@ -112,4 +113,8 @@ reopened_core core = record core { bench = option_map (λ bench. after_reopen (r
 -- the core after a recovery with this image, where nothing refuses it
 abbrev pub after_recovery : CoreState → List ℕ → CoreState
 after_recovery core image =
-    record (reopened_core core) { life = (life_after_recovery core.life).life; loaded = Some (loaded_from image core.regions) }
+    record (reopened_core core) {
+      life = (life_after_recovery core.life).life;
+      loaded = Some (loaded_from image core.regions);
+      actors = fresh_actors core.actors (loaded_from image core.regions).entry;
+    }

@@ -1,5 +1,5 @@
 -- A remote core: its regions, its life, and what a boot gave it (the calls and states of the Linux remoteproc documentation; the rest is own).
-use Rattle.std.specs.Prelude.{◌≡◌, ℕ, ◌+◌, ◌≤◌, Bool, true, false, List, length, All, slice_get, slice_range, Option, Some, None, IfSome, option_map, option_and_then, if◌then◌else◌}
+use Rattle.std.specs.Prelude.{◌≡◌, ℕ, ◌+◌, ◌≤◌, Bool, true, false, List, [], ◌∷◌, ◌++◌, length, All, slice_get, slice_range, Option, Some, None, IfSome, option_map, option_and_then, if◌then◌else◌}
 use Rattle.rp_base.specs.declared.limits.TheConstants.{BOOK_MOST}
 use Rattle.rp_base.specs.declared.kinds.LifeState.{LifeState}
 use Rattle.rp_base.specs.declared.kinds.LifeState.TheVariants.{Offline, Running, Crashed}
@@ -11,11 +11,15 @@ use Rattle.memory_pool.specs.declared.faults.RegionFault.{RegionFault}
 use Rattle.memory_pool.specs.declared.faults.RegionFault.TheVariants as region
 use Rattle.addr_translate.specs.Maps.{IsMapOf}
 use Rattle.fw_load.specs.Memory.{memory_at}
-use Rattle.fw_load.specs.Rings.{IsTraceIn}
+use Rattle.fw_load.specs.Rings.{HasBuffers, IsSoundPair, IsTraceIn}
 use Rattle.fw_load.specs.declared.loading.Loaded.{Loaded}
 use Rattle.fw_load.specs.declared.rings.RingPair.{RingPair}
 use Rattle.fw_load.specs.declared.traces.TraceAt.{TraceAt}
 use Rattle.proc_state.specs.Lives.{CoreLife, new_life}
+use Rattle.host_driver.specs.Drivers.{Declared, driver_fault}
+use Rattle.host_driver.specs.declared.drivers.DriverFault.{DriverFault}
+use Rattle.host_driver.specs.declared.drivers.DriverFault.TheVariants as driver
+use Rattle.crash_recover.specs.Actors.{ActorsState, new_actors}
 use Rattle.crash_recover.specs.Benches.{BenchState}
 use Rattle.crash_recover.specs.declared.core_faults.AddFault.{AddFault}
 use Rattle.crash_recover.specs.declared.core_faults.AddFault.TheVariants as add
@@ -40,7 +44,7 @@ load_view loaded = record {
   traces = loaded.traces.items;
 }
 
--- a core: its regions, how many messages a lane of its link accepts in one incarnation, its life, and from a boot to the last shutdown the name of the image, what it became, and its link where the image has a device for RPMsg
+-- a core: its regions, how many messages a lane of its link accepts in one incarnation, its life, and from a boot to the last shutdown the name of the image, what it became, its link where the image has a device for RPMsg, and its actors
 pub record CoreState : Type 0 where
   pub regions : List Region
   pub book : ℕ
@@ -48,10 +52,11 @@ pub record CoreState : Type 0 where
   pub image : Option (List ℕ)
   pub loaded : Option LoadState
   pub bench : Option BenchState
+  pub actors : ActorsState
 
 -- a core that was never booted
-abbrev pub new_core : List Region → ℕ → CoreState
-new_core regions book = record { regions = regions; book = book; life = new_life; image = None; loaded = None; bench = None }
+abbrev pub new_core : List Region → List Declared → ℕ → CoreState
+new_core regions kinds book = record { regions = regions; book = book; life = new_life; image = None; loaded = None; bench = None; actors = new_actors kinds }
 
 -- whether a core has no power
 abbrev pub is_offline : LifeState → Bool
@@ -70,6 +75,23 @@ add_fault_of region.RegionRange = add.Region region.RegionRange
 add_fault_of region.RegionsFull = add.Region region.RegionsFull
 add_fault_of region.NoMemory = add.NoMemory
 
+-- the refusal of a driver, where want of memory stands alone
+abbrev pub add_fault_of_driver : DriverFault → AddFault
+add_fault_of_driver driver.DriverTaken = add.DriverTaken
+add_fault_of_driver driver.DriversFull = add.DriversFull
+add_fault_of_driver driver.NoMemory = add.NoMemory
+
+-- why a driver of this name is not declared for a core
+abbrev pub driver_add_fault : CoreState → List ℕ → Option AddFault
+driver_add_fault core name =
+    if is_offline core.life.state then option_map add_fault_of_driver (driver_fault core.actors.drivers.kinds name) else Some add.NotOffline
+
+-- the core with one driver more
+abbrev pub with_driver : CoreState → Declared → CoreState
+with_driver core declared = record core {
+  actors = record core.actors { drivers = record core.actors.drivers { kinds = core.actors.drivers.kinds ++ declared ∷ [] } };
+}
+
 -- so many bytes of a memory at a place, if there is one
 abbrev pub bytes_at : List ℕ → ℕ → Option ℕ → Option (List ℕ)
 bytes_at memory len at = option_map (λ at. slice_range memory at (at + len)) at
@@ -82,12 +104,14 @@ core_memory core da len = option_and_then (λ (load : LoadState). bytes_at load.
 abbrev pub core_trace : CoreState → ℕ → Option (List ℕ)
 core_trace core index = option_and_then (λ (load : LoadState). option_and_then (λ (trace : TraceAt). bytes_at load.memory trace.len trace.at) (slice_get load.traces index)) core.loaded
 
--- a load over regions: its map is that of what was placed, and its traces lie in its memory
+-- a load over regions: its map is that of what was placed, its traces lie in its memory, and its rings and their buffers within the addresses
 pub record IsSoundLoad (regions : List Region) (loaded : Loaded) : Type 0 where
   pub placed : SoundPlacement regions loaded.placed.blocks.items
   pub map : IsMapOf regions loaded.placed.blocks.items loaded.map
   pub length : length loaded.memory ≡ loaded.map.memory_len
   pub traces : All (IsTraceIn loaded.map.memory_len) loaded.traces.items
+  pub rings : IfSome loaded.rings IsSoundPair
+  pub buffers : IfSome loaded.rings HasBuffers
 
 -- a core without users has no image, no load and no link
 pub record IsUnloaded {L B : Type 0} (name : Option (List ℕ)) (given : Option L) (link : Option B) : Type 0 where

@@ -8,3 +8,8 @@ pub mod CoreCrashes
 pub mod CoreRecoveries
 pub mod BenchCrashes
 pub mod CoreLinks
+pub mod CoreRings
+pub mod Actors
+pub mod Drives
+pub mod BenchMoves
+pub mod CoreTurns

@@ -1,13 +1,14 @@
-ghost use Rattle.std.specs.Prelude.{◌≡◌, ◌⊎◌, ◌<◌, ◌^◌, IfOk, IfErr, None, Some, length};
+ghost use Rattle.std.specs.Prelude.{◌≡◌, ◌⊎◌, ◌+◌, ◌*◌, ◌<◌, ◌^◌, IfOk, IfErr, None, Some, length};
 ghost use Rattle.std.specs.Option.{option_map};
 ghost use Rattle.lane_model.specs.Lanes.{holder};
 ghost use Rattle.vring_layout.specs.declared.snapshots.SnapshotFault.TheVariants as snapshot_fault;
+ghost use Rattle.vring_layout.specs.Sizes.{IsRingAlign};
 ghost use Rattle.rp_base.specs.Limits.{IsRingSize, ring_capacity};
-ghost use Rattle.crash_recover.specs.BenchRings.{lane_bytes, lane_words, turn_holder};
+ghost use Rattle.crash_recover.specs.BenchRings.{lane_base, lane_bytes, lane_words, placed_bytes, turn_holder};
 
 use crate::benches::Bench;
 use name_service::Channel;
-use rp_base::{CallerNo, NoMemory};
+use rp_base::{CallerNo, Da, NoMemory};
 use std::alloc::Global;
 use vring_layout::{RingWords, SnapshotFault, ring_bytes, vring_size};
 
@@ -47,26 +48,56 @@ impl Bench {
         }
     }
 
-    /// The words of a lane's rings: lane 0 to the host, 1 to the remote.
-    fn lane_words(&self, alloc: Global, lane: u64) -> Result<RingWords, NoMemory>
-        ensures words { IfOk result (λ words. words ≡ lane_words self.now.rings lane) }
+    /// The words of a lane's rings over buffers that begin at a device address: lane 0 to the host, 1
+    /// to the remote.
+    fn lane_words(&self, alloc: Global, lane: u64, at: Da) -> Result<RingWords, NoMemory>
+        ensures words { IfOk result (λ words. words ≡ lane_words self.now.rings lane at) }
         ensures sizes { IfOk result (λ words. IsRingSize words.num × (words.capacity ≡ ring_capacity words.num)) }
         ensures long { IfOk result (λ words. (length words.avail ≡ words.num) × (length words.used ≡ words.num)) }
     {
         if lane == 0 {
-            return self.link.to_host.words(alloc, 0);
+            return self.link.to_host.words(alloc, at);
         }
-        let base = 512 * u32::from(self.link.to_host.sizes().capacity);
-        self.link.to_remote.words(alloc, base)
+        self.link.to_remote.words(alloc, at)
     }
 
-    /// The bytes of a lane's ring, as it lies in memory: lane 0 to the host, 1 to the remote.
+    /// The bytes of a lane's ring as it lies in memory over buffers that begin at a device address, its
+    /// used ring at a multiple of an alignment: lane 0 to the host, 1 to the remote.
+    pub(crate) fn placed_bytes(
+        &self,
+        alloc: Global,
+        lane: u64,
+        at: Da,
+        align: u32,
+    ) -> Result<Vec<u8>, NoMemory>
+        requires { IsRingAlign align }
+        ensures bytes { IfOk result (λ bytes. bytes.items ≡ placed_bytes self.now.rings lane at align) }
+        ensures short { IfOk result (λ bytes. length bytes.items < 2 ^ 32) }
+    {
+        let words = self.lane_words(alloc, lane, at)?;
+        let _size = vring_size(words.num, align);
+        ring_bytes(alloc, align, &words)
+    }
+
+    /// The bytes of a lane's ring of a link that no memory was given: its buffers stand from address 0
+    /// on, and its used ring at a multiple of four. Lane 0 is that to the host, 1 to the remote.
     pub fn ring_bytes(&self, alloc: Global, lane: u64) -> Result<Vec<u8>, NoMemory>
         ensures bytes { IfOk result (λ bytes. bytes.items ≡ lane_bytes self.now.rings lane) }
         ensures short { IfOk result (λ bytes. length bytes.items < 2 ^ 32) }
     {
-        let words = self.lane_words(alloc, lane)?;
-        let _size = vring_size(words.num, 4);
-        ring_bytes(alloc, 4, &words)
+        let at = lane_base(0, self.link.to_host.sizes().capacity, lane);
+        self.placed_bytes(alloc, lane, at, 4)
     }
+}
+
+/// Where the buffers of a lane begin: those of lane 0, `capacity` of 512 bytes, at the base, and those
+/// of lane 1 behind them.
+pub(crate) fn lane_base(base: Da, capacity: u16, lane: u64) -> Da
+    requires { base + 512 * capacity < 2 ^ 32 }
+    ensures { result ≡ lane_base base capacity lane }
+{
+    if lane == 0 {
+        return base;
+    }
+    base + 512 * u32::from(capacity)
 }

@@ -5,7 +5,7 @@ ghost use Rattle.lane_model.specs.Links.{end_of, free_number};
 ghost use Rattle.channel_bus.specs.Sides.{side_meaning};
 ghost use Rattle.lane_model.specs.Desks.{IsFreshDesk};
 ghost use Rattle.lane_model.specs.Conditions.{IsConfig, IsFitWish, is_holding};
-ghost use Rattle.crash_recover.specs.Benches.{IsSendable, advance_fault, advance_walk, begin_fault, call_walk, counts_of, is_in_call, new_bench_of, no_begun, reach_of, ready_fault, taken_on, with_begun, with_new_caller};
+ghost use Rattle.crash_recover.specs.Benches.{IsSendable, advance_fault, advance_walk, begin_fault, call_walk, counts_of, is_in_call, new_bench_of, no_begun, reach_of, ready_fault, start_walk, taken_on, with_begun, with_new_caller};
 
 use crate::steps::{BenchLink, call_steps, later_steps};
 use crate::whole_steps::{whole_send, whole_steps};
@@ -253,6 +253,26 @@ impl Bench {
         whole_steps(&mut self.link, caller, follows, wished, steps, end)
     }
 
+    /// Does the first step of a call of a caller that may begin it; `steps` counts it.
+    pub fn start(
+        &mut self,
+        caller: CallerNo,
+        wished: &Wish,
+        steps: &mut u64,
+        end: &mut CallEnd,
+    ) -> Progress
+        requires ready { begin_fault self.old caller wished.now ≡ None }
+        requires steps { steps.old ≤ STEPS_MOST }
+        ensures bench { self.new ≡ (start_walk self.old steps.old caller wished.now).bench }
+        ensures steps { steps.new ≡ (start_walk self.old steps.old caller wished.now).steps }
+        ensures reach { reach_of result end.new ≡ (start_walk self.old steps.old caller wished.now).reach }
+        ensures within { steps.new ≤ STEPS_MOST }
+    {
+        show_sendable(wished);
+        let follows = self.link.era.inc;
+        call_steps(&mut self.link, caller, follows, wished, 0, steps, end)
+    }
+
     /// Makes a whole send of the message that has the bytes of `head` and then those of `body`;
     /// `steps` counts its steps.
     pub fn send(
@@ -277,7 +297,8 @@ impl Bench {
 
     /// The message of a number on the lane that a caller takes from, or no byte where there is none.
     pub fn taken_message(&self, caller: CallerNo, number: u64) -> &[u8]
-        ensures { result.now ≡ taken_on self.now.link (end_of self.now.link.callers caller) number }
+        ensures message { result.now ≡ taken_on self.now.link (end_of self.now.link.callers caller) number }
+        ensures short { length result.now ≤ MESSAGE_MOST }
     {
         let message = match self.end_of(caller) {
             Some(End::Host) => self.link.to_host.message(number),

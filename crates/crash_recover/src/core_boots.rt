@@ -7,6 +7,7 @@ ghost use Rattle.rp_io.specs.Causes.{Rose};
 ghost use Rattle.rp_io.specs.declared.faults.FetchFault.TheVariants as fetch;
 ghost use Rattle.lane_model.specs.Conditions.{IsConfig};
 ghost use Rattle.proc_state.specs.Lives.{life_after_boot, life_after_shutdown};
+ghost use Rattle.crash_recover.specs.Actors.{driver_names, fresh_actors};
 ghost use Rattle.crash_recover.specs.Cores.{IsSoundLoad, load_view};
 ghost use Rattle.fw_load.specs.Loading.{load_fault};
 ghost use Rattle.crash_recover.specs.CoreBoots.{BootsFrom, IsBootFault, after_boot, after_shutdown, boot_fault, config_of, core_bench, loaded_from, needs_image, shutdown_fault};
@@ -101,13 +102,13 @@ impl Core {
         ensures loads { OnOk result (load_fault image.now self.now.regions ≡ None) }
         ensures loaded { IfOk result (λ made. load_view made.0 ≡ loaded_from image.now self.now.regions) }
         ensures sound { IfOk result (λ made. IsSoundLoad self.now.regions made.0) }
-        ensures bench { IfOk result (λ made. made.1 ≡ option_map (core_bench self.now.book (self.now.life.incarnation + 1)) made.0.rings) }
+        ensures bench { IfOk result (λ made. made.1 ≡ option_map (core_bench (driver_names self.now.actors) self.now.book (self.now.life.incarnation + 1)) made.0.rings) }
         ensures refused { IfErr result (λ why. why ≢ fault.NoMemory → option_map fault.Load (load_fault image.now self.now.regions) ≡ Some why) }
     {
-        let _ = self.regions.as_slice();
         let first = self.life.incarnation() + 1;
         let loaded = load(alloc, image, &self.regions)?;
-        let bench = bench_of(alloc, &loaded.rings, self.book, first)?;
+        let names = self.actors.drivers.names(alloc)?;
+        let bench = bench_of(alloc, &loaded.rings, names, self.book, first)?;
         Ok((loaded, bench))
     }
 
@@ -116,9 +117,10 @@ impl Core {
         requires needs { needs_image self.old ≡ true }
         requires sound { IsSoundLoad self.old.regions loaded }
         ensures answer { (life_after_boot self.old.life).answer ≡ Ok result }
-        ensures left { self.new ≡ record self.old { life = (life_after_boot self.old.life).life; image = Some name; loaded = Some (load_view loaded); bench = bench } }
+        ensures left { self.new ≡ record self.old { life = (life_after_boot self.old.life).life; image = Some name; loaded = Some (load_view loaded); bench = bench; actors = fresh_actors self.old.actors loaded.entry } }
     {
         let _ = self.life.boot();
+        self.actors.restart(loaded.entry);
         self.put(Some(name), Some(loaded), bench);
         Power::First
     }
@@ -170,29 +172,36 @@ impl Core {
     }
 }
 
-/// The link of a core in an incarnation, where its device has rings.
+/// The link of a core in an incarnation, with drivers of these names, where its device has rings.
 fn bench_of(
     alloc: Global,
     rings: &Option<RingPair>,
+    names: Vec<Name>,
     book: u32,
     first: Inc,
 ) -> Result<Option<Bench>, NoMemory>
     requires { IfSome rings.now (λ rings. IsConfig (config_of rings book first)) }
-    ensures { IfOk result (λ bench. bench ≡ option_map (core_bench book first) rings.now) }
+    ensures { IfOk result (λ bench. bench ≡ option_map (core_bench names.items book first) rings.now) }
 {
     match rings {
-        Some(rings) => Ok(Some(core_bench(alloc, rings, book, first)?)),
+        Some(rings) => Ok(Some(core_bench(alloc, rings, names, book, first)?)),
         None => Ok(None),
     }
 }
 
-/// The link of a core over its device's rings, with a caller at each end. It keeps no address of its
+/// The link of a core over its device's rings, with drivers of these names and a caller at each end. It keeps no address of its
 /// buffers: the load has them.
-fn core_bench(alloc: Global, rings: &RingPair, book: u32, first: Inc) -> Result<Bench, NoMemory>
+fn core_bench(
+    alloc: Global,
+    rings: &RingPair,
+    names: Vec<Name>,
+    book: u32,
+    first: Inc,
+) -> Result<Bench, NoMemory>
     requires { IsConfig (config_of rings.now book first) }
-    ensures { IfOk result (λ bench. bench ≡ core_bench book first rings.now) }
+    ensures { IfOk result (λ bench. bench ≡ core_bench names.items book first rings.now) }
 {
-    let host = Side::new(alloc, rings.service, Vec::new(alloc))?;
+    let host = Side::new(alloc, rings.service, names)?;
     let remote = Side::new(alloc, false, Vec::new(alloc))?;
     let config = LinkConfig {
         num0: rings.to_host.num,

@@ -1,17 +1,22 @@
 use fw_load::LoadFault;
+use host_driver::DriverFault;
 use lane_model::ReopenFault;
 use memory_pool::RegionFault;
 use proc_state::LifeFault;
 use rp_base::{CallerNo, NoMemory};
 use rp_io::FetchFault;
 
-/// Why a region is not added to a core.
+/// Why a region or a driver is not added to a core.
 #[derive(Debug, Drop)]
 pub enum AddFault {
     /// The core is not offline.
     NotOffline,
     /// The region doesn't fit beside the others. It is never want of memory.
     Region(RegionFault),
+    /// A driver of this name is declared.
+    DriverTaken,
+    /// There are sixteen drivers.
+    DriversFull,
     /// Memory ran out.
     NoMemory,
 }
@@ -26,6 +31,21 @@ impl From<RegionFault> for AddFault {
         match refused {
             RegionFault::NoMemory => AddFault::NoMemory,
             _ => AddFault::Region(refused),
+        }
+    }
+}
+
+impl From<DriverFault> for AddFault {
+    ghost use Rattle.std.specs.Prelude.{◌≡◌};
+    ghost use Rattle.crash_recover.specs.Cores.{add_fault_of_driver};
+
+    ghost from_gives = { λ refused e. e ≡ add_fault_of_driver refused };
+
+    fn from(refused: DriverFault) -> AddFault {
+        match refused {
+            DriverFault::DriverTaken => AddFault::DriverTaken,
+            DriverFault::DriversFull => AddFault::DriversFull,
+            DriverFault::NoMemory => AddFault::NoMemory,
         }
     }
 }

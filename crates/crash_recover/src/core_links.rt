@@ -1,7 +1,7 @@
-ghost use Rattle.std.specs.Prelude.{◌≡◌};
+ghost use Rattle.std.specs.Prelude.{◌≡◌, ◌≤◌, None, IfSome};
 ghost use Rattle.std.specs.Borrow.{sem};
 ghost use Rattle.std.specs.Option.{option_copied_mut};
-ghost use Rattle.crash_recover.specs.CoreLinks.{LendsLink};
+ghost use Rattle.crash_recover.specs.CoreLinks.{LendsLink, with_link};
 
 use crate::benches::Bench;
 use crate::cores::Core;
@@ -17,5 +17,22 @@ impl Core {
             return None;
         }
         self.bench.as_mut()
+    }
+
+    /// Takes the link out of the core, to put it back once it has done something.
+    pub fn take_link(&mut self) -> Option<Bench>
+        ensures link { result ≡ self.old.bench }
+        ensures left { self.new ≡ record self.old { bench = None } }
+        ensures users { IfSome result (λ _. 1 ≤ self.old.life.users) }
+    {
+        self.bench.take()
+    }
+
+    /// Puts a link in place of the core's.
+    pub fn put_link(&mut self, link: Bench)
+        requires { 1 ≤ self.old.life.users }
+        ensures { self.new ≡ with_link self.old link }
+    {
+        self.bench = Some(link);
     }
 }

@@ -3,6 +3,7 @@ ghost use Rattle.std.specs.Bool.{OnTrue, OnFalse};
 ghost use Rattle.std.specs.Option.{option_or};
 ghost use Rattle.proc_state.specs.Lives.{life_after_recovery};
 ghost use Rattle.crash_recover.specs.declared.core_faults.CoreFault.TheVariants as fault;
+ghost use Rattle.crash_recover.specs.Actors.{fresh_actors};
 ghost use Rattle.crash_recover.specs.Cores.{IsSoundLoad, load_view};
 ghost use Rattle.crash_recover.specs.CoreBoots.{loaded_from};
 ghost use Rattle.crash_recover.specs.CoreRecoveries.{IsReloadFault, IsReloadable, after_recovery, loaded_rings, readied_core, recovery_fault, readied_bench, reopen_fault, reopened_core, link_fault, spent_fault};
@@ -63,7 +64,6 @@ impl Core {
         ensures users { OnOk result (1 ≤ self.now.life.users) }
         ensures refused { IfErr result (λ why. IsReloadFault self.now image.now why) }
     {
-        let _ = self.regions.as_slice();
         if let Some(fault) = self.recovery_fault() {
             return Err(CoreFault::Life(fault));
         }
@@ -104,9 +104,10 @@ impl Core {
         requires life_after_recovery { (life_after_recovery self.old.life).answer ≡ Ok tt }
         requires users { 1 ≤ self.old.life.users }
         requires sound { IsSoundLoad self.old.regions loaded }
-        ensures { self.new ≡ record self.old { life = (life_after_recovery self.old.life).life; loaded = Some (load_view loaded) } }
+        ensures { self.new ≡ record self.old { life = (life_after_recovery self.old.life).life; loaded = Some (load_view loaded); actors = fresh_actors self.old.actors loaded.entry } }
     {
         let _ = self.life.recover();
+        self.actors.restart(loaded.entry);
         self.loaded = Some(loaded);
     }
 }

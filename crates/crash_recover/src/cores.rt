@@ -2,21 +2,23 @@ ghost use Rattle.std.specs.Prelude.{◌≡◌, ◌≤◌, ◌+◌, ◌++◌, [],
 ghost use Rattle.fw_load.specs.Memory.{place_at};
 ghost use Rattle.std.specs.Option.{option_copied, option_or};
 ghost use Rattle.rp_base.specs.declared.limits.TheConstants.{BOOK_MOST};
-ghost use Rattle.crash_recover.specs.Cores.{add_fault, core_memory, core_trace, load_view, new_core};
+ghost use Rattle.crash_recover.specs.Cores.{add_fault, core_memory, core_trace, driver_add_fault, load_view, new_core, with_driver};
 ghost use Rattle.crash_recover.specs.declared.core_faults.AddFault.TheVariants as add;
 
+use crate::actors::Actors;
 use crate::benches::Bench;
 use crate::core_faults::AddFault;
 use addr_translate::Map;
 use fw_load::Loaded;
 use memory_pool::{Region, Regions};
 use proc_state::Life;
-use rp_base::{Da, LifeState, Name};
+use rp_base::{Da, DriverKind, LifeState, Name, NoMemory};
 use std::alloc::Global;
 use std::marker::Model;
 
 /// A remote core: its regions, its life, and from a boot to the last shutdown the name of its image,
-/// what that became in its memory, and its link where the image has a device for RPMsg.
+/// what that became in its memory, and its link where the image has a device for RPMsg. Its actors are
+/// the drivers of the host and the worker of the remote.
 #[derive(Drop)]
 pub struct Core {
     pub(crate) regions: Regions,
@@ -25,10 +27,12 @@ pub struct Core {
     pub(crate) image: Option<Name>,
     pub(crate) loaded: Option<Loaded>,
     pub(crate) bench: Option<Bench>,
+    pub(crate) actors: Actors,
 }
 
 impl Model for Core {
     ghost use Rattle.std.specs.Prelude.{option_map};
+    ghost use Rattle.crash_recover.specs.Actors.{actors_view};
     ghost use Rattle.crash_recover.specs.Cores.{CoreState, SoundCore, load_view};
 
     ghost Value = { CoreState };
@@ -40,27 +44,37 @@ impl Model for Core {
       image = a.image;
       loaded = option_map load_view a.loaded;
       bench = a.bench;
+      actors = actors_view a.actors;
     } };
 
     ghost invariant = { λ a. SoundCore a.regions a.book a.life a.image a.loaded a.bench };
 }
 
 impl Core {
-    /// A core with these regions that was never booted. Each lane of its link is to accept `book`
-    /// messages in one incarnation, from 1 to 262,144.
-    pub fn new(regions: Regions, book: u32) -> Core
+    /// A core with these regions and drivers that was never booted. Each lane of its link is to
+    /// accept `book` messages in one incarnation, from 1 to 262,144. Of two drivers of one name the
+    /// first counts.
+    ///
+    /// Errors: only for want of memory.
+    pub fn new(
+        alloc: Global,
+        regions: Regions,
+        drivers: Vec<(Name, DriverKind)>,
+        book: u32,
+    ) -> Result<Core, NoMemory>
         requires some { 1 ≤ book }
         requires most { book ≤ BOOK_MOST }
-        ensures { result ≡ new_core regions book }
+        ensures { IfOk result (λ core. core ≡ new_core regions drivers.items book) }
     {
-        Core {
+        Ok(Core {
             regions,
             book,
             life: Life::new(),
             image: None,
             loaded: None,
             bench: None,
-        }
+            actors: Actors::new(alloc, drivers)?,
+        })
     }
 
     /// Adds a region behind the others, and answers its number.
@@ -80,6 +94,30 @@ impl Core {
             return Err(AddFault::NotOffline);
         }
         Ok(self.regions.add(alloc, region)?)
+    }
+
+    /// Declares a driver for the channels of a name, behind the others.
+    ///
+    /// # Errors
+    ///
+    /// [`AddFault::NotOffline`] where the core isn't offline, then [`AddFault::DriverTaken`] where one
+    /// of the name is declared, then [`AddFault::DriversFull`] at sixteen, then
+    /// [`AddFault::NoMemory`]. The core is as it was then.
+    pub fn add_driver(
+        &mut self,
+        alloc: Global,
+        name: Name,
+        kind: DriverKind,
+    ) -> Result<(), AddFault>
+        ensures added { OnOk result (self.new ≡ with_driver self.old (name, kind)) }
+        ensures fits { OnOk result (driver_add_fault self.old name ≡ None) }
+        ensures refused { IfErr result (λ why. option_or (driver_add_fault self.old name) (Some add.NoMemory) ≡ Some why) }
+        ensures unchanged { OnErr result (self.new ≡ self.old) }
+    {
+        if self.life.state() != LifeState::Offline {
+            return Err(AddFault::NotOffline);
+        }
+        Ok(self.actors.drivers.add(alloc, name, kind)?)
     }
 
     /// The life of the core.

@@ -1,6 +1,9 @@
 // A link with its callers and the calls that they are in, and a remote core with its life, its memory and its link.
 #![tactic(auto)]
 
+mod actor_ends;
+mod actor_steps;
+mod actors;
 mod bench_crashes;
 mod bench_ends;
 mod bench_holds;
@@ -8,16 +11,22 @@ mod bench_rings;
 mod benches;
 mod core_boots;
 mod core_crashes;
+mod core_drives;
 mod core_faults;
 mod core_links;
 mod core_recoveries;
+mod core_rings;
+mod core_turns;
 mod cores;
+pub mod laws;
 mod steps;
 mod turns;
 mod whole_steps;
 
+pub use actors::{Actor, Actors};
 pub use bench_crashes::Reclaim;
 pub use benches::{BegunCall, Bench, BenchFault, Progress, Reach};
+pub use core_drives::Driven;
 pub use core_faults::{AddFault, CoreFault};
 pub use cores::Core;
 pub use turns::TurnEnd;

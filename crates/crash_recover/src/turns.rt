@@ -1,9 +1,10 @@
-ghost use Rattle.std.specs.Prelude.{◌≡◌, ◌<◌, ◌≤◌, None, length};
+ghost use Rattle.std.specs.Prelude.{◌≡◌, ◌<◌, ◌≤◌, None, IfSome, length};
 ghost use Rattle.rp_base.specs.declared.limits.TheConstants.{PAYLOAD_MOST, STEPS_MOST};
 ghost use Rattle.lane_model.specs.declared.calls.Wish.TheVariants as wish;
 ghost use Rattle.byteorder.specs.Endian.{little_bytes};
 ghost use Rattle.rpmsg_header.specs.Headers.{header_bytes};
-ghost use Rattle.crash_recover.specs.Benches.{reach_of};
+ghost use Rattle.crash_recover.specs.Benches.{call_walk, reach_of};
+ghost use Rattle.crash_recover.specs.declared.benches.Reach.TheVariants as reach;
 ghost use Rattle.crash_recover.specs.Turns.{give_turn, is_whole, number_of, one_turn, pump_turns, reach_number, take_turn, turn_call};
 
 use crate::benches::{Bench, BenchFault, Progress, Reach};
@@ -22,7 +23,7 @@ pub enum TurnEnd {
 }
 
 impl TurnEnd {
-    fn is_whole(&self) -> bool
+    pub(crate) fn is_whole(&self) -> bool
         ensures { result ≡ is_whole self.now }
     {
         matches!(self, TurnEnd::Whole)
@@ -104,7 +105,13 @@ impl Bench {
 
     /// The give of a turn.
     #[tactic(auto, unfolding(crate::specs::Turns::give_turn))]
-    fn give_turn(&mut self, receiver: CallerNo, number: u64, steps: &mut u64, ended: &mut TurnEnd)
+    pub(crate) fn give_turn(
+        &mut self,
+        receiver: CallerNo,
+        number: u64,
+        steps: &mut u64,
+        ended: &mut TurnEnd,
+    )
         requires receiver { receiver < 64 }
         requires steps { steps.old ≤ STEPS_MOST }
         ensures bench { self.new ≡ (give_turn receiver self.old steps.old number).bench }
@@ -120,7 +127,7 @@ impl Bench {
 
     /// The send of a turn, from address 0 to 1024, with the tests that each call has.
     #[tactic(auto, unfolding(crate::specs::Turns::turn_call))]
-    fn turn_send(
+    pub(crate) fn turn_send(
         &mut self,
         sender: CallerNo,
         payload: &[u8],
@@ -172,8 +179,36 @@ impl Bench {
     }
 }
 
+impl Bench {
+    /// The take of a turn, with the tests that each call has: the number of its message, with its end.
+    /// Where it doesn't end well, `ended` says how.
+    #[tactic(auto, unfolding(crate::specs::Turns::turn_call))]
+    pub(crate) fn turn_take(
+        &mut self,
+        receiver: CallerNo,
+        steps: &mut u64,
+        end: &mut CallEnd,
+        ended: &mut TurnEnd,
+    ) -> Option<u64>
+        requires receiver { receiver < 64 }
+        requires steps { steps.old ≤ STEPS_MOST }
+        ensures bench { self.new ≡ (turn_call self.old steps.old receiver wish.Take).bench }
+        ensures steps { steps.new ≡ (turn_call self.old steps.old receiver wish.Take).steps }
+        ensures number { number_of result ended.new ≡ (turn_call self.old steps.old receiver wish.Take).number }
+        ensures end { IfSome result (λ _. (call_walk self.old steps.old receiver wish.Take).reach ≡ reach.Ended end.new) }
+        ensures within { steps.new ≤ STEPS_MOST }
+    {
+        if let Some(fault) = self.begin_fault(receiver, &Wish::Take) {
+            *ended = TurnEnd::Fault(receiver, fault);
+            return None;
+        }
+        let progress = self.call(receiver, &Wish::Take, steps, end);
+        reach_number(receiver, progress, end, ended)
+    }
+}
+
 /// The payload of the message of a turn: its number in four bytes.
-fn turn_payload(number: u64) -> [u8; 4]
+pub(crate) fn turn_payload(number: u64) -> [u8; 4]
     requires { number ≤ STEPS_MOST }
     ensures { result ≡ little_bytes 4 number }
 {
@@ -187,7 +222,8 @@ fn reach_number(
     end: &CallEnd,
     ended: &mut TurnEnd,
 ) -> Option<u64>
-    ensures { number_of result ended.new ≡ reach_number caller (reach_of progress end.now) }
+    ensures number { number_of result ended.new ≡ reach_number caller (reach_of progress end.now) }
+    ensures reach { IfSome result (λ _. reach_of progress end.now ≡ reach.Ended end.now) }
 {
     let reach = match (progress, end) {
         (

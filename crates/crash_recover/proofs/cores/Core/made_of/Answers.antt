@@ -1,4 +1,5 @@
-use Rattle.std.proofs.Common.{◌+◌, ◌≤◌, arith}
+use Rattle.std.proofs.Common.{ℕ, ◌+◌, ◌≤◌, List, option_map, arith, ap, ◌∙◌}
+use Rattle.crash_recover.specs.CoreBoots.{core_bench}
 use Rattle.crash_recover.proofs.CoreLoads.{load_configs, load_is}
 use Rattle.crash_recover.proofs.Loads.{load_sound}
 use Rattle.crash_recover.proofs.cores.Core.made_of.Goals as goal
@@ -15,4 +16,11 @@ returns-clause-loaded c = rw (← c.self.view_is) (load_is c.args.image.now c.se
 pub returns-clause-sound : goal.returns-clause-sound
 returns-clause-sound c =
     rw (← c.self.view_is)
-    (load_sound c.args.image.now c.self.inside.regions c.in_ok-loaded.loaded c.as_slice.ensures.sound c.in_ok-loaded.ensures.loads c.in_ok-loaded.ensures.loaded)
+    (load_sound c.args.image.now c.self.inside.regions c.in_ok-loaded.loaded c.in_ok-loaded.ensures.loaded)
+
+pub returns-clause-bench : goal.returns-clause-bench
+returns-clause-bench c =
+    rw (← c.self.view_is)
+    (c.in_ok-bench.ensures
+    ∙ ap (λ (first : ℕ). option_map (core_bench c.in_ok-names.names.items c.self.inside.book (first + 1)) c.in_ok-loaded.loaded.rings) c.incarnation-first.ensures
+    ∙ ap (λ (names : List (List ℕ)). option_map (core_bench names c.self.inside.book (c.self.inside.life.incarnation + 1)) c.in_ok-loaded.loaded.rings) c.in_ok-names.ensures)

@@ -1,0 +1,43 @@
+use Rattle.std.proofs.Common.{Bool, List, Some, IfSome, ap, ◌∙◌, subst}
+use Rattle.std.specs.Option.{option_map}
+use Rattle.lane_model.specs.declared.calls.Wish.{Wish}
+use Rattle.fw_load.specs.declared.loading.Loaded.{Loaded}
+use Rattle.remote_core.specs.Works.{memory_after, work_of}
+use Rattle.crash_recover.specs.declared.actors.Actor.TheVariants as actor
+use Rattle.crash_recover.specs.Actors.{ActorsState, actors_view}
+use Rattle.crash_recover.specs.Cores.{CoreState, IsSoundLoad, LoadState, load_view}
+use Rattle.crash_recover.specs.Drives.{DriveStep, actors_after_record, driven_by_work, with_turn_after}
+use Rattle.crash_recover.specs.contracts.cores.Core.{the_view}
+use Rattle.crash_recover.proofs.CoreLoads.{place_is}
+use Rattle.crash_recover.proofs.RecordRuns.{record_ran}
+use Rattle.crash_recover.proofs.cores.Core.run_record.Goals as goal
+
+pub returns-clause-driven : goal.returns-clause-driven
+returns-clause-driven c =
+    let inside = c.self.inside in
+    let loaded = c.in-Some.loaded in
+    let core = with_turn_after actor.Worker (the_view inside) in
+    let sound = subst (λ found. IfSome found (IsSoundLoad inside.regions)) c.in-Some.is c.self.invariant.loaded in
+    let ran = record_ran core (load_view loaded) loaded.map (λ da len some. place_is inside.regions loaded da len c.as_slice.ensures.sound sound some) (ap (option_map load_view) c.in-Some.is) in
+    rw (← c.self.view_is)
+    (c.run_record.ensures.driven
+    ∙ ap (λ (linked : Bool). driven_by_work (work_of loaded.memory loaded.map linked inside.actors.worker)) c.is_some-linked.ensures
+    ∙ ap (λ (step : DriveStep). step.driven) ran)
+
+pub returns-clause-left : goal.returns-clause-left
+returns-clause-left c =
+    let inside = c.self.inside in
+    let loaded = c.in-Some.loaded in
+    let worker = inside.actors.worker in
+    let core = with_turn_after actor.Worker (the_view inside) in
+    let sound = subst (λ found. IfSome found (IsSoundLoad inside.regions)) c.in-Some.is c.self.invariant.loaded in
+    let ran = record_ran core (load_view loaded) loaded.map (λ da len some. place_is inside.regions loaded da len c.as_slice.ensures.sound sound some) (ap (option_map load_view) c.in-Some.is) in
+    let put : LoadState → ActorsState → CoreState = λ load actors. record (the_view inside) { loaded = Some load; actors = actors } in
+    let left : Bool → Loaded = λ linked. record loaded { memory = memory_after loaded.memory loaded.map linked worker } in
+    let acted : List Wish → Bool → ActorsState = λ calls linked. actors_after_record (record (actors_view inside.actors) { worker_calls = calls; next = actor.Host }) loaded.memory loaded.map linked in
+    rw (← c.self.view_is)
+    (ap (λ (after : Loaded). put (load_view after) (actors_view c.run_record.new.actors)) c.run_record.ensures.loaded
+    ∙ ap (put (load_view (left c.is_some-linked.result))) c.run_record.ensures.actors
+    ∙ ap (λ (calls : List Wish). put (load_view (left c.is_some-linked.result)) (acted calls c.is_some-linked.result)) c.in_ok-reserve.ensures.items
+    ∙ ap (λ (linked : Bool). put (load_view (left linked)) (acted inside.actors.worker_calls.items linked)) c.is_some-linked.ensures
+    ∙ ap (λ (step : DriveStep). step.core) ran)

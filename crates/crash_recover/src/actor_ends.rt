@@ -1,0 +1,218 @@
+ghost use Rattle.std.specs.Prelude.{◌≡◌, ◌<◌, ◌≤◌, ◌+◌, length, OnErr, OnOk};
+ghost use Rattle.std.specs.VecDeque.{deque_len, deque_capacity};
+ghost use Rattle.rp_base.specs.declared.limits.TheConstants.{MESSAGE_MOST};
+ghost use Rattle.crash_recover.specs.Actors.{actors_view};
+ghost use Rattle.crash_recover.specs.Benches.{reach_of};
+ghost use Rattle.crash_recover.specs.Drives.{actors_after_end, after_end, after_endpoint, after_verdict, driven_on, end_answer, endpoint_answer, host_begun_as, host_ended, host_reached, is_tried_again, message_of, number_taken, verdict_answer, worker_ended, worker_reached};
+
+use crate::actors::Actors;
+use crate::benches::{Bench, Progress};
+use host_driver::Drivers;
+use lane_model::{CallEnd, Wish};
+use rp_base::{CallerNo, End, Endpoint, Message, Name, NoMemory, NsKind, Verdict};
+
+impl Actors {
+    /// Has the host actor begin a take where it is in no call and has none to make.
+    pub(crate) fn begin_host(&mut self, is_in_call: bool)
+        ensures view { actors_view self.new ≡ host_begun_as is_in_call (actors_view self.old) }
+        ensures calls { self.new.host_calls ≡ self.old.host_calls }
+    {
+        if !is_in_call {
+            self.is_taking = self.host_calls.is_empty();
+        }
+    }
+
+    /// Has the host actor see how far its call came, on the link that it is made on.
+    pub(crate) fn host_reached(&mut self, bench: &Bench, progress: Progress, end: &CallEnd)
+        requires { deque_len self.old.host_calls + 2 ≤ deque_capacity self.old.host_calls }
+        ensures { actors_view self.new ≡ host_reached (actors_view self.old) bench.now (reach_of progress end.now) }
+    {
+        match progress {
+            Progress::At(_) => {}
+            Progress::Ended => {
+                self.host_ended(end);
+                self.see_end(bench.message_of(0, end), end);
+            }
+            Progress::Limit => {
+                self.host_calls.pop_front();
+                self.is_taking = false;
+            }
+        }
+    }
+
+    /// Has the host actor see the end of its call.
+    fn host_ended(&mut self, end: &CallEnd)
+        requires { deque_len self.old.host_calls + 2 ≤ deque_capacity self.old.host_calls }
+        ensures view { actors_view self.new ≡ host_ended (actors_view self.old) end.now }
+        ensures room { deque_len self.new.host_calls < deque_capacity self.new.host_calls }
+    {
+        if !self.is_taking && !is_tried_again(end) {
+            self.host_calls.pop_front();
+        }
+        self.is_taking = false;
+        if let Some(number) = number_taken(end) {
+            self.host_calls.push_back_reserved(Wish::Give(number));
+        }
+    }
+
+    /// Has the drivers see the end of a call of a caller of this link, where it is one of the host.
+    ///
+    /// Errors: only for want of memory. The actors are as they were then.
+    pub(crate) fn hear_end(
+        &mut self,
+        bench: &Bench,
+        caller: CallerNo,
+        end: &CallEnd,
+    ) -> Result<(), NoMemory>
+        ensures heard { OnOk result (actors_view self.new ≡ actors_after_end bench.now caller end.now (actors_view self.old)) }
+        ensures unchanged { OnErr result (actors_view self.new ≡ actors_view self.old) }
+    {
+        match bench.end_of(caller) {
+            Some(End::Host) => {
+                self.host_calls.reserve(1)?;
+                self.see_end(bench.message_of(caller, end), end);
+                Ok(())
+            }
+            Some(End::Remote) | None => Ok(()),
+        }
+    }
+
+    /// Has the drivers see the end of a call of a host caller, which was handed this message. What a
+    /// driver sends is the last of the host actor's calls.
+    pub(crate) fn see_end(&mut self, message: &[u8], end: &CallEnd)
+        requires short { length message.now ≤ MESSAGE_MOST }
+        requires room { deque_len self.old.host_calls < deque_capacity self.old.host_calls }
+        ensures { actors_view self.new ≡ driven_on (actors_view self.old) message.now end.now }
+    {
+        if let Some(answer) = end_answer(&mut self.drivers, message, end) {
+            self.host_calls.push_back_reserved(Wish::Send(answer));
+        }
+    }
+
+    /// Has the worker see how far its call came, on the link that it is made on.
+    pub(crate) fn worker_reached(&mut self, bench: &Bench, progress: Progress, end: &CallEnd)
+        requires { deque_len self.old.worker_calls < deque_capacity self.old.worker_calls }
+        ensures { actors_view self.new ≡ worker_reached (actors_view self.old) bench.now (reach_of progress end.now) }
+    {
+        match progress {
+            Progress::At(_) => {}
+            Progress::Ended => self.worker_ended(bench.message_of(1, end), end),
+            Progress::Limit => {
+                self.worker_calls.pop_front();
+            }
+        }
+    }
+
+    /// Has the worker see the end of its call, which was handed this message.
+    fn worker_ended(&mut self, message: &[u8], end: &CallEnd)
+        requires short { length message.now ≤ MESSAGE_MOST }
+        requires room { deque_len self.old.worker_calls < deque_capacity self.old.worker_calls }
+        ensures { actors_view self.new ≡ worker_ended (actors_view self.old) message.now end.now }
+    {
+        if !is_tried_again(end) {
+            self.worker_calls.pop_front();
+        }
+        if let Some(number) = number_taken(end) {
+            self.worker.took(&whole(message));
+            self.worker_calls.push_front_reserved(Wish::Give(number));
+        }
+    }
+}
+
+impl Bench {
+    /// The message that a caller was handed by a call that ended so, or no byte.
+    pub(crate) fn message_of(&self, caller: CallerNo, end: &CallEnd) -> &[u8]
+        ensures message { result.now ≡ message_of self.now caller end.now }
+        ensures short { length result.now ≤ MESSAGE_MOST }
+    {
+        match number_taken(end) {
+            Some(number) => self.taken_message(caller, number),
+            None => &[],
+        }
+    }
+}
+
+/// Whether a call that ended so is made again.
+fn is_tried_again(end: &CallEnd) -> bool
+    ensures { result ≡ is_tried_again end.now }
+{
+    matches!(
+        end,
+        CallEnd::Busy(_) | CallEnd::NoBuffer(_, _) | CallEnd::Empty(_)
+    )
+}
+
+/// The number of the message that a call was handed.
+fn number_taken(end: &CallEnd) -> Option<u64>
+    ensures { result ≡ number_taken end.now }
+{
+    match end {
+        CallEnd::Took(number, _) => Some(*number),
+        _ => None,
+    }
+}
+
+/// What the drivers send at the end of a call of a host caller, which was handed this message.
+fn end_answer(drivers: &mut Drivers, message: &[u8], end: &CallEnd) -> Option<Message>
+    requires { length message.now ≤ MESSAGE_MOST }
+    ensures answer { result ≡ end_answer drivers.old message.now end.now }
+    ensures left { drivers.new ≡ after_end drivers.old end.now }
+{
+    match end {
+        CallEnd::Took(_, verdict) => verdict_answer(drivers, message, verdict),
+        CallEnd::Unbound(endpoint) => {
+            drivers.destroyed(*endpoint);
+            None
+        }
+        _ => None,
+    }
+}
+
+/// What the drivers send for a message that a host caller was handed with this verdict.
+fn verdict_answer(drivers: &mut Drivers, message: &[u8], verdict: &Verdict) -> Option<Message>
+    requires { length message.now ≤ MESSAGE_MOST }
+    ensures answer { result ≡ verdict_answer drivers.old message.now verdict.now }
+    ensures left { drivers.new ≡ after_verdict drivers.old verdict.now }
+{
+    match verdict {
+        Verdict::To(endpoint) => drivers.delivered(*endpoint, &whole(message)),
+        Verdict::Service(kind, name, address, Some(endpoint)) => {
+            endpoint_answer(drivers, *kind, name, *address, *endpoint)
+        }
+        Verdict::Service(_, _, _, None)
+        | Verdict::Dropped(_)
+        | Verdict::Malformed
+        | Verdict::ServiceMalformed => None,
+    }
+}
+
+/// What the drivers send where a service message of this kind bound or unbound an endpoint.
+fn endpoint_answer(
+    drivers: &mut Drivers,
+    kind: NsKind,
+    name: &Name,
+    address: u32,
+    endpoint: Endpoint,
+) -> Option<Message>
+    ensures answer { result ≡ endpoint_answer drivers.old kind name.now address endpoint }
+    ensures left { drivers.new ≡ after_endpoint drivers.old kind name.now address endpoint }
+{
+    match kind {
+        NsKind::Created => drivers.created(name, endpoint, address),
+        NsKind::Destroyed => {
+            drivers.destroyed(endpoint);
+            None
+        }
+        NsKind::Duplicate | NsKind::Unknown | NsKind::ChannelsFull => None,
+    }
+}
+
+/// The message of these bytes.
+fn whole(bytes: &[u8]) -> Message
+    requires { length bytes.now ≤ MESSAGE_MOST }
+    ensures { result ≡ bytes.now }
+{
+    let mut message = Message::empty();
+    message.set(bytes, &[]);
+    message
+}

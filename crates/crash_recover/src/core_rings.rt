@@ -1,0 +1,56 @@
+ghost use Rattle.std.specs.Prelude.{◌≡◌, ◌<◌, ◌^◌, IfOk, IfSome, MatchOption, None, Some, length};
+ghost use Rattle.fw_load.specs.Rings.{HasBuffers, IsSoundPair};
+ghost use Rattle.crash_recover.specs.CoreRings.{core_ring, pair_bytes, ring_of_lane};
+
+use crate::bench_rings::lane_base;
+use crate::benches::Bench;
+use crate::cores::Core;
+use fw_load::RingPair;
+use resource_table::Ring;
+use rp_base::{NoMemory, ring_capacity};
+use std::alloc::Global;
+
+impl Core {
+    /// The bytes of a lane's ring of the core's link as it lies in memory, over the buffers that its
+    /// image's device for RPMsg was given: lane 0 to the host, 1 to the remote. There are none exactly
+    /// where the core has no link, or what it loaded no rings.
+    pub fn ring_bytes(&self, alloc: Global, lane: u64) -> Result<Option<Vec<u8>>, NoMemory>
+        ensures bytes { IfOk result (λ found. MatchOption found (core_ring self.now lane ≡ None) (λ bytes. core_ring self.now lane ≡ Some bytes.items)) }
+        ensures short { IfOk result (λ found. IfSome found (λ bytes. length bytes.items < 2 ^ 32)) }
+    {
+        let (Some(bench), Some(loaded)) = (&self.bench, &self.loaded) else {
+            return Ok(None);
+        };
+        match &loaded.rings {
+            Some(rings) => Ok(Some(pair_bytes(bench, alloc, lane, rings)?)),
+            None => Ok(None),
+        }
+    }
+}
+
+/// The bytes of a lane's ring over the buffers of a device for RPMsg.
+fn pair_bytes(
+    bench: &Bench,
+    alloc: Global,
+    lane: u64,
+    rings: &RingPair,
+) -> Result<Vec<u8>, NoMemory>
+    requires sound { IsSoundPair rings.now }
+    requires buffers { HasBuffers rings.now }
+    ensures bytes { IfOk result (λ bytes. bytes.items ≡ pair_bytes bench.now.rings lane rings.now) }
+    ensures short { IfOk result (λ bytes. length bytes.items < 2 ^ 32) }
+{
+    let at = lane_base(rings.base, ring_capacity(rings.to_host.num), lane);
+    bench.placed_bytes(alloc, lane, at, ring_of_lane(rings, lane).align)
+}
+
+/// The ring of a lane.
+fn ring_of_lane(rings: &RingPair, lane: u64) -> &Ring
+    ensures { result.now ≡ ring_of_lane rings.now lane }
+{
+    if lane == 0 {
+        &rings.to_host
+    } else {
+        &rings.to_remote
+    }
+}
