@@ -1,6 +1,6 @@
 -- How the program ends, from what was to be written and how it was written.
-use Rattle.std.proofs.Common.{◌≡◌, ◌≢◌, ◌⊎◌, ◌+◌, ◌≤◌, ◌<◌, ℕ, Bool, true, false, Vec, ltb, List, [], Option, Some, None, Result, Ok, Err, length, take, is_ok, codes, refl, sym, ap, subst, ◌∙◌, inl, inr, arith}
-use Rattle.std.proofs.lemmas.Bool.{lt-ltb, cases_lt, true≢false}
+use Rattle.std.proofs.Common.{◌≡◌, ◌≢◌, ◌⊎◌, ◌+◌, ◌≤◌, ◌<◌, ℕ, Bool, true, false, cond, Vec, ltb, List, [], Option, Some, None, Result, Ok, Err, length, take, is_ok, refl, sym, ap, subst, ◌∙◌, inl, inr, arith}
+use Rattle.std.proofs.lemmas.Bool.{lt-ltb, cases_lt, false≢true, true≢false}
 use Rattle.std.proofs.lemmas.List.{length-take-le, take_all}
 use Rattle.std.specs.Io.KnownBytes.{Appends}
 use Rattle.rp_base.specs.declared.limits.TheConstants.{SCRIPT_MOST}
@@ -13,15 +13,20 @@ use Rattle.rp_io.specs.Contents.{AppendsFront, IsFrontOf}
 use Rattle.word_kinds.specs.declared.causes.Cause.TheVariants as cause
 use Rattle.script_lang.specs.declared.commands.Command.{Command}
 use Rattle.script_lang.specs.Grammar.{Refusal, bad_line, script_of}
-use Rattle.word_kinds.specs.Lines.{line_of}
-use Rattle.journal.specs.Notices.{notice_line}
 use Rattle.script_run.specs.declared.statuses.Status.{Status}
 use Rattle.script_run.specs.declared.statuses.Status.TheVariants as status
 use Rattle.script_run.specs.Statuses.{status_number, status_of}
-use Rattle.script_run.specs.Outputs.{Form, other, run, check, Output, usage_output, run_output, script_output, report_output, read_fault_output, store_fault_output}
+use Rattle.script_run.specs.declared.statuses.Stop.{Stop}
+use Rattle.script_run.specs.declared.statuses.Stop.TheVariants as stop
+use Rattle.script_run.specs.declared.runs.RunFault.TheVariants as run_fault
+use Rattle.script_run.specs.Stores.{IsHeld, IsTold, Told, held}
+use Rattle.script_run.specs.Runs.{new_run, run_of}
+use Rattle.script_run.specs.Outputs.{Form, other, run, check, Output, fails_in, usage_output, run_output, script_output, stop_output, transcript_output, report_output, store_fault_output}
 use Rattle.script_run.specs.Reports.{check_report, fetched_report}
+use Rattle.script_run.specs.Told.{RunWrites}
 use Rattle.script_run.proofs.Handed.{appends_nothing}
-use Rattle.script_run.specs.Endings.{Devices, IsAsked, IsReadWell, IsFaultOutput, IsOutput, IsCourse, IsFinal, IsRunOutput, IsReportOutput, EndsWell, Writes, Ends}
+use Rattle.script_run.proofs.Shelves.{any_held, any_told, held_failed, held_run}
+use Rattle.script_run.specs.Endings.{Devices, IsAsked, IsReadWell, IsFaultOutput, IsOutput, IsCourse, IsCutOutput, IsFinal, IsRunCourse, IsRunOutput, IsReportOutput, IsScriptOutput, IsStatusCourse, IsWellRun, OfScript, SourceAsksNone, TextAsksNone, EndsWell, RunEnds, Writes, Ends}
 
 -- the status of its number
 pub status_back : (ended : Status) → status_of (status_number ended) ≡ Some ended
@@ -91,9 +96,15 @@ pub front_of_none : (written : Option (List ℕ)) (text : List ℕ) → AppendsF
 front_of_none written text = record { count = 0; appended = appends_nothing written }
 
 -- some output of a script, and of an image
-some_run : (left : Option (List ℕ)) → (output : Output) × IsRunOutput left output
-some_run None = (run_output [], ([], refl))
-some_run (Some bytes) = (run_output bytes, refl)
+some_script : (images : Option (List (List ℕ × List ℕ))) (bytes : List ℕ) → (output : Output) × IsScriptOutput images bytes output
+some_script None bytes = (run_output (any_told None) bytes, (any_told None, any_held None, refl))
+some_script (Some images) bytes = (run_output (held images) bytes, refl)
+
+some_run : (left : Option (List ℕ)) (images : Option (List (List ℕ × List ℕ))) → (output : Output) × IsRunOutput left images output
+some_run None images =
+    let some = some_script images [] in
+    (some.0, ([], some.1))
+some_run (Some bytes) images = some_script images bytes
 
 some_report : (images : Option (List (List ℕ × List ℕ))) (name : List ℕ) → (output : Output) × IsReportOutput images name output
 some_report None name = (report_output (fetched_report name (Err fetch_fault.Missing)), (Err fetch_fault.Missing, tt, refl))
@@ -102,7 +113,7 @@ some_report (Some images) name = (report_output (check_report images name), refl
 -- what the words ask for is some output
 some_asked : (form : Form) (before : Devices) → (output : Output) × IsAsked form before output
 some_asked other before = (usage_output, refl)
-some_asked run before = some_run before.left
+some_asked run before = some_run before.left before.images
 some_asked (check name) before = some_report before.images name
 
 -- memory ran out before anything was written
@@ -128,21 +139,143 @@ cut_same left = by_length (cases_lt (SCRIPT_MOST + 1) (length left))
         rw (all, len) refl
     by_length (inr fits) = ap script_of (take_all (SCRIPT_MOST + 1) left fits)
 
--- the output of what was read of a source is that of all of it
-read_output : (left : Option (List ℕ)) (bytes : List ℕ) → IsFrontOf left (SCRIPT_MOST + 1) bytes → IsRunOutput left (run_output bytes)
+-- the output of the words `run`, by what the script says
+output_is : (told : Told) (bytes : List ℕ) → script_output told (script_of bytes) ≡ run_output told bytes
 unfolding run_output
-read_output None bytes front = (bytes, refl)
-read_output (Some left) bytes front = ap (λ text. script_output (script_of text)) front ∙ ap script_output (cut_same left)
+output_is told bytes = refl
+
+-- over a store that didn't fail, the output is that over its images alone
+said_same : (images : List (List ℕ × List ℕ)) (told : Told) (said : Result (List Command) Refusal) → IsHeld (Some images) told → script_output told said ≡ script_output (held images) said
+said_same images told (Ok commands) is = ap transcript_output (held_run images told new_run commands is)
+said_same images told (Err refusal) is = refl
+
+script_held : (images : Option (List (List ℕ × List ℕ))) (told : Told) (bytes : List ℕ) → IsHeld images told → IsScriptOutput images bytes (script_output told (script_of bytes))
+script_held None told bytes is = (told, is, output_is told bytes)
+script_held (Some images) told bytes is = said_same images told (script_of bytes) is ∙ output_is (held images) bytes
+
+-- over a store that failed
+script_cut : (images : Option (List (List ℕ × List ℕ))) (told : Told) (bytes : List ℕ) → IsTold images told → fails_in told (script_of bytes) ≡ true
+    → IsCutOutput images bytes (script_output told (script_of bytes))
+script_cut images told bytes is fails = record { told = told; is = is; fails = fails; written = output_is told bytes }
+
+-- what was read of a source says what all of it says
+read_same : (left bytes : List ℕ) → IsFrontOf (Some left) (SCRIPT_MOST + 1) bytes → script_of bytes ≡ script_of left
+read_same left bytes front = ap script_of front ∙ cut_same left
+
+-- what was read of a source that asks for no image asks for none
+pub read_asks : (left : Option (List ℕ)) (bytes : List ℕ) → IsFrontOf left (SCRIPT_MOST + 1) bytes → SourceAsksNone left → TextAsksNone (script_of bytes)
+read_asks None bytes front none = absurd none
+read_asks (Some left) bytes front none = subst TextAsksNone (sym (read_same left bytes front)) none
+
+-- so its output is that of all of it
+read_held : (left : Option (List ℕ)) (images : Option (List (List ℕ × List ℕ))) (told : Told) (bytes : List ℕ) → IsFrontOf left (SCRIPT_MOST + 1) bytes → IsHeld images told
+    → IsRunOutput left images (script_output told (script_of bytes))
+read_held None images told bytes front is = (bytes, script_held images told bytes is)
+read_held (Some left) images told bytes front is =
+    subst (λ (said : Result (List Command) Refusal). IsScriptOutput images left (script_output told said)) (sym (read_same left bytes front)) (script_held images told left is)
+
+read_cut : (left : Option (List ℕ)) (images : Option (List (List ℕ × List ℕ))) (told : Told) (bytes : List ℕ) → IsFrontOf left (SCRIPT_MOST + 1) bytes → IsTold images told
+    → fails_in told (script_of bytes) ≡ true → OfScript left (λ text. IsCutOutput images text (script_output told (script_of bytes)))
+read_cut None images told bytes front is fails = (bytes, script_cut images told bytes is fails)
+read_cut (Some left) images told bytes front is fails =
+    let same = read_same left bytes front in
+    subst (λ (said : Result (List Command) Refusal). IsCutOutput images left (script_output told said)) (sym same)
+    (script_cut images told left is (subst (λ (said : Result (List Command) Refusal). fails_in told said ≡ true) same fails))
+
+module _ (before now : Devices) (told : Told) (bytes : List ℕ) (front : IsFrontOf before.left (SCRIPT_MOST + 1) bytes) (source : now.source_faults ≡ before.source_faults) where
+  -- what was to be written
+  run_well : IsWellRun before.images told before.store_faults now.store_faults → IsAsked run before (script_output told (script_of bytes)) × IsReadWell before now
+  run_well is = (read_held before.left before.images told bytes front is.0, record { source = source; store = is.1 })
+
+  run_either : IsRunCourse before.images told (fails_in told (script_of bytes)) before.store_faults now.store_faults → IsOutput run before now (script_output told (script_of bytes))
+  run_either (inl is) = inl (run_well is)
+  run_either (inr is) = inr (inr (read_cut before.left before.images told bytes front is.0 is.1, is.2, source))
+
+  -- by the status
+  run_course : (ended : Status) → IsStatusCourse ended before.images told (fails_in told (script_of bytes)) before.store_faults now.store_faults
+      → IsCourse ended run before now (script_output told (script_of bytes))
+  run_course status.Done is = run_either is
+  run_course status.NoImage is = run_either is
+  run_course status.Usage is = run_either is
+  run_course status.ReadFault is = run_either is
+  run_course status.WriteFault is = run_either is
+  run_course status.NoMemory is = run_well is
+  run_course status.Refused is = run_either is
+  run_course status.StepLimit is = run_either is
+  run_course status.StoreFault is = run_either is
 
 -- a script that was read was run
-pub ends_run : (ended : Status) (before now : Devices) (bytes : List ℕ) → IsFrontOf before.left (SCRIPT_MOST + 1) bytes → IsReadWell before now
-    → Writes ended (run_output bytes) before.written now.written before.sink_faults now.sink_faults → Ends ended run before now
-ends_run ended before now bytes front well written = ends_asked ended run before now (run_output bytes) (read_output before.left bytes front) well written
+pub ends_run : (ended : Status) (before now : Devices) (bytes : List ℕ) → IsFrontOf before.left (SCRIPT_MOST + 1) bytes → now.source_faults ≡ before.source_faults
+    → RunEnds ended before.images (script_of bytes) before.written now.written before.sink_faults now.sink_faults before.store_faults now.store_faults → Ends ended run before now
+ends_run ended before now bytes front source ends = record {
+  output = script_output ends.told (script_of bytes);
+  course = run_course before now ends.told bytes front source ended ends.course;
+  written = ends.written;
+}
 
--- what a text says is what its output tells
-pub output_said : (bytes : List ℕ) (said : Result (List Command) Refusal) → script_of bytes ≡ said → script_output said ≡ run_output bytes
-unfolding run_output
-output_said bytes said says = ap script_output (sym says)
+-- a store that didn't fail, by the status
+well_status : (ended : Status) (images : Option (List (List ℕ × List ℕ))) (told : Told) (failed : Bool) (was then : ℕ) → IsWellRun images told was then → IsStatusCourse ended images told failed was then
+well_status status.Done images told failed was then is = inl is
+well_status status.NoImage images told failed was then is = inl is
+well_status status.Usage images told failed was then is = inl is
+well_status status.ReadFault images told failed was then is = inl is
+well_status status.WriteFault images told failed was then is = inl is
+well_status status.NoMemory images told failed was then is = is
+well_status status.Refused images told failed was then is = inl is
+well_status status.StepLimit images told failed was then is = inl is
+well_status status.StoreFault images told failed was then is = inl is
+
+-- a status with which a run ends where all was written
+final_status : (ended : Status) (images : Option (List (List ℕ × List ℕ))) (told : Told) (failed : Bool) (was then : ℕ) → IsFinal ended → IsRunCourse images told failed was then
+    → IsStatusCourse ended images told failed was then
+final_status status.Done images told failed was then final is = is
+final_status status.NoImage images told failed was then final is = is
+final_status status.Usage images told failed was then final is = is
+final_status status.ReadFault images told failed was then final is = is
+final_status status.WriteFault images told failed was then final is = is
+final_status status.NoMemory images told failed was then final is = absurd final
+final_status status.Refused images told failed was then final is = is
+final_status status.StepLimit images told failed was then final is = is
+final_status status.StoreFault images told failed was then final is = is
+
+stop_final : (stop : Option Stop) → IsFinal (stop_output stop).status
+stop_final None = tt
+stop_final (Some stop.StepLimit) = tt
+
+end_final : (failed : Bool) (stop : Option Stop) → IsFinal (cond failed store_fault_output (stop_output stop)).status
+end_final true stop = tt
+end_final false stop = stop_final stop
+
+module _ (images : Option (List (List ℕ × List ℕ))) (commands : List Command) (old new : Option (List ℕ)) (before now was then : ℕ) where
+  -- a run that was written whole
+  pub run_whole : (ended : Status) → RunWrites images commands (Ok ended) old new before now was then → RunEnds ended images (Ok commands) old new before now was then
+  run_whole ended writes =
+      let ran = run_of writes.told commands in
+      let final : IsFinal ended = subst IsFinal (sym writes.status) (end_final ran.failed ran.ending) in
+      record {
+        told = writes.told;
+        course = final_status ended images writes.told ran.failed was then final writes.course;
+        written = writes_whole ended (transcript_output ran) old new before now final (sym writes.status) writes.text.0 writes.text.1;
+      }
+
+  -- or in part
+  pub run_in_part : RunWrites images commands (Err run_fault.Write) old new before now was then → RunEnds status.WriteFault images (Ok commands) old new before now was then
+  run_in_part writes = record { told = writes.told; course = writes.course; written = writes.text }
+
+  pub run_no_memory : RunWrites images commands (Err run_fault.NoMemory) old new before now was then → RunEnds status.NoMemory images (Ok commands) old new before now was then
+  run_no_memory writes = record { told = writes.told; course = writes.course; written = writes.text }
+
+module _ (images : Option (List (List ℕ × List ℕ))) (said : Result (List Command) Refusal) (old : Option (List ℕ)) (before was : ℕ) where
+  -- memory ran out before the run
+  pub unread_ends : RunEnds status.NoMemory images said old old before before was was
+  unread_ends = record { told = any_told images; course = (any_held images, refl); written = (front_of_none old (script_output (any_told images) said).text, refl) }
+
+-- a text that is no script
+pub refused_ends : (images : Option (List (List ℕ × List ℕ))) (said : Result (List Command) Refusal) (refusal : Refusal) (ended : Status) (old new : Option (List ℕ)) (before now was : ℕ) → said ≡ Err refusal
+    → Writes ended (script_output (any_told images) (Err refusal)) old new before now → RunEnds ended images said old new before now was was
+refused_ends images said refusal ended old new before now was is written =
+    subst (λ (text : Result (List Command) Refusal). RunEnds ended images text old new before now was was) (sym is)
+    (record { told = any_told images; course = well_status ended images (any_told images) false was was (any_held images, refl); written = written })
 
 -- a text that is too long is refused
 script_long : (bytes : List ℕ) → ltb SCRIPT_MOST (length bytes) ≡ true → script_of bytes ≡ Err (bad_line 0 cause.Size)
@@ -168,8 +301,54 @@ well_of : (ended : Status) (form : Form) (before now : Devices) (output : Output
     → ¬ (Rose before.source_faults now.source_faults) → ¬ (Rose before.store_faults now.store_faults) → IsOutput form before now output → IsAsked form before output
 well_of ended form before now output source store (inl asked) = asked.0
 well_of ended other before now output source store (inr fault) = absurd fault
-well_of ended run before now output source store (inr fault) = absurd (source fault.1)
+well_of ended run before now output source store (inr (inl fault)) = absurd (source fault.1)
+well_of ended run before now output source store (inr (inr fault)) = absurd (store fault.1)
 well_of ended (check name) before now output source store (inr fault) = absurd (store fault.1)
+
+-- the status of a store that failed
+abbrev is_store_fault : Status → Bool
+is_store_fault status.StoreFault = true
+is_store_fault ended = false
+
+-- no run ends so whose store didn't fail
+held_well : (images : Option (List (List ℕ × List ℕ))) (told : Told) (said : Result (List Command) Refusal) → IsHeld images told → fails_in told said ≡ false
+held_well images told (Ok commands) is = held_failed images told new_run commands is
+held_well images told (Err refusal) is = refl
+
+stop_well : (stop : Option Stop) → is_store_fault (stop_output stop).status ≡ false
+stop_well None = refl
+stop_well (Some stop.StepLimit) = refl
+
+said_well : (told : Told) (said : Result (List Command) Refusal) → fails_in told said ≡ false → is_store_fault (script_output told said).status ≡ false
+said_well told (Ok commands) well =
+    ap (λ (failed : Bool). is_store_fault (cond failed store_fault_output (stop_output (run_of told commands).ending)).status) well ∙ stop_well (run_of told commands).ending
+said_well told (Err refusal) well = refl
+
+over_well : (images : Option (List (List ℕ × List ℕ))) (told : Told) (bytes : List ℕ) (output : Output) → IsHeld images told → output ≡ run_output told bytes → is_store_fault output.status ≡ false
+over_well images told bytes output held is =
+    ap (λ (o : Output). is_store_fault o.status) (is ∙ sym (output_is told bytes)) ∙ said_well told (script_of bytes) (held_well images told (script_of bytes) held)
+
+script_well : (images : Option (List (List ℕ × List ℕ))) (bytes : List ℕ) (output : Output) → IsScriptOutput images bytes output → is_store_fault output.status ≡ false
+script_well None bytes output is = over_well None is.0 bytes output is.1 is.2
+script_well (Some images) bytes output is = over_well (Some images) (held images) bytes output (λ number. refl) is
+
+run_script_well : (left : Option (List ℕ)) (images : Option (List (List ℕ × List ℕ))) (output : Output) → IsRunOutput left images output → is_store_fault output.status ≡ false
+run_script_well None images output is = script_well images is.0 output is.1
+run_script_well (Some bytes) images output is = script_well images bytes output is
+
+-- nor does a report
+loads_well : (loads : Bool) → is_store_fault (cond loads status.Done status.NoImage) ≡ false
+loads_well true = refl
+loads_well false = refl
+
+report_well : (images : Option (List (List ℕ × List ℕ))) (name : List ℕ) (output : Output) → IsReportOutput images name output → is_store_fault output.status ≡ false
+report_well None name output is = ap (λ (o : Output). is_store_fault o.status) is.2 ∙ loads_well (fetched_report name is.0).loads
+report_well (Some images) name output is = ap (λ (o : Output). is_store_fault o.status) is ∙ loads_well (check_report images name).loads
+
+asked_well : (form : Form) (before : Devices) (output : Output) → IsAsked form before output → is_store_fault output.status ≡ false
+asked_well other before output is = ap (λ (o : Output). is_store_fault o.status) is
+asked_well run before output is = run_script_well before.left before.images output is
+asked_well (check name) before output is = report_well before.images name output is
 
 -- where no count rose, the program ends with the status of the output that is asked for, or memory ran out
 pub complete : (ended : Status) (form : Form) (before now : Devices)
@@ -183,16 +362,8 @@ complete status.WriteFault form before now source store sink ends = sink ends.wr
 complete status.NoMemory form before now source store sink ends = tt
 complete status.Refused form before now source store sink ends = (ends.output, well_of status.Refused form before now ends.output source store ends.course, ends.written.0)
 complete status.StepLimit form before now source store sink ends = (ends.output, well_of status.StepLimit form before now ends.output source store ends.course, ends.written.0)
-complete status.StoreFault form before now source store sink ends = (ends.output, well_of status.StoreFault form before now ends.output source store ends.course, ends.written.0)
-
--- the lines that need no memory
-pub store_fault_line : store_fault_output ≡ record { status = status.StoreFault; text = codes "* store fault\n" }
-unfolding notice_line line_of
-store_fault_line = refl
-
-pub read_fault_line : read_fault_output ≡ record { status = status.ReadFault; text = codes "* read fault\n" }
-unfolding notice_line line_of
-read_fault_line = refl
+complete status.StoreFault form before now source store sink ends =
+    false≢true (sym (asked_well form before ends.output (well_of status.StoreFault form before now ends.output source store ends.course)) ∙ ap is_store_fault ends.written.0)
 
 -- a read that didn't fail left the count as it was
 abbrev is_failed : ReadFault → Bool

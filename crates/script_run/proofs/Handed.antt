@@ -90,3 +90,10 @@ pub hands_front_kept : (a b c : Option (List ℕ)) (l x : List ℕ) → Hands a 
 hands_front_kept a b c l x told front =
     subst (λ bytes. AppendsFront a c bytes) (append-nil x)
     (hands_front a b c l x [] told (subst (λ bytes. AppendsFront b c bytes) (sym (append-nil l)) front))
+
+-- all of it, and then a front of more, are appended
+pub front_after : (a b c : Option (List ℕ)) (x y : List ℕ) → Appends a b x → AppendsFront b c y → AppendsFront a c (x ++ y)
+front_after a b c x y whole front = record {
+  count = length x + front.count;
+  appended = appends_same a c (x ++ take front.count y) (take (length x + front.count) (x ++ y)) (sym (take-append-add x y front.count)) (appends_more a b c x (take front.count y) whole front.appended);
+}

@@ -1,9 +1,17 @@
 mod Handed
 mod Ends
 mod RunSteps
+mod Driving
+mod FaultLines
+mod AskedNames
+mod Shelves
 mod SoFar
 mod Placing
-mod Fetches
+mod FetchedReports
 mod RingRows
 mod TableWalks
 mod LoadReports
+mod CoreRecovered
+mod Matches
+mod Accepted
+pub mod CorePumps

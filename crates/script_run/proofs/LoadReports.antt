@@ -1,5 +1,5 @@
 -- The report of an image that loads.
-use Rattle.std.proofs.Common.{◌≡◌, ℕ, List, None, sym, ap, ◌∙◌, subst}
+use Rattle.std.proofs.Common.{◌≡◌, ℕ, List, sym, ap, ◌∙◌, subst}
 use Rattle.elf_image.specs.Images.{entry_of}
 use Rattle.elf_image.specs.Segments.{segments_of}
 use Rattle.memory_pool.specs.declared.blocks.Block.{Block}
@@ -7,12 +7,12 @@ use Rattle.memory_pool.specs.declared.regions.Region.{Region}
 use Rattle.memory_pool.specs.Regions.{standard_regions}
 use Rattle.fw_load.specs.declared.loading.Loaded.{Loaded}
 use Rattle.fw_load.specs.declared.traces.TraceAt.{TraceAt}
-use Rattle.fw_load.specs.Loading.{IsLoaded, Loads, load_fault}
+use Rattle.fw_load.specs.Loading.{IsLoaded, Loads}
 use Rattle.fw_load.specs.Memory.{memory_at}
 use Rattle.fw_load.specs.Rings.{traces_of}
 use Rattle.fw_load.specs.Tables.{table_of, entries_in, patched_in}
 use Rattle.script_run.specs.TableRows.{table_rows}
-use Rattle.script_run.specs.Reports.{Report, blocks_in, blocks_of, image_report, loaded_report, loads_report, rows_of_image}
+use Rattle.script_run.specs.Reports.{blocks_in, image_report, loaded_report, loads_report, rows_of_image}
 
 -- the lines of the table are those of what was loaded
 rows_same : (image : List ℕ) (loaded : Loaded) → IsLoaded image standard_regions loaded → table_rows loaded.table.items loaded.traces.items ≡ rows_of_image image

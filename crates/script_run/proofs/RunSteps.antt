@@ -1,13 +1,15 @@
 -- A run, command by command.
-use Rattle.std.proofs.Common.{◌≡◌, ℕ, suc, ◌+◌, ◌<◌, List, [], ◌∷◌, ◌++◌, length, Some, None, refl, sym, ap, subst, ◌∙◌, append_assoc, drop, get_or, add-one, drop-cons}
+use Rattle.std.proofs.Common.{◌≡◌, ℕ, true, false, zero, suc, ◌+◌, ◌<◌, List, [], ◌∷◌, ◌++◌, length, Option, Some, None, Err, refl, sym, ap, subst, ◌∙◌, append_assoc, drop, get_or, add-one, drop-cons}
 use Rattle.script_lang.specs.declared.commands.Command.{Command}
 use Rattle.script_lang.specs.Runnable.{AreRunnable, IsRunnable}
 use Rattle.journal.specs.declared.events.Event.{Event}
 use Rattle.journal.specs.Lines.{line, transcript}
-use Rattle.journal.specs.Notices.{report_text}
 use Rattle.script_run.specs.declared.statuses.Stop.{Stop}
-use Rattle.script_run.specs.Runs.{RunState, Run, run_on, run_from, effect_of}
-use Rattle.script_run.specs.Outputs.{stop_notices, transcript_output}
+use Rattle.script_run.specs.Stores.{Shelf, Told, answer_for, later_told, told_answer}
+use Rattle.rp_io.specs.declared.faults.FetchFault.TheVariants as fetch_fault
+use Rattle.script_run.specs.Logs.{HasRunEffect, LogState}
+use Rattle.script_run.specs.Runs.{AsksNone, IfGoesOn, ObjectsState, RunEffect, RunState, Run, asked_name, run_on, run_from, run_told, effect_of}
+use Rattle.script_run.specs.Outputs.{end_output, transcript_output}
 
 -- a run behind these events
 abbrev pub behind : List Event → Run → Run
@@ -22,31 +24,51 @@ transcript-append (event ∷ more) second =
 -- the text of a run behind these events begins with their lines
 pub text_behind : (events : List Event) (run : Run) → (transcript_output (behind events run)).text ≡ transcript events ++ (transcript_output run).text
 text_behind events run =
-    ap (λ lines. lines ++ report_text (stop_notices run.ending)) (transcript-append events run.events)
-    ∙ append_assoc (transcript events) (transcript run.events) (report_text (stop_notices run.ending))
+    ap (λ lines. lines ++ (end_output run).text) (transcript-append events run.events)
+    ∙ append_assoc (transcript events) (transcript run.events) (end_output run).text
+
+-- what is told at a command, and behind it
+abbrev pub first_told : Option Shelf → Told → Told
+first_told first later zero = first
+first_told first later (suc number) = later number
 
 -- a command before others
-pub run_first : (state : RunState) (first : Command) (more : List Command)
-    → run_from state (first ∷ more) ≡ run_on (effect_of state first) (effect_of state first).ending (run_from (effect_of state first).run more)
+pub run_first : (told : Told) (state : RunState) (first : Command) (more : List Command)
+    → run_from told state (first ∷ more) ≡ run_told state first (told_answer (told 0) (asked_name state.objects first)) (λ next. run_from (later_told told) next more)
 unfolding run_from
-run_first state first more = refl
+run_first told state first more = refl
 
 -- no command
-pub run_none : (state : RunState) → run_from state [] ≡ record { events = []; last = state; ending = None }
+pub run_none : (told : Told) (state : RunState) → run_from told state [] ≡ record { events = []; last = state; ending = None; failed = false }
 unfolding run_from
-run_none state = refl
+run_none told state = refl
 
--- a run that stops with its first command
-pub run_stops : (state : RunState) (first : Command) (more : List Command) (why : Stop) → (effect_of state first).ending ≡ Some why
-    → run_from state (first ∷ more) ≡ record { events = (effect_of state first).events; last = (effect_of state first).run; ending = Some why }
-run_stops state first more why stops =
-    run_first state first more ∙ ap (λ ending. run_on (effect_of state first) ending (run_from (effect_of state first).run more)) stops
+-- what a command does over what the store has
+abbrev pub effect_over : Shelf → RunState → Command → RunEffect
+effect_over shelf state command = effect_of (answer_for shelf (asked_name state.objects command)) state command
 
--- a run that goes on after its first command
-pub run_goes_on : (state : RunState) (first : Command) (more : List Command) → (effect_of state first).ending ≡ None
-    → run_from state (first ∷ more) ≡ behind (effect_of state first).events (run_from (effect_of state first).run more)
-run_goes_on state first more goes =
-    run_first state first more ∙ ap (λ ending. run_on (effect_of state first) ending (run_from (effect_of state first).run more)) goes
+module _ (shelf : Shelf) (later : Told) (state : RunState) (first : Command) (more : List Command) where
+  -- a run that stops with its first command
+  pub run_stops : (why : Stop) → (effect_over shelf state first).ending ≡ Some why
+      → run_from (first_told (Some shelf) later) state (first ∷ more)
+      ≡ record { events = (effect_over shelf state first).events; last = (effect_over shelf state first).run; ending = Some why; failed = false }
+  run_stops why stops =
+      run_first (first_told (Some shelf) later) state first more
+      ∙ ap (λ ending. run_on (effect_over shelf state first) ending (run_from later (effect_over shelf state first).run more)) stops
+
+  -- a run that goes on after its first command
+  pub run_goes_on : (effect_over shelf state first).ending ≡ None
+      → run_from (first_told (Some shelf) later) state (first ∷ more) ≡ behind (effect_over shelf state first).events (run_from later (effect_over shelf state first).run more)
+  run_goes_on goes =
+      run_first (first_told (Some shelf) later) state first more
+      ∙ ap (λ ending. run_on (effect_over shelf state first) ending (run_from later (effect_over shelf state first).run more)) goes
+
+-- a run whose store fails at its first command
+pub run_fails : (later : Told) (state : RunState) (first : Command) (more : List Command) (name : List ℕ) → asked_name state.objects first ≡ Some name
+    → run_from (first_told None later) state (first ∷ more) ≡ record { events = []; last = state; ending = None; failed = true }
+run_fails later state first more name asks =
+    run_first (first_told None later) state first more
+    ∙ ap (λ asked. run_told state first (told_answer None asked) (λ next. run_from later next more)) asks
 
 -- what is left at a place is the item there and what is left behind it
 pub left_at : {X : Type 0} (items : List X) (i : ℕ) (item : X) → i < length items → item ≡ get_or items i item
@@ -56,3 +78,24 @@ left_at items i item inside is = drop-cons items i item inside ∙ ap (λ x. x �
 -- the commands that are left at a place are those of a list without its first, where that one may be run
 pub runnable_first : (first : Command) (more left : List Command) → left ≡ first ∷ more → AreRunnable left → IsRunnable first × AreRunnable more
 runnable_first first more left is runnable = subst AreRunnable is runnable
+
+-- a command that asks for nothing, and those behind it
+pub asks_first : (state : RunState) (left : List Command) (first : Command) (more : List Command) → left ≡ first ∷ more → AsksNone state left → asked_name state.objects first ≡ None
+unfolding AsksNone
+asks_first state left first more is none = (subst (AsksNone state) is none).0
+
+asks_behind : (state : RunState) (first : Command) (more : List Command) → AsksNone state (first ∷ more) → (effect_of (Err fetch_fault.Missing) state first).ending ≡ None
+    → AsksNone (effect_of (Err fetch_fault.Missing) state first).run more
+unfolding AsksNone
+asks_behind state first more none goes =
+    subst (λ (ending : Option Stop). IfGoesOn ending (AsksNone (effect_of (Err fetch_fault.Missing) state first).run more)) goes none.1
+
+pub asks_later : (state : RunState) (left : List Command) (first : Command) (more : List Command) (shelf : Shelf) (objects : ObjectsState) (before after : LogState) (answer : Option Stop) → left ≡ first ∷ more
+    → AsksNone state left → HasRunEffect (effect_over shelf state first) objects before after answer → answer ≡ None → AsksNone (record { objects = objects; steps = after.steps }) more
+asks_later state left first more shelf objects before after answer is none did goes =
+    let asked = asks_first state left first more is none in
+    let found = subst (λ (a : Option (List ℕ)). HasRunEffect (effect_of (answer_for shelf a) state first) objects before after answer) asked did in
+    let effect = effect_of (Err fetch_fault.Missing) state first in
+    subst (λ (run : RunState). AsksNone run more)
+    (ap (λ (l : ObjectsState). record { objects = l; steps = effect.run.steps }) (sym found.objects) ∙ ap (λ (n : ℕ). record { objects = objects; steps = n }) (sym found.steps))
+    (asks_behind state first more (subst (AsksNone state) is none) (sym found.ending ∙ goes))

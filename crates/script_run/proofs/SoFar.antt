@@ -1,103 +1,103 @@
 -- What a run told so far, and what it is still to tell.
-use Rattle.std.proofs.Common.{◌≡◌, ◌+◌, ◌<◌, ℕ, List, [], ◌∷◌, ◌++◌, Option, Some, None, Result, Ok, Err, refl, sym, ap, subst, ◌∙◌, append_assoc, append-nil, IsErrAnd, drop, length, get_or}
-use Rattle.std.proofs.lemmas.Result.{err_from_is_err_and}
+use Rattle.std.proofs.Common.{◌≡◌, ◌≢◌, inl, inr, ◌+◌, ◌<◌, ℕ, false, true, List, [], ◌∷◌, ◌++◌, Option, Some, None, Result, Ok, Err, refl, sym, ap, subst, ◌∙◌, append_assoc, append-nil, drop, length, get_or}
+use Rattle.std.specs.Prelude.{is_some}
+use Rattle.std.proofs.lemmas.Bool.{false≢true}
 use Rattle.std.specs.Io.KnownBytes.{Appends}
 use Rattle.rp_io.specs.Causes.{Rose}
 use Rattle.rp_io.specs.Contents.{AppendsFront}
 use Rattle.script_lang.specs.declared.commands.Command.{Command}
 use Rattle.journal.specs.declared.events.Event.{Event}
 use Rattle.journal.specs.Lines.{transcript}
-use Rattle.journal.specs.Notices.{report_text}
+use Rattle.script_run.specs.declared.statuses.Status.{Status}
 use Rattle.script_run.specs.declared.statuses.Stop.{Stop}
 use Rattle.script_run.specs.declared.runs.RunFault.{RunFault}
 use Rattle.script_run.specs.declared.runs.RunFault.TheVariants as run_fault
-use Rattle.script_run.specs.Runs.{ObjectsState, RunState, Run, run_from, run_of, new_run, effect_of}
-use Rattle.script_run.specs.Outputs.{stop_notices, transcript_output}
+use Rattle.script_run.specs.Stores.{IsHeld, IsShelf, Shelf, Told}
+use Rattle.script_run.specs.Runs.{ObjectsState, RunState, Run, asked_name, run_from, run_of, new_run}
+use Rattle.script_run.specs.Outputs.{Output, end_output, stop_output, store_fault_output, transcript_output}
+use Rattle.script_run.specs.Endings.{IsFailedRun, IsWellRun}
 use Rattle.script_run.specs.Logs.{LogState, Hands, HasRunEffect}
-use Rattle.script_run.specs.Told.{EndsRun, RunWrites}
+use Rattle.script_run.specs.Fetches.{DidTold}
+use Rattle.script_run.specs.Told.{AnswersStatus, EndsRun, IsResultCourse, RunWrites, Tells}
 use Rattle.script_run.proofs.Handed.{appends_more, appends_same, hands_nothing, hands_kept, hands_more, hands_front, handed_front, hands_front_kept, front_of_all}
-use Rattle.script_run.proofs.RunSteps.{behind, transcript-append, text_behind, left_at, run_stops, run_goes_on}
+use Rattle.script_run.proofs.RunSteps.{behind, effect_over, first_told, transcript-append, text_behind, left_at, run_fails, run_stops, run_goes_on}
+use Rattle.script_run.proofs.Shelves.{AreShelves, any_held, any_told, fault_next, fault_told, shelves_more, then_held, then_told, told_more, told_then}
 
--- what was told from the start is kept or handed on, and the rest of the run follows
-pub record SoFar (commands : List Command) (from now : Option (List ℕ)) (lines : List ℕ) (rest : Run) : Type 0 where
+-- what was told from the start is kept or handed on, over what the store told, and the rest of the run follows
+pub record SoFar (images : Option (List (List ℕ × List ℕ))) (commands : List Command) (from now : Option (List ℕ)) (lines : List ℕ) (rest : Told → Run) : Type 0 where
   pub events : List Event
+  pub shelves : List Shelf
+  pub are : AreShelves images shelves
   pub hands : Hands from [] now lines (transcript events)
-  pub run : run_of commands ≡ behind events rest
+  pub run : (later : Told) → run_of (told_then shelves later) commands ≡ behind events (rest later)
 
 -- nothing is told yet
-pub so_far_none : (commands : List Command) (written : Option (List ℕ)) → SoFar commands written written [] (run_from new_run commands)
-so_far_none commands written = record { events = []; hands = hands_nothing written; run = refl }
+pub so_far_none : (images : Option (List (List ℕ × List ℕ))) (commands : List Command) (written : Option (List ℕ))
+    → SoFar images commands written written [] (λ later. run_from later new_run commands)
+so_far_none images commands written = record { events = []; shelves = []; are = tt; hands = hands_nothing written; run = λ later. refl }
+
+-- a name that is there
+pub asked_some : (asked : Option (List ℕ)) → is_some asked ≡ true → (name : List ℕ) × (asked ≡ Some name)
+asked_some None is = absurd (false≢true is)
+asked_some (Some name) is = (name, refl)
 
 -- events behind events
 behind_twice : (first second : List Event) (run : Run) → behind first (behind second run) ≡ behind (first ++ second) run
 behind_twice first second run = ap (λ (events : List Event). record run { events = events }) (sym (append_assoc first second run.events))
 
--- the text of a run that tells no more
-last_text : (rest : Run) (stop : Option Stop) → rest.events ≡ [] → rest.ending ≡ stop → report_text (stop_notices stop) ≡ (transcript_output rest).text
-last_text rest stop none ending =
-    ap (λ (why : Option Stop). report_text (stop_notices why)) (sym ending)
-    ∙ ap (λ (events : List Event). transcript events ++ report_text (stop_notices rest.ending)) (sym none)
+-- the last line of a run that tells no more
+last_text : (rest : Run) → rest.events ≡ [] → (end_output rest).text ≡ (transcript_output rest).text
+last_text rest none = ap (λ (events : List Event). transcript events ++ (end_output rest).text) (sym none)
 
-module _ (commands : List Command) (from now : Option (List ℕ)) (lines : List ℕ) where
+module _ (images : Option (List (List ℕ × List ℕ))) (commands : List Command) (from now : Option (List ℕ)) (lines : List ℕ) where
   -- the rest told by these events and what follows them
-  told_more : (rest later : Run) (events : List Event) (kept : List ℕ) → SoFar commands from now lines rest → rest ≡ behind events later
-      → kept ≡ lines ++ transcript events → SoFar commands from now kept later
-  told_more rest later events kept so_far is lined = record {
+  told_events : (rest next : Told → Run) (shelf : Shelf) (events : List Event) (kept : List ℕ) → SoFar images commands from now lines rest → IsShelf images shelf
+      → ((later : Told) → rest (first_told (Some shelf) later) ≡ behind events (next later))
+      → kept ≡ lines ++ transcript events → SoFar images commands from now kept next
+  told_events rest next shelf events kept so_far is told lined = record {
     events = so_far.events ++ events;
+    shelves = so_far.shelves ++ shelf ∷ [];
+    are = shelves_more images so_far.shelves shelf so_far.are is;
     hands = subst (λ bytes. Hands from [] now kept bytes) (sym (transcript-append so_far.events events))
         (hands_more from now now [] lines kept (transcript so_far.events) (transcript events) so_far.hands (hands_kept now lines (transcript events) kept lined));
-    run = so_far.run ∙ ap (behind so_far.events) is ∙ behind_twice so_far.events events later;
+    run = λ later. ap (λ (t : Told). run_of t commands) (told_more so_far.shelves shelf later) ∙ so_far.run (first_told (Some shelf) later)
+        ∙ ap (behind so_far.events) (told later) ∙ behind_twice so_far.events events (next later);
   }
 
   -- a command that the run goes on after
-  so_far_more : (state : RunState) (left : List Command) (first : Command) (more : List Command) (objects : ObjectsState) (before after : LogState)
-      → SoFar commands from now lines (run_from state left) → left ≡ first ∷ more → before.lines ≡ lines
-      → HasRunEffect (effect_of state first) objects before after None
-      → SoFar commands from now after.lines (run_from (record { objects = objects; steps = after.steps }) more)
-  so_far_more state left first more objects before after so_far is kept found =
-      let effect = effect_of state first in
+  so_far_more : (state : RunState) (left : List Command) (first : Command) (more : List Command) (objects : ObjectsState) (before after : LogState) (shelf : Shelf)
+      → SoFar images commands from now lines (λ later. run_from later state left) → left ≡ first ∷ more → before.lines ≡ lines → IsShelf images shelf
+      → HasRunEffect (effect_over shelf state first) objects before after None
+      → SoFar images commands from now after.lines (λ later. run_from later (record { objects = objects; steps = after.steps }) more)
+  so_far_more state left first more objects before after shelf so_far is kept has found =
+      let effect = effect_over shelf state first in
       let reached : effect.run ≡ record { objects = objects; steps = after.steps } =
       ap (λ (l : ObjectsState). record { objects = l; steps = effect.run.steps }) (sym found.objects)
       ∙ ap (λ (s : ℕ). record { objects = objects; steps = s }) (sym found.steps) in
-      told_more (run_from state left) (run_from (record { objects = objects; steps = after.steps }) more) effect.events after.lines so_far
-      (ap (run_from state) is ∙ run_goes_on state first more (sym found.ending)
-      ∙ ap (λ (s : RunState). behind effect.events (run_from s more)) reached)
+      told_events (λ later. run_from later state left) (λ later. run_from later (record { objects = objects; steps = after.steps }) more) shelf effect.events after.lines so_far has
+      (λ later. ap (run_from (first_told (Some shelf) later) state) is ∙ run_goes_on shelf later state first more (sym found.ending)
+      ∙ ap (λ (s : RunState). behind effect.events (run_from later s more)) reached)
       (found.lines ∙ ap (λ (front : List ℕ). front ++ transcript effect.events) kept)
 
   -- a command with which the run stops
-  so_far_stop : (state : RunState) (left : List Command) (first : Command) (more : List Command) (objects : ObjectsState) (before after : LogState) (why : Stop)
-      → SoFar commands from now lines (run_from state left) → left ≡ first ∷ more → before.lines ≡ lines
-      → HasRunEffect (effect_of state first) objects before after (Some why)
-      → SoFar commands from now after.lines (record { events = []; last = (effect_of state first).run; ending = Some why })
-  so_far_stop state left first more objects before after why so_far is kept found =
-      let effect = effect_of state first in
-      told_more (run_from state left) (record { events = []; last = effect.run; ending = Some why }) effect.events after.lines so_far
-      (ap (run_from state) is ∙ run_stops state first more why (sym found.ending)
-      ∙ ap (λ (events : List Event). record { events = events; last = effect.run; ending = Some why }) (sym (append-nil effect.events)))
+  so_far_stop : (state : RunState) (left : List Command) (first : Command) (more : List Command) (objects : ObjectsState) (before after : LogState) (shelf : Shelf) (why : Stop)
+      → SoFar images commands from now lines (λ later. run_from later state left) → left ≡ first ∷ more → before.lines ≡ lines → IsShelf images shelf
+      → HasRunEffect (effect_over shelf state first) objects before after (Some why)
+      → SoFar images commands from now after.lines (λ later. record { events = []; last = (effect_over shelf state first).run; ending = Some why; failed = false })
+  so_far_stop state left first more objects before after shelf why so_far is kept has found =
+      let effect = effect_over shelf state first in
+      told_events (λ later. run_from later state left) (λ later. record { events = []; last = effect.run; ending = Some why; failed = false }) shelf effect.events after.lines so_far has
+      (λ later. ap (run_from (first_told (Some shelf) later) state) is ∙ run_stops shelf later state first more why (sym found.ending)
+      ∙ ap (λ (events : List Event). record { events = events; last = effect.run; ending = Some why; failed = false }) (sym (append-nil effect.events)))
       (found.lines ∙ ap (λ (front : List ℕ). front ++ transcript effect.events) kept)
 
-  -- the text of the whole, by the events so far
-  whole_text : (rest : Run) (so_far : SoFar commands from now lines rest)
-      → transcript so_far.events ++ (transcript_output rest).text ≡ (transcript_output (run_of commands)).text
-  whole_text rest so_far = sym (ap (λ (run : Run). (transcript_output run).text) so_far.run ∙ text_behind so_far.events rest)
-
-  -- what was handed on is a front of the whole
-  pub so_far_front : (rest : Run) → SoFar commands from now lines rest → AppendsFront from now (transcript_output (run_of commands)).text
-  so_far_front rest so_far =
-      handed_front from now lines (transcript so_far.events) (transcript_output rest).text (transcript_output (run_of commands)).text so_far.hands (whole_text rest so_far)
-
-  -- a front of what is kept is handed on
-  pub so_far_failed : (rest : Run) (new : Option (List ℕ)) → SoFar commands from now lines rest → AppendsFront now new lines
-      → AppendsFront from new (transcript_output (run_of commands)).text
-  so_far_failed rest new so_far front =
-      front_of_all from new (transcript so_far.events) (transcript_output rest).text (transcript_output (run_of commands)).text
-      (hands_front_kept from now new lines (transcript so_far.events) so_far.hands front) (whole_text rest so_far)
-
   -- what is kept is handed on, all of it or nothing
-  pub so_far_handed : (rest : Run) (new : Option (List ℕ)) (left : List ℕ) → SoFar commands from now lines rest → Hands now lines new left []
-      → SoFar commands from new left rest
+  pub so_far_handed : (rest : Told → Run) (new : Option (List ℕ)) (left : List ℕ) → SoFar images commands from now lines rest → Hands now lines new left []
+      → SoFar images commands from new left rest
   so_far_handed rest new left so_far handed = record {
     events = so_far.events;
+    shelves = so_far.shelves;
+    are = so_far.are;
     hands = subst (λ bytes. Hands from [] new left bytes) (append-nil (transcript so_far.events))
         (hands_more from now new [] lines left (transcript so_far.events) [] so_far.hands handed);
     run = so_far.run;
@@ -110,70 +110,122 @@ module _ (commands : List Command) (from now : Option (List ℕ)) (lines : List 
       (sym (append_assoc hands.handed lines text) ∙ ap (λ front. front ++ text) hands.rest)
       (appends_more from now new hands.handed (lines ++ text) hands.appended whole)
 
-  -- the run has ended, and what is kept is handed on with the line of why it stopped
-  pub so_far_ends : (rest : Run) (result : Result (Option Stop) RunFault) (stop : Option Stop) (new : Option (List ℕ)) (faults before after : ℕ)
-      → SoFar commands from now lines rest → rest.events ≡ [] → rest.ending ≡ stop → before ≡ faults
-      → EndsRun result stop lines now new before after → RunWrites (run_of commands) result from new faults after
-  so_far_ends rest (Ok answer) stop new faults before after so_far none ending same ends = (
-    ends.0 ∙ sym ending ∙ sym (ap (λ (run : Run). run.ending) so_far.run),
-    (
-      subst (λ bytes. Appends from new bytes)
-          (ap (λ (text : List ℕ). transcript so_far.events ++ text) (last_text rest stop none ending) ∙ whole_text rest so_far)
-          (handed_whole new (transcript so_far.events) (report_text (stop_notices stop)) so_far.hands ends.1.0),
-      ends.1.1 ∙ same,
-    ),
-  )
-  so_far_ends rest (Err run_fault.Write) stop new faults before after so_far none ending same ends = (
-    tt,
-    (
-      subst (λ bytes. AppendsFront from new bytes)
-          (ap (λ (text : List ℕ). transcript so_far.events ++ text) (last_text rest stop none ending) ∙ whole_text rest so_far)
-          (hands_front from now new lines (transcript so_far.events) (report_text (stop_notices stop)) so_far.hands ends.1.0),
-      subst (λ (n : ℕ). Rose n after) same ends.1.1,
-    ),
-  )
-  so_far_ends rest (Err run_fault.NoMemory) stop new faults before after so_far none ending same ends = (
-    tt,
-    (
-      subst (λ bytes. AppendsFront from new bytes)
-          (ap (λ (text : List ℕ). transcript so_far.events ++ text) (last_text rest stop none ending) ∙ whole_text rest so_far)
-          (hands_front from now new lines (transcript so_far.events) (report_text (stop_notices stop)) so_far.hands ends.1.0),
-      ends.1.1 ∙ same,
-    ),
-  )
+  -- and so the whole of it is told
+  tells_whole : (result : Result Status RunFault) (new : Option (List ℕ)) (bytes text all : List ℕ) (faults before after : ℕ) → Hands from [] now lines bytes
+      → bytes ++ text ≡ all → before ≡ faults → Tells result (lines ++ text) now new before after → Tells result all from new faults after
+  tells_whole (Ok ended) new bytes text all faults before after hands whole same tells =
+      (subst (λ b. Appends from new b) whole (handed_whole new bytes text hands tells.0), tells.1 ∙ same)
+  tells_whole (Err run_fault.Write) new bytes text all faults before after hands whole same tells =
+      (subst (λ b. AppendsFront from new b) whole (hands_front from now new lines bytes text hands tells.0), subst (λ (n : ℕ). Rose n after) same tells.1)
+  tells_whole (Err run_fault.NoMemory) new bytes text all faults before after hands whole same tells =
+      (subst (λ b. AppendsFront from new b) whole (hands_front from now new lines bytes text hands tells.0), tells.1 ∙ same)
 
-module _ (commands : List Command) (from now : Option (List ℕ)) (objects after_objects : ObjectsState) (i : ℕ) (first : Command) (before after : LogState) (answer : Option Stop)
-    (so_far : SoFar commands from now before.lines (run_from (record { objects = objects; steps = before.steps }) (drop i commands)))
+  module _ (rest : Told → Run) (so_far : SoFar images commands from now lines rest) (later : Told) where
+    -- the text of the whole, by the events so far
+    whole_text : transcript so_far.events ++ (transcript_output (rest later)).text ≡ (transcript_output (run_of (told_then so_far.shelves later) commands)).text
+    whole_text = sym (ap (λ (run : Run). (transcript_output run).text) (so_far.run later) ∙ text_behind so_far.events (rest later))
+
+    -- the run has ended, and what is kept is handed on with its last line
+    ends_by : (result : Result Status RunFault) (new : Option (List ℕ)) (faults before after was then : ℕ) → (rest later).events ≡ [] → before ≡ faults
+        → EndsRun result (end_output (rest later)) lines now new before after → IsResultCourse result images (told_then so_far.shelves later) commands was then
+        → RunWrites images commands result from new faults after was then
+    ends_by result new faults before after was then none same ends course = record {
+      told = told_then so_far.shelves later;
+      course = course;
+      status = subst (λ (ended : Status). AnswersStatus result ended) (sym (ap (λ (run : Run). (transcript_output run).status) (so_far.run later))) ends.0;
+      text = tells_whole result new (transcript so_far.events) (end_output (rest later)).text (transcript_output (run_of (told_then so_far.shelves later) commands)).text faults before after
+          so_far.hands (ap (λ (text : List ℕ). transcript so_far.events ++ text) (last_text (rest later) none) ∙ whole_text) same ends.1;
+    }
+
+  -- a store that didn't fail
+  well : (result : Result Status RunFault) (told : Told) (was then : ℕ) → IsWellRun images told was then → IsResultCourse result images told commands was then
+  well (Ok ended) told was then is = inl is
+  well (Err run_fault.Write) told was then is = inl is
+  well (Err run_fault.NoMemory) told was then is = is
+
+  -- a store that failed
+  cut : (result : Result Status RunFault) (told : Told) (was then : ℕ) → result ≢ Err run_fault.NoMemory → IsFailedRun images told (run_of told commands).failed was then
+      → IsResultCourse result images told commands was then
+  cut (Ok ended) told was then found is = inr is
+  cut (Err run_fault.Write) told was then found is = inr is
+  cut (Err run_fault.NoMemory) told was then found is = absurd (found refl)
+
+  -- a store that didn't fail so far, and of which nothing more is asked
+  pub so_far_held : (rest : Told → Run) (so_far : SoFar images commands from now lines rest) → IsHeld images (told_then so_far.shelves (any_told images))
+  so_far_held rest so_far = then_held images (any_told images) so_far.shelves so_far.are (any_held images)
+
+  -- the run has ended without a fault of the store
+  pub so_far_ends : (rest : Told → Run) (result : Result Status RunFault) (stop : Option Stop) (new : Option (List ℕ)) (faults before after was then : ℕ)
+      → SoFar images commands from now lines rest → ((later : Told) → (rest later).events ≡ []) → ((later : Told) → end_output (rest later) ≡ stop_output stop)
+      → before ≡ faults → then ≡ was
+      → EndsRun result (stop_output stop) lines now new before after → RunWrites images commands result from new faults after was then
+  so_far_ends rest result stop new faults before after was then so_far none last same still ends =
+      ends_by rest so_far (any_told images) result new faults before after was then (none (any_told images)) same
+      (subst (λ (o : Output). EndsRun result o lines now new before after) (sym (last (any_told images))) ends)
+      (well result (told_then so_far.shelves (any_told images)) was then (so_far_held rest so_far, still))
+
+  -- the store failed at the command that is next
+  pub so_far_fails : (state : RunState) (left : List Command) (first : Command) (more : List Command) (name : List ℕ) (result : Result Status RunFault) (new : Option (List ℕ)) (faults before after was then : ℕ)
+      → SoFar images commands from now lines (λ later. run_from later state left) → left ≡ first ∷ more → asked_name state.objects first ≡ Some name
+      → before ≡ faults → result ≢ Err run_fault.NoMemory → Rose was then
+      → EndsRun result store_fault_output lines now new before after → RunWrites images commands result from new faults after was then
+  so_far_fails state left first more name result new faults before after was then so_far is asks same found rose ends =
+      let rest : Told → Run = λ later. run_from later state left in
+      let told = told_then so_far.shelves (fault_next images) in
+      let stopped : rest (fault_next images) ≡ record { events = []; last = state; ending = None; failed = true } =
+      ap (run_from (fault_next images) state) is ∙ run_fails (any_told images) state first more name asks in
+      ends_by rest so_far (fault_next images) result new faults before after was then (ap (λ (run : Run). run.events) stopped) same
+      (subst (λ (run : Run). EndsRun result (end_output run) lines now new before after) (sym stopped) ends)
+      (cut result told was then found (
+        then_told images (fault_next images) so_far.shelves so_far.are (fault_told images),
+        ap (λ (run : Run). run.failed) (so_far.run (fault_next images)) ∙ ap (λ (run : Run). run.failed) stopped,
+        rose,
+      ))
+
+  -- memory ran out, and no device failed
+  pub so_far_no_memory : (rest : Told → Run) (before after was then : ℕ) → SoFar images commands from now lines rest → after ≡ before → then ≡ was
+      → RunWrites images commands (Err run_fault.NoMemory) from now before after was then
+  so_far_no_memory rest before after was then so_far same still = record {
+    told = told_then so_far.shelves (any_told images);
+    course = (so_far_held rest so_far, still);
+    status = tt;
+    text = (
+      handed_front from now lines (transcript so_far.events) (transcript_output (rest (any_told images))).text
+          (transcript_output (run_of (told_then so_far.shelves (any_told images)) commands)).text so_far.hands (whole_text rest so_far (any_told images)),
+      same,
+    );
+  }
+
+  -- the sink failed
+  pub so_far_write_fault : (rest : Told → Run) (new : Option (List ℕ)) (before after was then : ℕ) → SoFar images commands from now lines rest → AppendsFront now new lines
+      → Rose before after → then ≡ was → RunWrites images commands (Err run_fault.Write) from new before after was then
+  so_far_write_fault rest new before after was then so_far front rose still = record {
+    told = told_then so_far.shelves (any_told images);
+    course = inl (so_far_held rest so_far, still);
+    status = tt;
+    text = (
+      front_of_all from new (transcript so_far.events) (transcript_output (rest (any_told images))).text
+          (transcript_output (run_of (told_then so_far.shelves (any_told images)) commands)).text
+          (hands_front_kept from now new lines (transcript so_far.events) so_far.hands front) (whole_text rest so_far (any_told images)),
+      rose,
+    );
+  }
+
+module _ (images : Option (List (List ℕ × List ℕ))) (commands : List Command) (from now : Option (List ℕ)) (objects after_objects : ObjectsState) (i : ℕ) (first : Command) (before after : LogState) (answer : Option Stop)
+    (so_far : SoFar images commands from now before.lines (λ later. run_from later (record { objects = objects; steps = before.steps }) (drop i commands)))
     (inside : i < length commands) (is : first ≡ get_or commands i first)
-    (found : HasRunEffect (effect_of (record { objects = objects; steps = before.steps }) first) after_objects before after answer) where
+    (found : DidTold images (record { objects = objects; steps = before.steps }) first after_objects before after answer) where
   -- the command at a place, after which the run goes on
-  pub so_far_after : answer ≡ None → SoFar commands from now after.lines (run_from (record { objects = after_objects; steps = after.steps }) (drop (i + 1) commands))
+  pub so_far_after : answer ≡ None → SoFar images commands from now after.lines (λ later. run_from later (record { objects = after_objects; steps = after.steps }) (drop (i + 1) commands))
   so_far_after goes =
-      so_far_more commands from now before.lines (record { objects = objects; steps = before.steps }) (drop i commands) first (drop (i + 1) commands) after_objects before after so_far
-      (left_at commands i first inside is) refl
-      (subst (λ (ending : Option Stop). HasRunEffect (effect_of (record { objects = objects; steps = before.steps }) first) after_objects before after ending) goes found)
+      so_far_more images commands from now before.lines (record { objects = objects; steps = before.steps }) (drop i commands) first (drop (i + 1) commands) after_objects before after found.shelf so_far
+      (left_at commands i first inside is) refl found.is
+      (subst (λ (ending : Option Stop). HasRunEffect (effect_over found.shelf (record { objects = objects; steps = before.steps }) first) after_objects before after ending) goes found.did)
 
   -- the command at a place, with which the run stops
   pub so_far_until : (why : Stop) → answer ≡ Some why
-      → SoFar commands from now after.lines (record { events = []; last = (effect_of (record { objects = objects; steps = before.steps }) first).run; ending = Some why })
+      → SoFar images commands from now after.lines (λ later. record { events = []; last = (effect_over found.shelf (record { objects = objects; steps = before.steps }) first).run; ending = Some why; failed = false })
   so_far_until why stops =
-      so_far_stop commands from now before.lines (record { objects = objects; steps = before.steps }) (drop i commands) first (drop (i + 1) commands) after_objects before after why so_far
-      (left_at commands i first inside is) refl
-      (subst (λ (ending : Option Stop). HasRunEffect (effect_of (record { objects = objects; steps = before.steps }) first) after_objects before after ending) stops found)
-
-module _ (run : Run) (result : Result (Option Stop) RunFault) (from now : Option (List ℕ)) (before after : ℕ) where
-  -- memory ran out, and no device failed
-  pub memory_writes : IsErrAnd result (λ fault. fault ≡ run_fault.NoMemory) → AppendsFront from now (transcript_output run).text → after ≡ before
-      → RunWrites run result from now before after
-  memory_writes is front same =
-      let found = err_from_is_err_and result is in
-      subst (λ (r : Result (Option Stop) RunFault). RunWrites run r from now before after)
-      (sym (found.1 ∙ ap (λ (fault : RunFault). Err fault) found.2)) (tt, (front, same))
-
-  -- the sink failed
-  pub fault_writes : IsErrAnd result (λ fault. fault ≡ run_fault.Write) → AppendsFront from now (transcript_output run).text → Rose before after
-      → RunWrites run result from now before after
-  fault_writes is front rose =
-      let found = err_from_is_err_and result is in
-      subst (λ (r : Result (Option Stop) RunFault). RunWrites run r from now before after)
-      (sym (found.1 ∙ ap (λ (fault : RunFault). Err fault) found.2)) (tt, (front, rose))
+      so_far_stop images commands from now before.lines (record { objects = objects; steps = before.steps }) (drop i commands) first (drop (i + 1) commands) after_objects before after found.shelf why so_far
+      (left_at commands i first inside is) refl found.is
+      (subst (λ (ending : Option Stop). HasRunEffect (effect_over found.shelf (record { objects = objects; steps = before.steps }) first) after_objects before after ending) stops found.did)

@@ -1,5 +1,7 @@
 -- What the words ask for, as code tells it apart (own).
-use Rattle.std.specs.Prelude.{◌≡◌}
+use Rattle.std.specs.Prelude.{◌≡◌, ◌∷◌, List, [], ℕ, Bool, false, ◌==◌, Option, Some, None, option_map, slice_get, drop, codes}
+use Rattle.clap.specs.Words.{first_value, found_of, matched_of, raw_values}
+use Rattle.clap.specs.declared.parser.matches.ArgMatches.{ArgMatches}
 use Rattle.script_run.specs.declared.words.Asked.{Asked}
 use Rattle.script_run.specs.declared.words.Asked.TheVariants as asked
 use Rattle.script_run.specs.Outputs.{Form, other, run, check}
@@ -15,3 +17,18 @@ abbrev pub IsNamed : Asked → Type 0
 IsNamed asked.Other = Unit {0}
 IsNamed asked.Run = Unit {0}
 IsNamed (asked.Check word name) = name ≡ word.now
+
+-- the word begins with `-` (45)
+abbrev pub begins_with_dash : List ℕ → Bool
+begins_with_dash [] = false
+begins_with_dash (first ∷ more) = first == 45
+
+-- some words, or none of them
+abbrev pub some_words : List (List ℕ) → Option (List (List ℕ))
+some_words [] = None
+some_words (word ∷ more) = Some (word ∷ more)
+
+-- the first word is the value of `JOB`, and those behind it are the values of `ARGS`
+pub record AreMatched (words : List (List ℕ)) (matches : ArgMatches) : Type 0 where
+  pub job : first_value (found_of matches) (codes "JOB") ≡ slice_get words 0
+  pub args : option_map raw_values (matched_of (found_of matches) (codes "ARGS")) ≡ some_words (drop 1 words)

@@ -1,13 +1,16 @@
 -- How the program ends, by its words and by what its devices did (own).
-use Rattle.std.specs.Prelude.{◌≡◌, ◌⊎◌, ℕ, List, Option, Some, None, Result, Ok, Err}
+use Rattle.std.specs.Prelude.{◌≡◌, ◌⊎◌, ℕ, Bool, true, List, Option, Some, None, Result, Ok, Err}
 use Rattle.std.specs.Io.KnownBytes.{Appends}
 use Rattle.rp_io.specs.declared.faults.FetchFault.{FetchFault}
-use Rattle.rp_io.specs.declared.faults.FetchFault.TheVariants as fetch_fault
 use Rattle.rp_io.specs.Causes.{Rose}
 use Rattle.rp_io.specs.Contents.{AppendsFront}
 use Rattle.script_run.specs.declared.statuses.Status.{Status}
 use Rattle.script_run.specs.declared.statuses.Status.TheVariants as status
-use Rattle.script_run.specs.Outputs.{Form, other, run, check, Output, usage_output, run_output, report_output, read_fault_output, store_fault_output}
+use Rattle.script_lang.specs.declared.commands.Command.{Command}
+use Rattle.script_lang.specs.Grammar.{Refusal, script_of}
+use Rattle.script_run.specs.Runs.{AsksNone, new_run}
+use Rattle.script_run.specs.Stores.{IsAnswer, IsHeld, IsTold, Told, held}
+use Rattle.script_run.specs.Outputs.{Form, other, run, check, Output, usage_output, run_output, script_output, fails_in, report_output, read_fault_output, store_fault_output}
 use Rattle.script_run.specs.Reports.{fetched_report, check_report}
 
 -- what the devices hold, where they tell it, and their counts of faults
@@ -27,18 +30,38 @@ pub record IsReadWell (before now : Devices) : Type 0 where
   pub source : now.source_faults ≡ before.source_faults
   pub store : now.store_faults ≡ before.store_faults
 
--- the output of a script that was read; of a source that doesn't tell, that of some text
-abbrev pub IsRunOutput : Option (List ℕ) → Output → Type 0
-IsRunOutput None output = (bytes : List ℕ) × (output ≡ run_output bytes)
-IsRunOutput (Some bytes) output = output ≡ run_output bytes
+-- the store told what it has, and failed at no command
+abbrev pub IsWellRun : Option (List (List ℕ × List ℕ)) → Told → ℕ → ℕ → Type 0
+IsWellRun images told before now = IsHeld images told × (now ≡ before)
 
--- an answer of a store that didn't fail and found memory
-abbrev pub IsAnswer : Result (List ℕ) FetchFault → Type 0
-IsAnswer (Ok image) = Unit {0}
-IsAnswer (Err fetch_fault.Missing) = Unit {0}
-IsAnswer (Err fetch_fault.Failed) = ⊥
-IsAnswer (Err (fetch_fault.TooLarge bytes)) = Unit {0}
-IsAnswer (Err fetch_fault.NoMemory) = ⊥
+-- the store failed, and so ended the run
+abbrev pub IsFailedRun : Option (List (List ℕ × List ℕ)) → Told → Bool → ℕ → ℕ → Type 0
+IsFailedRun images told failed before now = IsTold images told × (failed ≡ true) × Rose before now
+
+-- one or the other
+abbrev pub IsRunCourse : Option (List (List ℕ × List ℕ)) → Told → Bool → ℕ → ℕ → Type 0
+IsRunCourse images told failed before now = IsWellRun images told before now ⊎ IsFailedRun images told failed before now
+
+-- the output of a script over a store that didn't fail; of one that doesn't tell its images, that over some answers
+abbrev pub IsScriptOutput : Option (List (List ℕ × List ℕ)) → List ℕ → Output → Type 0
+IsScriptOutput None bytes output = (told : Told) × IsHeld None told × (output ≡ run_output told bytes)
+IsScriptOutput (Some images) bytes output = output ≡ run_output (held images) bytes
+
+-- the output of a script whose run ends where the store fails
+pub record IsCutOutput (images : Option (List (List ℕ × List ℕ))) (bytes : List ℕ) (output : Output) : Type 0 where
+  pub told : Told
+  pub is : IsTold images told
+  pub fails : fails_in told (script_of bytes) ≡ true
+  pub written : output ≡ run_output told bytes
+
+-- this holds of the script that was read; of a source that doesn't tell, of some text
+abbrev pub OfScript : Option (List ℕ) → (List ℕ → Type 0) → Type 0
+OfScript None holds = (bytes : List ℕ) × holds bytes
+OfScript (Some bytes) holds = holds bytes
+
+-- the output of a script that was read, over a store that didn't fail
+abbrev pub IsRunOutput : Option (List ℕ) → Option (List (List ℕ × List ℕ)) → Output → Type 0
+IsRunOutput left images output = OfScript left (λ bytes. IsScriptOutput images bytes output)
 
 -- the report of an image; of a store that doesn't tell, that of some answer
 abbrev pub IsReportOutput : Option (List (List ℕ × List ℕ)) → List ℕ → Output → Type 0
@@ -49,14 +72,15 @@ IsReportOutput (Some images) name output = output ≡ report_output (check_repor
 -- the output that the words ask for, over these devices
 abbrev pub IsAsked : Form → Devices → Output → Type 0
 IsAsked other before output = output ≡ usage_output
-IsAsked run before output = IsRunOutput before.left output
+IsAsked run before output = IsRunOutput before.left before.images output
 IsAsked (check name) before output = IsReportOutput before.images name output
 
 -- the line of the device that failed, where the words need it
 abbrev pub IsFaultOutput : Form → Devices → Devices → Output → Type 0
 IsFaultOutput other before now output = ⊥
 IsFaultOutput run before now output =
-    (output ≡ read_fault_output) × Rose before.source_faults now.source_faults × (now.store_faults ≡ before.store_faults)
+    ((output ≡ read_fault_output) × Rose before.source_faults now.source_faults × (now.store_faults ≡ before.store_faults))
+    ⊎ (OfScript before.left (λ bytes. IsCutOutput before.images bytes output) × Rose before.store_faults now.store_faults × (now.source_faults ≡ before.source_faults))
 IsFaultOutput (check name) before now output =
     (output ≡ store_fault_output) × Rose before.store_faults now.store_faults × (now.source_faults ≡ before.source_faults)
 
@@ -93,14 +117,26 @@ IsFinal status.WriteFault = ⊥
 IsFinal status.NoMemory = ⊥
 IsFinal ended = Unit {0}
 
--- the answer is the number of a status, by which an output is written
-abbrev pub RunAnswersAs : Option Status → Output → Option (List ℕ) → Option (List ℕ) → ℕ → ℕ → Type 0
-RunAnswersAs None output old new before now = ⊥
-RunAnswersAs (Some ended) output old new before now = Writes ended output old new before now
+-- what the store did in a run, by the status: memory that ran out is no fault of it
+abbrev pub IsStatusCourse : Status → Option (List (List ℕ × List ℕ)) → Told → Bool → ℕ → ℕ → Type 0
+IsStatusCourse status.NoMemory images told failed before now = IsWellRun images told before now
+IsStatusCourse ended images told failed before now = IsRunCourse images told failed before now
+
+-- a script is run over what the store tells, or refused, and its output written
+pub record RunEnds (ended : Status) (images : Option (List (List ℕ × List ℕ))) (said : Result (List Command) Refusal) (old new : Option (List ℕ)) (before now was then : ℕ) : Type 0 where
+  pub told : Told
+  pub course : IsStatusCourse ended images told (fails_in told said) was then
+  pub written : Writes ended (script_output told said) old new before now
+
+-- the answer is the number of a status with which the run of these commands ends
+abbrev pub RunAnswersAs : Option Status → Option (List (List ℕ × List ℕ)) → List Command → Option (List ℕ) → Option (List ℕ) → ℕ → ℕ → ℕ → ℕ → Type 0
+RunAnswersAs None images commands old new before now was then = ⊥
+RunAnswersAs (Some ended) images commands old new before now was then = RunEnds ended images (Ok commands) old new before now was then
 
 -- where no device failed, the program ends with the status of what the words ask for, unless memory ran out
 abbrev pub EndsWell : Status → Form → Devices → Type 0
 EndsWell status.WriteFault form before = ⊥
+EndsWell status.StoreFault form before = ⊥
 EndsWell status.NoMemory form before = Unit {0}
 EndsWell ended form before = (output : Output) × IsAsked form before output × (output.status ≡ ended)
 
@@ -109,13 +145,30 @@ abbrev pub AnswersWell : Option Status → Form → Devices → Type 0
 AnswersWell None form before = ⊥
 AnswersWell (Some ended) form before = EndsWell ended form before
 
--- a script was run, to its end or to the most steps
+-- a script was run, to its end, to the most steps or to a fault of the store
 abbrev pub IsRunEnd : Status → Type 0
 IsRunEnd status.Done = Unit {0}
 IsRunEnd status.StepLimit = Unit {0}
+IsRunEnd status.StoreFault = Unit {0}
 IsRunEnd ended = ⊥
 
 -- the answer is the number of such a status
 abbrev pub IsRunAnswer : Option Status → Type 0
 IsRunAnswer None = ⊥
 IsRunAnswer (Some ended) = IsRunEnd ended
+
+-- a script, or a text that is none, asks the store for no image
+abbrev pub TextAsksNone : Result (List Command) Refusal → Type 0
+TextAsksNone (Ok commands) = AsksNone new_run commands
+TextAsksNone (Err refusal) = Unit {0}
+
+-- the same of the script that a source has, where it tells
+abbrev pub SourceAsksNone : Option (List ℕ) → Type 0
+SourceAsksNone None = ⊥
+SourceAsksNone (Some bytes) = TextAsksNone (script_of bytes)
+
+-- what the words ask for needs no store
+abbrev pub NeedsNoStore : Form → Option (List ℕ) → Type 0
+NeedsNoStore other left = Unit {0}
+NeedsNoStore run left = SourceAsksNone left
+NeedsNoStore (check name) left = ⊥

@@ -1,10 +1,13 @@
 -- What a run keeps beside its links (own).
 use Rattle.std.specs.Prelude.{◌≡◌, ℕ, List, ◌++◌, Option}
 use Rattle.std.specs.Io.KnownBytes.{Appends}
+use Rattle.journal.specs.declared.events.Event.{Event}
 use Rattle.journal.specs.Lines.{transcript}
 use Rattle.script_run.specs.declared.statuses.Stop.{Stop}
 use Rattle.crash_recover.specs.Benches.{BenchState}
+use Rattle.crash_recover.specs.Cores.{CoreState}
 use Rattle.script_run.specs.Effects.{Effect}
+use Rattle.script_run.specs.CoreEffects.{CoreEffect}
 use Rattle.script_run.specs.Runs.{ObjectsState, RunEffect}
 
 -- the lines that wait to be handed on, and how many steps were done
@@ -12,9 +15,20 @@ pub record LogState : Type 0 where
   pub lines : List ℕ
   pub steps : ℕ
 
+-- these events are told, and no step is counted
+abbrev pub Keeps : LogState → LogState → List Event → Type 0
+Keeps before after told = after ≡ record before { lines = before.lines ++ transcript told }
+
 -- a command left of its bench, told and answered what this effect says
 pub record HasEffect (effect : Effect) (left : BenchState) (before after : LogState) (answer : Option Stop) : Type 0 where
   pub bench : left ≡ effect.bench
+  pub steps : after.steps ≡ effect.steps
+  pub lines : after.lines ≡ before.lines ++ transcript effect.events
+  pub ending : answer ≡ effect.ending
+
+-- a command left of its core, told and answered what this effect says
+pub record HasCoreEffect (effect : CoreEffect) (left : CoreState) (before after : LogState) (answer : Option Stop) : Type 0 where
+  pub core : left ≡ effect.core
   pub steps : after.steps ≡ effect.steps
   pub lines : after.lines ≡ before.lines ++ transcript effect.events
   pub ending : answer ≡ effect.ending

@@ -1,16 +1,16 @@
 -- What the program writes and how it ends where no device fails and memory is found (own).
-use Rattle.std.specs.Prelude.{ℕ, List, [], ◌∷◌, ◌++◌, Option, Some, None, Result, Ok, Err, bytes_eq, codes, if◌then◌else◌}
+use Rattle.std.specs.Prelude.{ℕ, Bool, false, List, [], ◌∷◌, ◌++◌, Option, Some, None, Result, Ok, Err, bytes_eq, codes, if◌then◌else◌}
 use Rattle.word_kinds.specs.Spellings.{name_of}
 use Rattle.script_lang.specs.declared.commands.Command.{Command}
 use Rattle.script_lang.specs.Grammar.{Refusal, script_of}
 use Rattle.journal.specs.Lines.{transcript}
-use Rattle.journal.specs.declared.notices.Notice.{Notice}
 use Rattle.journal.specs.declared.notices.Notice.TheVariants as notice
 use Rattle.journal.specs.Notices.{report_text}
 use Rattle.script_run.specs.declared.statuses.Status.{Status}
 use Rattle.script_run.specs.declared.statuses.Status.TheVariants as status
 use Rattle.script_run.specs.declared.statuses.Stop.{Stop}
 use Rattle.script_run.specs.declared.statuses.Stop.TheVariants as stop
+use Rattle.script_run.specs.Stores.{Told}
 use Rattle.script_run.specs.Runs.{Run, run_of}
 use Rattle.script_run.specs.Reports.{Report}
 
@@ -37,29 +37,40 @@ pub record Output : Type 0 where
   pub status : Status
   pub text : List ℕ
 
--- the status of a run
-abbrev pub stop_status : Option Stop → Status
-stop_status None = status.Done
-stop_status (Some stop.StepLimit) = status.StepLimit
+-- the line of a store that failed, with its status
+abbrev pub store_fault_output : Output
+store_fault_output = record { status = status.StoreFault; text = report_text (notice.StoreFault ∷ []) }
 
--- the last line of a run that stopped in its midst
-abbrev pub stop_notices : Option Stop → List Notice
-stop_notices None = []
-stop_notices (Some stop.StepLimit) = notice.StepLimit ∷ []
+-- how a run ends that went to its end or stopped in its midst, and its last line
+abbrev pub stop_output : Option Stop → Output
+stop_output None = record { status = status.Done; text = [] }
+stop_output (Some stop.StepLimit) = record { status = status.StepLimit; text = report_text (notice.StepLimit ∷ []) }
 
--- the transcript of a run, with the line of why it stopped
+-- how a run ends, and its last line
+abbrev pub end_output : Run → Output
+end_output ended = if ended.failed then store_fault_output else stop_output ended.ending
+
+-- lines, and an end behind them
+abbrev pub output_behind : List ℕ → Output → Output
+output_behind lines last = record last { text = lines ++ last.text }
+
+-- the transcript of a run, with its last line
 abbrev pub transcript_output : Run → Output
-transcript_output ended =
-    record { status = stop_status ended.ending; text = transcript ended.events ++ report_text (stop_notices ended.ending) }
+transcript_output ended = output_behind (transcript ended.events) (end_output ended)
 
 -- the transcript of a script, or its refusal
-abbrev pub script_output : Result (List Command) Refusal → Output
-script_output (Ok commands) = transcript_output (run_of commands)
-script_output (Err refusal) = record { status = status.Refused; text = report_text (notice.Refused refusal.line refusal.cause ∷ []) }
+abbrev pub script_output : Told → Result (List Command) Refusal → Output
+script_output told (Ok commands) = transcript_output (run_of told commands)
+script_output told (Err refusal) = record { status = status.Refused; text = report_text (notice.Refused refusal.line refusal.cause ∷ []) }
 
--- the output of the words `run`, by the bytes of the script
-unfoldable pub run_output : List ℕ → Output
-run_output bytes = script_output (script_of bytes)
+-- the output of the words `run`, by what the store tells and the bytes of the script
+unfoldable pub run_output : Told → List ℕ → Output
+run_output told bytes = script_output told (script_of bytes)
+
+-- whether the store fails while a script runs
+abbrev pub fails_in : Told → Result (List Command) Refusal → Bool
+fails_in told (Ok commands) = (run_of told commands).failed
+fails_in told (Err refusal) = false
 
 -- the lines of a report, with its status
 abbrev pub report_output : Report → Output
@@ -72,7 +83,3 @@ usage_output = record { status = status.Usage; text = report_text (notice.Usage 
 -- the line of a source that failed
 abbrev pub read_fault_output : Output
 read_fault_output = record { status = status.ReadFault; text = report_text (notice.ReadFault ∷ []) }
-
--- the line of a store that failed
-abbrev pub store_fault_output : Output
-store_fault_output = record { status = status.StoreFault; text = report_text (notice.StoreFault ∷ []) }

@@ -1,9 +1,10 @@
 -- The run of a script: what each command leaves and tells, from nothing on (own).
-use Rattle.std.specs.Prelude.{ℕ, Bool, true, false, is_some, ◌-◌, nat_le, List, [], ◌∷◌, ◌++◌, length, slice_get, slice_set, Option, Some, None, bytes_eq, if◌then◌else◌}
+use Rattle.std.specs.Prelude.{◌≡◌, ℕ, Bool, true, false, is_some, ◌+◌, nat_le, find, List, [], ◌∷◌, ◌++◌, length, slice_get, slice_set, Option, Some, None, option_and_then, Err, bytes_eq, if◌then◌else◌}
 use Rattle.std.specs.List.{position}
+use Rattle.std.specs.Str.{is_utf8}
 use Rattle.rp_base.specs.declared.limits.TheConstants.{OBJECTS_MOST}
+use Rattle.rp_base.specs.declared.kinds.Switch.{Switch}
 use Rattle.lane_model.specs.declared.calls.LinkConfig.{LinkConfig}
-use Rattle.lane_model.specs.declared.calls.Wish.TheVariants as wish
 use Rattle.script_lang.specs.declared.commands.Command.{Command}
 use Rattle.script_lang.specs.declared.commands.Command.TheVariants as command
 use Rattle.script_lang.specs.declared.recipes.RecipeLine.{RecipeLine}
@@ -12,24 +13,31 @@ use Rattle.journal.specs.declared.events.Event.{Event}
 use Rattle.journal.specs.declared.events.Event.TheVariants as event
 use Rattle.script_run.specs.declared.statuses.Stop.{Stop}
 use Rattle.script_run.specs.NamedLinks.{NamedLink}
+use Rattle.script_run.specs.NamedCores.{NamedCoreState}
+use Rattle.script_run.specs.NamedImages.{ImageState}
+use Rattle.rp_io.specs.declared.faults.FetchFault.TheVariants as fetch
+use Rattle.script_run.specs.Stores.{Answer, Told, later_told, told_answer}
+use Rattle.script_run.specs.CoreEffects.{CoreEffect, is_on}
+use Rattle.script_run.specs.CoreCommands.{core_effect}
+use Rattle.script_lang.specs.declared.commands.RegionSet.{RegionSet}
+use Rattle.script_lang.specs.declared.commands.RegionSet.TheVariants as regions
+use Rattle.memory_pool.specs.declared.regions.Region.{Region}
+use Rattle.memory_pool.specs.Regions.{standard_regions}
+use Rattle.crash_recover.specs.Cores.{new_core}
+use Rattle.crash_recover.specs.CoreBoots.{needs_image}
+use Rattle.crash_recover.specs.CoreRecoveries.{recovery_fault}
 use Rattle.endpoint_map.specs.Bindings.{no_bindings}
 use Rattle.channel_bus.specs.Sides.{EndState}
 use Rattle.crash_recover.specs.Benches.{new_bench_of}
-use Rattle.script_run.specs.Pumps.{pump_effect}
-use Rattle.script_run.specs.Recoveries.{close_effect, reclaim_effect, reopen_effect}
-use Rattle.script_run.specs.RingDumps.{ring_effect}
-use Rattle.script_run.specs.ChannelLists.{channels_effect}
-use Rattle.script_run.specs.Effects.{Effect, tells, caller_effect, call_effect, begun_effect, send_effect, plain_effect, give_effect, step_effect, books_effect}
+use Rattle.script_run.specs.Effects.{Effect}
+use Rattle.script_run.specs.LinkCommands.{link_effect}
 
--- an image that a script made, under its name
-pub record ImageState : Type 0 where
-  pub name : List ℕ
-  pub bytes : List ℕ
-
--- what a script made: its links and its images, each in the order in which they were made
+-- what a script made: its links, its cores and its images, each in the order in which they were made; and whether its drives are quiet
 pub record ObjectsState : Type 0 where
   pub links : List NamedLink
+  pub cores : List NamedCoreState
   pub images : List ImageState
+  pub is_quiet : Bool
 
 -- the state of a run: what was made, and how many steps were done
 pub record RunState : Type 0 where
@@ -46,36 +54,7 @@ pub record RunEffect : Type 0 where
 abbrev pub run_tells : RunState → Event → RunEffect
 run_tells run told = record { run = run; events = told ∷ []; ending = None }
 
--- a command on the link of this name
-unfoldable pub link_effect : NamedLink → ℕ → Command → Effect
-link_effect named steps (command.Link name to_host to_remote book) = tells named.bench steps (event.Exists named.name)
-link_effect named steps (command.NsLink name to_host to_remote book) = tells named.bench steps (event.Exists named.name)
-link_effect named steps (command.Caller name end) = caller_effect named.name named.bench steps end
-link_effect named steps (command.Send name caller src dst payload) = send_effect call_effect named.name named.bench steps caller src dst payload
-link_effect named steps (command.Raw name caller message) = plain_effect call_effect named.name named.bench steps caller (wish.Send message)
-link_effect named steps (command.Take name caller) = plain_effect call_effect named.name named.bench steps caller wish.Take
-link_effect named steps (command.Give name caller number) = give_effect call_effect named.name named.bench steps caller number
-link_effect named steps (command.Bind name caller address) = plain_effect call_effect named.name named.bench steps caller (wish.Bind address)
-link_effect named steps (command.Unbind name caller address) = plain_effect call_effect named.name named.bench steps caller (wish.Unbind address)
-link_effect named steps (command.BeginSend name caller src dst payload) = send_effect begun_effect named.name named.bench steps caller src dst payload
-link_effect named steps (command.BeginRaw name caller message) = plain_effect begun_effect named.name named.bench steps caller (wish.Send message)
-link_effect named steps (command.BeginTake name caller) = plain_effect begun_effect named.name named.bench steps caller wish.Take
-link_effect named steps (command.BeginGive name caller number) = give_effect begun_effect named.name named.bench steps caller number
-link_effect named steps (command.BeginBind name caller address) = plain_effect begun_effect named.name named.bench steps caller (wish.Bind address)
-link_effect named steps (command.BeginUnbind name caller address) = plain_effect begun_effect named.name named.bench steps caller (wish.Unbind address)
-link_effect named steps (command.Step name caller count) = step_effect named.name named.bench steps caller (count - 1)
-link_effect named steps (command.Finish name caller) = step_effect named.name named.bench steps caller 6
-link_effect named steps (command.Pump name sender receiver count) = pump_effect named.name named.bench steps sender receiver count
--- (no run gets here: an image is made beside the links)
-link_effect named steps (command.Image name lines) = tells named.bench steps (event.Exists named.name)
-link_effect named steps (command.Ring name lane) = ring_effect named.name named.bench steps lane
-link_effect named steps (command.Books name) = books_effect named.name named.bench steps
-link_effect named steps (command.Channels name) = channels_effect named.name named.bench steps
-link_effect named steps (command.Close name) = close_effect named.name named.bench steps
-link_effect named steps (command.Reclaim name caller) = reclaim_effect named.name named.bench steps caller
-link_effect named steps (command.Reopen name) = reopen_effect named.name named.bench steps
-
--- the name of the link that a command is about
+-- the name of the link or the core that a command is about
 abbrev pub command_name : Command → List ℕ
 command_name (command.Link name to_host to_remote book) = name
 command_name (command.NsLink name to_host to_remote book) = name
@@ -102,10 +81,33 @@ command_name (command.Channels name) = name
 command_name (command.Close name) = name
 command_name (command.Reclaim name caller) = name
 command_name (command.Reopen name) = name
+command_name (command.Core name regions book) = name
+command_name (command.Region name kind da pa len) = name
+command_name (command.Boot name image) = name
+command_name (command.Shutdown name) = name
+command_name (command.State name) = name
+command_name (command.Table name) = name
+command_name (command.Trace name index) = name
+command_name (command.Mem name da len) = name
+command_name (command.Crash name kind) = name
+command_name (command.Recover name) = name
+command_name (command.Recovery name set) = name
+command_name (command.Driver name channel kind) = name
+command_name (command.Drive name count) = name
+-- (a command that says whether drives are quiet is about none)
+command_name (command.Quiet set) = []
 
 -- the place of the link of this name
 abbrev pub place_of : List NamedLink → List ℕ → Option ℕ
 place_of links name = position (λ named. bytes_eq named.name name) links
+
+-- the place of the core of this name
+abbrev pub core_place : List NamedCoreState → List ℕ → Option ℕ
+core_place cores name = position (λ named. bytes_eq named.name name) cores
+
+-- whether there are as many links and cores as there may be
+abbrev pub is_full : ObjectsState → Bool
+is_full objects = nat_le OBJECTS_MOST (length objects.links + length objects.cores)
 
 -- a link is live in incarnation 1, and its buffers begin at address 0
 abbrev pub config_of : ℕ → ℕ → ℕ → LinkConfig
@@ -119,16 +121,32 @@ new_end has_service = record { has_service = has_service; drivers = []; bindings
 abbrev pub with_links : RunState → List NamedLink → RunState
 with_links run links = record run { objects = record run.objects { links = links } }
 
--- a link of a new name: there are at most eight links, and the host end has the name service or not
+-- a link of a new name, whose host end has the name service or not
 unfoldable pub made_effect : RunState → List ℕ → LinkConfig → Bool → RunEffect
 made_effect run name config has_service =
-    if nat_le OBJECTS_MOST (length run.objects.links) then run_tells run event.ObjectsFull
+    if is_full run.objects then run_tells run event.ObjectsFull
     else run_tells (with_links run (run.objects.links ++ record { name = name; bench = new_bench_of config (new_end has_service) (new_end false) } ∷ [])) (event.Open name 1)
 
--- a command whose name no link has
+-- the regions that a core begins with
+abbrev pub regions_of : RegionSet → List Region
+regions_of regions.Standard = standard_regions
+regions_of regions.Bare = []
+
+-- the run with other cores
+abbrev pub with_cores : RunState → List NamedCoreState → RunState
+with_cores run cores = record run { objects = record run.objects { cores = cores } }
+
+-- a core of a new name
+unfoldable pub core_made_effect : RunState → List ℕ → RegionSet → ℕ → RunEffect
+core_made_effect run name set book =
+    if is_full run.objects then run_tells run event.ObjectsFull
+    else run_tells (with_cores run (run.objects.cores ++ record { name = name; core = new_core (regions_of set) [] book } ∷ [])) (event.Offline name)
+
+-- a command whose name no link and no core has
 unfoldable pub unnamed_effect : RunState → Command → RunEffect
 unnamed_effect run (command.Link name to_host to_remote book) = made_effect run name (config_of to_host to_remote book) false
 unnamed_effect run (command.NsLink name to_host to_remote book) = made_effect run name (config_of to_host to_remote book) true
+unnamed_effect run (command.Core name set book) = core_made_effect run name set book
 unnamed_effect run other = run_tells run (event.Unknown (command_name other))
 
 -- the run with what a command leaves of the link at this place
@@ -139,15 +157,37 @@ placed_effect run place named effect = record {
   ending = effect.ending;
 }
 
+-- the run with what a command leaves of the core at this place
+abbrev pub placed_core_effect : RunState → ℕ → NamedCoreState → CoreEffect → RunEffect
+placed_core_effect run place named effect = record {
+  run = record (with_cores run (slice_set run.objects.cores place (record named { core = effect.core }))) { steps = effect.steps };
+  events = effect.events;
+  ending = effect.ending;
+}
+
+-- a command on the core at this place, or on none
+abbrev pub found_core_effect : Answer → RunState → Command → ℕ → Option NamedCoreState → RunEffect
+found_core_effect answer run command place None = unnamed_effect run command
+found_core_effect answer run command place (Some named) = placed_core_effect run place named (core_effect run.objects.images answer run.objects.is_quiet named run.steps command)
+
+-- a command on the core of its name, or on none
+abbrev pub core_located_effect : Answer → RunState → Command → Option ℕ → RunEffect
+core_located_effect answer run command None = unnamed_effect run command
+core_located_effect answer run command (Some place) = found_core_effect answer run command place (slice_get run.objects.cores place)
+
+-- a command whose name no link has
+unfoldable pub without_link_effect : Answer → RunState → Command → RunEffect
+without_link_effect answer run command = core_located_effect answer run command (core_place run.objects.cores (command_name command))
+
 -- a command on the link at this place, or on none
-abbrev pub found_effect : RunState → Command → ℕ → Option NamedLink → RunEffect
-found_effect run command place None = unnamed_effect run command
-found_effect run command place (Some named) = placed_effect run place named (link_effect named run.steps command)
+abbrev pub found_effect : Answer → RunState → Command → ℕ → Option NamedLink → RunEffect
+found_effect answer run command place None = without_link_effect answer run command
+found_effect answer run command place (Some named) = placed_effect run place named (link_effect named run.steps command)
 
 -- a command on the link of its name, or on none
-abbrev pub located_effect : RunState → Command → Option ℕ → RunEffect
-located_effect run command None = unnamed_effect run command
-located_effect run command (Some place) = found_effect run command place (slice_get run.objects.links place)
+abbrev pub located_effect : Answer → RunState → Command → Option ℕ → RunEffect
+located_effect answer run command None = without_link_effect answer run command
+located_effect answer run command (Some place) = found_effect answer run command place (slice_get run.objects.links place)
 
 -- the place of the image of this name
 abbrev pub image_place : List ImageState → List ℕ → Option ℕ
@@ -194,38 +234,114 @@ image_wanted (command.Channels name) = None
 image_wanted (command.Close name) = None
 image_wanted (command.Reclaim name caller) = None
 image_wanted (command.Reopen name) = None
+image_wanted (command.Core name regions book) = None
+image_wanted (command.Region name kind da pa len) = None
+image_wanted (command.Boot name image) = None
+image_wanted (command.Shutdown name) = None
+image_wanted (command.State name) = None
+image_wanted (command.Table name) = None
+image_wanted (command.Trace name index) = None
+image_wanted (command.Mem name da len) = None
+image_wanted (command.Crash name kind) = None
+image_wanted (command.Recover name) = None
+image_wanted (command.Recovery name set) = None
+image_wanted (command.Driver name channel kind) = None
+image_wanted (command.Drive name count) = None
+image_wanted (command.Quiet set) = None
 
--- an image is made, or a command is about a link
-abbrev pub family_effect : RunState → Command → Option (List ℕ × List RecipeLine) → RunEffect
-family_effect run command (Some image) = image_effect run image.0 image.1
-family_effect run command None = located_effect run command (place_of run.objects.links (command_name command))
+-- the switch of a command that says whether drives are quiet
+abbrev pub quiet_wanted : Command → Option Switch
+quiet_wanted (command.Quiet set) = Some set
+quiet_wanted other = None
 
--- a command
-unfoldable pub effect_of : RunState → Command → RunEffect
-effect_of run command = family_effect run command (image_wanted command)
+-- `quiet SWITCH`, which tells nothing
+unfoldable pub quiet_effect : RunState → Switch → RunEffect
+quiet_effect run set = record { run = record run { objects = record run.objects { is_quiet = is_on set } }; events = []; ending = None }
 
--- a run: what it tells, the state in which it ends, and why it stopped in its midst, if it did
+-- drives are quiet from now on or are not, or a command is about a link
+abbrev pub named_effect : Answer → RunState → Command → Option Switch → RunEffect
+named_effect answer run command (Some set) = quiet_effect run set
+named_effect answer run command None = located_effect answer run command (place_of run.objects.links (command_name command))
+
+-- an image is made, or a command does something else
+abbrev pub family_effect : Answer → RunState → Command → Option (List ℕ × List RecipeLine) → RunEffect
+family_effect answer run command (Some image) = image_effect run image.0 image.1
+family_effect answer run command None = named_effect answer run command (quiet_wanted command)
+
+-- a command, over what the store tells of the image that it asks for
+unfoldable pub effect_of : Answer → RunState → Command → RunEffect
+effect_of answer run command = family_effect answer run command (image_wanted command)
+
+-- the core of this name
+abbrev pub find_core : List NamedCoreState → List ℕ → Option NamedCoreState
+find_core cores name = find (λ (named : NamedCoreState). bytes_eq named.name name) cores
+
+-- the core of this name, which no link has
+abbrev pub core_named : ObjectsState → List ℕ → Option NamedCoreState
+core_named objects name = if is_some (place_of objects.links name) then None else find_core objects.cores name
+
+-- the name of an image that the script didn't make (a name is a text, by the grammar)
+abbrev pub outside_image : List ImageState → List ℕ → Option (List ℕ)
+outside_image images name = if has_image images name then None else (if is_utf8 name then Some name else None)
+
+-- the image for which a boot asks the store: one that the core needs and the script didn't make
+abbrev pub boot_asks : List ImageState → List ℕ → Option NamedCoreState → Option (List ℕ)
+boot_asks images image None = None
+boot_asks images image (Some named) = if needs_image named.core then outside_image images image else None
+
+-- the image for which a recovery asks the store: the one that was booted, which the script didn't make
+abbrev pub recovery_asks : List ImageState → Option NamedCoreState → Option (List ℕ)
+recovery_asks images None = None
+recovery_asks images (Some named) =
+    if is_some (recovery_fault named.core.life) then None else option_and_then (outside_image images) named.core.image
+
+-- the image for which a command asks the store
+abbrev pub asked_name : ObjectsState → Command → Option (List ℕ)
+asked_name objects (command.Boot name image) = boot_asks objects.images image (core_named objects name)
+asked_name objects (command.Recover name) = recovery_asks objects.images (core_named objects name)
+asked_name objects other = None
+
+-- a run: what it tells, the state in which it ends, why it stopped in its midst, if it did, and whether the store failed and so ended it
 pub record Run : Type 0 where
   pub events : List Event
   pub last : RunState
   pub ending : Option Stop
+  pub failed : Bool
 
 -- the run stops with a command, or the later ones go on
 abbrev pub run_on : RunEffect → Option Stop → Run → Run
-run_on effect (Some why) later = record { events = effect.events; last = effect.run; ending = Some why }
+run_on effect (Some why) later = record { events = effect.events; last = effect.run; ending = Some why; failed = false }
 run_on effect None later = record later { events = effect.events ++ later.events }
 
--- the run of these commands, from a state
-unfoldable pub run_from : RunState → List Command → Run
-run_from run [] = record { events = []; last = run; ending = None }
-run_from run (first ∷ more) =
-    let effect = effect_of run first in
-    run_on effect effect.ending (run_from effect.run more)
+-- a command and the later ones, where the store answers; else the run ends before the command
+abbrev pub run_told : RunState → Command → Option Answer → (RunState → Run) → Run
+run_told run command None later = record { events = []; last = run; ending = None; failed = true }
+run_told run command (Some answer) later =
+    let effect = effect_of answer run command in
+    run_on effect effect.ending (later effect.run)
 
--- nothing is made, and no step done
+-- the run of these commands, from a state, over what the store tells
+unfoldable pub run_from : Told → RunState → List Command → Run
+run_from told run [] = record { events = []; last = run; ending = None; failed = false }
+run_from told run (first ∷ more) =
+    run_told run first (told_answer (told 0) (asked_name run.objects first)) (λ next. run_from (later_told told) next more)
+
+-- nothing is made, no step done, and drives are not quiet
 abbrev pub new_run : RunState
-new_run = record { objects = record { links = []; images = [] }; steps = 0 }
+new_run = record { objects = record { links = []; cores = []; images = []; is_quiet = false }; steps = 0 }
 
--- the run of a script
-abbrev pub run_of : List Command → Run
-run_of commands = run_from new_run commands
+-- the run of a script, over what the store tells
+abbrev pub run_of : Told → List Command → Run
+run_of told commands = run_from told new_run commands
+
+-- this holds of a run that goes on
+abbrev pub IfGoesOn : Option Stop → Type 0 → Type 0
+IfGoesOn None rest = rest
+IfGoesOn (Some why) rest = Unit {0}
+
+-- no command of a run asks the store
+unfoldable pub AsksNone : RunState → List Command → Type 0
+AsksNone run [] = Unit {0}
+AsksNone run (first ∷ more) =
+    let effect = effect_of (Err fetch.Missing) run first in
+    (asked_name run.objects first ≡ None) × IfGoesOn effect.ending (AsksNone effect.run more)

@@ -3,12 +3,14 @@ use Rattle.std.specs.Prelude.{◌≡◌, ℕ, List, ◌++◌, Option, Result, Ok
 use Rattle.std.specs.Io.KnownBytes.{Appends}
 use Rattle.rp_io.specs.Causes.{Rose}
 use Rattle.rp_io.specs.Contents.{AppendsFront}
-use Rattle.journal.specs.Notices.{report_text}
-use Rattle.script_run.specs.declared.statuses.Stop.{Stop}
+use Rattle.script_lang.specs.declared.commands.Command.{Command}
+use Rattle.script_run.specs.declared.statuses.Status.{Status}
 use Rattle.script_run.specs.declared.runs.RunFault.{RunFault}
 use Rattle.script_run.specs.declared.runs.RunFault.TheVariants as run_fault
-use Rattle.script_run.specs.Runs.{Run}
-use Rattle.script_run.specs.Outputs.{transcript_output, stop_notices}
+use Rattle.script_run.specs.Stores.{Told}
+use Rattle.script_run.specs.Runs.{run_of}
+use Rattle.script_run.specs.Outputs.{Output, transcript_output}
+use Rattle.script_run.specs.Endings.{IsRunCourse, IsWellRun}
 
 -- a text is appended whole, or a front of it, where the sink failed or memory ran out
 abbrev pub Tells : {T : Type 0} → Result T RunFault → List ℕ → Option (List ℕ) → Option (List ℕ) → ℕ → ℕ → Type 0
@@ -16,17 +18,24 @@ Tells (Ok value) text old new before now = Appends old new text × (now ≡ befo
 Tells (Err run_fault.Write) text old new before now = AppendsFront old new text × Rose before now
 Tells (Err run_fault.NoMemory) text old new before now = AppendsFront old new text × (now ≡ before)
 
--- the answer says why the run stopped, where all was written
-abbrev pub AnswersStop : Result (Option Stop) RunFault → Option Stop → Type 0
-AnswersStop (Ok answer) ending = answer ≡ ending
-AnswersStop (Err fault) ending = Unit {0}
+-- the answer is how the run ends, where all was written
+abbrev pub AnswersStatus : Result Status RunFault → Status → Type 0
+AnswersStatus (Ok answer) ended = answer ≡ ended
+AnswersStatus (Err fault) ended = Unit {0}
 
--- what waits is handed on, with the line of why the run stopped
-abbrev pub EndsRun : Result (Option Stop) RunFault → Option Stop → List ℕ → Option (List ℕ) → Option (List ℕ) → ℕ → ℕ → Type 0
-EndsRun result ending lines old new before now =
-    AnswersStop result ending × Tells result (lines ++ report_text (stop_notices ending)) old new before now
+-- what waits is handed on, with the last line of the run
+abbrev pub EndsRun : Result Status RunFault → Output → List ℕ → Option (List ℕ) → Option (List ℕ) → ℕ → ℕ → Type 0
+EndsRun result last lines old new before now = AnswersStatus result last.status × Tells result (lines ++ last.text) old new before now
 
--- a run is written, with the line of why it stopped
-abbrev pub RunWrites : Run → Result (Option Stop) RunFault → Option (List ℕ) → Option (List ℕ) → ℕ → ℕ → Type 0
-RunWrites run result old new before now =
-    AnswersStop result run.ending × Tells result (transcript_output run).text old new before now
+-- what the store did: memory that ran out is no fault of it
+abbrev pub IsResultCourse : Result Status RunFault → Option (List (List ℕ × List ℕ)) → Told → List Command → ℕ → ℕ → Type 0
+IsResultCourse (Err run_fault.NoMemory) images told commands was then = IsWellRun images told was then
+IsResultCourse (Err run_fault.Write) images told commands was then = IsRunCourse images told (run_of told commands).failed was then
+IsResultCourse (Ok ended) images told commands was then = IsRunCourse images told (run_of told commands).failed was then
+
+-- the run of these commands is written, over what the store told, with its last line
+pub record RunWrites (images : Option (List (List ℕ × List ℕ))) (commands : List Command) (result : Result Status RunFault) (old new : Option (List ℕ)) (before now was then : ℕ) : Type 0 where
+  pub told : Told
+  pub course : IsResultCourse result images told commands was then
+  pub status : AnswersStatus result (transcript_output (run_of told commands)).status
+  pub text : Tells result (transcript_output (run_of told commands)).text old new before now

@@ -10,7 +10,7 @@ ghost use Rattle.script_run.specs.Effects.{begun_effect, call_effect, give_effec
 use crate::links::NamedBench;
 use crate::logs::RunLog;
 use crate::statuses::Stop;
-use crash_recover::{BenchFault, Progress};
+use crash_recover::{Bench, BenchFault, Progress};
 use journal::Event;
 use lane_model::{CallEnd, Wish};
 use rp_base::{BindFault, CallerNo, Data, Message, Name, NoMemory, PAYLOAD_MOST, Verdict};
@@ -263,20 +263,7 @@ impl NamedBench {
         ensures same { self.new ≡ self.old }
         ensures effect { IfOk result (λ ending. HasEffect (tells self.old.bench log.old.steps (fault_event self.old.name caller fault)) self.new.bench log.old log.new ending) }
     {
-        self.tell(&self.fault_event(caller, fault), log)
-    }
-
-    /// What a refusal of the bench tells.
-    pub(crate) fn fault_event(&self, caller: CallerNo, fault: BenchFault) -> Event
-        ensures { result ≡ fault_event self.now.name caller fault }
-    {
-        let number = u64::from(caller);
-        match fault {
-            BenchFault::NoCaller => Event::NoCaller(self.name, number),
-            BenchFault::InCall => Event::InCall(self.name, number),
-            BenchFault::NoCall => Event::NoCall(self.name, number),
-            BenchFault::NotHeld(message) => Event::NotHeld(self.name, number, message),
-        }
+        self.tell(&fault_event(self.name, caller, fault), log)
     }
 
     /// Tells how far a caller's call came, with its end beside it.
@@ -299,42 +286,54 @@ impl NamedBench {
                 )
             }
             Progress::Ended => {
-                let event = self.end_event(caller, end, log)?;
+                let event = end_event(log.alloc(), self.name, &self.bench, caller, end)?;
                 self.tell(&event, log)
             }
             Progress::Limit => Ok(Some(Stop::StepLimit)),
         }
     }
+}
 
-    /// What the end of a caller's call tells.
-    pub(crate) fn end_event(
-        &self,
-        caller: CallerNo,
-        end: CallEnd,
-        log: &RunLog,
-    ) -> Result<Event, NoMemory>
-        ensures { IfOk result (λ event. event ≡ end_event self.now.name self.now.bench.link caller end) }
-    {
-        let (name, number) = (self.name, u64::from(caller));
-        Ok(match end {
-            CallEnd::Sent(message) => Event::Sent(name, number, message),
-            CallEnd::Took(message, verdict) => {
-                let bytes = self.bench.taken_message(caller, message);
-                return took_event(log.alloc(), name, number, message, bytes, verdict);
-            }
-            CallEnd::Gave(message) => Event::Gave(name, number, message),
-            CallEnd::Bound(endpoint) => Event::Bound(name, number, endpoint),
-            CallEnd::Unbound(endpoint) => Event::Unbound(name, number, endpoint),
-            CallEnd::Busy(holder) => Event::Busy(name, number, u64::from(holder)),
-            CallEnd::Dead(era) => Event::Dead(name, number, era),
-            CallEnd::NoBuffer(accepted, returned) => {
-                Event::NoBuffer(name, number, accepted, returned)
-            }
-            CallEnd::BookFull(accepted) => Event::BookFull(name, number, accepted),
-            CallEnd::Empty(accepted) => Event::Empty(name, number, accepted),
-            CallEnd::Refused(fault) => refused_event(name, number, fault),
-        })
+/// What a refusal of a bench tells.
+pub(crate) fn fault_event(name: Name, caller: CallerNo, fault: BenchFault) -> Event
+    ensures { result ≡ fault_event name caller fault }
+{
+    let number = u64::from(caller);
+    match fault {
+        BenchFault::NoCaller => Event::NoCaller(name, number),
+        BenchFault::InCall => Event::InCall(name, number),
+        BenchFault::NoCall => Event::NoCall(name, number),
+        BenchFault::NotHeld(message) => Event::NotHeld(name, number, message),
     }
+}
+
+/// What the end of a call of a caller of this link tells.
+pub(crate) fn end_event(
+    alloc: Global,
+    name: Name,
+    bench: &Bench,
+    caller: CallerNo,
+    end: CallEnd,
+) -> Result<Event, NoMemory>
+    ensures { IfOk result (λ event. event ≡ end_event name bench.now.link caller end) }
+{
+    let number = u64::from(caller);
+    Ok(match end {
+        CallEnd::Sent(message) => Event::Sent(name, number, message),
+        CallEnd::Took(message, verdict) => {
+            let bytes = bench.taken_message(caller, message);
+            return took_event(alloc, name, number, message, bytes, verdict);
+        }
+        CallEnd::Gave(message) => Event::Gave(name, number, message),
+        CallEnd::Bound(endpoint) => Event::Bound(name, number, endpoint),
+        CallEnd::Unbound(endpoint) => Event::Unbound(name, number, endpoint),
+        CallEnd::Busy(holder) => Event::Busy(name, number, u64::from(holder)),
+        CallEnd::Dead(era) => Event::Dead(name, number, era),
+        CallEnd::NoBuffer(accepted, returned) => Event::NoBuffer(name, number, accepted, returned),
+        CallEnd::BookFull(accepted) => Event::BookFull(name, number, accepted),
+        CallEnd::Empty(accepted) => Event::Empty(name, number, accepted),
+        CallEnd::Refused(fault) => refused_event(name, number, fault),
+    })
 }
 
 /// The message of these bytes, its header included.

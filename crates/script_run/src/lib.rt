@@ -3,7 +3,16 @@
 
 mod calls;
 mod channel_lists;
+mod core_calls;
+mod core_drives;
+mod core_links;
+mod core_lives;
+mod core_restarts;
+mod core_views;
+mod cores;
 mod endings;
+mod fetches;
+pub mod laws;
 mod links;
 mod logs;
 mod objects;
@@ -17,6 +26,8 @@ mod statuses;
 mod table_rows;
 mod words;
 
+pub use cores::NamedCore;
+pub use fetches::Fetched;
 pub use links::NamedBench;
 pub use objects::ScriptImage;
 pub use program::{run_program, run_script};

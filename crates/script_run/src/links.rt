@@ -4,7 +4,8 @@ ghost use Rattle.script_lang.specs.Runnable.{IsRunnable};
 ghost use Rattle.journal.specs.declared.events.Event.TheVariants as event;
 ghost use Rattle.script_run.specs.Logs.{HasEffect};
 ghost use Rattle.script_run.specs.Effects.{books_effect, caller_effect, new_caller_effect, tells};
-ghost use Rattle.script_run.specs.Runs.{image_wanted, link_effect};
+ghost use Rattle.script_run.specs.LinkCommands.{link_effect};
+ghost use Rattle.script_run.specs.Runs.{image_wanted};
 
 use crate::calls::message_of;
 use crate::logs::RunLog;
@@ -34,7 +35,7 @@ impl Model for NamedBench {
 impl NamedBench {
     /// Runs a command on this link: tells how it ended, and answers the status where the run ends in
     /// its midst.
-    #[tactic(auto, unfolding(crate::specs::Runs::link_effect))]
+    #[tactic(auto, unfolding(crate::specs::LinkCommands::link_effect))]
     pub(crate) fn run(
         &mut self,
         command: &Command,
@@ -46,10 +47,8 @@ impl NamedBench {
         ensures effect { IfOk result (λ ending. HasEffect (link_effect self.old log.old.steps command.now) self.new.bench log.old log.new ending) }
     {
         match command {
-            Command::Link(_, _, _, _) | Command::NsLink(_, _, _, _) => self.tell(
-                &Event::Exists(self.name),
-                log,
-            ),
+            Command::Link(_, _, _, _) | Command::NsLink(_, _, _, _) | Command::Core(_, _, _) =>
+                self.tell(&Event::Exists(self.name), log),
             Command::Caller(_, end) => self.make_caller(*end, log),
             Command::Send(_, caller, src, dst, payload) => {
                 self.send(*caller as CallerNo, *src as u32, *dst as u32, payload, log)
@@ -95,6 +94,19 @@ impl NamedBench {
             Command::Close(_) => self.close(log),
             Command::Reclaim(_, caller) => self.reclaim(*caller as CallerNo, log),
             Command::Reopen(_) => self.reopen(log),
+            Command::Region(_, _, _, _, _)
+            | Command::Driver(_, _, _)
+            | Command::Drive(_, _)
+            | Command::Quiet(_)
+            | Command::Boot(_, _)
+            | Command::Shutdown(_)
+            | Command::State(_)
+            | Command::Table(_)
+            | Command::Trace(_, _)
+            | Command::Mem(_, _, _)
+            | Command::Crash(_, _)
+            | Command::Recover(_)
+            | Command::Recovery(_, _) => self.tell(&Event::Unknown(self.name), log),
         }
     }
 

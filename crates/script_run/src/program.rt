@@ -1,14 +1,14 @@
-ghost use Rattle.std.specs.Prelude.{◌≡◌, ◌≢◌, ◌≤◌, ◌+◌, ℕ, List, length, map};
+ghost use Rattle.std.specs.Prelude.{◌≡◌, ◌≢◌, ◌≤◌, ◌+◌, ℕ, List, Ok, length, map};
 ghost use Rattle.rp_base.specs.declared.limits.TheConstants.{SCRIPT_MOST};
 ghost use Rattle.rp_io.specs.Causes.{Rose};
 ghost use Rattle.std.specs.Io.KnownBytes.{IsAtEnd};
 ghost use Rattle.rp_io.specs.Contents.{LosesFront};
-ghost use Rattle.script_lang.specs.Grammar.{IsScript};
-ghost use Rattle.script_run.specs.Runs.{run_of};
-ghost use Rattle.script_run.specs.Outputs.{form_of, run_output, transcript_output};
-ghost use Rattle.script_run.specs.Outputs.{check as check_form, run as run_form};
+ghost use Rattle.script_lang.specs.Grammar.{IsScript, script_of};
+ghost use Rattle.script_run.specs.Outputs.{form_of};
+ghost use Rattle.script_run.specs.Runs.{AsksNone, new_run};
+ghost use Rattle.script_run.specs.Outputs.{run as run_form};
 ghost use Rattle.script_run.specs.Statuses.{status_of};
-ghost use Rattle.script_run.specs.Endings.{AnswersAs, AnswersWell, Devices, Ends, IsRunAnswer, IsRunEnd, RunAnswersAs, Writes};
+ghost use Rattle.script_run.specs.Endings.{AnswersAs, AnswersWell, Devices, Ends, IsRunAnswer, IsRunEnd, NeedsNoStore, RunAnswersAs, RunEnds, SourceAsksNone, TextAsksNone};
 
 use crate::endings::{end_with, end_with_line};
 use crate::objects::Objects;
@@ -65,7 +65,7 @@ pub fn run_program<S: Source, F: FirmwareStore, K: Sink>(
     ensures read { form_of (map (λ word. word.now) words.now) ≡ run_form → IsRunAnswer (status_of result) → IsAtEnd (S.left script.new) }
     ensures taken { LosesFront (S.left script.old) (S.left script.new) (SCRIPT_MOST + 1) }
     ensures unread { form_of (map (λ word. word.now) words.now) ≢ run_form → script.new ≡ script.old }
-    ensures unasked { ((name : List ℕ) → form_of (map (λ word. word.now) words.now) ≢ check_form name) → store.new ≡ store.old }
+    ensures unasked { NeedsNoStore (form_of (map (λ word. word.now) words.now)) (S.left script.old) → store.new ≡ store.old }
 {
     answer(alloc, words, script, store, out).number()
 }
@@ -99,16 +99,19 @@ fn answer<S: Source, F: FirmwareStore, K: Sink>(
     ensures read { form_of (map (λ word. word.now) words.now) ≡ run_form → IsRunEnd result → IsAtEnd (S.left script.new) }
     ensures taken { LosesFront (S.left script.old) (S.left script.new) (SCRIPT_MOST + 1) }
     ensures unread { form_of (map (λ word. word.now) words.now) ≢ run_form → script.new ≡ script.old }
-    ensures unasked { ((name : List ℕ) → form_of (map (λ word. word.now) words.now) ≢ check_form name) → store.new ≡ store.old }
+    ensures unasked { NeedsNoStore (form_of (map (λ word. word.now) words.now)) (S.left script.old) → store.new ≡ store.old }
 {
-    match read_words(words) {
+    let Ok(asked) = read_words(alloc, words) else {
+        return Status::NoMemory;
+    };
+    match asked {
         Asked::Run => run_text(alloc, script, store, out),
         Asked::Check(word, name) => check(alloc, word, name, store, out),
         Asked::Other => end_with(alloc, &[Notice::Usage], Status::Usage, out),
     }
 }
 
-/// Reads a script, runs it and writes its transcript.
+/// Reads a script, runs it over what the store tells and writes its transcript.
 fn run_text<S: Source, F: FirmwareStore, K: Sink>(
     alloc: Global,
     script: &mut S,
@@ -134,7 +137,7 @@ fn run_text<S: Source, F: FirmwareStore, K: Sink>(
         Ends result run_form before now }
     ensures read { IsRunEnd result → IsAtEnd (S.left script.new) }
     ensures taken { LosesFront (S.left script.old) (S.left script.new) (SCRIPT_MOST + 1) }
-    ensures unasked { store.new ≡ store.old }
+    ensures unasked { SourceAsksNone (S.left script.old) → store.new ≡ store.old }
 {
     match read_front(alloc, script, SCRIPT_MOST) {
         Ok(bytes) => run_bytes(alloc, &bytes, store, out),
@@ -150,9 +153,9 @@ fn run_bytes<F: FirmwareStore, K: Sink>(
     store: &mut F,
     out: &mut K,
 ) -> Status
-    ensures written { Writes result (run_output bytes.now) (K.written out.old) (K.written out.new) (K.faults out.old) (K.faults out.new) }
+    ensures ends { RunEnds result (F.images store.old) (script_of bytes.now) (K.written out.old) (K.written out.new) (K.faults out.old) (K.faults out.new) (F.faults store.old) (F.faults store.new) }
     ensures fits { IsRunEnd result → length bytes.now ≤ SCRIPT_MOST }
-    ensures unasked { store.new ≡ store.old }
+    ensures unasked { TextAsksNone (script_of bytes.now) → store.new ≡ store.old }
 {
     match parse(alloc, bytes) {
         Ok(parsed) => run_parsed(alloc, &parsed, store, out),
@@ -163,8 +166,8 @@ fn run_bytes<F: FirmwareStore, K: Sink>(
     }
 }
 
-/// Runs a script from nothing, and writes its transcript. It answers the number with which the
-/// process ends: 0, 4, 5 or 7.
+/// Runs a script from nothing, and writes its transcript. An image that the script didn't make is
+/// fetched from the store. It answers the number with which the process ends: 0, 4, 5, 7 or 8.
 pub fn run_script<F: FirmwareStore, K: Sink>(
     alloc: Global,
     script: &Script,
@@ -172,9 +175,9 @@ pub fn run_script<F: FirmwareStore, K: Sink>(
     out: &mut K,
 ) -> u8
     requires { IsScript script.now.commands.items }
-    ensures answer { RunAnswersAs (status_of result) (transcript_output (run_of script.now.commands.items))
-        (K.written out.old) (K.written out.new) (K.faults out.old) (K.faults out.new) }
-    ensures unasked { store.new ≡ store.old }
+    ensures answer { RunAnswersAs (status_of result) (F.images store.old) script.now.commands.items
+        (K.written out.old) (K.written out.new) (K.faults out.old) (K.faults out.new) (F.faults store.old) (F.faults store.new) }
+    ensures unasked { AsksNone new_run script.now.commands.items → store.new ≡ store.old }
 {
     run_parsed(alloc, script, store, out).number()
 }
@@ -183,14 +186,14 @@ pub fn run_script<F: FirmwareStore, K: Sink>(
 fn run_parsed<F: FirmwareStore, K: Sink>(
     alloc: Global,
     script: &Script,
-    _store: &mut F,
+    store: &mut F,
     out: &mut K,
 ) -> Status
     requires { IsScript script.now.commands.items }
-    ensures written { Writes result (transcript_output (run_of script.now.commands.items))
-        (K.written out.old) (K.written out.new) (K.faults out.old) (K.faults out.new) }
-    ensures unasked { _store.new ≡ _store.old }
+    ensures ends { RunEnds result (F.images store.old) (Ok script.now.commands.items)
+        (K.written out.old) (K.written out.new) (K.faults out.old) (K.faults out.new) (F.faults store.old) (F.faults store.new) }
+    ensures unasked { AsksNone new_run script.now.commands.items → store.new ≡ store.old }
 {
     let mut objects = Objects::new(alloc);
-    run_commands(alloc, &mut objects, script.commands.as_slice(), out)
+    run_commands(alloc, &mut objects, script.commands.as_slice(), store, out)
 }

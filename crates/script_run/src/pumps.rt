@@ -4,6 +4,7 @@ ghost use Rattle.journal.specs.declared.events.Event.TheVariants as event;
 ghost use Rattle.script_run.specs.Logs.{HasEffect};
 ghost use Rattle.script_run.specs.Pumps.{is_same_end, pump_effect, pumped_effect, sided_effect};
 
+use crate::calls::{end_event, fault_event};
 use crate::links::NamedBench;
 use crate::logs::RunLog;
 use crate::statuses::Stop;
@@ -12,7 +13,7 @@ use journal::Event;
 use rp_base::{CallerNo, End, NoMemory};
 
 /// Whether two callers are on the same end.
-fn is_same_end(one: Option<End>, other: Option<End>) -> bool
+pub(crate) fn is_same_end(one: Option<End>, other: Option<End>) -> bool
     ensures { result ≡ is_same_end one other }
 {
     match (one, other) {
@@ -94,14 +95,14 @@ impl NamedBench {
         match ended {
             TurnEnd::Whole => self.tell(&Event::Pumped(self.name, done), log),
             TurnEnd::Fault(caller, fault) => {
-                self.tell_pumped(&self.fault_event(caller, fault), done, log)
+                self.tell_pumped(&fault_event(self.name, caller, fault), done, log)
             }
             TurnEnd::Reached(caller, Reach::At(step)) => {
                 let event = Event::At(self.name, u64::from(caller), u64::from(step));
                 self.tell_pumped(&event, done, log)
             }
             TurnEnd::Reached(caller, Reach::Ended(end)) => {
-                let event = self.end_event(caller, end, log)?;
+                let event = end_event(log.alloc(), self.name, &self.bench, caller, end)?;
                 self.tell_pumped(&event, done, log)
             }
             TurnEnd::Reached(_, Reach::Limit) => Ok(Some(Stop::StepLimit)),

@@ -2,7 +2,7 @@ ghost use Rattle.std.specs.Prelude.{◌≡◌, ◌++◌, ◌<◌, ◌≤◌, ◌
 ghost use Rattle.std.specs.List.{list_all};
 ghost use Rattle.journal.specs.Lines.{transcript};
 ghost use Rattle.script_run.specs.Logs.{HasEffect};
-ghost use Rattle.script_run.specs.RingDumps.{dump_rows, ring_effect, row_count, row_events};
+ghost use Rattle.script_run.specs.RingDumps.{dump_rows, ring_effect, ring_events, row_count, row_events};
 
 use crate::links::NamedBench;
 use crate::logs::RunLog;
@@ -29,10 +29,24 @@ impl NamedBench {
             return self.tell(&Event::StillTurn(self.name, u64::from(holder)), log);
         }
         let bytes = self.bench.ring_bytes(log.alloc(), lane)?;
-        log.tell(&Event::Ring(self.name, lane, bytes.len() as u64))?;
-        tell_rows(self.name, &bytes, log)?;
+        tell_bytes(self.name, lane, &bytes, log)?;
         Ok(None)
     }
+}
+
+/// Tells how many bytes a lane's ring has, and the bytes.
+pub(crate) fn tell_bytes(
+    name: Name,
+    lane: u64,
+    bytes: &[u8],
+    log: &mut RunLog,
+) -> Result<(), NoMemory>
+    requires lane { lane ≤ 1 }
+    requires short { length bytes.now < 2 ^ 32 }
+    ensures { OnOk result (log.new ≡ record log.old { lines = log.old.lines ++ transcript (ring_events name lane bytes.now) }) }
+{
+    log.tell(&Event::Ring(name, lane, bytes.len() as u64))?;
+    tell_rows(name, bytes, log)
 }
 
 /// Tells bytes, sixteen a line, but no line of zeros.

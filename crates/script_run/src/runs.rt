@@ -1,20 +1,22 @@
-ghost use Rattle.std.specs.Prelude.{◌≡◌, ◌++◌, ◌∷◌, ◌<◌, ◌≤◌, [], IfOk, IfSome, OnOk, OnErr, IsErrOf, length, None, Some};
+ghost use Rattle.std.specs.Prelude.{◌≡◌, ◌≢◌, ◌++◌, IfOk, OnOk, OnErr, Ok, Err};
 ghost use Rattle.std.specs.Io.KnownBytes.{Appends};
 ghost use Rattle.rp_io.specs.Causes.{Rose};
 ghost use Rattle.rp_io.specs.Contents.{AppendsFront};
 ghost use Rattle.script_lang.specs.Runnable.{AreRunnable};
 ghost use Rattle.journal.specs.Lines.{transcript};
-ghost use Rattle.script_run.specs.Runs.{new_run, run_of};
-ghost use Rattle.script_run.specs.Outputs.{transcript_output};
-ghost use Rattle.script_run.specs.Endings.{Writes};
+ghost use Rattle.script_run.specs.Runs.{AsksNone, new_run};
+ghost use Rattle.script_run.specs.declared.runs.RunFault.TheVariants as fault;
+ghost use Rattle.script_run.specs.Outputs.{stop_output, store_fault_output};
+ghost use Rattle.script_run.specs.Endings.{RunEnds};
 ghost use Rattle.script_run.specs.Told.{EndsRun, RunWrites};
 
+use crate::fetches::{CommandFault, run_command};
 use crate::logs::RunLog;
 use crate::objects::Objects;
 use crate::statuses::{Status, Stop};
 use journal::Notice;
 use rp_base::NoMemory;
-use rp_io::{Failed, Sink};
+use rp_io::{Failed, FirmwareStore, Sink, write_whole};
 use script_lang::Command;
 use std::alloc::Global;
 
@@ -47,59 +49,73 @@ impl From<NoMemory> for RunFault {
     }
 }
 
-/// Runs commands in order from nothing, writes their events and the line of why the run stopped,
-/// and answers how the program ends.
-pub(crate) fn run_commands<K: Sink>(
+/// Runs commands in order from nothing over what the store tells, writes their events and the last
+/// line of the run, and answers how the program ends.
+pub(crate) fn run_commands<F: FirmwareStore, K: Sink>(
     alloc: Global,
     objects: &mut Objects,
     commands: &[Command],
+    store: &mut F,
     out: &mut K,
 ) -> Status
     requires runnable { AreRunnable commands.now }
     requires new { objects.old ≡ new_run.objects }
-    ensures { Writes result (transcript_output (run_of commands.now)) (K.written out.old) (K.written out.new) (K.faults out.old) (K.faults out.new) }
+    ensures ends { RunEnds result (F.images store.old) (Ok commands.now) (K.written out.old) (K.written out.new) (K.faults out.old) (K.faults out.new) (F.faults store.old) (F.faults store.new) }
+    ensures unasked { AsksNone new_run commands.now → store.new ≡ store.old }
 {
-    match tell_commands(alloc, objects, commands, out) {
-        Ok(None) => Status::Done,
-        Ok(Some(Stop::StepLimit)) => Status::StepLimit,
+    match tell_commands(alloc, objects, commands, store, out) {
+        Ok(status) => status,
         Err(RunFault::Write) => Status::WriteFault,
         Err(RunFault::NoMemory) => Status::NoMemory,
     }
 }
 
-/// Runs commands in order from nothing, and writes what they tell.
-fn tell_commands<K: Sink>(
+/// Runs commands in order from nothing over what the store tells, and writes what they tell.
+fn tell_commands<F: FirmwareStore, K: Sink>(
     alloc: Global,
     objects: &mut Objects,
     commands: &[Command],
+    store: &mut F,
     out: &mut K,
-) -> Result<Option<Stop>, RunFault>
+) -> Result<Status, RunFault>
     requires runnable { AreRunnable commands.now }
     requires new { objects.old ≡ new_run.objects }
-    ensures written { RunWrites (run_of commands.now) result (K.written out.old) (K.written out.new) (K.faults out.old) (K.faults out.new) }
+    ensures written { RunWrites (F.images store.old) commands.now result (K.written out.old) (K.written out.new) (K.faults out.old) (K.faults out.new) (F.faults store.old) (F.faults store.new) }
+    ensures unasked { AsksNone new_run commands.now → store.new ≡ store.old }
 {
     let mut log = RunLog::new(alloc);
     for command in commands {
-        match objects.run(command, &mut log)? {
-            None => log.hand_on(out)?,
-            Some(stop) => return end_run(Some(stop), &mut log, out),
+        match run_command(objects, command, store, &mut log) {
+            Ok(None) => log.hand_on(out)?,
+            Ok(Some(stop)) => return end_run(Some(stop), &mut log, out),
+            Err(CommandFault::Store) => return end_failed(&mut log, out),
+            Err(CommandFault::NoMemory) => return Err(RunFault::NoMemory),
         }
     }
     end_run(None, &mut log, out)
 }
 
-/// Hands on what a run told, with the line of why it stopped.
-fn end_run<K: Sink>(
-    stop: Option<Stop>,
-    log: &mut RunLog,
-    out: &mut K,
-) -> Result<Option<Stop>, RunFault>
-    ensures { EndsRun result stop log.old.lines (K.written out.old) (K.written out.new) (K.faults out.old) (K.faults out.new) }
+/// Hands on what a run told, with the line of why it stopped, if it did.
+fn end_run<K: Sink>(stop: Option<Stop>, log: &mut RunLog, out: &mut K) -> Result<Status, RunFault>
+    ensures { EndsRun result (stop_output stop) log.old.lines (K.written out.old) (K.written out.new) (K.faults out.old) (K.faults out.new) }
 {
-    match stop {
-        None => {}
-        Some(Stop::StepLimit) => log.note(&Notice::StepLimit)?,
-    }
+    let status = match stop {
+        None => Status::Done,
+        Some(Stop::StepLimit) => {
+            log.note(&Notice::StepLimit)?;
+            Status::StepLimit
+        }
+    };
     log.flush(out)?;
-    Ok(stop)
+    Ok(status)
+}
+
+/// Hands on what a run told whose store failed, with the line that says so. That needs no memory.
+fn end_failed<K: Sink>(log: &mut RunLog, out: &mut K) -> Result<Status, RunFault>
+    ensures written { EndsRun result store_fault_output log.old.lines (K.written out.old) (K.written out.new) (K.faults out.old) (K.faults out.new) }
+    ensures found { result ≢ Err fault.NoMemory }
+{
+    log.flush(out)?;
+    write_whole(out, b"* store fault\n")?;
+    Ok(Status::StoreFault)
 }

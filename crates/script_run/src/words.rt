@@ -1,9 +1,14 @@
-ghost use Rattle.std.specs.Prelude.{◌≡◌, map};
+ghost use Rattle.std.specs.Prelude.{◌≡◌, map, IfOk, IfErr, false, ◌∷◌};
+ghost use Rattle.std.specs.List.{list_any};
+ghost use Rattle.clap.specs.Words.{kind_of};
 ghost use Rattle.script_run.specs.Outputs.{form_of, named_form};
 ghost use Rattle.word_kinds.specs.Spellings.{name_of};
-ghost use Rattle.script_run.specs.Asked.{IsNamed, asked_form};
+ghost use Rattle.script_run.specs.Asked.{AreMatched, IsNamed, asked_form, begins_with_dash};
 
-use rp_base::Name;
+use clap::error::ErrorKind;
+use clap::{Arg, ArgMatches, Command};
+use rp_base::{Name, NoMemory};
+use std::alloc::Global;
 
 /// What the words of the command line ask for.
 #[derive(Clone, Copy)]
@@ -16,14 +21,62 @@ pub enum Asked<'a> {
     Check(&'a str, Name),
 }
 
-/// What these words, those behind the name of the program, ask for.
-pub(crate) fn read_words<'a>(words: &[&'a str]) -> Asked<'a>
-    ensures form { asked_form result ≡ form_of (map (λ word. word.now) words.now) }
+/// What these words, those behind the name of the program, ask for. A word that begins with `-` asks
+/// for nothing that the program does.
+pub(crate) fn read_words<'a>(alloc: Global, words: &'a [&'a str]) -> Result<Asked<'a>, NoMemory>
+    ensures form { IfOk result (λ asked. asked_form asked ≡ form_of (map (λ word. word.now) words.now)) }
+    ensures named { IfOk result IsNamed }
+{
+    if has_dashed_word(words) {
+        return Ok(Asked::Other);
+    }
+    let Ok(matches) = matches_of(alloc, words) else {
+        return Err(NoMemory);
+    };
+    let Some(job) = matches.get_str("JOB") else {
+        return Ok(Asked::Other);
+    };
+    let args = matches.get_strs("ARGS").unwrap_or(&[]);
+    Ok(asked_by(job, args))
+}
+
+/// Whether some word begins with `-`.
+fn has_dashed_word(words: &[&str]) -> bool
+    ensures { result ≡ list_any (λ word. begins_with_dash word.now) words.now }
+{
+    words.iter().any(|word| begins_with_a_dash(word))
+}
+
+fn begins_with_a_dash(word: &str) -> bool
+    ensures { result ≡ begins_with_dash word.now }
+{
+    word.as_bytes().first() == Some(&b'-')
+}
+
+/// The words, as a job and its arguments. Of words without a dash the parser refuses none.
+fn matches_of<'a>(alloc: Global, words: &'a [&'a str]) -> Result<ArgMatches<'a>, clap::Error>
+    requires plain { list_any (λ word. begins_with_dash word.now) words.now ≡ false }
+    ensures matched { IfOk result (AreMatched (map (λ word. word.now) words.now)) }
+    ensures memory { IfErr result (λ error. kind_of error ≡ ErrorKind.OutOfMemory) }
+{
+    let job = Arg::new(alloc, "JOB");
+    let args = Arg::new(alloc, "ARGS").num_args(1..);
+    let command = Command::new(alloc, "rproc")
+        .no_binary_name(true)
+        .disable_help_flag(true)
+        .arg(job)?
+        .arg(args)?;
+    command.try_get_matches_from(words)
+}
+
+/// What this job with these arguments asks for.
+fn asked_by<'a>(job: &'a str, args: &[&'a str]) -> Asked<'a>
+    ensures form { asked_form result ≡ form_of (job.now ∷ map (λ word. word.now) args.now) }
     ensures named { IsNamed result }
 {
-    match words {
-        [only] if *only == "run" => Asked::Run,
-        [first, word] if *first == "check" => name_in_word(word),
+    match args {
+        [] if job == "run" => Asked::Run,
+        [name] if job == "check" => name_in_word(name),
         _ => Asked::Other,
     }
 }

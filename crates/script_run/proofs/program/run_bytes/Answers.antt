@@ -1,24 +1,36 @@
-use Rattle.std.proofs.Common.{Ok, Err, subst}
+use Rattle.std.proofs.Common.{List, Err, Result, sym, subst}
+use Rattle.script_lang.specs.declared.commands.Command.{Command}
 use Rattle.script_lang.specs.declared.commands.ParseFault.{ParseFault}
-use Rattle.script_lang.specs.Grammar.{IsParsed, bad_line, script_of}
-use Rattle.script_run.specs.Outputs.{Output}
-use Rattle.script_run.specs.Endings.{Writes}
-use Rattle.script_run.proofs.Ends.{output_said, script_fits}
+use Rattle.script_lang.specs.Grammar.{IsParsed, Refusal, bad_line, script_of}
+use Rattle.script_run.specs.Endings.{RunEnds, TextAsksNone}
+use Rattle.script_run.proofs.Ends.{refused_ends, script_fits, unread_ends}
 use Rattle.script_run.proofs.program.run_bytes.Goals as goal
 
-pub returns-in-Ok-clause-written : goal.returns-in-Ok-clause-written
-returns-in-Ok-clause-written g c =
+pub returns-in-Ok-clause-ends : goal.returns-in-Ok-clause-ends
+returns-in-Ok-clause-ends g c =
+    let store = g.F.FirmwareStore in
     let sink = g.K.Sink in
-    subst (λ (output : Output). Writes c.run_parsed.result output (sink.written c.args.out.now) (sink.written c.run_parsed.new.out) (sink.faults c.args.out.now) (sink.faults c.run_parsed.new.out))
-    (output_said c.args.bytes.now (Ok c.in-Ok.parsed.commands.items) c.in-Ok.ensures) c.run_parsed.ensures.written
+    subst (λ (said : Result (List Command) Refusal). RunEnds c.run_parsed.result (store.images c.args.store.now) said (sink.written c.args.out.now) (sink.written c.run_parsed.new.out)
+    (sink.faults c.args.out.now) (sink.faults c.run_parsed.new.out) (store.faults c.args.store.now) (store.faults c.run_parsed.new.store))
+    (sym c.in-Ok.ensures) c.run_parsed.ensures.ends
 
 pub returns-in-Ok-clause-fits : goal.returns-in-Ok-clause-fits
 returns-in-Ok-clause-fits g c ended = script_fits c.args.bytes.now c.in-Ok.parsed.commands.items c.in-Ok.ensures
 
-pub returns-in-Err-Refused-clause-written : goal.returns-in-Err-Refused-clause-written
-returns-in-Err-Refused-clause-written g c =
+pub returns-in-Err-Refused-clause-ends : goal.returns-in-Err-Refused-clause-ends
+returns-in-Err-Refused-clause-ends g c =
+    let store = g.F.FirmwareStore in
     let sink = g.K.Sink in
-    subst (λ (output : Output). Writes c.end_with.result output (sink.written c.args.out.now) (sink.written c.end_with.new.out) (sink.faults c.args.out.now) (sink.faults c.end_with.new.out))
-    (output_said c.args.bytes.now (Err (bad_line c.in-Err-Refused.line c.in-Err-Refused.cause))
-    (subst (λ (fault : ParseFault). IsParsed (script_of c.args.bytes.now) (Err fault)) c.in-Err-Refused.field-0-is c.in-Err-Refused.ensures))
+    refused_ends (store.images c.args.store.now) (script_of c.args.bytes.now) (bad_line c.in-Err-Refused.line c.in-Err-Refused.cause) c.end_with.result
+    (sink.written c.args.out.now) (sink.written c.end_with.new.out) (sink.faults c.args.out.now) (sink.faults c.end_with.new.out) (store.faults c.args.store.now)
+    (subst (λ (fault : ParseFault). IsParsed (script_of c.args.bytes.now) (Err fault)) c.in-Err-Refused.field-0-is c.in-Err-Refused.ensures)
     c.end_with.ensures
+
+pub returns-in-Err-NoMemory-clause-ends : goal.returns-in-Err-NoMemory-clause-ends
+returns-in-Err-NoMemory-clause-ends g c =
+    let store = g.F.FirmwareStore in
+    let sink = g.K.Sink in
+    unread_ends (store.images c.args.store.now) (script_of c.args.bytes.now) (sink.written c.args.out.now) (sink.faults c.args.out.now) (store.faults c.args.store.now)
+
+pub returns-in-Ok-clause-unasked : goal.returns-in-Ok-clause-unasked
+returns-in-Ok-clause-unasked g c none = c.run_parsed.ensures.unasked (subst TextAsksNone c.in-Ok.ensures none)

@@ -1,8 +1,10 @@
-use Rattle.std.proofs.Common.{List, ℕ, Err, refl, sym, ap, subst}
+use Rattle.std.proofs.Common.{List, ℕ, inl, Err, refl, sym, ap, subst}
 use Rattle.rp_io.specs.declared.faults.ReadFault.{ReadFault}
-use Rattle.script_run.specs.Outputs.{Output, run as run_form, run_output, read_fault_output}
-use Rattle.script_run.specs.Endings.{Devices, Writes}
-use Rattle.script_run.proofs.Ends.{ends_fault, ends_no_memory, ends_run, memory_well, read_fault_line, read_well}
+use Rattle.script_lang.specs.Grammar.{script_of}
+use Rattle.script_run.specs.Outputs.{Output, run as run_form, read_fault_output}
+use Rattle.script_run.specs.Endings.{Devices, RunEnds, TextAsksNone, Writes}
+use Rattle.script_run.proofs.Ends.{ends_fault, ends_no_memory, ends_run, memory_well, read_asks, read_well}
+use Rattle.script_run.proofs.FaultLines.{read_fault_line}
 use Rattle.script_run.proofs.program.run_text.Goals as goal
 
 pub returns-in-Ok-clause-ends : goal.returns-in-Ok-clause-ends
@@ -27,8 +29,9 @@ returns-in-Ok-clause-ends g c =
       sink_faults = sink.faults c.run_bytes.new.out;
     } in
     ends_run c.run_bytes.result before now c.in-Ok.bytes.items c.in-Ok.ensures.bytes
-    (record { source = c.in-Ok.ensures.same (read_well c.in-Ok.bytes); store = ap store.faults c.run_bytes.ensures.unasked })
-    (subst (λ (bytes : List ℕ). Writes c.run_bytes.result (run_output bytes) before.written now.written before.sink_faults now.sink_faults) c.deref.ensures.value c.run_bytes.ensures.written)
+    (c.in-Ok.ensures.same (read_well c.in-Ok.bytes))
+    (subst (λ (bytes : List ℕ). RunEnds c.run_bytes.result before.images (script_of bytes) before.written now.written before.sink_faults now.sink_faults before.store_faults now.store_faults)
+    c.deref.ensures.value c.run_bytes.ensures.ends)
 
 pub returns-in-Err-Failed-clause-ends : goal.returns-in-Err-Failed-clause-ends
 returns-in-Err-Failed-clause-ends g c =
@@ -52,7 +55,7 @@ returns-in-Err-Failed-clause-ends g c =
       sink_faults = sink.faults c.end_with_line.new.out;
     } in
     ends_fault c.end_with_line.result run_form before now read_fault_output c.end_with_line.ensures.found
-    (refl, c.in-Err-Failed.ensures.failed (ap (λ (fault : ReadFault). Err fault) c.in-Err-Failed.field-0-is), refl)
+    (inl (refl, c.in-Err-Failed.ensures.failed (ap (λ (fault : ReadFault). Err fault) c.in-Err-Failed.field-0-is), refl))
     (subst (λ (output : Output). Writes c.end_with_line.result output before.written now.written before.sink_faults now.sink_faults) (sym read_fault_line) c.end_with_line.ensures.written)
 
 pub returns-in-Err-NoMemory-clause-ends : goal.returns-in-Err-NoMemory-clause-ends
@@ -78,3 +81,8 @@ returns-in-Err-NoMemory-clause-ends g c =
     } in
     ends_no_memory run_form before now
     (record { source = c.in-Err-NoMemory.ensures.same (memory_well c.in-Err-NoMemory.field-0 c.in-Err-NoMemory.field-0-is); store = refl }) refl refl
+
+pub returns-in-Ok-clause-unasked : goal.returns-in-Ok-clause-unasked
+returns-in-Ok-clause-unasked g c none =
+    c.run_bytes.ensures.unasked (subst (λ (bytes : List ℕ). TextAsksNone (script_of bytes)) (sym c.deref.ensures.value)
+    (read_asks (g.S.Source.left c.args.script.now) c.in-Ok.bytes.items c.in-Ok.ensures.bytes none))

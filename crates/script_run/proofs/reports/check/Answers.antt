@@ -3,7 +3,8 @@ use Rattle.script_run.specs.declared.reports.ReportFault.{ReportFault}
 use Rattle.script_run.specs.Outputs.{Output, check, store_fault_output}
 use Rattle.script_run.specs.Endings.{Devices, Writes}
 use Rattle.script_run.specs.ImageReports.{IsReportFault}
-use Rattle.script_run.proofs.Ends.{ends_fault, ends_no_memory, store_fault_line}
+use Rattle.script_run.proofs.Ends.{ends_fault, ends_no_memory}
+use Rattle.script_run.proofs.FaultLines.{store_fault_line}
 use Rattle.script_run.proofs.reports.check.Goals as goal
 
 pub returns-in-Err-Store : goal.returns-in-Err-Store

@@ -1,7 +1,7 @@
 use Rattle.std.proofs.Common.{Err, subst}
 use Rattle.rp_io.specs.declared.faults.FetchFault.{FetchFault}
 use Rattle.rp_io.specs.Images.{IsFetched}
-use Rattle.script_run.proofs.Fetches.{found_report, missing_report, too_large_report}
+use Rattle.script_run.proofs.FetchedReports.{found_report, missing_report, too_large_report}
 use Rattle.script_run.proofs.reports.fetch_report.Goals as goal
 
 pub returns-in_ok-report_image-in-Ok-clause-report : goal.returns-in_ok-report_image-in-Ok-clause-report

@@ -1,8 +1,8 @@
-use Rattle.std.proofs.Common.{◌≡◌, ℕ, List, IfOk, ap, ◌∙◌, subst}
+use Rattle.std.proofs.Common.{ℕ, List, IfOk, ap, ◌∙◌, subst}
 use Rattle.elf_image.specs.Images.{entry_of}
 use Rattle.elf_image.specs.Segments.{segments_of}
 use Rattle.script_run.specs.TableRows.{table_rows}
-use Rattle.script_run.specs.Reports.{Report, image_report, loads_report}
+use Rattle.script_run.specs.Reports.{Report, loads_report}
 use Rattle.script_run.specs.ImageReports.{IsImageReport}
 use Rattle.script_run.proofs.LoadReports.{loaded_same}
 use Rattle.script_run.proofs.reports.report_image.Goals as goal

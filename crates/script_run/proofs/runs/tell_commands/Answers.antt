@@ -1,95 +1,199 @@
-use Rattle.std.proofs.Common.{◌≡◌, ◌+◌, ℕ, [], Some, None, drop, refl, sym, ap, subst, ◌∙◌}
+use Rattle.std.proofs.Common.{◌≡◌, ◌+◌, ℕ, [], List, Option, Some, None, Result, Err, drop, false, refl, sym, ap, subst, ◌∙◌}
 use Rattle.std.proofs.Math.ListN.{drop_of_length-le}
+use Rattle.std.proofs.lemmas.Result.{err_from_is_err_and}
 use Rattle.rp_io.specs.Causes.{Rose}
-use Rattle.script_run.specs.Runs.{Run, RunState, effect_of, run_from, run_of}
-use Rattle.script_run.proofs.RunSteps.{left_at, run_none, runnable_first}
-use Rattle.script_run.proofs.SoFar.{SoFar, memory_writes, fault_writes, so_far_ends, so_far_failed, so_far_front, so_far_handed, so_far_after, so_far_until}
+use Rattle.script_run.specs.declared.runs.RunFault.{RunFault}
+use Rattle.script_run.specs.declared.statuses.Status.{Status}
+use Rattle.script_run.specs.declared.fetches.CommandFault.{CommandFault}
+use Rattle.script_run.specs.Stores.{Told}
+use Rattle.script_run.specs.Logs.{LogState}
+use Rattle.script_run.specs.Fetches.{DidTold, RunsTold}
+use Rattle.script_run.specs.Outputs.{end_output, store_fault_output}
+use Rattle.script_run.specs.Told.{EndsRun, RunWrites}
+use Rattle.script_run.specs.Runs.{AsksNone, ObjectsState, Run, RunState, asked_name, run_from}
+use Rattle.script_run.proofs.RunSteps.{asks_first, asks_later, left_at, run_none, runnable_first}
+use Rattle.script_run.proofs.SoFar.{SoFar, asked_some, so_far_none, so_far_ends, so_far_fails, so_far_no_memory, so_far_write_fault, so_far_handed, so_far_after, so_far_until}
 use Rattle.script_run.proofs.runs.tell_commands.Goals as goal
 
-pub run-requires : goal.run-requires
-run-requires g c =
+pub run_command-requires : goal.run_command-requires
+run_command-requires g c =
     let i = c.loop-command.command-index in
     let is = left_at c.args.commands.now i c.command-item.result c.loop-command-test.true c.command-item.is in
     (runnable_first c.command-item.result (drop (i + 1) c.args.commands.now) (drop i c.args.commands.now) is c.loop-command.invariant.runnable).0
 
-pub returns-in_err-run : goal.returns-in_err-run
-returns-in_err-run g c =
+pub loop-command-init : goal.loop-command-init
+loop-command-init g c =
+    let store = g.F.FirmwareStore in
     let sink = g.K.Sink in
     let commands = c.args.commands.now in
-    let state : RunState = record { objects = c.loop-command.objects; steps = c.loop-command.log.steps } in
+    let written = sink.written c.args.out.now in
+    let images = store.images c.args.store.now in
     record {
-      written =
-          memory_writes (run_of commands) c.from_residual.result (sink.written c.args.out.now) (sink.written c.loop-command.out) (sink.faults c.args.out.now) (sink.faults c.loop-command.out)
-          c.from_residual.ensures.1
-          (so_far_front commands (sink.written c.args.out.now) (sink.written c.loop-command.out) c.loop-command.log.lines
-          (run_from state (drop c.loop-command.command-index commands)) c.loop-command.invariant.so_far)
-          c.loop-command.invariant.same;
+      so_far = subst (λ (log : LogState). SoFar images commands written written log.lines (λ later. run_from later (record { objects = c.args.objects.now; steps = log.steps }) commands)) (sym c.new-log.ensures)
+          (subst (λ (objects : ObjectsState). SoFar images commands written written [] (λ later. run_from later (record { objects = objects; steps = 0 }) commands)) (sym c.requires.new)
+          (so_far_none images commands written));
+      runnable = c.requires.runnable;
+      same = refl;
+      images = refl;
+      still = refl;
+      unasked = λ none. (
+        refl,
+        subst (λ (log : LogState). AsksNone (record { objects = c.args.objects.now; steps = log.steps }) commands) (sym c.new-log.ensures)
+            (subst (λ (objects : ObjectsState). AsksNone (record { objects = objects; steps = 0 }) commands) (sym c.requires.new) none),
+      );
     }
 
-pub returns-in-Some : goal.returns-in-Some
-returns-in-Some g c =
+pub returns-in_err-hand_on-in-Ok-None : goal.returns-in_err-hand_on-in-Ok-None
+returns-in_err-hand_on-in-Ok-None g c =
+    let store = g.F.FirmwareStore in
+    let sink = g.K.Sink in
+    let commands = c.args.commands.now in
+    let images = store.images c.args.store.now in
+    let i = c.loop-command.command-index in
+    let first = c.command-item.result in
+    let state : RunState = record { objects = c.loop-command.objects; steps = c.loop-command.log.steps } in
+    let next : RunState = record { objects = c.run_command.new.objects; steps = c.run_command.new.log.steps } in
+    let found = err_from_is_err_and c.from_residual.result c.from_residual.ensures.1 in
+    let did = subst (λ (held : Option (List (List ℕ × List ℕ))). DidTold held state first c.run_command.new.objects c.loop-command.log c.run_command.new.log c.in-Ok-None.field-0) c.loop-command.invariant.images c.in-Ok-None.ensures.effect.0 in
+    record {
+      written = subst (λ (result : Result Status RunFault). RunWrites images commands result (sink.written c.args.out.now) (sink.written c.hand_on.new.out)
+          (sink.faults c.args.out.now) (sink.faults c.hand_on.new.out) (store.faults c.args.store.now) (store.faults c.run_command.new.store))
+          (sym (found.1 ∙ ap (λ (fault : RunFault). Err fault) found.2))
+          (so_far_write_fault images commands (sink.written c.args.out.now) (sink.written c.loop-command.out) c.run_command.new.log.lines
+          (λ later. run_from later next (drop (i + 1) commands)) (sink.written c.hand_on.new.out) (sink.faults c.args.out.now) (sink.faults c.hand_on.new.out)
+          (store.faults c.args.store.now) (store.faults c.run_command.new.store)
+          (so_far_after images commands (sink.written c.args.out.now) (sink.written c.loop-command.out) c.loop-command.objects c.run_command.new.objects i first
+          c.loop-command.log c.run_command.new.log c.in-Ok-None.field-0 c.loop-command.invariant.so_far c.loop-command-test.true c.command-item.is did c.in-Ok-None.field-0-is)
+          c.in_err-hand_on-in-Ok-None.ensures.front
+          (subst (λ (faults : ℕ). Rose faults (sink.faults c.hand_on.new.out)) c.loop-command.invariant.same c.in_err-hand_on-in-Ok-None.ensures.failed)
+          (c.in-Ok-None.ensures.effect.1 ∙ c.loop-command.invariant.still));
+      unasked = λ none.
+          let sofar = c.loop-command.invariant.unasked none in
+          c.run_command.ensures.unasked (asks_first state (drop c.loop-command.command-index commands) first (drop (c.loop-command.command-index + 1) commands)
+          (left_at commands c.loop-command.command-index first c.loop-command-test.true c.command-item.is) sofar.1) ∙ sofar.0;
+    }
+
+pub returns-in-Ok-Some : goal.returns-in-Ok-Some
+returns-in-Ok-Some g c =
+    let store = g.F.FirmwareStore in
+    let sink = g.K.Sink in
+    let commands = c.args.commands.now in
+    let images = store.images c.args.store.now in
+    let i = c.loop-command.command-index in
+    let first = c.command-item.result in
+    let state : RunState = record { objects = c.loop-command.objects; steps = c.loop-command.log.steps } in
+    let did = subst (λ (held : Option (List (List ℕ × List ℕ))). DidTold held state first c.run_command.new.objects c.loop-command.log c.run_command.new.log c.in-Ok-Some.field-0) c.loop-command.invariant.images c.in-Ok-Some.ensures.effect.0 in
+    let so_far = so_far_until images commands (sink.written c.args.out.now) (sink.written c.loop-command.out) c.loop-command.objects c.run_command.new.objects i first
+    c.loop-command.log c.run_command.new.log c.in-Ok-Some.field-0 c.loop-command.invariant.so_far c.loop-command-test.true c.command-item.is did c.in-Ok-Some.stop c.in-Ok-Some.field-0-is in
+    record {
+      written =
+          so_far_ends images commands (sink.written c.args.out.now) (sink.written c.loop-command.out) c.run_command.new.log.lines _ c.end_run.result (Some c.in-Ok-Some.stop)
+          (sink.written c.end_run.new.out) (sink.faults c.args.out.now) (sink.faults c.loop-command.out) (sink.faults c.end_run.new.out)
+          (store.faults c.args.store.now) (store.faults c.run_command.new.store) so_far (λ later. refl) (λ later. refl) c.loop-command.invariant.same
+          (c.in-Ok-Some.ensures.effect.1 ∙ c.loop-command.invariant.still) c.end_run.ensures;
+      unasked = λ none.
+          let sofar = c.loop-command.invariant.unasked none in
+          c.run_command.ensures.unasked (asks_first state (drop c.loop-command.command-index commands) first (drop (c.loop-command.command-index + 1) commands)
+          (left_at commands c.loop-command.command-index first c.loop-command-test.true c.command-item.is) sofar.1) ∙ sofar.0;
+    }
+
+pub returns-in-Err-Store : goal.returns-in-Err-Store
+returns-in-Err-Store g c =
+    let store = g.F.FirmwareStore in
+    let sink = g.K.Sink in
+    let commands = c.args.commands.now in
+    let images = store.images c.args.store.now in
+    let i = c.loop-command.command-index in
+    let first = c.command-item.result in
+    let state : RunState = record { objects = c.loop-command.objects; steps = c.loop-command.log.steps } in
+    let failed = subst (λ (fault : CommandFault). RunsTold (Err fault) (store.images c.loop-command.store) state first c.run_command.new.objects c.loop-command.log c.run_command.new.log
+    (store.faults c.loop-command.store) (store.faults c.run_command.new.store)) c.in-Err-Store.field-0-is c.in-Err-Store.ensures.effect in
+    let asks = asked_some (asked_name c.loop-command.objects first) failed.0 in
+    record {
+      written =
+          so_far_fails images commands (sink.written c.args.out.now) (sink.written c.loop-command.out) c.loop-command.log.lines state (drop i commands) first (drop (i + 1) commands) asks.0
+          c.end_failed.result (sink.written c.end_failed.new.out) (sink.faults c.args.out.now) (sink.faults c.loop-command.out) (sink.faults c.end_failed.new.out)
+          (store.faults c.args.store.now) (store.faults c.run_command.new.store) c.loop-command.invariant.so_far
+          (left_at commands i first c.loop-command-test.true c.command-item.is) asks.1 c.loop-command.invariant.same c.end_failed.ensures.found
+          (subst (λ (faults : ℕ). Rose faults (store.faults c.run_command.new.store)) c.loop-command.invariant.still failed.2)
+          (subst (λ (log : LogState). EndsRun c.end_failed.result store_fault_output log.lines (sink.written c.loop-command.out) (sink.written c.end_failed.new.out)
+          (sink.faults c.loop-command.out) (sink.faults c.end_failed.new.out)) failed.1 c.end_failed.ensures.written);
+      unasked = λ none.
+          let sofar = c.loop-command.invariant.unasked none in
+          c.run_command.ensures.unasked (asks_first state (drop c.loop-command.command-index commands) first (drop (c.loop-command.command-index + 1) commands)
+          (left_at commands c.loop-command.command-index first c.loop-command-test.true c.command-item.is) sofar.1) ∙ sofar.0;
+    }
+
+pub returns-in-Err-NoMemory : goal.returns-in-Err-NoMemory
+returns-in-Err-NoMemory g c =
+    let store = g.F.FirmwareStore in
     let sink = g.K.Sink in
     let commands = c.args.commands.now in
     let first = c.command-item.result in
     let state : RunState = record { objects = c.loop-command.objects; steps = c.loop-command.log.steps } in
-    let last : Run = record { events = []; last = (effect_of state first).run; ending = Some c.in-Some.stop } in
+    let still = subst (λ (fault : CommandFault). RunsTold (Err fault) (store.images c.loop-command.store) state first c.run_command.new.objects c.loop-command.log c.run_command.new.log
+    (store.faults c.loop-command.store) (store.faults c.run_command.new.store)) c.in-Err-NoMemory.field-0-is c.in-Err-NoMemory.ensures.effect in
     record {
       written =
-          so_far_ends commands (sink.written c.args.out.now) (sink.written c.loop-command.out) c.run.new.log.lines last c.end_run.result (Some c.in-Some.stop)
-          (sink.written c.end_run.new.out) (sink.faults c.args.out.now) (sink.faults c.loop-command.out) (sink.faults c.end_run.new.out)
-          (so_far_until commands (sink.written c.args.out.now) (sink.written c.loop-command.out) c.loop-command.objects c.run.new.self c.loop-command.command-index first
-          c.loop-command.log c.run.new.log c.in_ok-run.field-0 c.loop-command.invariant.so_far c.loop-command-test.true c.command-item.is c.in_ok-run.ensures c.in-Some.stop c.in-Some.is)
-          refl refl c.loop-command.invariant.same c.end_run.ensures;
-    }
-
-pub returns-in_err-hand_on-in-None : goal.returns-in_err-hand_on-in-None
-returns-in_err-hand_on-in-None g c =
-    let sink = g.K.Sink in
-    let commands = c.args.commands.now in
-    record {
-      written =
-          fault_writes (run_of commands) c.from_residual-in_err-hand_on-in-None.result (sink.written c.args.out.now) (sink.written c.hand_on.new.out) (sink.faults c.args.out.now) (sink.faults c.hand_on.new.out)
-          c.from_residual-in_err-hand_on-in-None.ensures.1
-          (so_far_failed commands (sink.written c.args.out.now) (sink.written c.loop-command.out) c.run.new.log.lines
-          (run_from (record { objects = c.run.new.self; steps = c.run.new.log.steps }) (drop (c.loop-command.command-index + 1) commands)) (sink.written c.hand_on.new.out)
-          (so_far_after commands (sink.written c.args.out.now) (sink.written c.loop-command.out) c.loop-command.objects c.run.new.self c.loop-command.command-index c.command-item.result
-          c.loop-command.log c.run.new.log c.in_ok-run.field-0 c.loop-command.invariant.so_far c.loop-command-test.true c.command-item.is c.in_ok-run.ensures c.in-None.is)
-          c.in_err-hand_on-in-None.ensures.front)
-          (subst (λ (faults : ℕ). Rose faults (sink.faults c.hand_on.new.out)) c.loop-command.invariant.same c.in_err-hand_on-in-None.ensures.failed);
+          so_far_no_memory (store.images c.args.store.now) commands (sink.written c.args.out.now) (sink.written c.loop-command.out) c.loop-command.log.lines
+          (λ later. run_from later state (drop c.loop-command.command-index commands)) (sink.faults c.args.out.now) (sink.faults c.loop-command.out)
+          (store.faults c.args.store.now) (store.faults c.run_command.new.store) c.loop-command.invariant.so_far c.loop-command.invariant.same (still ∙ c.loop-command.invariant.still);
+      unasked = λ none.
+          let sofar = c.loop-command.invariant.unasked none in
+          c.run_command.ensures.unasked (asks_first state (drop c.loop-command.command-index commands) first (drop (c.loop-command.command-index + 1) commands)
+          (left_at commands c.loop-command.command-index first c.loop-command-test.true c.command-item.is) sofar.1) ∙ sofar.0;
     }
 
 pub loop-command-preserved : goal.loop-command-preserved
 loop-command-preserved g c =
+    let store = g.F.FirmwareStore in
     let sink = g.K.Sink in
     let commands = c.args.commands.now in
+    let images = store.images c.args.store.now in
     let i = c.loop-command.command-index in
     let first = c.command-item.result in
     let more = drop (i + 1) commands in
+    let state : RunState = record { objects = c.loop-command.objects; steps = c.loop-command.log.steps } in
     let is = left_at commands i first c.loop-command-test.true c.command-item.is in
-    let told = c.in_ok-hand_on-in-None.ensures in
+    let told = c.in_ok-hand_on-in-Ok-None.ensures in
+    let did = subst (λ (held : Option (List (List ℕ × List ℕ))). DidTold held state first c.run_command.new.objects c.loop-command.log c.run_command.new.log c.in-Ok-None.field-0) c.loop-command.invariant.images c.in-Ok-None.ensures.effect.0 in
     record {
-      so_far = subst (λ (steps : ℕ). SoFar commands (sink.written c.args.out.now) (sink.written c.hand_on.new.out) c.hand_on.new.self.lines (run_from (record { objects = c.run.new.self; steps = steps }) more))
+      so_far = subst (λ (steps : ℕ). SoFar images commands (sink.written c.args.out.now) (sink.written c.hand_on.new.out) c.hand_on.new.self.lines (λ later. run_from later (record { objects = c.run_command.new.objects; steps = steps }) more))
           (sym told.steps)
-          (so_far_handed commands (sink.written c.args.out.now) (sink.written c.loop-command.out) c.run.new.log.lines (run_from (record { objects = c.run.new.self; steps = c.run.new.log.steps }) more)
+          (so_far_handed images commands (sink.written c.args.out.now) (sink.written c.loop-command.out) c.run_command.new.log.lines
+          (λ later. run_from later (record { objects = c.run_command.new.objects; steps = c.run_command.new.log.steps }) more)
           (sink.written c.hand_on.new.out) c.hand_on.new.self.lines
-          (so_far_after commands (sink.written c.args.out.now) (sink.written c.loop-command.out) c.loop-command.objects c.run.new.self i first
-          c.loop-command.log c.run.new.log c.in_ok-run.field-0 c.loop-command.invariant.so_far c.loop-command-test.true c.command-item.is c.in_ok-run.ensures c.in-None.is)
+          (so_far_after images commands (sink.written c.args.out.now) (sink.written c.loop-command.out) c.loop-command.objects c.run_command.new.objects i first
+          c.loop-command.log c.run_command.new.log c.in-Ok-None.field-0 c.loop-command.invariant.so_far c.loop-command-test.true c.command-item.is did c.in-Ok-None.field-0-is)
           told.handed);
       runnable = (runnable_first first more (drop i commands) is c.loop-command.invariant.runnable).1;
       same = told.same ∙ c.loop-command.invariant.same;
+      images = c.run_command.ensures.kept ∙ c.loop-command.invariant.images;
+      still = c.in-Ok-None.ensures.effect.1 ∙ c.loop-command.invariant.still;
+      unasked = λ none.
+          let sofar = c.loop-command.invariant.unasked none in (
+            c.run_command.ensures.unasked (asks_first state (drop i commands) first more is sofar.1) ∙ sofar.0,
+            subst (λ (steps : ℕ). AsksNone (record { objects = c.run_command.new.objects; steps = steps }) more) (sym told.steps)
+                (asks_later state (drop i commands) first more did.shelf c.run_command.new.objects c.loop-command.log c.run_command.new.log c.in-Ok-None.field-0 is sofar.1 did.did c.in-Ok-None.field-0-is),
+          );
     }
 
 pub returns : goal.returns
 returns g c =
+    let store = g.F.FirmwareStore in
     let sink = g.K.Sink in
     let commands = c.args.commands.now in
+    let images = store.images c.args.store.now in
     let state : RunState = record { objects = c.loop-command.objects; steps = c.loop-command.log.steps } in
     let left = drop c.loop-command.command-index commands in
-    let ended : run_from state left ≡ record { events = []; last = state; ending = None } =
-    ap (run_from state) (drop_of_length-le commands c.loop-command-test.false) ∙ run_none state in
+    let ended : (later : Told) → run_from later state left ≡ record { events = []; last = state; ending = None; failed = false } =
+    λ later. ap (run_from later state) (drop_of_length-le commands c.loop-command-test.false) ∙ run_none later state in
     record {
       written =
-          so_far_ends commands (sink.written c.args.out.now) (sink.written c.loop-command.out) c.loop-command.log.lines (run_from state left) c.end_run-2.result None
+          so_far_ends images commands (sink.written c.args.out.now) (sink.written c.loop-command.out) c.loop-command.log.lines (λ later. run_from later state left) c.end_run-2.result None
           (sink.written c.end_run-2.new.out) (sink.faults c.args.out.now) (sink.faults c.loop-command.out) (sink.faults c.end_run-2.new.out)
-          c.loop-command.invariant.so_far (ap (λ (run : Run). run.events) ended) (ap (λ (run : Run). run.ending) ended) c.loop-command.invariant.same c.end_run-2.ensures;
+          (store.faults c.args.store.now) (store.faults c.loop-command.store)
+          c.loop-command.invariant.so_far (λ later. ap (λ (run : Run). run.events) (ended later)) (λ later. ap (λ (run : Run). end_output run) (ended later)) c.loop-command.invariant.same
+          c.loop-command.invariant.still c.end_run-2.ensures;
+      unasked = λ none. (c.loop-command.invariant.unasked none).0;
     }

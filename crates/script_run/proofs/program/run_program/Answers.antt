@@ -1,0 +1,32 @@
+use Rattle.std.proofs.Common.{Option, map, sym, ap, subst, ◌∙◌}
+use Rattle.script_run.specs.declared.statuses.Status.{Status}
+use Rattle.script_run.specs.Statuses.{status_of}
+use Rattle.script_run.specs.Outputs.{form_of}
+use Rattle.script_run.specs.Endings.{AnswersWell, Devices}
+use Rattle.script_run.proofs.Ends.{complete, status_back}
+use Rattle.script_run.proofs.program.run_program.Goals as goal
+
+pub returns-clause-complete : goal.returns-clause-complete
+returns-clause-complete g c sources stores sinks =
+    let source = g.S.Source in
+    let store = g.F.FirmwareStore in
+    let sink = g.K.Sink in
+    let form = form_of (map (λ word. word.now) c.args.words.now) in
+    let before : Devices = record {
+      left = source.left c.args.script.now;
+      images = store.images c.args.store.now;
+      written = sink.written c.args.out.now;
+      source_faults = source.faults c.args.script.now;
+      store_faults = store.faults c.args.store.now;
+      sink_faults = sink.faults c.args.out.now;
+    } in
+    let now : Devices = record {
+      left = source.left c.answer.new.script;
+      images = store.images c.answer.new.store;
+      written = sink.written c.answer.new.out;
+      source_faults = source.faults c.answer.new.script;
+      store_faults = store.faults c.answer.new.store;
+      sink_faults = sink.faults c.answer.new.out;
+    } in
+    subst (λ (ended : Option Status). AnswersWell ended form before) (sym (ap status_of c.number.ensures ∙ status_back c.answer.result))
+    (complete c.answer.result form before now sources stores sinks c.answer.ensures.ends)

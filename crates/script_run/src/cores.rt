@@ -1,0 +1,160 @@
+ghost use Rattle.std.specs.Prelude.{◌≡◌, None, IfOk};
+ghost use Rattle.script_lang.specs.Runnable.{IsRunnable};
+ghost use Rattle.script_run.specs.Logs.{HasCoreEffect};
+ghost use Rattle.script_run.specs.CoreEffects.{core_tells, driver_effect, is_on, recovery_effect, region_effect, state_effect};
+ghost use Rattle.script_run.specs.CoreCommands.{core_effect};
+ghost use Rattle.script_run.specs.Runs.{image_wanted};
+ghost use Rattle.script_run.specs.Fetches.{answer_of};
+
+use crate::fetches::Fetched;
+use crate::logs::RunLog;
+use crate::objects::ScriptImage;
+use crate::statuses::Stop;
+use crash_recover::{AddFault, Core};
+use journal::Event;
+use memory_pool::Region;
+use rp_base::{DriverKind, Name, NoMemory, Switch};
+use script_lang::Command;
+use std::marker::Model;
+
+/// A core of a script, with its name.
+#[derive(Drop)]
+pub struct NamedCore {
+    pub name: Name,
+    pub core: Core,
+}
+
+impl Model for NamedCore {
+    ghost use Rattle.script_run.specs.NamedCores.{NamedCoreState};
+
+    ghost Value = { NamedCoreState };
+
+    ghost view = { λ n. record { name = n.name; core = n.core } };
+}
+
+impl NamedCore {
+    /// Runs a command on this core, over the images that the script made, what was told of the one
+    /// that the command asks for, and whether drives are quiet: tells how it ended, and answers why
+    /// the run stops in its midst, if it does.
+    #[tactic(auto, unfolding(crate::specs::CoreCommands::core_effect))]
+    pub(crate) fn run(
+        &mut self,
+        command: &Command,
+        images: &[ScriptImage],
+        fetched: &Fetched,
+        is_quiet: bool,
+        log: &mut RunLog,
+    ) -> Result<Option<Stop>, NoMemory>
+        requires runnable { IsRunnable command.now }
+        requires family { image_wanted command.now ≡ None }
+        ensures name { self.new.name ≡ self.old.name }
+        ensures effect { IfOk result (λ ending. HasCoreEffect (core_effect images.now (answer_of fetched.now) is_quiet self.old log.old.steps command.now) self.new.core log.old log.new ending) }
+    {
+        match command {
+            Command::Link(_, _, _, _) | Command::NsLink(_, _, _, _) | Command::Core(_, _, _) =>
+                self.tell(&Event::Exists(self.name), log),
+            Command::Region(_, kind, da, pa, len) => {
+                let region = Region {
+                    kind: *kind,
+                    da: *da as u32,
+                    pa: *pa as u32,
+                    len: *len as u32,
+                };
+                self.add_region(region, log)
+            }
+            Command::Driver(_, channel, kind) => self.add_driver(*channel, *kind, log),
+            Command::Drive(_, count) => self.drive(*count, is_quiet, log),
+            Command::State(_) => self.tell_state(log),
+            Command::Boot(_, image) => self.boot(*image, images, fetched, log),
+            Command::Shutdown(_) => self.shutdown(log),
+            Command::Crash(_, kind) => self.crash(*kind, log),
+            Command::Recover(_) => self.recover(images, fetched, log),
+            Command::Table(_) => self.tell_table(log),
+            Command::Trace(_, index) => self.tell_trace(*index, log),
+            Command::Mem(_, da, len) => self.tell_memory(*da as u32, *len as u32, log),
+            Command::Recovery(_, switch) => self.set_recovery(*switch, log),
+            Command::Close(_) | Command::Reopen(_) => self.tell(&Event::Unknown(self.name), log),
+            Command::Ring(_, lane) => self.tell_ring(*lane, log),
+            _ => self.run_on_link(command, log),
+        }
+    }
+
+    /// Tells one event, and leaves the core as it is.
+    pub(crate) fn tell(&mut self, event: &Event, log: &mut RunLog) -> Result<Option<Stop>, NoMemory>
+        ensures same { self.new ≡ self.old }
+        ensures effect { IfOk result (λ ending. HasCoreEffect (core_tells self.old.core log.old.steps event.now) self.new.core log.old log.new ending) }
+    {
+        log.tell(event)?;
+        Ok(None)
+    }
+
+    /// Adds a region behind the others.
+    #[tactic(auto, unfolding(crate::specs::CoreEffects::region_effect))]
+    fn add_region(&mut self, region: Region, log: &mut RunLog) -> Result<Option<Stop>, NoMemory>
+        ensures name { self.new.name ≡ self.old.name }
+        ensures effect { IfOk result (λ ending. HasCoreEffect (region_effect self.old.name self.old.core log.old.steps region) self.new.core log.old log.new ending) }
+    {
+        let name = self.name;
+        let event = match self.core.add_region(log.alloc(), region) {
+            Ok(index) => Event::Region(name, u64::from(index)),
+            Err(AddFault::NotOffline) => Event::NotOffline(name),
+            Err(AddFault::Region(fault)) => {
+                Event::Fault(name, u64::from(fault.number().unwrap_or(0)))
+            }
+            Err(AddFault::DriverTaken | AddFault::DriversFull) => unreachable!(),
+            Err(AddFault::NoMemory) => return Err(NoMemory),
+        };
+        self.tell(&event, log)
+    }
+
+    /// Declares a driver for the channels of a name.
+    #[tactic(auto, unfolding(crate::specs::CoreEffects::driver_effect))]
+    fn add_driver(
+        &mut self,
+        channel: Name,
+        kind: DriverKind,
+        log: &mut RunLog,
+    ) -> Result<Option<Stop>, NoMemory>
+        ensures name { self.new.name ≡ self.old.name }
+        ensures effect { IfOk result (λ ending. HasCoreEffect (driver_effect self.old.name self.old.core log.old.steps channel kind) self.new.core log.old log.new ending) }
+    {
+        let name = self.name;
+        let event = match self.core.add_driver(log.alloc(), channel, kind) {
+            Ok(()) => Event::Driver(name, channel, kind),
+            Err(AddFault::NotOffline) => Event::NotOffline(name),
+            Err(AddFault::DriverTaken) => Event::DriverTaken(name, channel),
+            Err(AddFault::DriversFull) => Event::DriversFull(name),
+            Err(AddFault::Region(_)) => unreachable!(),
+            Err(AddFault::NoMemory) => return Err(NoMemory),
+        };
+        self.tell(&event, log)
+    }
+
+    /// Tells the state of the core, its users and its incarnation.
+    fn tell_state(&mut self, log: &mut RunLog) -> Result<Option<Stop>, NoMemory>
+        ensures same { self.new ≡ self.old }
+        ensures effect { IfOk result (λ ending. HasCoreEffect (state_effect self.old.name self.old.core log.old.steps) self.new.core log.old log.new ending) }
+    {
+        let life = self.core.life();
+        let users = u64::from(life.users());
+        let inc = u64::from(life.incarnation());
+        let event = Event::State(self.name, life.state(), users, inc);
+        self.tell(&event, log)
+    }
+
+    /// Sets whether the core is recovered when it has crashed.
+    fn set_recovery(&mut self, switch: Switch, log: &mut RunLog) -> Result<Option<Stop>, NoMemory>
+        ensures name { self.new.name ≡ self.old.name }
+        ensures effect { IfOk result (λ ending. HasCoreEffect (recovery_effect self.old.name self.old.core log.old.steps switch) self.new.core log.old log.new ending) }
+    {
+        self.core.set_recovery(is_on(switch));
+        self.tell(&Event::Recovery(self.name, switch), log)
+    }
+}
+
+/// Whether a switch is on.
+pub(crate) fn is_on(switch: Switch) -> bool
+    ensures { result ≡ is_on switch }
+{
+    matches!(switch, Switch::On)
+}
