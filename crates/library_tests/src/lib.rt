@@ -5,6 +5,8 @@
 mod base;
 pub mod desks;
 #[cfg(test)]
+mod drivers;
+#[cfg(test)]
 mod elf;
 #[cfg(test)]
 mod header;
@@ -27,3 +29,5 @@ mod table;
 #[cfg(test)]
 mod text;
 pub mod trait_calls;
+#[cfg(test)]
+mod workers;

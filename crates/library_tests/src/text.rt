@@ -1,6 +1,6 @@
 use image_maker::build;
-use rp_base::End;
-use script_lang::{Cause, Command, ParseFault, parse};
+use rp_base::{CrashKind, DriverKind, End, Name, RegionKind, Switch};
+use script_lang::{Cause, Command, ParseFault, RegionSet, parse};
 use std::alloc::{AllocError, Global};
 use std::test::Fail;
 
@@ -53,6 +53,31 @@ const GOOD: [(usize, &str); 4] = [
         close L\n\
         reclaim L 63\n\
         reopen L\n\
+        core C std 1\n\
+        core C bare 0x40000\n\
+        region C tcm 0 0x20000000 0xffffffff\n\
+        region C pool 1 2 3\n\
+        boot C led.elf\n\
+        shutdown C\n\
+        state C\n\
+        table C\n\
+        trace C 4294967295\n\
+        mem C 0xffffffff 1\n\
+        mem C 0 256\n\
+        crash C mmufault\n\
+        crash C watchdog\n\
+        crash C fatal\n\
+        recover C\n\
+        recovery C on\n\
+        recovery C off\n\
+        driver C rpmsg-client-sample sample\n\
+        driver C led echo\n\
+        drive C 4000000\n\
+        quiet on\n\
+        image a;code 0;end\n\
+        image a;code 0;halt;# x;code 9;take;entry 0;load 0 - 0;code 1;loop 0 4294967295;crash 9;end\n\
+        image a;code 0;announce 0 0x1 2;bind any;bind 5;send 1 last 3 65535;send 1 4294967295 3 0;raw 0 0xffff;log 1 2 3;end\n\
+        image a;table 0;vdev 7 1;code 0;take;end\n\
         image a;end\n\
         image a;table 0;carveout any 4096 a;;# x;vendor 4;devmem 1 2 3 b;trace 1 2 c;end\n\
         image a;table 0;vdev 7 1;vring any 4096 16;vring 0 12 0;carveout 0 0 x;vdev 3 0;end\n\
@@ -89,19 +114,6 @@ const BAD: [(Cause, &str); 5] = [
         takes L 0\n\
         images a\n\
         closed L\n\
-        driver C led echo\n\
-        drive C 1\n\
-        quiet on\n\
-        code 0\n\
-        halt\n\
-        log 0 1 2\n\
-        image a;send L 0 1 2 -\n\
-        image a;take L 0\n\
-        image a;code 0\n\
-        image a;raw L 0 -\n\
-        image a;bind L 0 1\n\
-        image a;crash C fatal\n\
-        image a;driver C led echo\n\
         image a;frob",
     ),
     (
@@ -137,6 +149,27 @@ const BAD: [(Cause, &str); 5] = [
         close L 0\n\
         reclaim L\n\
         reopen L 0\n\
+        core C\n\
+        core C std\n\
+        core C bare 1 2\n\
+        region C tcm 0 0\n\
+        region C heap 0 0 0 0\n\
+        boot C\n\
+        shutdown C a\n\
+        state C 0\n\
+        table 0 1\n\
+        trace L\n\
+        mem C 0\n\
+        crash C\n\
+        recover C a\n\
+        recovery C\n\
+        driver C led\n\
+        drive C\n\
+        quiet\n\
+        quiet C on\n\
+        image a;code 0;take L 0\n\
+        image a;code 0;send 1 2 3\n\
+        image a;code 0;halt 0\n\
         image\n\
         image a b\n\
         image a;end x\n\
@@ -195,6 +228,34 @@ const BAD: [(Cause, &str); 5] = [
         begin L 0 Bind any\n\
         channels .L\n\
         reclaim L 64\n\
+        core C standard 1\n\
+        core C std 0\n\
+        core C bare 262145\n\
+        region C heap 0 0 0\n\
+        region C tcm any 0 0\n\
+        boot C .elf\n\
+        table .C\n\
+        trace C any\n\
+        mem C 0 0\n\
+        mem C 0 257\n\
+        crash C mmu\n\
+        crash C error\n\
+        recovery C On\n\
+        recovery C yes\n\
+        driver C led sinks\n\
+        driver .C led sink\n\
+        drive C 0\n\
+        drive C 4000001\n\
+        quiet maybe\n\
+        image a;code any\n\
+        image a;code 0;announce any 0 0\n\
+        image a;code 0;bind last\n\
+        image a;code 0;send 1 any 3 0\n\
+        image a;code 0;send last 1 3 0\n\
+        image a;code 0;send 1 2 3 65536\n\
+        image a;code 0;raw 0 65536\n\
+        image a;code 0;log 1 2 65536\n\
+        image a;code 0;crash fatal\n\
         image .a\n\
         image a;table any\n\
         image a;table 0;vendor 3\n\
@@ -220,7 +281,26 @@ const BAD: [(Cause, &str); 5] = [
         image a;unbind L 0 1\n\
         image a;close L\n\
         image a;reclaim\n\
+        image a;boot C a\n\
+        image a;state\n\
+        image a;recovery C on\n\
         image a;trace C 0\n\
+        image a;drive C 1\n\
+        image a;quiet on\n\
+        image a;send L 0 1 2 -\n\
+        image a;take L 0\n\
+        image a;raw L 0 -\n\
+        image a;bind L 0 1\n\
+        image a;crash C fatal\n\
+        image a;halt\n\
+        image a;code 0;entry 0;halt\n\
+        image a;code 0;load 0 - 0;take\n\
+        image a;table 0;code 0;vendor 4\n\
+        code 0\n\
+        halt\n\
+        log 0 1 2\n\
+        loop\n\
+        announce 0\n\
         image a;begin L 0 take\n\
         image a;give L 0 0\n\
         image a;books\n\
@@ -329,7 +409,7 @@ fn commands_say_their_fields(rt: HostRuntime) -> Result<(), Fail> {
 }
 
 /// A line of a script, and the fields of its command behind the name.
-const FIELDS: [(&str, &str, [u64; 3]); 11] = [
+const FIELDS: [(&str, &str, [u64; 3]); 32] = [
     ("nslink L 4 16 9", "nslink", [4, 16, 9]),
     ("raw L 1 0aFf1B", "raw", [1, 3, 10]),
     ("bind L 2 any", "bind", [2, 4_294_967_295, 0]),
@@ -341,10 +421,35 @@ const FIELDS: [(&str, &str, [u64; 3]); 11] = [
     ("close L", "close", [0; 3]),
     ("reclaim L 7", "reclaim", [7, 0, 0]),
     ("reopen L", "reopen", [0; 3]),
+    ("core L std 3", "core std", [3, 0, 0]),
+    ("core L bare 4", "core bare", [4, 0, 0]),
+    ("region L tcm 1 2 3", "region tcm", [1, 2, 3]),
+    ("region L pool 4 5 6", "region pool", [4, 5, 6]),
+    ("boot L a.elf", "boot", [5, 97, 102]),
+    ("shutdown L", "shutdown", [0; 3]),
+    ("state L", "state", [0; 3]),
+    ("table L", "table", [0; 3]),
+    ("trace L 8", "trace", [8, 0, 0]),
+    ("mem L 9 10", "mem", [9, 10, 0]),
+    ("crash L mmufault", "crash mmufault", [0; 3]),
+    ("crash L watchdog", "crash watchdog", [0; 3]),
+    ("crash L fatal", "crash fatal", [0; 3]),
+    ("recover L", "recover", [0; 3]),
+    ("recovery L on", "recovery on", [0; 3]),
+    ("recovery L off", "recovery off", [0; 3]),
+    ("driver L led sink", "driver sink", [3, 108, 100]),
+    ("driver L led echo", "driver echo", [3, 108, 100]),
+    ("driver L led sample", "driver sample", [3, 108, 100]),
+    ("drive L 11", "drive", [11, 0, 0]),
+    ("quiet off", "quiet off", [0; 3]),
 ];
 
 fn first_byte(bytes: &[u8]) -> u64 {
     bytes.first().map_or(0, |byte| u64::from(*byte))
+}
+
+fn last_byte(bytes: &[u8]) -> u64 {
+    bytes.last().map_or(0, |byte| u64::from(*byte))
 }
 
 /// The fields of a command of a link: of bytes their number and the first.
@@ -374,6 +479,41 @@ fn link_fields(command: &Command) -> Option<(&'static str, [u64; 3])> {
     })
 }
 
+/// Of a name its length, its first and its last byte.
+fn name_fields(name: &Name) -> [u64; 3] {
+    let bytes = name.bytes();
+    [bytes.len() as u64, first_byte(bytes), last_byte(bytes)]
+}
+
+/// The fields of a command of a core, or of one without a name.
+fn core_fields(command: &Command) -> Option<(&'static str, [u64; 3])> {
+    Some(match command {
+        Command::Core(_, RegionSet::Standard, book) => ("core std", [*book, 0, 0]),
+        Command::Core(_, RegionSet::Bare, book) => ("core bare", [*book, 0, 0]),
+        Command::Region(_, RegionKind::Tcm, da, pa, len) => ("region tcm", [*da, *pa, *len]),
+        Command::Region(_, RegionKind::Pool, da, pa, len) => ("region pool", [*da, *pa, *len]),
+        Command::Boot(_, image) => ("boot", name_fields(image)),
+        Command::Shutdown(_) => ("shutdown", [0; 3]),
+        Command::State(_) => ("state", [0; 3]),
+        Command::Table(_) => ("table", [0; 3]),
+        Command::Trace(_, index) => ("trace", [*index, 0, 0]),
+        Command::Mem(_, da, len) => ("mem", [*da, *len, 0]),
+        Command::Crash(_, CrashKind::Mmufault) => ("crash mmufault", [0; 3]),
+        Command::Crash(_, CrashKind::Watchdog) => ("crash watchdog", [0; 3]),
+        Command::Crash(_, CrashKind::Fatal) => ("crash fatal", [0; 3]),
+        Command::Recover(_) => ("recover", [0; 3]),
+        Command::Recovery(_, Switch::On) => ("recovery on", [0; 3]),
+        Command::Recovery(_, Switch::Off) => ("recovery off", [0; 3]),
+        Command::Driver(_, channel, DriverKind::Sink) => ("driver sink", name_fields(channel)),
+        Command::Driver(_, channel, DriverKind::Echo) => ("driver echo", name_fields(channel)),
+        Command::Driver(_, channel, DriverKind::Sample) => ("driver sample", name_fields(channel)),
+        Command::Drive(_, count) => ("drive", [*count, 0, 0]),
+        Command::Quiet(Switch::On) => ("quiet on", [0; 3]),
+        Command::Quiet(Switch::Off) => ("quiet off", [0; 3]),
+        _ => return None,
+    })
+}
+
 #[test]
 fn commands_of_links_say_their_fields(rt: HostRuntime) -> Result<(), Fail> {
     for (text, form, numbers) in FIELDS {
@@ -381,7 +521,11 @@ fn commands_of_links_say_their_fields(rt: HostRuntime) -> Result<(), Fail> {
         let [command] = script.commands.as_slice() else {
             return Err("one command".into());
         };
-        assert_eq!(rt; link_fields(command), Some((form, numbers)), "at {text:?}");
+        let fields = match link_fields(command) {
+            Some(fields) => Some(fields),
+            None => core_fields(command),
+        };
+        assert_eq!(rt; fields, Some((form, numbers)), "at {text:?}");
     }
     Ok(())
 }
@@ -428,7 +572,7 @@ fn scripts_have_their_sizes(rt: HostRuntime) -> Result<(), Fail> {
 }
 
 /// Recipes, each with the bytes of its image in hexadecimal.
-const BUILT: [(&str, &str); 2] = [
+const BUILT: [(&str, &str); 3] = [
     (
         "image a\nend",
         "7f454c460101010000000000000000000200280001000000000000003400000000000000000000003400200000000000\
@@ -449,6 +593,16 @@ const BUILT: [(&str, &str); 2] = [
         7461626c65002e7368737472746162000000000000000000000000000000000000000000000000000000000000000000\
         000000000000000001000000010000000200000000030000790000002c01000000000000000000000400000000000000\
         11000000030000000000000000000000a50100001b00000000000000000000000100000000000000",
+    ),
+    (
+        "image a\nentry 0x10\ncode 0x10\nbind any\nannounce 1 2 3\nsend 4 last 5 65535\nraw 6 7\ntake\nlog 8 9 10\ncrash 2\n# x\nloop 11 12\nhalt\nload 0x200 6869 4\ncode 0x300\nend",
+        "7f454c460101010000000000000000000200280001000000100000003400000000000000000000003400200003000000\
+        000000000100000094000000100000001000000090000000900000000700000004000000010000002401000000020000\
+        000200000200000004000000070000000400000001000000260100000003000000030000000000000000000007000000\
+        0400000002000000ffffffff0000000000000000010000000100000002000000030000000300ffff04000000ffffffff\
+        05000000040007000000000000000000060000000500000000000000000000000000000006000a000800000000000000\
+        0900000007000000020000000000000000000000080000000b0000000c00000000000000000000000000000000000000\
+        000000006869",
     ),
 ];
 
