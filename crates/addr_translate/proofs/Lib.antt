@@ -1,3 +1,4 @@
 pub mod Pairs
 pub mod Sound
 pub mod Found
+pub mod Zeros

@@ -3,6 +3,9 @@ use rp_base::NoMemory;
 use std::alloc::Global;
 use std::marker::Model;
 
+/// The zeros that a new memory is made of, piece by piece.
+const ZEROS: [u8; 1024] = [0; 1024];
+
 /// The memory of a core: the bytes of its regions, one after the other as they were declared.
 /// Contracts see the bytes.
 #[derive(Drop)]
@@ -29,7 +32,12 @@ impl CoreMemory {
     pub fn new(alloc: Global, regions: &Regions) -> Result<CoreMemory, NoMemory>
         ensures { IfOk result (λ memory. memory ≡ replicate (memory_len regions.now) 0) }
     {
-        let bytes = vec![in alloc; 0; regions.memory_len() as usize]?;
+        let len = regions.memory_len() as usize;
+        let mut bytes = Vec::with_capacity(alloc, len)?;
+        for _ in 0..len / ZEROS.len() {
+            bytes.extend_from_slice(&ZEROS)?;
+        }
+        bytes.resize(len, 0)?;
         Ok(CoreMemory { bytes })
     }
 
