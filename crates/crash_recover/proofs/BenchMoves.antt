@@ -182,7 +182,7 @@ tested_reached : (bench : BenchState) (steps caller : ℕ) (wanted : Wish) (why 
 tested_reached bench steps caller wanted (Some why) is reached sendable = reached
 tested_reached bench steps caller wanted None is reached sendable = called bench steps caller wanted reached is sendable
 
-turn_called : (bench : BenchState) (steps caller : ℕ) (wanted : Wish) → IsReachedBench bench → IsSendable wanted
+pub turn_called : (bench : BenchState) (steps caller : ℕ) (wanted : Wish) → IsReachedBench bench → IsSendable wanted
     → IsReachedBench (turn_call bench steps caller wanted).bench
 unfolding turn_call
 turn_called bench steps caller wanted reached sendable = tested_reached bench steps caller wanted (begin_fault bench caller wanted) refl reached sendable
@@ -192,7 +192,7 @@ then_reached : (call : TurnCall) (number : Result ℕ TurnEnd) (more : ℕ → T
 then_reached call (Ok number) more reached rest = rest number
 then_reached call (Err ended) more reached rest = reached
 
-give_reached : (receiver : ℕ) (bench : BenchState) (steps number : ℕ) → IsReachedBench bench → IsReachedBench (give_turn receiver bench steps number).bench
+pub give_reached : (receiver : ℕ) (bench : BenchState) (steps number : ℕ) → IsReachedBench bench → IsReachedBench (give_turn receiver bench steps number).bench
 unfolding give_turn
 give_reached receiver bench steps number reached =
     let given = turn_call bench steps receiver (wish.Give number) in
@@ -206,7 +206,7 @@ take_reached receiver bench steps reached =
     let left = turn_called bench steps receiver wish.Take reached tt in
     then_reached taken taken.number (give_turn receiver taken.bench taken.steps) left (λ number. give_reached receiver taken.bench taken.steps number left)
 
-turn_sendable : (number : ℕ) → IsSendable (wish.Send (turn_message number))
+pub turn_sendable : (number : ℕ) → IsSendable (wish.Send (turn_message number))
 turn_sendable number =
     let short : length (turn_message number) ≡ 20 = refl in
     omega (arith, short)

@@ -292,7 +292,7 @@ core_driven core is =
 
 -- ---- calls of others
 
-seen_calls : (actors : ActorsState) (bench : BenchState) (caller : ℕ) (end : CallEnd) (found : Option End) → IsShortLink bench.link → AreSendable actors
+pub seen_calls : (actors : ActorsState) (bench : BenchState) (caller : ℕ) (end : CallEnd) (found : Option End) → IsShortLink bench.link → AreSendable actors
     → AreSendable (actors_at_end found (message_of bench caller end) end actors)
 seen_calls actors bench caller end None short is = is
 seen_calls actors bench caller end (Some side.Host) short is = driven_sendable actors (message_of bench caller end) end (message_short bench caller end short) is

@@ -19,3 +19,6 @@ pub mod Handed
 pub mod Sendable
 pub mod CoreMoves
 pub mod CoreTurnWalks
+pub mod DriveSteps
+pub mod CoreTurnMoves
+pub mod Recovered

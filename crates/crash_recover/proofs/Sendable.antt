@@ -66,7 +66,7 @@ left_sendable end calls are =
 -- ---- the worker
 
 -- a header has 16 bytes
-header_length : (src dst : ℕ) (payload : List ℕ) → length (header_bytes src dst payload) ≡ 16 + length payload
+pub header_length : (src dst : ℕ) (payload : List ℕ) → length (header_bytes src dst payload) ≡ 16 + length payload
 header_length src dst payload =
     let head : length (head_bytes src dst (length payload)) ≡ 16 = refl in
     let both = length-append (head_bytes src dst (length payload)) payload in

@@ -1,9 +1,13 @@
 -- What a recovery of a core answers and leaves (`rproc_trigger_recovery` of Linux remoteproc_core.c; the faults and their order, and what becomes of the callers, are own).
-use Rattle.std.specs.Prelude.{◌≡◌, ◌≢◌, ℕ, ◌==◌, Bool, List, Option, Some, None, option_map, option_and_then, if◌then◌else◌}
+use Rattle.std.specs.Prelude.{◌≡◌, ◌≢◌, ℕ, ◌==◌, Bool, List, Option, Some, None, Err, option_map, option_and_then, if◌then◌else◌}
 use Rattle.std.specs.Option.{option_or}
+use Rattle.std.specs.Str.{is_utf8}
 use Rattle.rp_base.specs.declared.kinds.End.TheVariants as side
 use Rattle.rp_base.specs.declared.kinds.LifeState.{LifeState}
 use Rattle.rp_base.specs.declared.kinds.LifeState.TheVariants.{Offline, Running, Crashed}
+use Rattle.rp_io.specs.Images.{IsFetched}
+use Rattle.rp_io.specs.declared.faults.FetchFault.{FetchFault}
+use Rattle.rp_io.specs.declared.faults.FetchFault.TheVariants as fetch
 use Rattle.fw_load.specs.Loading.{load_fault}
 use Rattle.fw_load.specs.declared.rings.RingPair.{RingPair}
 use Rattle.proc_state.specs.Lives.{CoreLife, most, life_after_recovery}
@@ -19,7 +23,7 @@ use Rattle.crash_recover.specs.declared.core_faults.CoreFault.TheVariants as fau
 use Rattle.crash_recover.specs.Actors.{fresh_actors}
 use Rattle.crash_recover.specs.Benches.{BenchState}
 use Rattle.crash_recover.specs.BenchCrashes.{after_reclaim, after_reopen}
-use Rattle.crash_recover.specs.CoreBoots.{loaded_from}
+use Rattle.crash_recover.specs.CoreBoots.{IsImageIn, loaded_from}
 use Rattle.crash_recover.specs.CoreCrashes.{with_fresh_caller}
 use Rattle.crash_recover.specs.Cores.{CoreState, LoadState}
 
@@ -118,3 +122,61 @@ after_recovery core image =
       loaded = Some (loaded_from image core.regions);
       actors = fresh_actors core.actors (loaded_from image core.regions).entry;
     }
+
+-- the name under which a store is asked for the image that was booted: it is a text, as the names of a store are
+abbrev pub asked_text : Option (List ℕ) → Option (List ℕ)
+asked_text booted = option_and_then (λ name. if is_utf8 name then Some name else None) booted
+
+-- where told: the image is what the store has under the name asked for
+abbrev pub IsImageOf : Option (List (List ℕ × List ℕ)) → Option (List ℕ) → List ℕ → Type 0
+IsImageOf images None image = ⊥
+IsImageOf images (Some name) image = IsImageIn images name image
+
+-- why the store gives no image, other than want of memory, which stands alone: a name that is no text is missing in each store
+abbrev pub IsUnfetched : Option (List (List ℕ × List ℕ)) → Option (List ℕ) → FetchFault → Type 0
+IsUnfetched images None why = why ≡ fetch.Missing
+IsUnfetched images (Some name) why = (why ≢ fetch.NoMemory) × IsFetched images name (Err why)
+
+-- the same, or want of memory
+abbrev pub IsFetchRefusal : Option (List (List ℕ × List ℕ)) → Option (List ℕ) → CoreFault → Type 0
+IsFetchRefusal images name (fault.Fetch why) = IsUnfetched images name why
+IsFetchRefusal images name fault.NoMemory = Unit {0}
+IsFetchRefusal images name (fault.Load why) = ⊥
+IsFetchRefusal images name (fault.Life why) = ⊥
+IsFetchRefusal images name fault.RingsChanged = ⊥
+IsFetchRefusal images name (fault.CallerOut caller) = ⊥
+IsFetchRefusal images name (fault.Reopen why) = ⊥
+
+-- an image that the store has under the name booted, which is refused for this before anything changes
+pub record IsRefusedImage (images : Option (List (List ℕ × List ℕ))) (core : CoreState) (why : CoreFault) : Type 0 where
+  pub image : List ℕ
+  pub found : IsImageOf images (asked_text core.image) image
+  pub refused : IsReloadFault core image why
+
+-- why a recovery from a store of these images is refused, before anything changes: the fault of its life comes before the store is asked
+abbrev pub IsRecoveryFault : Option (List (List ℕ × List ℕ)) → CoreState → CoreFault → Type 0
+IsRecoveryFault images core (fault.Life why) = recovery_fault core.life ≡ Some why
+IsRecoveryFault images core (fault.Fetch why) = (recovery_fault core.life ≡ None) × IsUnfetched images (asked_text core.image) why
+IsRecoveryFault images core (fault.Load why) = IsRefusedImage images core (fault.Load why)
+IsRecoveryFault images core fault.RingsChanged = IsRefusedImage images core fault.RingsChanged
+IsRecoveryFault images core fault.NoMemory = recovery_fault core.life ≡ None
+IsRecoveryFault images core (fault.CallerOut caller) = ⊥
+IsRecoveryFault images core (fault.Reopen why) = ⊥
+
+-- an image that the store has under the name booted, and with which the core may be recovered
+pub record HasReloadable (images : Option (List (List ℕ × List ℕ))) (core : CoreState) : Type 0 where
+  pub image : List ℕ
+  pub found : IsImageOf images (asked_text core.image) image
+  pub may : IsReloadable core image
+
+-- a recovery that is refused behind that: the link isn't reopened, and caller 0 may be another
+pub record IsUnopened (images : Option (List (List ℕ × List ℕ))) (core : CoreState) (why : CoreFault) (left : CoreState) : Type 0 where
+  pub reloadable : HasReloadable images core
+  pub refused : option_or (reopen_fault core) (Some fault.NoMemory) ≡ Some why
+  pub after : left ≡ readied_core core
+
+-- a recovery from a store of these images
+pub record RecoversFrom (images : Option (List (List ℕ × List ℕ))) (core left : CoreState) : Type 0 where
+  pub reloadable : HasReloadable images core
+  pub reopens : reopen_fault core ≡ None
+  pub after : left ≡ after_recovery core reloadable.image

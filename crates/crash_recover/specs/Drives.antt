@@ -27,6 +27,8 @@ use Rattle.crash_recover.specs.declared.benches.Reach.{Reach}
 use Rattle.crash_recover.specs.declared.benches.Reach.TheVariants as reach
 use Rattle.crash_recover.specs.declared.core_drives.Driven.{Driven}
 use Rattle.crash_recover.specs.declared.core_drives.Driven.TheVariants as driven
+use Rattle.crash_recover.specs.declared.core_drives.DriveProgress.{DriveProgress}
+use Rattle.crash_recover.specs.declared.core_drives.DriveProgress.TheVariants as progress
 use Rattle.crash_recover.specs.Benches.{BenchState, BenchWalk, is_in_call, begin_fault, advance_walk, counts_of, start_walk, taken_on}
 use Rattle.crash_recover.specs.Actors.{ActorsState, other_actor}
 use Rattle.crash_recover.specs.Cores.{CoreState, LoadState}
@@ -97,6 +99,13 @@ driven_on actors message end = record actors {
   host_calls = actors.host_calls ++ sends_of (end_answer actors.drivers message end);
 }
 
+-- the same of a take with this verdict
+abbrev pub driven_by_verdict : ActorsState → List ℕ → Verdict → ActorsState
+driven_by_verdict actors message verdict = record actors {
+  drivers = after_verdict actors.drivers verdict;
+  host_calls = actors.host_calls ++ sends_of (verdict_answer actors.drivers message verdict);
+}
+
 -- ---- the ends of calls
 
 -- the number of the message that a call was handed
@@ -154,12 +163,33 @@ pub record DriveStep : Type 0 where
   pub core : CoreState
   pub driven : Driven
 
--- what a step does on the link: a call under way goes on by one step, else one begins and does its first. One that can't begin does nothing; no run gets there
-abbrev pub link_step : BenchState → ℕ → Wish → BenchWalk
-link_step bench caller wanted =
-    if is_in_call bench caller then advance_walk bench 0 0 caller
-    else if is_some (begin_fault bench caller wanted) then record { bench = bench; steps = 0; reach = reach.Limit }
+-- what a step was, by what it answers and by the end of a call beside it
+abbrev pub driven_of : DriveProgress → CallEnd → Driven
+driven_of progress.Rest end = driven.Idle
+driven_of progress.Nothing end = driven.Idle
+driven_of progress.Stepped end = driven.Stepped
+driven_of (progress.Ended caller) end = driven.Ended caller end
+driven_of (progress.Worker fault) end = driven.Worker fault
+driven_of (progress.Crashed kind) end = driven.Crashed kind
+
+-- whether a step found that there was nothing to do
+abbrev pub is_rest : DriveProgress → Bool
+is_rest progress.Rest = true
+is_rest progress.Nothing = false
+is_rest progress.Stepped = false
+is_rest (progress.Ended caller) = false
+is_rest (progress.Worker fault) = false
+is_rest (progress.Crashed kind) = false
+
+-- the first step of a call. One that can't begin does nothing; no run gets there
+abbrev pub begun_step : BenchState → ℕ → Wish → BenchWalk
+begun_step bench caller wanted =
+    if is_some (begin_fault bench caller wanted) then record { bench = bench; steps = 0; reach = reach.Limit }
     else start_walk bench 0 caller wanted
+
+-- what a step does on the link: a call under way goes on by one step, else one begins and does its first
+abbrev pub link_step : BenchState → ℕ → Wish → BenchWalk
+link_step bench caller wanted = if is_in_call bench caller then advance_walk bench 0 0 caller else begun_step bench caller wanted
 
 -- the first call, or a take where there is none
 abbrev pub first_or_take : List Wish → Wish
@@ -345,6 +375,12 @@ acting core = if is_idle_actor core core.actors.next then other_actor core.actor
 -- the core where the turn behind an actor's step is the other's
 abbrev pub with_turn_after : Actor → CoreState → CoreState
 with_turn_after actor core = record core { actors = record core.actors { next = other_actor actor } }
+
+-- a step of an actor that may have nothing to do
+abbrev pub tried_step : Actor → CoreState → DriveStep
+tried_step actor core =
+    if is_idle_actor core actor then record { core = core; driven = driven.Idle }
+    else actor_step actor (with_turn_after actor core)
 
 -- one step of the actors of a core
 abbrev pub drive_step : CoreState → DriveStep

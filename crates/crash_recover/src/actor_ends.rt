@@ -3,7 +3,7 @@ ghost use Rattle.std.specs.VecDeque.{deque_len, deque_capacity};
 ghost use Rattle.rp_base.specs.declared.limits.TheConstants.{MESSAGE_MOST};
 ghost use Rattle.crash_recover.specs.Actors.{actors_view};
 ghost use Rattle.crash_recover.specs.Benches.{reach_of};
-ghost use Rattle.crash_recover.specs.Drives.{actors_after_end, after_end, after_endpoint, after_verdict, driven_on, end_answer, endpoint_answer, host_begun_as, host_ended, host_reached, is_tried_again, message_of, number_taken, verdict_answer, worker_ended, worker_reached};
+ghost use Rattle.crash_recover.specs.Drives.{actors_after_end, after_endpoint, after_verdict, driven_by_verdict, driven_on, endpoint_answer, host_begun_as, host_ended, host_reached, is_tried_again, message_of, number_taken, verdict_answer, worker_ended, worker_reached};
 
 use crate::actors::Actors;
 use crate::benches::{Bench, Progress};
@@ -29,15 +29,22 @@ impl Actors {
     {
         match progress {
             Progress::At(_) => {}
-            Progress::Ended => {
-                self.host_ended(end);
-                self.see_end(bench.message_of(0, end), end);
-            }
+            Progress::Ended => self.end_host(bench, end),
             Progress::Limit => {
                 self.host_calls.pop_front();
                 self.is_taking = false;
             }
         }
+    }
+
+    /// Has the host actor and its drivers see the end of its call on this link.
+    #[inline(never)]
+    fn end_host(&mut self, bench: &Bench, end: &CallEnd)
+        requires { deque_len self.old.host_calls + 2 ≤ deque_capacity self.old.host_calls }
+        ensures { actors_view self.new ≡ driven_on (host_ended (actors_view self.old) end.now) (message_of bench.now 0 end.now) end.now }
+    {
+        self.host_ended(end);
+        self.see_end(bench.message_of(0, end), end);
     }
 
     /// Has the host actor see the end of its call.
@@ -84,7 +91,21 @@ impl Actors {
         requires room { deque_len self.old.host_calls < deque_capacity self.old.host_calls }
         ensures { actors_view self.new ≡ driven_on (actors_view self.old) message.now end.now }
     {
-        if let Some(answer) = end_answer(&mut self.drivers, message, end) {
+        match end {
+            CallEnd::Took(_, verdict) => self.see_taken(message, verdict),
+            CallEnd::Unbound(endpoint) => self.drivers.destroyed(*endpoint),
+            _ => {}
+        }
+    }
+
+    /// Has the drivers see a message that a host caller was handed with this verdict.
+    #[inline(never)]
+    fn see_taken(&mut self, message: &[u8], verdict: &Verdict)
+        requires short { length message.now ≤ MESSAGE_MOST }
+        requires room { deque_len self.old.host_calls < deque_capacity self.old.host_calls }
+        ensures { actors_view self.new ≡ driven_by_verdict (actors_view self.old) message.now verdict.now }
+    {
+        if let Some(answer) = verdict_answer(&mut self.drivers, message, verdict) {
             self.host_calls.push_back_reserved(Wish::Send(answer));
         }
     }
@@ -104,6 +125,7 @@ impl Actors {
     }
 
     /// Has the worker see the end of its call, which was handed this message.
+    #[inline(never)]
     fn worker_ended(&mut self, message: &[u8], end: &CallEnd)
         requires short { length message.now ≤ MESSAGE_MOST }
         requires room { deque_len self.old.worker_calls < deque_capacity self.old.worker_calls }
@@ -148,22 +170,6 @@ fn number_taken(end: &CallEnd) -> Option<u64>
 {
     match end {
         CallEnd::Took(number, _) => Some(*number),
-        _ => None,
-    }
-}
-
-/// What the drivers send at the end of a call of a host caller, which was handed this message.
-fn end_answer(drivers: &mut Drivers, message: &[u8], end: &CallEnd) -> Option<Message>
-    requires { length message.now ≤ MESSAGE_MOST }
-    ensures answer { result ≡ end_answer drivers.old message.now end.now }
-    ensures left { drivers.new ≡ after_end drivers.old end.now }
-{
-    match end {
-        CallEnd::Took(_, verdict) => verdict_answer(drivers, message, verdict),
-        CallEnd::Unbound(endpoint) => {
-            drivers.destroyed(*endpoint);
-            None
-        }
         _ => None,
     }
 }

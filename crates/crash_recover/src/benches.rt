@@ -118,6 +118,7 @@ impl Bench {
     }
 
     /// Whether a caller has begun a call that has not ended.
+    #[inline(always)]
     pub fn is_in_call(&self, caller: CallerNo) -> bool
         requires { caller < 64 }
         ensures { result ≡ is_in_call self.now caller }
@@ -197,6 +198,7 @@ impl Bench {
 
     /// Does one step of the call that a caller is in, and `more` further ones, but no more than the
     /// call has and the run may still take; `steps` counts them. Where the call ends, `end` says how.
+    #[inline(always)]
     pub fn advance(
         &mut self,
         caller: CallerNo,

@@ -1,17 +1,19 @@
-ghost use Rattle.std.specs.Prelude.{◌≡◌, ◌<◌, OnErr, OnOk, IfOk};
+ghost use Rattle.std.specs.Prelude.{◌≡◌, ◌<◌, false, OnErr, OnOk, IfOk};
+ghost use Rattle.lane_model.specs.declared.calls.CallEnd.{CallEnd};
 ghost use Rattle.crash_recover.specs.declared.actors.Actor.TheVariants as actor;
 ghost use Rattle.crash_recover.specs.Actors.{actors_view};
-ghost use Rattle.crash_recover.specs.Drives.{acting, actor_step, after_call_end, begins_with_take, drive_step, has_calls, host_is_idle, is_drained, is_idle, is_idle_actor, record_run, reported_by, waits, with_turn_after, worker_call, worker_is_idle};
+ghost use Rattle.crash_recover.specs.Drives.{after_call_end, drive_step, driven_of, host_is_idle, is_idle, is_rest, record_run, record_step, reported_by, tried_step, waits, with_turn_after, worker_is_idle};
 
-use crate::actor_steps::{host_step, run_record, worker_step};
+use crate::actor_steps::{
+    begins_with_take, host_step, is_drained, make_room, run_record, worker_step,
+};
 use crate::actors::{Actor, Actors};
 use crate::benches::Bench;
 use crate::cores::Core;
-use lane_model::{CallEnd, Wish};
+use lane_model::CallEnd;
 use remote_code::WorkerFault;
 use rp_base::{CallerNo, CrashKind, NoMemory};
 use std::alloc::Global;
-use std::collections::VecDeque;
 
 /// What a step of a core's actors was.
 #[derive(Clone, Copy)]
@@ -28,6 +30,45 @@ pub enum Driven {
     Crashed(CrashKind),
 }
 
+/// What a step of a core's actors answers, which writes the end of a call beside it.
+#[derive(Clone, Copy)]
+pub enum DriveProgress {
+    /// Neither actor has anything to do.
+    Rest,
+    /// The turn was that of a worker that has no memory.
+    Nothing,
+    /// A step of a call that goes on, or a record that asks for nothing else.
+    Stepped,
+    /// The last step of a call of this caller.
+    Ended(CallerNo),
+    /// A record that can't run, which crashed the core.
+    Worker(WorkerFault),
+    /// A record that reported a crash of the core.
+    Crashed(CrashKind),
+}
+
+impl DriveProgress {
+    /// Whether neither actor had anything to do.
+    pub fn is_rest(self) -> bool
+        ensures { result ≡ is_rest self }
+    {
+        matches!(self, DriveProgress::Rest)
+    }
+
+    /// What the step was, by the end of the call that it wrote.
+    pub fn driven(self, end: CallEnd) -> Driven
+        ensures { result ≡ driven_of self end }
+    {
+        match self {
+            DriveProgress::Rest | DriveProgress::Nothing => Driven::Idle,
+            DriveProgress::Stepped => Driven::Stepped,
+            DriveProgress::Ended(caller) => Driven::Ended(caller, end),
+            DriveProgress::Worker(fault) => Driven::Worker(fault),
+            DriveProgress::Crashed(kind) => Driven::Crashed(kind),
+        }
+    }
+}
+
 impl Core {
     /// Whether neither actor of the core has anything to do: the host actor is in no call, has none to
     /// make, and no message waits for it; the worker is in no call, and has ended or waits for a
@@ -35,7 +76,7 @@ impl Core {
     pub fn is_idle(&self) -> bool
         ensures { result ≡ is_idle self.now }
     {
-        self.is_idle_actor(Actor::Host) && self.is_idle_actor(Actor::Worker)
+        host_is_idle(&self.bench, &self.actors) && worker_is_idle(&self.bench, &self.actors)
     }
 
     /// One step of the actors of a core that is running. The one whose turn is next makes it, unless
@@ -45,17 +86,35 @@ impl Core {
     /// of its calls.
     ///
     /// Errors: only for want of memory. The core is as it was then.
-    pub fn drive_step(&mut self, _alloc: Global) -> Result<Driven, NoMemory>
+    pub fn drive_step(&mut self, alloc: Global) -> Result<Driven, NoMemory>
         ensures driven { IfOk result (λ driven. driven ≡ (drive_step self.old).driven) }
         ensures left { OnOk result (self.new ≡ (drive_step self.old).core) }
         ensures unchanged { OnErr result (self.new ≡ self.old) }
     {
-        if self.is_idle() {
-            return Ok(Driven::Idle);
-        }
-        match self.acting() {
-            Actor::Host => self.host_step(),
-            Actor::Worker => self.worker_step(),
+        let mut end = CallEnd::Gave(0);
+        let progress = self.drive_on(alloc, &mut end)?;
+        Ok(progress.driven(end))
+    }
+
+    /// The same step. It answers in short what it was, and where it ends a call, `end` says how.
+    ///
+    /// Errors: only for want of memory. The core is as it was then.
+    #[inline]
+    pub fn drive_on(&mut self, _alloc: Global, end: &mut CallEnd) -> Result<DriveProgress, NoMemory>
+        ensures rests { IfOk result (λ progress. is_rest progress ≡ is_idle self.old) }
+        ensures driven { IfOk result (λ progress. driven_of progress end.new ≡ (drive_step self.old).driven) }
+        ensures left { OnOk result (self.new ≡ (drive_step self.old).core) }
+        ensures unchanged { OnErr result (self.new ≡ self.old) }
+    {
+        match self.actors.next {
+            Actor::Host => match self.host_step(end)? {
+                DriveProgress::Rest => self.worker_step(end),
+                progress => Ok(progress),
+            },
+            Actor::Worker => match self.worker_step(end)? {
+                DriveProgress::Rest => self.host_step(end),
+                progress => Ok(progress),
+            },
         }
     }
 
@@ -78,98 +137,100 @@ impl Core {
         self.actors.hear_end(bench, caller, end)
     }
 
-    /// The actor that makes the next step.
-    fn acting(&self) -> Actor
-        ensures { result ≡ acting self.now }
-    {
-        let next = self.actors.next;
-        if self.is_idle_actor(next) {
-            next.other()
-        } else {
-            next
-        }
-    }
-
-    /// Whether this actor has nothing to do.
-    fn is_idle_actor(&self, actor: Actor) -> bool
-        ensures { result ≡ is_idle_actor self.now actor }
-    {
-        match actor {
-            Actor::Host => host_is_idle(&self.bench, &self.actors),
-            Actor::Worker => worker_is_idle(&self.bench, &self.actors),
-        }
-    }
-
-    /// A step of the host actor; the next turn is the worker's.
-    fn host_step(&mut self) -> Result<Driven, NoMemory>
-        ensures driven { IfOk result (λ driven. driven ≡ (actor_step actor.Host (with_turn_after actor.Host self.old)).driven) }
-        ensures left { OnOk result (self.new ≡ (actor_step actor.Host (with_turn_after actor.Host self.old)).core) }
+    /// A step of the host actor, unless it has nothing to do. The next turn is the worker's then.
+    #[inline(always)]
+    fn host_step(&mut self, end: &mut CallEnd) -> Result<DriveProgress, NoMemory>
+        ensures rests { IfOk result (λ progress. is_rest progress ≡ host_is_idle self.old.bench self.old.actors) }
+        ensures driven { IfOk result (λ progress. driven_of progress end.new ≡ (tried_step actor.Host self.old).driven) }
+        ensures left { OnOk result (self.new ≡ (tried_step actor.Host self.old).core) }
         ensures unchanged { OnErr result (self.new ≡ self.old) }
     {
-        self.actors.host_calls.reserve(2)?;
+        let Some(bench) = &mut self.bench else {
+            return Ok(DriveProgress::Rest);
+        };
+        let goes_on = bench.is_in_call(0);
+        if !goes_on && self.actors.host_calls.is_empty() && is_drained(bench, 0) {
+            return Ok(DriveProgress::Rest);
+        }
+        make_room(&mut self.actors.host_calls, 2)?;
         self.actors.next = Actor::Worker;
-        let Some(bench) = &mut self.bench else {
-            return Ok(Driven::Idle);
-        };
-        Ok(host_step(bench, &mut self.actors))
+        Ok(host_step(bench, &mut self.actors, goes_on, end))
     }
 
-    /// A step of the worker; the next turn is the host actor's.
-    fn worker_step(&mut self) -> Result<Driven, NoMemory>
-        ensures driven { IfOk result (λ driven. driven ≡ (actor_step actor.Worker (with_turn_after actor.Worker self.old)).driven) }
-        ensures left { OnOk result (self.new ≡ (actor_step actor.Worker (with_turn_after actor.Worker self.old)).core) }
+    /// A step of the worker, unless it has nothing to do. The next turn is the host actor's then.
+    #[inline(always)]
+    fn worker_step(&mut self, end: &mut CallEnd) -> Result<DriveProgress, NoMemory>
+        ensures rests { IfOk result (λ progress. is_rest progress ≡ worker_is_idle self.old.bench self.old.actors) }
+        ensures driven { IfOk result (λ progress. driven_of progress end.new ≡ (tried_step actor.Worker self.old).driven) }
+        ensures left { OnOk result (self.new ≡ (tried_step actor.Worker self.old).core) }
         ensures unchanged { OnErr result (self.new ≡ self.old) }
     {
-        if has_calls(&self.bench, &self.actors) {
-            return self.worker_call();
+        let Some(bench) = &mut self.bench else {
+            if self.actors.worker.is_halted() {
+                return Ok(DriveProgress::Rest);
+            }
+            return self.record_step();
+        };
+        let goes_on = bench.is_in_call(1);
+        if !goes_on {
+            if waits(bench, &self.actors) {
+                return Ok(DriveProgress::Rest);
+            }
+            if self.actors.worker_calls.is_empty() {
+                return self.record_step();
+            }
         }
-        let driven = self.run_record()?;
-        self.report_driven(&driven);
-        Ok(driven)
+        make_room(&mut self.actors.worker_calls, 1)?;
+        self.actors.next = Actor::Host;
+        Ok(worker_step(bench, &mut self.actors, goes_on, end))
     }
 
-    /// A step of the worker on the link of the core.
-    fn worker_call(&mut self) -> Result<Driven, NoMemory>
-        ensures driven { IfOk result (λ driven. driven ≡ (worker_call (with_turn_after actor.Worker self.old) self.old.bench).driven) }
-        ensures left { OnOk result (self.new ≡ (worker_call (with_turn_after actor.Worker self.old) self.old.bench).core) }
+    /// The worker runs one record. A crash is reported.
+    #[inline(always)]
+    fn record_step(&mut self) -> Result<DriveProgress, NoMemory>
+        ensures works { IfOk result (λ progress. is_rest progress ≡ false) }
+        ensures driven { IfOk result (λ progress. (end : CallEnd) → driven_of progress end ≡ (record_step (with_turn_after actor.Worker self.old)).driven) }
+        ensures left { OnOk result (self.new ≡ (record_step (with_turn_after actor.Worker self.old)).core) }
         ensures unchanged { OnErr result (self.new ≡ self.old) }
     {
-        self.actors.worker_calls.reserve(1)?;
-        self.actors.next = Actor::Host;
-        let Some(bench) = &mut self.bench else {
-            return Ok(Driven::Idle);
-        };
-        Ok(worker_step(bench, &mut self.actors))
+        let progress = self.run_record()?;
+        self.report_crash(progress);
+        Ok(progress)
     }
 
     /// The worker runs one record. A crash is not reported yet.
-    fn run_record(&mut self) -> Result<Driven, NoMemory>
-        ensures driven { IfOk result (λ driven. driven ≡ (record_run (with_turn_after actor.Worker self.old) self.old.loaded).driven) }
+    #[inline(always)]
+    fn run_record(&mut self) -> Result<DriveProgress, NoMemory>
+        ensures works { IfOk result (λ progress. is_rest progress ≡ false) }
+        ensures driven { IfOk result (λ progress. (end : CallEnd) → driven_of progress end ≡ (record_run (with_turn_after actor.Worker self.old) self.old.loaded).driven) }
         ensures left { OnOk result (self.new ≡ (record_run (with_turn_after actor.Worker self.old) self.old.loaded).core) }
         ensures unchanged { OnErr result (self.new ≡ self.old) }
     {
         let _ = self.regions.as_slice();
         let linked = self.bench.is_some();
-        self.actors.worker_calls.reserve(1)?;
+        make_room(&mut self.actors.worker_calls, 1)?;
         self.actors.next = Actor::Host;
         let Some(loaded) = &mut self.loaded else {
-            return Ok(Driven::Idle);
+            return Ok(DriveProgress::Nothing);
         };
         Ok(run_record(loaded, &mut self.actors, linked))
     }
 
     /// Reports the crash that a step of the worker was, if it was one.
-    fn report_driven(&mut self, driven: &Driven)
-        ensures { self.new ≡ reported_by driven.now self.old }
+    fn report_crash(&mut self, progress: DriveProgress)
+        ensures { (end : CallEnd) → self.new ≡ reported_by (driven_of progress end) self.old }
     {
-        match driven {
-            Driven::Worker(_) => {
+        match progress {
+            DriveProgress::Worker(_) => {
                 let _ = self.report(CrashKind::Fatal);
             }
-            Driven::Crashed(kind) => {
-                let _ = self.report(*kind);
+            DriveProgress::Crashed(kind) => {
+                let _ = self.report(kind);
             }
-            Driven::Idle | Driven::Stepped | Driven::Ended(_, _) => {}
+            DriveProgress::Rest
+            | DriveProgress::Nothing
+            | DriveProgress::Stepped
+            | DriveProgress::Ended(_) => {}
         }
     }
 }
@@ -201,33 +262,4 @@ fn waits(bench: &Bench, actors: &Actors) -> bool
     ensures { result ≡ waits bench.now (actors_view actors.now) }
 {
     actors.worker.is_halted() || begins_with_take(&actors.worker_calls) && is_drained(bench, 1)
-}
-
-/// Whether the first of these calls is a take.
-fn begins_with_take(calls: &VecDeque<Wish>) -> bool
-    ensures { result ≡ begins_with_take calls.now.items }
-{
-    match calls.front() {
-        Some(Wish::Take) => true,
-        Some(_) | None => false,
-    }
-}
-
-/// Whether each message of a lane was handed over.
-fn is_drained(bench: &Bench, lane: u8) -> bool
-    requires { lane < 2 }
-    ensures { result ≡ is_drained bench.now lane }
-{
-    let (accepted, handed, _) = bench.counts(lane);
-    accepted == handed
-}
-
-/// Whether the worker makes a call: one is under way, or is yet to be made.
-fn has_calls(bench: &Option<Bench>, actors: &Actors) -> bool
-    ensures { result ≡ has_calls bench.now (actors_view actors.now) }
-{
-    match bench {
-        Some(bench) => bench.is_in_call(1) || !actors.worker_calls.is_empty(),
-        None => false,
-    }
 }

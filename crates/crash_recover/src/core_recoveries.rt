@@ -1,12 +1,14 @@
-ghost use Rattle.std.specs.Prelude.{◌≡◌, ◌≢◌, ◌≤◌, ◌⊎◌, Some, None, Ok, OnOk, OnErr, IfOk, IfErr};
+ghost use Rattle.std.specs.Prelude.{◌≡◌, ◌≢◌, ◌≤◌, ◌⊎◌, Some, None, Ok, Err, OnOk, OnErr, IfOk, IfErr, IsErrOf};
 ghost use Rattle.std.specs.Bool.{OnTrue, OnFalse};
 ghost use Rattle.std.specs.Option.{option_or};
+ghost use Rattle.rp_io.specs.Causes.{Rose};
+ghost use Rattle.rp_io.specs.declared.faults.FetchFault.TheVariants as fetch;
 ghost use Rattle.proc_state.specs.Lives.{life_after_recovery};
 ghost use Rattle.crash_recover.specs.declared.core_faults.CoreFault.TheVariants as fault;
 ghost use Rattle.crash_recover.specs.Actors.{fresh_actors};
 ghost use Rattle.crash_recover.specs.Cores.{IsSoundLoad, load_view};
 ghost use Rattle.crash_recover.specs.CoreBoots.{loaded_from};
-ghost use Rattle.crash_recover.specs.CoreRecoveries.{IsReloadFault, IsReloadable, after_recovery, loaded_rings, readied_core, recovery_fault, readied_bench, reopen_fault, reopened_core, link_fault, spent_fault};
+ghost use Rattle.crash_recover.specs.CoreRecoveries.{IsFetchRefusal, IsImageOf, IsRecoveryFault, IsReloadFault, IsReloadable, IsUnopened, RecoversFrom, asked_text, after_recovery, loaded_rings, readied_core, recovery_fault, readied_bench, reopen_fault, reopened_core, link_fault, spent_fault};
 ghost use Rattle.crash_recover.specs.BenchCrashes.{after_reopen};
 ghost use Rattle.std.specs.Result.{result_err};
 
@@ -16,6 +18,7 @@ use crate::cores::Core;
 use fw_load::{Loaded, RingPair, load};
 use proc_state::LifeFault;
 use rp_base::{Inc, LifeState};
+use rp_io::{FetchFault, FirmwareStore};
 use std::alloc::Global;
 
 impl Core {
@@ -29,6 +32,58 @@ impl Core {
             LifeState::Crashed if self.life.recovery() => None,
             LifeState::Crashed => Some(LifeFault::RecoveryOff),
             LifeState::Offline | LifeState::Running => Some(LifeFault::NotCrashed),
+        }
+    }
+
+    /// Recovers the core with the image that a store has under the name that was booted: caller 0 is
+    /// reclaimed, a new host caller is made at once, and the link is reopened. Its users stay. Where the
+    /// core's life refuses it, the store is not asked.
+    ///
+    /// # Errors
+    ///
+    /// [`CoreFault::Life`] as [`Core::recovery_fault`] answers, then [`CoreFault::Fetch`] as the store
+    /// answers, and [`FetchFault::Missing`] where the name is no text, then those of
+    /// [`Core::recover_image`]. The core is as it was, or as that call leaves it.
+    pub fn recover<F: FirmwareStore>(
+        &mut self,
+        alloc: Global,
+        store: &mut F,
+    ) -> Result<(), CoreFault>
+        ensures recovered { OnOk result (RecoversFrom (F.images store.old) self.old self.new) }
+        ensures refused { IfErr result (λ why. (IsRecoveryFault (F.images store.old) self.old why × (self.new ≡ self.old))
+            ⊎ IsUnopened (F.images store.old) self.old why self.new) }
+        ensures unasked { recovery_fault self.old.life ≢ None → store.new ≡ store.old }
+        ensures kept { F.images store.new ≡ F.images store.old }
+        ensures later { F.faults store.old ≤ F.faults store.new }
+        ensures failed { IsErrOf result (fault.Fetch fetch.Failed) → Rose (F.faults store.old) (F.faults store.new) }
+        ensures same { result ≢ Err (fault.Fetch fetch.Failed) → F.faults store.new ≡ F.faults store.old }
+    {
+        if let Some(fault) = self.recovery_fault() {
+            return Err(CoreFault::Life(fault));
+        }
+        let image = self.fetch_booted(alloc, store)?;
+        self.recover_image(alloc, &image)
+    }
+
+    /// The image that a store has under the name that was booted.
+    fn fetch_booted<F: FirmwareStore>(
+        &self,
+        alloc: Global,
+        store: &mut F,
+    ) -> Result<Vec<u8>, CoreFault>
+        ensures fetched { IfOk result (λ image. IsImageOf (F.images store.old) (asked_text self.now.image) image.items) }
+        ensures refused { IfErr result (λ why. IsFetchRefusal (F.images store.old) (asked_text self.now.image) why) }
+        ensures kept { F.images store.new ≡ F.images store.old }
+        ensures later { F.faults store.old ≤ F.faults store.new }
+        ensures failed { IsErrOf result (fault.Fetch fetch.Failed) → Rose (F.faults store.old) (F.faults store.new) }
+        ensures same { result ≢ Err (fault.Fetch fetch.Failed) → F.faults store.new ≡ F.faults store.old }
+    {
+        let Some(name) = &self.image else {
+            return Err(CoreFault::Fetch(FetchFault::Missing));
+        };
+        match str::from_utf8(name.bytes()) {
+            Ok(name) => Ok(store.fetch(alloc, name)?),
+            Err(_) => Err(CoreFault::Fetch(FetchFault::Missing)),
         }
     }
 

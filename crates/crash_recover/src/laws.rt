@@ -16,6 +16,7 @@ ghost use Rattle.crash_recover.specs.CoreBoots.{after_boot, after_shutdown, core
 ghost use Rattle.crash_recover.specs.CoreCrashes.{after_report, crashed_bench};
 ghost use Rattle.crash_recover.specs.CoreRecoveries.{after_recovery, readied_bench, readied_core, reopen_fault, reopened_core};
 ghost use Rattle.crash_recover.specs.Cores.{CoreState, new_core};
+ghost use Rattle.crash_recover.specs.CoreTurns.{core_turns};
 ghost use Rattle.crash_recover.specs.Drives.{after_call_end, drive_step};
 ghost use Rattle.crash_recover.specs.BenchMoves.{ComesBy, IsReached, IsReachedBench, IsReachedCore, WasBoundOnTheWay, history_of};
 ghost use Rattle.host_driver.specs.Drivers.{Declared};
@@ -59,8 +60,8 @@ pub fn bench_reached()
     ensures reopen { (bench : BenchState) → IsReachedBench bench → unopened_by bench.link ≡ None → IsReachedBench (after_reopen bench) }
 {}
 
-/// The link of a core comes so too, from its boot to its last shutdown, over crashes and recoveries and over each step of its actors, whose
-/// messages all fit buffers.
+/// The link of a core comes so too, from its boot to its last shutdown, over crashes and recoveries, over each step of its actors, whose
+/// messages all fit buffers, and over turns of other callers.
 pub fn core_reached()
     ensures new { (regions : List Region) (kinds : List Declared) (book : ℕ) → IsReachedCore (new_core regions kinds book) }
     ensures link { (names : List (List ℕ)) (book first : ℕ) (rings : RingPair) → IsReachedBench (core_bench names book first rings) }
@@ -74,6 +75,8 @@ pub fn core_reached()
     ensures recovery { (core : CoreState) (image : List ℕ) → IsReachedCore core → reopen_fault core ≡ None → IsReachedCore (after_recovery core image) }
     ensures drive { (core : CoreState) → IsReachedCore core → IsReachedCore (drive_step core).core }
     ensures call_end { (core : CoreState) (caller : ℕ) (end : CallEnd) → IsReachedCore core → IsReachedCore (after_call_end core caller end) }
+    ensures turns { (count sender receiver : ℕ) (core : CoreState) (steps : ℕ) → IsReachedCore core
+        → IsReachedCore (core_turns count sender receiver core steps).core }
 {}
 
 /// What a link has handed over to an end in its incarnation is, in order, the first messages of the book of that lane: each number once, with

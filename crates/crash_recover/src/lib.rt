@@ -26,7 +26,7 @@ mod whole_steps;
 pub use actors::{Actor, Actors};
 pub use bench_crashes::Reclaim;
 pub use benches::{BegunCall, Bench, BenchFault, Progress, Reach};
-pub use core_drives::Driven;
+pub use core_drives::{DriveProgress, Driven};
 pub use core_faults::{AddFault, CoreFault};
 pub use cores::Core;
 pub use turns::TurnEnd;

@@ -16,6 +16,7 @@ pub(crate) type BenchLink = RingLink<Side>;
 
 /// The later steps of the call that a caller has under way: at most `more`, up to its end or to the
 /// most steps of a run. `last` is the step that was done last. Where the call ends, `end` says how.
+#[inline(always)]
 #[tactic(auto, unfolding(crate::specs::Benches::later_steps, crate::specs::Benches::later_rings))]
 pub(crate) fn later_steps(
     link: &mut BenchLink,

@@ -67,6 +67,7 @@ impl<L: LaneForm> LaneLink<L> {
     }
 
     /// Whether the caller of this number is in use and has a call under way.
+    #[inline(always)]
     pub fn is_calling(&self, caller: CallerNo) -> bool
         ensures { result ≡ is_calling (link_of L.form self.now) caller }
     {
@@ -167,6 +168,7 @@ impl<L: LaneForm> LaneLink<L> {
     }
 
     /// The next step of the call that this caller has under way. Where the call ends, `end` says how.
+    #[inline(always)]
     pub fn next_step(&mut self, caller: CallerNo, end: &mut CallEnd) -> Step
         requires { MayStep (link_of L.form self.old) caller None }
         ensures whole { self.new ≡ (form_step L.form L.Desk.meaning self.old caller 0 None).state }
@@ -331,6 +333,7 @@ impl<L: LaneForm> LaneLink<L> {
 }
 
 /// A later step of a caller who sends on one lane and takes from the other.
+#[inline(always)]
 fn advance_lanes<L: LaneForm>(
     outgoing: &mut L,
     incoming: &mut L,

@@ -6,6 +6,7 @@ use Rattle.rp_base.specs.declared.kinds.CrashKind.TheVariants as kind
 use Rattle.addr_translate.specs.Maps.{Mapping}
 use Rattle.lane_model.specs.Conditions.{IsFitWish}
 use Rattle.lane_model.specs.declared.states.Holding.{Holding}
+use Rattle.lane_model.specs.declared.calls.Wish.{Wish}
 use Rattle.lane_model.specs.declared.calls.Wish.TheVariants as wish
 use Rattle.remote_code.specs.declared.faults.WorkerFault.{WorkerFault}
 use Rattle.remote_code.specs.declared.records.Record.{Record}
@@ -14,6 +15,8 @@ use Rattle.rpmsg_header.specs.Headers.{header_bytes}
 use Rattle.remote_core.specs.Named.{named_place, bytes_from, named_bytes, written_from}
 use Rattle.remote_core.specs.Records.{next_record}
 use Rattle.remote_core.specs.Workers.{WorkerState}
+use Rattle.remote_core.specs.declared.workers.Task.{Task}
+use Rattle.remote_core.specs.declared.workers.Task.TheVariants as task
 use Rattle.remote_core.specs.declared.workers.Work.{Work}
 use Rattle.remote_core.specs.declared.workers.Work.TheVariants as work
 
@@ -97,6 +100,19 @@ after_work memory map linked worker =
 abbrev pub memory_after : List ℕ → Mapping → Bool → WorkerState → List ℕ
 memory_after memory map linked worker =
     if worker.is_halted then memory else memory_after_next memory map (next_record memory map linked worker)
+
+-- the work that a worker answers with this wish beside it
+abbrev pub work_with : Task → Wish → Work
+work_with task.Nothing wished = work.Nothing
+work_with task.Asked wished = work.Ask wished
+work_with task.Halted wished = work.Halted
+work_with (task.Crash kind) wished = work.Crash kind
+work_with (task.Fault fault) wished = work.Fault fault
+
+-- the work of a record that may have run, with this wish beside it
+abbrev pub done_with : Result Task WorkerFault → Wish → Work
+done_with (Ok done) wished = work_with done wished
+done_with (Err fault) wished = work.Fault fault
 
 -- a call that a worker asks for may begin, whatever its caller holds: a message fits into a buffer
 abbrev pub IsFitWork : Work → Type 0

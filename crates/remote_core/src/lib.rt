@@ -6,4 +6,4 @@ mod records;
 mod workers;
 mod works;
 
-pub use workers::{Work, Worker};
+pub use workers::{Task, Work, Worker};

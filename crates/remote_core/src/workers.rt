@@ -23,6 +23,20 @@ pub enum Work {
     Fault(WorkerFault),
 }
 
+/// What a worker did, which writes the call that it asks for beside it.
+pub enum Task {
+    /// It ran a record that asks for nothing.
+    Nothing,
+    /// It ran a record that asks for a call of its link.
+    Asked,
+    /// It has ended.
+    Halted,
+    /// It ran a record that reports a crash.
+    Crash(CrashKind),
+    /// It can't run its record.
+    Fault(WorkerFault),
+}
+
 /// The worker of a remote core. It runs the records that stand at the entry of its image, of 16 bytes
 /// each. Contracts see the device address of record 0, the number of the record that it runs next, the
 /// turns of its loops, the source of the last whole message that it took, and whether it has ended.
@@ -51,9 +65,8 @@ impl Model for Worker {
 
 impl Worker {
     ghost use Rattle.remote_core.specs.Workers.{new_worker, after_take};
-    ghost use Rattle.std.specs.Result.{result_map_both};
     ghost use Rattle.remote_core.specs.Records.{next_record};
-    ghost use Rattle.remote_core.specs.Works.{work_of, after_work, memory_after, work_of_record, after_record, after_next, memory_after_next, IsFitWork};
+    ghost use Rattle.remote_core.specs.Works.{work_of, work_with, done_with, after_work, memory_after, work_of_next, after_record, after_next, memory_after_next, IsFitWork};
 
     /// A worker that stands at its first record, and took no message yet.
     pub fn new(entry: Da) -> Worker
@@ -84,12 +97,38 @@ impl Worker {
         ensures length { length memory.new ≡ length memory.old }
         ensures fit { IsFitWork result }
     {
-        if self.is_halted {
-            return Work::Halted;
+        let mut wish = Wish::Take;
+        match self.work(memory, map, linked, &mut wish) {
+            Task::Nothing => Work::Nothing,
+            Task::Asked => Work::Ask(wish),
+            Task::Halted => Work::Halted,
+            Task::Crash(kind) => Work::Crash(kind),
+            Task::Fault(fault) => Work::Fault(fault),
         }
-        match self.run(memory, map, linked) {
-            Ok(work) => work,
-            Err(fault) => Work::Fault(fault),
+    }
+
+    /// Runs one record as [`Worker::next`] does. The call that it asks for becomes the wish; what stands
+    /// there after another record counts for nothing.
+    pub fn work(
+        &mut self,
+        memory: &mut CoreMemory,
+        map: &Map,
+        linked: bool,
+        wish: &mut Wish,
+    ) -> Task
+        requires { length memory.old ≡ map.now.memory_len }
+        ensures work { work_with result wish.new ≡ work_of memory.old map.now linked self.old }
+        ensures worker { self.new ≡ after_work memory.old map.now linked self.old }
+        ensures memory { memory.new ≡ memory_after memory.old map.now linked self.old }
+        ensures length { length memory.new ≡ length memory.old }
+        ensures fit { IsFitWork (work_with result wish.new) }
+    {
+        if self.is_halted {
+            return Task::Halted;
+        }
+        match self.run(memory, map, linked, wish) {
+            Ok(task) => task,
+            Err(fault) => Task::Fault(fault),
         }
     }
 
@@ -110,19 +149,25 @@ impl Worker {
     }
 
     /// Runs one record of a worker that hasn't ended, or says why it can't run.
-    fn run(&mut self, memory: &mut CoreMemory, map: &Map, linked: bool) -> Result<Work, WorkerFault>
+    fn run(
+        &mut self,
+        memory: &mut CoreMemory,
+        map: &Map,
+        linked: bool,
+        wish: &mut Wish,
+    ) -> Result<Task, WorkerFault>
         requires { length memory.old ≡ map.now.memory_len }
-        ensures work { result ≡ result_map_both (work_of_record memory.old map.now self.old.source) (λ fault. fault) (next_record memory.old map.now linked self.old) }
+        ensures work { done_with result wish.new ≡ work_of_next memory.old map.now self.old.source (next_record memory.old map.now linked self.old) }
         ensures worker { self.new ≡ after_next (next_record memory.old map.now linked self.old) self.old }
         ensures memory { memory.new ≡ memory_after_next memory.old map.now (next_record memory.old map.now linked self.old) }
         ensures length { length memory.new ≡ length memory.old }
-        ensures fit { IfOk result IsFitWork }
+        ensures fit { IfOk result (λ task. IsFitWork (work_with task wish.new)) }
     {
         let op = record_at(memory, map, self.entry, self.place)?;
         let op = admitted(op, linked)?;
-        let work = perform(op, memory, map, self.source)?;
+        let task = perform(op, memory, map, self.source, wish)?;
         self.advance(op);
-        Ok(work)
+        Ok(task)
     }
 
     /// Goes on behind a record that was run.

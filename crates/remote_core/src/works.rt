@@ -1,12 +1,11 @@
-ghost use Rattle.std.specs.Prelude.{◌≡◌, ◌+◌, ◌≤◌, ◌++◌, length, false, IfOk};
-ghost use Rattle.std.specs.Result.{result_map_both};
+ghost use Rattle.std.specs.Prelude.{◌≡◌, ◌+◌, ◌≤◌, ◌++◌, length, false, is_ok, IfOk};
 ghost use Rattle.rp_base.specs.declared.limits.TheConstants.{MESSAGE_MOST};
-ghost use Rattle.lane_model.specs.declared.calls.Wish.TheVariants as wish;
-ghost use Rattle.remote_core.specs.Records.{has_large_operand, with_memory};
-ghost use Rattle.remote_core.specs.Works.{announcement, crash_kind, destination, work_of_record, memory_after_next, IsFitWork};
+ghost use Rattle.lane_model.specs.declared.calls.Wish.TheVariants as call;
+ghost use Rattle.remote_core.specs.Records.{has_large_operand, names_memory, with_memory};
+ghost use Rattle.remote_core.specs.Works.{announcement, crash_kind, destination, done_with, memory_after_next, work_of_next, work_with, IsFitWork};
 
 use crate::named::named_place;
-use crate::workers::Work;
+use crate::workers::Task;
 use addr_translate::{CoreMemory, Map};
 use lane_model::Wish;
 use remote_code::{Record, WorkerFault};
@@ -22,58 +21,61 @@ const LAST_SOURCE: u32 = 0xffff_ffff;
 const ANNOUNCEMENT_SIZE: usize = 40;
 
 /// Does the work of a record, if the bytes are there that it names. The source of the last whole message
-/// is `source`.
+/// is `source`. What the record asks of the link becomes the wish.
 pub(crate) fn perform(
     op: Record,
     memory: &mut CoreMemory,
     map: &Map,
     source: u32,
-) -> Result<Work, WorkerFault>
+    wish: &mut Wish,
+) -> Result<Task, WorkerFault>
     requires memory { length memory.old ≡ map.now.memory_len }
     requires operands { has_large_operand op ≡ false }
-    ensures work { result ≡ result_map_both (work_of_record memory.old map.now source) (λ fault. fault) (with_memory map.now op) }
+    ensures work { done_with result wish.new ≡ work_of_next memory.old map.now source (with_memory map.now op) }
+    ensures done { is_ok result ≡ names_memory map.now op }
     ensures memory { memory.new ≡ memory_after_next memory.old map.now (with_memory map.now op) }
     ensures length { length memory.new ≡ length memory.old }
-    ensures fit { IfOk result IsFitWork }
+    ensures fit { IfOk result (λ task. IsFitWork (work_with task wish.new)) }
 {
     match op {
-        Record::Halt => Ok(Work::Halted),
+        Record::Halt => return Ok(Task::Halted),
         Record::Announce(a, b, c) => {
             let at = named_place(map, c, 32)?;
             let payload = announcement(memory.bytes(at, 31), a, b);
-            Ok(send(&head(a, SERVICE_ADDRESS, 40), &payload))
+            send(wish, &head(a, SERVICE_ADDRESS, 40), &payload);
         }
-        Record::Bind(a) => Ok(Work::Ask(Wish::Bind(a))),
+        Record::Bind(a) => *wish = Wish::Bind(a),
         Record::Send(n, a, b, c) => {
             let at = named_place(map, c, u32::from(n))?;
             let payload = memory.bytes(at, u32::from(n));
-            Ok(send(&head(a, destination(source, b), n), payload))
+            send(wish, &head(a, destination(source, b), n), payload);
         }
         Record::Raw(n, c) => {
             let at = named_place(map, c, u32::from(n))?;
-            Ok(send(&[], memory.bytes(at, u32::from(n))))
+            send(wish, &[], memory.bytes(at, u32::from(n)));
         }
-        Record::Take => Ok(Work::Ask(Wish::Take)),
+        Record::Take => *wish = Wish::Take,
         Record::Trace(n, a, c) => {
             let from = named_place(map, c, u32::from(n))?;
             let to = named_place(map, a, u32::from(n))?;
             memory.copy(from, to, u32::from(n));
-            Ok(Work::Nothing)
+            return Ok(Task::Nothing);
         }
-        Record::Crash(a) => Ok(Work::Crash(crash_kind(a))),
-        Record::Loop(..) => Ok(Work::Nothing),
+        Record::Crash(a) => return Ok(Task::Crash(crash_kind(a))),
+        Record::Loop(..) => return Ok(Task::Nothing),
     }
+    Ok(Task::Asked)
 }
 
-/// The wish to send the message of these bytes, those of `head` before those of `body`.
-fn send(head: &[u8], body: &[u8]) -> Work
+/// Makes it the wish to send the message of these bytes, those of `head` before those of `body`.
+fn send(wish: &mut Wish, head: &[u8], body: &[u8])
     requires { length head.now + length body.now ≤ MESSAGE_MOST }
-    ensures work { result ≡ Work.Ask (wish.Send (head.now ++ body.now)) }
-    ensures fit { IsFitWork result }
+    ensures wish { wish.new ≡ call.Send (head.now ++ body.now) }
 {
-    let mut message = Message::empty();
-    message.set(head, body);
-    Work::Ask(Wish::Send(message))
+    *wish = Wish::Send(Message::empty());
+    if let Wish::Send(message) = wish {
+        message.set(head, body);
+    }
 }
 
 /// The payload of an announcement: the first 31 bytes of the name as they stand and a 0, then the

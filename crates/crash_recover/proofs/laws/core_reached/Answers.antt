@@ -1,4 +1,5 @@
 use Rattle.crash_recover.proofs.CoreMoves.{call_ended, core_booted, core_driven, core_readied, core_recovered, core_reopened, core_reported, core_shut, crashed, made_reached, new_core_reached, readied}
+use Rattle.crash_recover.proofs.CoreTurnMoves.{core_turned}
 use Rattle.crash_recover.proofs.laws.core_reached.Goals as goal
 
 pub returns : goal.returns
@@ -15,4 +16,5 @@ returns c = record {
   recovery = core_recovered;
   drive = core_driven;
   call_end = call_ended;
+  turns = core_turned;
 }

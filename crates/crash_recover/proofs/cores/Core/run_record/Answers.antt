@@ -19,8 +19,7 @@ returns-clause-driven c =
     let core = with_turn_after actor.Worker (the_view inside) in
     let sound = subst (λ found. IfSome found (IsSoundLoad inside.regions)) c.in-Some.is c.self.invariant.loaded in
     let ran = record_ran core (load_view loaded) loaded.map (λ da len some. place_is inside.regions loaded da len c.as_slice.ensures.sound sound some) (ap (option_map load_view) c.in-Some.is) in
-    rw (← c.self.view_is)
-    (c.run_record.ensures.driven
+    rw (← c.self.view_is) (λ end. c.run_record.ensures.driven end
     ∙ ap (λ (linked : Bool). driven_by_work (work_of loaded.memory loaded.map linked inside.actors.worker)) c.is_some-linked.ensures
     ∙ ap (λ (step : DriveStep). step.driven) ran)
 
@@ -38,6 +37,6 @@ returns-clause-left c =
     rw (← c.self.view_is)
     (ap (λ (after : Loaded). put (load_view after) (actors_view c.run_record.new.actors)) c.run_record.ensures.loaded
     ∙ ap (put (load_view (left c.is_some-linked.result))) c.run_record.ensures.actors
-    ∙ ap (λ (calls : List Wish). put (load_view (left c.is_some-linked.result)) (acted calls c.is_some-linked.result)) c.in_ok-reserve.ensures.items
+    ∙ ap (λ (calls : List Wish). put (load_view (left c.is_some-linked.result)) (acted calls c.is_some-linked.result)) c.in_ok-make_room.ensures.items
     ∙ ap (λ (linked : Bool). put (load_view (left linked)) (acted inside.actors.worker_calls.items linked)) c.is_some-linked.ensures
     ∙ ap (λ (step : DriveStep). step.core) ran)

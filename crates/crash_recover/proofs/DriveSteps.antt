@@ -1,0 +1,40 @@
+-- Who makes a step of a drive.
+use Rattle.std.proofs.Common.{◌≡◌, Bool, true, false, cond, not, ◌&&◌, sym, ap, refl, ◌∙◌}
+use Rattle.std.proofs.lemmas.Bool.{and_right}
+use Rattle.lane_model.specs.declared.calls.CallEnd.{CallEnd}
+use Rattle.crash_recover.specs.declared.actors.Actor.{Actor}
+use Rattle.crash_recover.specs.declared.actors.Actor.TheVariants as actor
+use Rattle.crash_recover.specs.declared.core_drives.Driven.TheVariants as driven
+use Rattle.crash_recover.specs.declared.core_drives.DriveProgress.{DriveProgress}
+use Rattle.crash_recover.specs.declared.core_drives.DriveProgress.TheVariants as progress
+use Rattle.crash_recover.specs.Actors.{other_actor}
+use Rattle.crash_recover.specs.Cores.{CoreState}
+use Rattle.crash_recover.specs.Drives.{DriveStep, actor_step, drive_step, host_is_idle, is_idle, is_idle_actor, is_rest, tried_step, with_turn_after, worker_is_idle}
+
+-- a step that found something to do
+pub does_something : (step : DriveProgress) → (step ≡ progress.Rest → ⊥) → is_rest step ≡ false
+does_something progress.Rest works = absurd (works refl)
+does_something progress.Nothing works = refl
+does_something progress.Stepped works = refl
+does_something (progress.Ended caller) works = refl
+does_something (progress.Worker fault) works = refl
+does_something (progress.Crashed kind) works = refl
+
+-- the step of this actor, or that of the other where this one has nothing to do
+step_of : CoreState → Actor → Bool → DriveStep
+step_of core next idle =
+    let acting = cond idle (other_actor next) next in
+    actor_step acting (with_turn_after acting core)
+
+-- a step where the turn is the worker's
+turned : CoreState → Actor → Bool → DriveStep
+turned core next idle = cond idle (record { core = core; driven = driven.Idle }) (step_of core next (is_idle_actor core next))
+
+-- the worker makes the step where it is its turn and it has something to do
+pub worker_drives : (core : CoreState) → core.actors.next ≡ actor.Worker → worker_is_idle core.bench core.actors ≡ false → drive_step core ≡ tried_step actor.Worker core
+unfolding turned step_of
+worker_drives core next busy =
+    ap (λ (turn : Actor). turned core turn (is_idle core)) next
+    ∙ ap (turned core actor.Worker) (and_right (host_is_idle core.bench core.actors) (worker_is_idle core.bench core.actors) busy)
+    ∙ ap (step_of core actor.Worker) busy
+    ∙ sym (ap (λ (idle : Bool). cond idle (record { core = core; driven = driven.Idle }) (actor_step actor.Worker (with_turn_after actor.Worker core))) busy)
