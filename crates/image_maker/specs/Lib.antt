@@ -3,3 +3,4 @@ pub mod Segments
 pub mod Tables
 pub mod Images
 pub mod ReadBack
+pub mod Demo

@@ -1,8 +1,10 @@
-ghost use Rattle.std.specs.Prelude.{◌≡◌, List, Some};
+ghost use Rattle.std.specs.Prelude.{◌≡◌, ℕ, ◌≤◌, List, Some, Ok};
 ghost use Rattle.script_lang.specs.declared.recipes.RecipeLine.{RecipeLine};
-ghost use Rattle.script_lang.specs.Runnable.{IsLine};
+ghost use Rattle.script_lang.specs.Grammar.{script_of};
+ghost use Rattle.script_lang.specs.Runnable.{IsLine, AreRunnable};
 ghost use Rattle.remote_code.specs.declared.records.Record.{Record};
 ghost use Rattle.remote_code.specs.Records.{record_of};
+ghost use Rattle.image_maker.specs.Demo.{demo_commands, demo_text};
 ghost use Rattle.image_maker.specs.Segments.{data_of};
 ghost use Rattle.image_maker.specs.Images.{image_of};
 ghost use Rattle.image_maker.specs.ReadBack.{IsLoadable, IsReadBack, record_of_line};
@@ -17,4 +19,14 @@ pub fn read_back()
 pub fn records_read_back()
     ensures { (line : RecipeLine) (worker_record : Record)
         → IsLine line → record_of_line line ≡ Some worker_record → record_of (data_of line) ≡ Ok worker_record }
+{}
+
+/// The text of a demo is a script, and says what a demo commands.
+pub fn demo_says()
+    ensures { (sessions : ℕ) → sessions ≤ 500 → script_of (demo_text sessions) ≡ Ok (demo_commands sessions) }
+{}
+
+/// What a demo commands can be run, whatever the number of its sessions.
+pub fn demo_runnable()
+    ensures { (sessions : ℕ) → AreRunnable (demo_commands sessions) }
 {}

@@ -35,6 +35,9 @@ notice_words (notice.Segment index da file_len memory_len) =
     Fixed (codes "segment") ∷ Number index ∷ Digits da ∷ Number file_len ∷ Number memory_len ∷ []
 notice_words (notice.Table line) = table_words line
 notice_words notice.Loads = Fixed (codes "ok") ∷ []
+notice_words (notice.Demo sessions to_host to_remote) =
+    Fixed (codes "demo") ∷ Number sessions ∷ Fixed (codes "sessions") ∷ Number sessions
+    ∷ Fixed (codes "to-host") ∷ Number to_host ∷ Fixed (codes "to-remote") ∷ Number to_remote ∷ []
 
 -- the line of a notice
 unfoldable pub notice_line : Notice → List ℕ

@@ -6,8 +6,8 @@ use crate::events::Event;
 use crate::notices::Notice;
 use crate::shapes::{
     caller_word, caller_word_endpoint, caller_word_number, caller_word_two_numbers, channel_line,
-    crash_line, dead_call, driver_line, lane_counts, memory_hole, memory_row, name_word,
-    name_word_era, name_word_name, name_word_number, name_word_two_numbers, new_caller,
+    crash_line, dead_call, demo_counts, driver_line, lane_counts, memory_hole, memory_row,
+    name_word, name_word_era, name_word_name, name_word_number, name_word_two_numbers, new_caller,
     recovery_line, refusal, ring_line, ring_row, segment, start, state_line, take_of_service,
     take_to, take_without_endpoint, take_word, text_line, trace_line, word_name, word_name_number,
     word_number, word_two_numbers,
@@ -153,5 +153,8 @@ pub fn push_notice(_alloc: Global, notice: &Notice, out: &mut Vec<u8>) -> Result
         ),
         Notice::Table(entry) => table_line(out, &[], entry),
         Notice::Loads => text_line(out, "ok"),
+        Notice::Demo(sessions, to_host, to_remote) => {
+            demo_counts(out, u64::from(*sessions), *to_host, *to_remote)
+        }
     }
 }

@@ -30,4 +30,7 @@ pub enum Notice {
     Table(TableLine),
     /// The image loads.
     Loads,
+    /// What a demo did: how many sessions it had, and how many messages their links accepted to the
+    /// host and to the remote.
+    Demo(u32, u64, u64),
 }

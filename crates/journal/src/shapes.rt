@@ -665,6 +665,31 @@ pub(crate) fn segment(
     )
 }
 
+/// How many sessions a demo had, and how many messages their links accepted.
+pub(crate) fn demo_counts(
+    out: &mut Vec<u8>,
+    sessions: u64,
+    to_host: u64,
+    to_remote: u64,
+) -> Result<(), NoMemory>
+    ensures whole { OnOk result (out.new.items ≡ out.old.items ++ line_of (Fixed (codes "demo") ∷ Number sessions ∷ Fixed (codes "sessions") ∷ Number sessions ∷ Fixed (codes "to-host") ∷ Number to_host ∷ Fixed (codes "to-remote") ∷ Number to_remote ∷ [])) }
+    ensures same { OnErr result (out.new.items ≡ out.old.items) }
+{
+    push_line(
+        out,
+        &[
+            Piece::Fixed("demo"),
+            Piece::Number(sessions),
+            Piece::Fixed("sessions"),
+            Piece::Number(sessions),
+            Piece::Fixed("to-host"),
+            Piece::Number(to_host),
+            Piece::Fixed("to-remote"),
+            Piece::Number(to_remote),
+        ],
+    )
+}
+
 /// The word of a cause.
 fn cause_text(why: Cause) -> &'static str
     ensures { result.now ≡ cause_text why }
