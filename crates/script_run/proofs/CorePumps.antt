@@ -1,10 +1,10 @@
 -- A pump on the link of a core.
-use Rattle.std.proofs.Common.{◌≡◌, ℕ, List, Option, Some, None, ap, sym, ◌∙◌}
+use Rattle.std.proofs.Common.{◌≡◌, ℕ, List, Some, None, ap, sym, ◌∙◌}
 use Rattle.crash_recover.specs.Benches.{BenchState}
 use Rattle.crash_recover.specs.Cores.{CoreState}
 use Rattle.crash_recover.specs.CoreTurns.{core_turns}
 use Rattle.journal.specs.declared.events.Event.{Event}
-use Rattle.script_run.specs.CoreEffects.{CoreEffect, core_tells}
+use Rattle.script_run.specs.CoreEffects.{core_tells}
 use Rattle.script_run.specs.CoreLinks.{core_pump_effect, core_pumped_effect, pump_refusal, unless_told}
 
 module _ (name : List ℕ) (core : CoreState) (steps sender receiver count : ℕ) (bench : BenchState) (linked : core.bench ≡ Some bench) where

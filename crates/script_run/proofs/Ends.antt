@@ -13,6 +13,8 @@ use Rattle.rp_io.specs.Contents.{AppendsFront, IsFrontOf}
 use Rattle.word_kinds.specs.declared.causes.Cause.TheVariants as cause
 use Rattle.script_lang.specs.declared.commands.Command.{Command}
 use Rattle.script_lang.specs.Grammar.{Refusal, bad_line, script_of}
+use Rattle.image_maker.specs.Demo.{demo_text}
+use Rattle.script_run.specs.declared.demos.Accepted.{Accepted}
 use Rattle.script_run.specs.declared.statuses.Status.{Status}
 use Rattle.script_run.specs.declared.statuses.Status.TheVariants as status
 use Rattle.script_run.specs.Statuses.{status_number, status_of}
@@ -21,8 +23,9 @@ use Rattle.script_run.specs.declared.statuses.Stop.TheVariants as stop
 use Rattle.script_run.specs.declared.runs.RunFault.TheVariants as run_fault
 use Rattle.script_run.specs.Stores.{IsHeld, IsTold, Told, held}
 use Rattle.script_run.specs.Runs.{new_run, run_of}
-use Rattle.script_run.specs.Outputs.{Form, other, run, check, Output, fails_in, usage_output, run_output, script_output, stop_output, transcript_output, report_output, store_fault_output}
+use Rattle.script_run.specs.Outputs.{Form, other, run, check, demo, Output, fails_in, usage_output, run_output, script_output, stop_output, transcript_output, report_output, store_fault_output}
 use Rattle.script_run.specs.Reports.{check_report, fetched_report}
+use Rattle.script_run.specs.Demos.{accepted_from, counted_output, demo_output, said_output}
 use Rattle.script_run.specs.Told.{RunWrites}
 use Rattle.script_run.proofs.Handed.{appends_nothing}
 use Rattle.script_run.proofs.Shelves.{any_held, any_told, held_failed, held_run}
@@ -115,6 +118,7 @@ some_asked : (form : Form) (before : Devices) → (output : Output) × IsAsked f
 some_asked other before = (usage_output, refl)
 some_asked run before = some_run before.left before.images
 some_asked (check name) before = some_report before.images name
+some_asked (demo sessions) before = (demo_output sessions, refl)
 
 -- memory ran out before anything was written
 pub ends_no_memory : (form : Form) (before now : Devices) → IsReadWell before now → now.written ≡ before.written → now.sink_faults ≡ before.sink_faults
@@ -304,6 +308,7 @@ well_of ended other before now output source store (inr fault) = absurd fault
 well_of ended run before now output source store (inr (inl fault)) = absurd (source fault.1)
 well_of ended run before now output source store (inr (inr fault)) = absurd (store fault.1)
 well_of ended (check name) before now output source store (inr fault) = absurd (store fault.1)
+well_of ended (demo sessions) before now output source store (inr fault) = absurd fault
 
 -- the status of a store that failed
 abbrev is_store_fault : Status → Bool
@@ -345,10 +350,24 @@ report_well : (images : Option (List (List ℕ × List ℕ))) (name : List ℕ) 
 report_well None name output is = ap (λ (o : Output). is_store_fault o.status) is.2 ∙ loads_well (fetched_report name is.0).loads
 report_well (Some images) name output is = ap (λ (o : Output). is_store_fault o.status) is ∙ loads_well (check_report images name).loads
 
+-- nor a demo, which runs over an empty store
+counted_well : (sessions : ℕ) (accepted : Accepted) (stop : Option Stop) → is_store_fault (counted_output sessions accepted stop).status ≡ false
+counted_well sessions accepted None = refl
+counted_well sessions accepted (Some why) = stop_well (Some why)
+
+said_demo_well : (sessions : ℕ) (said : Result (List Command) Refusal) → is_store_fault (said_output sessions said).status ≡ false
+said_demo_well sessions (Ok commands) = counted_well sessions (accepted_from new_run commands) (run_of (held []) commands).ending
+said_demo_well sessions (Err refusal) = refl
+
+demo_well : (sessions : ℕ) → is_store_fault (demo_output sessions).status ≡ false
+unfolding demo_output
+demo_well sessions = said_demo_well sessions (script_of (demo_text sessions))
+
 asked_well : (form : Form) (before : Devices) (output : Output) → IsAsked form before output → is_store_fault output.status ≡ false
 asked_well other before output is = ap (λ (o : Output). is_store_fault o.status) is
 asked_well run before output is = run_script_well before.left before.images output is
 asked_well (check name) before output is = report_well before.images name output is
+asked_well (demo sessions) before output is = ap (λ (o : Output). is_store_fault o.status) is ∙ demo_well sessions
 
 -- where no count rose, the program ends with the status of the output that is asked for, or memory ran out
 pub complete : (ended : Status) (form : Form) (before now : Devices)

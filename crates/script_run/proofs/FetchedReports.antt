@@ -6,12 +6,13 @@ use Rattle.rp_io.specs.Images.{IsFetched}
 use Rattle.journal.specs.declared.notices.Notice.{Notice}
 use Rattle.journal.specs.declared.notices.Notice.TheVariants as notice
 use Rattle.journal.specs.Notices.{report_text}
-use Rattle.script_run.specs.declared.reports.ImageReport.{ImageReport}
+use Rattle.image_report.specs.declared.reports.ImageReport.{ImageReport}
 use Rattle.script_run.specs.declared.statuses.Status.TheVariants as status
-use Rattle.script_run.specs.Reports.{Report, fetched_report, image_report, refusal}
+use Rattle.image_report.specs.Reports.{IsImageReport, Report, image_report, refusal}
+use Rattle.script_run.specs.Reports.{fetched_report}
 use Rattle.script_run.specs.Outputs.{Output, report_output}
 use Rattle.script_run.specs.Endings.{IsReportOutput}
-use Rattle.script_run.specs.ImageReports.{IsImageReport, made_output}
+use Rattle.script_run.specs.ImageReports.{made_output}
 
 -- a report that says the same has the same output
 made_same : (made : ImageReport) (report : Report) → IsImageReport made report → made_output made ≡ report_output report

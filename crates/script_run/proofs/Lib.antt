@@ -9,9 +9,11 @@ mod SoFar
 mod Placing
 mod FetchedReports
 mod RingRows
-mod TableWalks
-mod LoadReports
 mod CoreRecovered
 mod Matches
 mod Accepted
 pub mod CorePumps
+mod LinksReached
+mod CoresReached
+mod RunsReached
+mod DemoSums

@@ -1,22 +1,25 @@
 -- What the words ask for, as code tells it apart (own).
-use Rattle.std.specs.Prelude.{◌≡◌, ◌∷◌, List, [], ℕ, Bool, false, ◌==◌, Option, Some, None, option_map, slice_get, drop, codes}
+use Rattle.std.specs.Prelude.{◌≡◌, ◌≤◌, ◌∷◌, List, [], ℕ, Bool, false, ◌==◌, Option, Some, None, option_map, slice_get, drop, codes}
 use Rattle.clap.specs.Words.{first_value, found_of, matched_of, raw_values}
 use Rattle.clap.specs.declared.parser.matches.ArgMatches.{ArgMatches}
 use Rattle.script_run.specs.declared.words.Asked.{Asked}
 use Rattle.script_run.specs.declared.words.Asked.TheVariants as asked
-use Rattle.script_run.specs.Outputs.{Form, other, run, check}
+use Rattle.image_maker.specs.declared.demo.TheConstants.{SESSIONS_MOST}
+use Rattle.script_run.specs.Outputs.{Form, other, run, check, demo}
 
 -- what the words ask for, as the definitions have it
 abbrev pub asked_form : Asked → Form
 asked_form asked.Other = other
 asked_form asked.Run = run
 asked_form (asked.Check word name) = check word.now
+asked_form (asked.Demo sessions) = demo sessions
 
--- the name of an image is the word
-abbrev pub IsNamed : Asked → Type 0
-IsNamed asked.Other = Unit {0}
-IsNamed asked.Run = Unit {0}
-IsNamed (asked.Check word name) = name ≡ word.now
+-- the name of an image is the word, and a demo has 1 to 500 sessions
+abbrev pub IsInForm : Asked → Type 0
+IsInForm asked.Other = Unit {0}
+IsInForm asked.Run = Unit {0}
+IsInForm (asked.Check word name) = name ≡ word.now
+IsInForm (asked.Demo sessions) = (1 ≤ sessions) × (sessions ≤ SESSIONS_MOST)
 
 -- the word begins with `-` (45)
 abbrev pub begins_with_dash : List ℕ → Bool

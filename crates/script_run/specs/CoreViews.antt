@@ -6,7 +6,7 @@ use Rattle.journal.specs.declared.events.Event.TheVariants as event
 use Rattle.journal.specs.declared.tables.TableLine.{TableLine}
 use Rattle.crash_recover.specs.Cores.{CoreState, LoadState, core_memory, core_trace}
 use Rattle.script_run.specs.CoreEffects.{CoreEffect, core_tells, core_tells_all}
-use Rattle.script_run.specs.TableRows.{table_rows}
+use Rattle.image_report.specs.TableRows.{table_rows}
 
 -- a line of a table
 abbrev pub table_event : List ℕ → TableLine → Event

@@ -10,8 +10,9 @@ use Rattle.script_lang.specs.declared.commands.Command.{Command}
 use Rattle.script_lang.specs.Grammar.{Refusal, script_of}
 use Rattle.script_run.specs.Runs.{AsksNone, new_run}
 use Rattle.script_run.specs.Stores.{IsAnswer, IsHeld, IsTold, Told, held}
-use Rattle.script_run.specs.Outputs.{Form, other, run, check, Output, usage_output, run_output, script_output, fails_in, report_output, read_fault_output, store_fault_output}
+use Rattle.script_run.specs.Outputs.{Form, other, run, check, demo, Output, usage_output, run_output, script_output, fails_in, report_output, read_fault_output, store_fault_output}
 use Rattle.script_run.specs.Reports.{fetched_report, check_report}
+use Rattle.script_run.specs.Demos.{demo_output}
 
 -- what the devices hold, where they tell it, and their counts of faults
 pub record Devices : Type 0 where
@@ -74,6 +75,7 @@ abbrev pub IsAsked : Form → Devices → Output → Type 0
 IsAsked other before output = output ≡ usage_output
 IsAsked run before output = IsRunOutput before.left before.images output
 IsAsked (check name) before output = IsReportOutput before.images name output
+IsAsked (demo sessions) before output = output ≡ demo_output sessions
 
 -- the line of the device that failed, where the words need it
 abbrev pub IsFaultOutput : Form → Devices → Devices → Output → Type 0
@@ -83,6 +85,7 @@ IsFaultOutput run before now output =
     ⊎ (OfScript before.left (λ bytes. IsCutOutput before.images bytes output) × Rose before.store_faults now.store_faults × (now.source_faults ≡ before.source_faults))
 IsFaultOutput (check name) before now output =
     (output ≡ store_fault_output) × Rose before.store_faults now.store_faults × (now.source_faults ≡ before.source_faults)
+IsFaultOutput (demo sessions) before now output = ⊥
 
 -- what is to be written: what the words ask for where the source and the store didn't fail, or the line of the one that did
 abbrev pub IsOutput : Form → Devices → Devices → Output → Type 0
@@ -172,3 +175,4 @@ abbrev pub NeedsNoStore : Form → Option (List ℕ) → Type 0
 NeedsNoStore other left = Unit {0}
 NeedsNoStore run left = SourceAsksNone left
 NeedsNoStore (check name) left = ⊥
+NeedsNoStore (demo sessions) left = Unit {0}

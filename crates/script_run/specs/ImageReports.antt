@@ -1,22 +1,16 @@
--- A report as code makes it, and what becomes of it (own).
+-- What becomes of a report (own).
 use Rattle.std.specs.Prelude.{◌≡◌, ℕ, List, Option, if◌then◌else◌}
 use Rattle.rp_io.specs.Causes.{Rose}
 use Rattle.journal.specs.Notices.{report_text}
-use Rattle.script_run.specs.declared.reports.ImageReport.{ImageReport}
+use Rattle.image_report.specs.declared.reports.ImageReport.{ImageReport}
 use Rattle.script_run.specs.declared.reports.ReportFault.{ReportFault}
 use Rattle.script_run.specs.declared.reports.ReportFault.TheVariants as report_fault
 use Rattle.script_run.specs.declared.statuses.Status.{Status}
 use Rattle.script_run.specs.declared.statuses.Status.TheVariants as status
-use Rattle.script_run.specs.Reports.{Report}
 use Rattle.script_run.specs.Outputs.{Output, check}
 use Rattle.script_run.specs.Endings.{Ends}
 
--- it says the same, in these lines
-pub record IsImageReport (made : ImageReport) (report : Report) : Type 0 where
-  pub loads : made.loads ≡ report.loads
-  pub notices : made.notices.items ≡ report.notices
-
--- its output
+-- the output of a report
 abbrev pub made_output : ImageReport → Output
 made_output made = record { status = if made.loads then status.Done else status.NoImage; text = report_text made.notices.items }
 

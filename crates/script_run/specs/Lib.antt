@@ -10,7 +10,6 @@ pub mod RingDumps
 pub mod Recoveries
 pub mod ChannelLists
 pub mod LinkCommands
-pub mod TableRows
 pub mod CoreEffects
 pub mod CoreLives
 pub mod CoreDrives
@@ -22,8 +21,11 @@ pub mod Runs
 pub mod Reports
 pub mod Asked
 pub mod Outputs
+pub mod Demos
+pub mod DemoRuns
 pub mod Endings
 pub mod ImageReports
 pub mod Logs
 pub mod Fetches
 pub mod Told
+pub mod Reached

@@ -1,6 +1,7 @@
 -- What the program writes and how it ends where no device fails and memory is found (own).
-use Rattle.std.specs.Prelude.{ℕ, Bool, false, List, [], ◌∷◌, ◌++◌, Option, Some, None, Result, Ok, Err, bytes_eq, codes, if◌then◌else◌}
-use Rattle.word_kinds.specs.Spellings.{name_of}
+use Rattle.std.specs.Prelude.{ℕ, Bool, false, ◌&&◌, nat_le, List, [], ◌∷◌, ◌++◌, length, Option, Some, None, Result, Ok, Err, bytes_eq, codes, if◌then◌else◌}
+use Rattle.word_kinds.specs.Spellings.{digits_from, name_of}
+use Rattle.image_maker.specs.declared.demo.TheConstants.{SESSIONS_MOST}
 use Rattle.script_lang.specs.declared.commands.Command.{Command}
 use Rattle.script_lang.specs.Grammar.{Refusal, script_of}
 use Rattle.journal.specs.Lines.{transcript}
@@ -12,25 +13,41 @@ use Rattle.script_run.specs.declared.statuses.Stop.{Stop}
 use Rattle.script_run.specs.declared.statuses.Stop.TheVariants as stop
 use Rattle.script_run.specs.Stores.{Told}
 use Rattle.script_run.specs.Runs.{Run, run_of}
-use Rattle.script_run.specs.Reports.{Report}
+use Rattle.image_report.specs.Reports.{Report}
 
 -- what the words ask for
 pub data Form : Type 0 where
   other : Form
   run : Form
   check : List ℕ → Form
+  demo : ℕ → Form
 
 -- `check` with a name; a word that is no name is none of the forms
 abbrev pub named_form : Option (List ℕ) → Form
 named_form (Some name) = check name
 named_form None = other
 
+-- a number of the command line: one to ten decimal digits, where leading zeros are allowed
+abbrev pub argument_of : List ℕ → Option ℕ
+argument_of word = if nat_le 1 (length word) && nat_le (length word) 10 then digits_from 10 0 word else None
+
+-- `demo` with a number of sessions; a word that is no number from 1 to 500 is none of the forms
+abbrev pub demo_form : Option ℕ → Form
+demo_form (Some sessions) = if nat_le 1 sessions && nat_le sessions SESSIONS_MOST then demo sessions else other
+demo_form None = other
+
+-- what a first word asks for with the one behind it
+abbrev pub argument_form : List ℕ → List ℕ → Form
+argument_form word argument =
+    if bytes_eq word (codes "check") then named_form (name_of argument)
+    else (if bytes_eq word (codes "demo") then demo_form (argument_of argument) else other)
+
 -- what these words behind the program's name ask for
 abbrev pub form_of : List (List ℕ) → Form
 form_of [] = other
 form_of (word ∷ []) = if bytes_eq word (codes "run") then run else other
-form_of (word ∷ name ∷ []) = if bytes_eq word (codes "check") then named_form (name_of name) else other
-form_of (word ∷ name ∷ third ∷ more) = other
+form_of (word ∷ argument ∷ []) = argument_form word argument
+form_of (word ∷ argument ∷ third ∷ more) = other
 
 -- how the program ends, and all that it writes
 pub record Output : Type 0 where

@@ -1,16 +1,21 @@
-ghost use Rattle.std.specs.Prelude.{◌≡◌, IfOk, unwrap_or};
+ghost use Rattle.std.specs.Prelude.{◌≡◌, ◌==◌, ◌||◌, ◌∷◌, not, IfOk, unwrap_or};
 ghost use Rattle.journal.specs.declared.events.Event.TheVariants as event;
 ghost use Rattle.script_run.specs.Logs.{HasCoreEffect, Keeps};
-ghost use Rattle.crash_recover.specs.Drives.{drive_step};
-ghost use Rattle.script_run.specs.CoreDrives.{actor_end_events, crash_events, drive_effect, drive_steps, driven_events, rest_event, step_events};
+ghost use Rattle.rp_base.specs.declared.limits.TheConstants.{STEPS_MOST};
+ghost use Rattle.crash_recover.specs.Drives.{drive_step, driven_of, is_idle};
+ghost use Rattle.remote_code.specs.Faults.{fault_number};
+ghost use Rattle.rp_base.specs.declared.kinds.CrashKind.TheVariants as kind;
+ghost use Rattle.script_run.specs.CoreLives.{core_stops};
+ghost use Rattle.script_run.specs.CoreDrives.{actor_end_events, crash_events, drive_effect, drive_steps, driven_events, is_crashed, rest_event, rests_or, step_events};
 
 use crate::calls::end_event;
 use crate::cores::NamedCore;
 use crate::logs::RunLog;
 use crate::statuses::Stop;
-use crash_recover::Driven;
+use crash_recover::DriveProgress;
 use journal::Event;
 use lane_model::CallEnd;
+use remote_code::WorkerFault;
 use rp_base::{CallerNo, CrashKind, LifeState, NoMemory, STEPS_MOST};
 
 impl NamedCore {
@@ -34,6 +39,7 @@ impl NamedCore {
     }
 
     /// The same of a core that runs.
+    #[inline(never)]
     fn drive_running(
         &mut self,
         count: u64,
@@ -43,19 +49,43 @@ impl NamedCore {
         ensures name { self.new.name ≡ self.old.name }
         ensures effect { IfOk result (λ ending. HasCoreEffect (drive_steps count self.old.name is_quiet self.old.core log.old.steps) self.new.core log.old log.new ending) }
     {
+        let mut end = CallEnd::Gave(0);
+        let mut steps = log.steps();
         for _ in 0..count {
-            if let Some(event) = self.rest_event() {
-                return self.tell(&event, log);
+            if self.is_over(steps) {
+                log.set_steps(steps);
+                return self.end_drive(log);
             }
-            let steps = log.steps();
-            if steps == STEPS_MOST {
-                return Ok(Some(Stop::StepLimit));
+            if !self.drive_on(is_quiet, &mut end, log)? {
+                log.set_steps(steps);
+                return self.end_drive(log);
             }
-            log.set_steps(steps + 1);
-            self.drive_step(is_quiet, log)?;
+            steps += 1;
         }
+        log.set_steps(steps);
         let event = self.last_event();
         self.tell(&event, log)
+    }
+
+    /// Whether a drive ends here whatever the actors have to do: the core crashed, or the run has no
+    /// step left.
+    #[inline(always)]
+    fn is_over(&self, steps: u64) -> bool
+        ensures { result ≡ (is_crashed self.now.core.life.state || steps == STEPS_MOST) }
+    {
+        self.core.life().state() == LifeState::Crashed || steps == STEPS_MOST
+    }
+
+    /// The end of a drive of a core that crashed, whose actors have nothing to do, or whose run has no
+    /// step left.
+    fn end_drive(&mut self, log: &mut RunLog) -> Result<Option<Stop>, NoMemory>
+        ensures same { self.new ≡ self.old }
+        ensures effect { IfOk result (λ ending. HasCoreEffect (rests_or self.old.core log.old.steps (rest_event self.old.name self.old.core) (core_stops self.old.core log.old.steps)) self.new.core log.old log.new ending) }
+    {
+        match self.rest_event() {
+            Some(event) => self.tell(&event, log),
+            None => Ok(Some(Stop::StepLimit)),
+        }
     }
 
     /// Why a drive ends whose steps are done.
@@ -82,35 +112,56 @@ impl NamedCore {
         }
     }
 
-    /// One step of the actors: tells what it was.
-    fn drive_step(&mut self, is_quiet: bool, log: &mut RunLog) -> Result<(), NoMemory>
+    /// One step of the actors: tells what it was, and answers whether they had something to do. Where
+    /// it ends a call, `end` says how.
+    #[inline(always)]
+    fn drive_on(
+        &mut self,
+        is_quiet: bool,
+        end: &mut CallEnd,
+        log: &mut RunLog,
+    ) -> Result<bool, NoMemory>
         ensures name { self.new.name ≡ self.old.name }
+        ensures steps { IfOk result (λ stepped. stepped ≡ not (is_idle self.old.core)) }
         ensures core { IfOk result (λ _. self.new.core ≡ (drive_step self.old.core).core) }
         ensures told { IfOk result (λ _. Keeps log.old log.new (step_events self.old.name is_quiet (drive_step self.old.core))) }
     {
-        match self.core.drive_step(log.alloc()) {
-            Ok(driven) => self.tell_driven(&driven, is_quiet, log),
-            Err(NoMemory) => Err(NoMemory),
+        let progress = self.core.drive_on(log.alloc(), end)?;
+        self.tell_progress(progress, end, is_quiet, log)?;
+        Ok(!progress.is_rest())
+    }
+
+    /// Tells what a step of the actors was, of which `end` is the end of its call.
+    #[inline(always)]
+    fn tell_progress(
+        &self,
+        progress: DriveProgress,
+        end: &CallEnd,
+        is_quiet: bool,
+        log: &mut RunLog,
+    ) -> Result<(), NoMemory>
+        ensures { IfOk result (λ _. Keeps log.old log.new (driven_events self.now.name is_quiet self.now.core.bench (driven_of progress end.now))) }
+    {
+        match progress {
+            DriveProgress::Rest | DriveProgress::Nothing | DriveProgress::Stepped => Ok(()),
+            DriveProgress::Ended(_) if is_quiet => Ok(()),
+            DriveProgress::Ended(caller) => self.tell_end(caller, end, log),
+            DriveProgress::Worker(fault) => self.tell_fault(fault, log),
+            DriveProgress::Crashed(kind) => self.tell_crash(kind, log),
         }
     }
 
-    /// Tells what a step of the actors was.
-    fn tell_driven(&self, driven: &Driven, is_quiet: bool, log: &mut RunLog) -> Result<(), NoMemory>
-        ensures { IfOk result (λ _. Keeps log.old log.new (driven_events self.now.name is_quiet self.now.core.bench driven.now)) }
+    /// Tells a record that can't run, which crashed the core.
+    #[inline(never)]
+    fn tell_fault(&self, fault: WorkerFault, log: &mut RunLog) -> Result<(), NoMemory>
+        ensures { IfOk result (λ _. Keeps log.old log.new (event.WorkerFault self.now.name (fault_number fault) ∷ crash_events self.now.name kind.Fatal self.now.core.bench)) }
     {
-        match driven {
-            Driven::Idle | Driven::Stepped => Ok(()),
-            Driven::Ended(_, _) if is_quiet => Ok(()),
-            Driven::Ended(caller, end) => self.tell_end(*caller, end, log),
-            Driven::Worker(fault) => {
-                log.tell(&Event::WorkerFault(self.name, u64::from(fault.number())))?;
-                self.tell_crash(CrashKind::Fatal, log)
-            }
-            Driven::Crashed(kind) => self.tell_crash(*kind, log),
-        }
+        log.tell(&Event::WorkerFault(self.name, u64::from(fault.number())))?;
+        self.tell_crash(CrashKind::Fatal, log)
     }
 
     /// Tells the end of a call of an actor.
+    #[inline(never)]
     pub(crate) fn tell_end(
         &self,
         caller: CallerNo,
@@ -126,6 +177,7 @@ impl NamedCore {
     }
 
     /// Tells a crash of the core, whose link was closed by it.
+    #[inline(never)]
     fn tell_crash(&self, kind: CrashKind, log: &mut RunLog) -> Result<(), NoMemory>
         ensures { IfOk result (λ _. Keeps log.old log.new (crash_events self.now.name kind self.now.core.bench)) }
     {

@@ -8,8 +8,8 @@ ghost use Rattle.script_run.specs.CoreViews.{mem_effect, table_effect, table_eve
 use crate::cores::NamedCore;
 use crate::logs::RunLog;
 use crate::statuses::Stop;
-use crate::table_rows::table_rows;
 use crash_recover::Core;
+use image_report::table_rows;
 use journal::{Event, TableLine};
 use rp_base::{Da, Data, Name, NoMemory};
 

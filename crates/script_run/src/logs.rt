@@ -86,6 +86,13 @@ impl RunLog {
         push_notice(self.alloc, notice, &mut self.kept)
     }
 
+    /// Forgets the lines that are kept.
+    pub(crate) fn clear(&mut self)
+        ensures { self.new ≡ record self.old { lines = [] } }
+    {
+        self.kept.clear();
+    }
+
     /// Hands on what is kept, once it is a whole piece.
     pub(crate) fn hand_on<K: Sink>(&mut self, out: &mut K) -> Result<(), Failed>
         ensures handed { OnOk result (Hands (K.written out.old) self.old.lines (K.written out.new) self.new.lines []) }

@@ -101,7 +101,7 @@ impl Objects {
     }
 
     /// The core of this name, which no link has.
-    fn core_named(&self, name: &[u8]) -> Option<&NamedCore>
+    pub(crate) fn core_named(&self, name: &[u8]) -> Option<&NamedCore>
         ensures { option_copied result ≡ core_named self.now name.now }
     {
         match place_of(self.links.as_slice(), name) {

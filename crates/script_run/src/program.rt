@@ -10,6 +10,7 @@ ghost use Rattle.script_run.specs.Outputs.{run as run_form};
 ghost use Rattle.script_run.specs.Statuses.{status_of};
 ghost use Rattle.script_run.specs.Endings.{AnswersAs, AnswersWell, Devices, Ends, IsRunAnswer, IsRunEnd, NeedsNoStore, RunAnswersAs, RunEnds, SourceAsksNone, TextAsksNone};
 
+use crate::demos::demo;
 use crate::endings::{end_with, end_with_line};
 use crate::objects::Objects;
 use crate::reports::check;
@@ -24,8 +25,9 @@ use std::alloc::Global;
 
 /// The program: it does what the words behind the program's name ask for, and answers the number with
 /// which the process ends. With the word `run` it reads a script from the source, runs it and writes
-/// the transcript; with `check NAME` it writes whether the image of that name loads; all other words
-/// are answered by the usage line.
+/// the transcript; with `check NAME` it writes whether the image of that name loads; with `demo N` it
+/// runs the script of a demo over an empty store and writes how many messages its links accepted; all
+/// other words are answered by the usage line.
 pub fn run_program<S: Source, F: FirmwareStore, K: Sink>(
     alloc: Global,
     words: &[&str],
@@ -107,6 +109,7 @@ fn answer<S: Source, F: FirmwareStore, K: Sink>(
     match asked {
         Asked::Run => run_text(alloc, script, store, out),
         Asked::Check(word, name) => check(alloc, word, name, store, out),
+        Asked::Demo(sessions) => demo(alloc, sessions, out),
         Asked::Other => end_with(alloc, &[Notice::Usage], Status::Usage, out),
     }
 }

@@ -1,12 +1,13 @@
-ghost use Rattle.std.specs.Prelude.{◌≡◌, map, IfOk, IfErr, false, ◌∷◌};
+ghost use Rattle.std.specs.Prelude.{◌≡◌, map, IfOk, IfErr, Some, None, false, ◌∷◌, if◌then◌else◌};
 ghost use Rattle.std.specs.List.{list_any};
 ghost use Rattle.clap.specs.Words.{kind_of};
-ghost use Rattle.script_run.specs.Outputs.{form_of, named_form};
-ghost use Rattle.word_kinds.specs.Spellings.{name_of};
-ghost use Rattle.script_run.specs.Asked.{AreMatched, IsNamed, asked_form, begins_with_dash};
+ghost use Rattle.script_run.specs.Outputs.{argument_of, demo_form, form_of, named_form};
+ghost use Rattle.word_kinds.specs.Spellings.{hex_value, is_digit_to, name_of};
+ghost use Rattle.script_run.specs.Asked.{AreMatched, IsInForm, asked_form, begins_with_dash};
 
 use clap::error::ErrorKind;
 use clap::{Arg, ArgMatches, Command};
+use image_maker::SESSIONS_MOST;
 use rp_base::{Name, NoMemory};
 use std::alloc::Global;
 
@@ -19,13 +20,15 @@ pub enum Asked<'a> {
     Run,
     /// `check NAME`: to report whether the image of this name loads.
     Check(&'a str, Name),
+    /// `demo N`: to run the script of a demo of so many sessions, 1 to 500.
+    Demo(u32),
 }
 
 /// What these words, those behind the name of the program, ask for. A word that begins with `-` asks
 /// for nothing that the program does.
 pub(crate) fn read_words<'a>(alloc: Global, words: &'a [&'a str]) -> Result<Asked<'a>, NoMemory>
     ensures form { IfOk result (λ asked. asked_form asked ≡ form_of (map (λ word. word.now) words.now)) }
-    ensures named { IfOk result IsNamed }
+    ensures in_form { IfOk result IsInForm }
 {
     if has_dashed_word(words) {
         return Ok(Asked::Other);
@@ -72,21 +75,59 @@ fn matches_of<'a>(alloc: Global, words: &'a [&'a str]) -> Result<ArgMatches<'a>,
 /// What this job with these arguments asks for.
 fn asked_by<'a>(job: &'a str, args: &[&'a str]) -> Asked<'a>
     ensures form { asked_form result ≡ form_of (job.now ∷ map (λ word. word.now) args.now) }
-    ensures named { IsNamed result }
+    ensures in_form { IsInForm result }
 {
     match args {
         [] if job == "run" => Asked::Run,
         [name] if job == "check" => name_in_word(name),
+        [number] if job == "demo" => sessions_in_word(number),
         _ => Asked::Other,
     }
 }
 
 fn name_in_word(word: &str) -> Asked<'_>
     ensures form { asked_form result ≡ named_form (name_of word.now) }
-    ensures named { IsNamed result }
+    ensures in_form { IsInForm result }
 {
     match script_lang::name(word.as_bytes()) {
         Some(name) => Asked::Check(word, name),
         None => Asked::Other,
+    }
+}
+
+fn sessions_in_word(word: &str) -> Asked<'_>
+    ensures form { asked_form result ≡ demo_form (argument_of word.now) }
+    ensures in_form { IsInForm result }
+{
+    match number(word.as_bytes()) {
+        Some(sessions) if sessions >= 1 && sessions <= SESSIONS_MOST => Asked::Demo(sessions),
+        _ => Asked::Other,
+    }
+}
+
+/// The number of one to ten decimal digits; none above 2^32 - 1.
+fn number(word: &[u8]) -> Option<u32>
+    ensures { result ≡ argument_of word.now }
+{
+    if word.is_empty() || word.len() > 10 {
+        return None;
+    }
+    let mut value = 0u64;
+    for byte in word {
+        value = 10 * value + u64::from(digit(*byte)?);
+        if value > u64::from(u32::MAX) {
+            return None;
+        }
+    }
+    Some(value as u32)
+}
+
+/// The value of a decimal digit.
+fn digit(byte: u8) -> Option<u8>
+    ensures { result ≡ (if is_digit_to 10 byte then Some (hex_value byte) else None) }
+{
+    match byte {
+        b'0'..=b'9' => Some(byte - b'0'),
+        _ => None,
     }
 }

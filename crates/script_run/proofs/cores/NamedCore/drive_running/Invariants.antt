@@ -1,8 +1,12 @@
-use Rattle.std.proofs.Common.{◌≡◌, ◌-◌}
+use Rattle.std.proofs.Common.{◌≡◌, ◌-◌, ◌≤◌}
+use Rattle.rp_base.specs.declared.limits.TheConstants.{STEPS_MOST}
 use Rattle.script_run.proofs.Driving.{DrivesOn}
 use Rattle.script_run.proofs.cores.NamedCore.drive_running.Given as goal
 
--- what is left of the drive does the rest
+-- what is left of the drive does the rest, from the steps that are counted here
 abbrev pub invariant-loop : goal.invariant-loop
-invariant-loop l =
-    (l.self.name ≡ l.fn.self.name) × DrivesOn l.fn.self.name l.fn.is_quiet l.fn.count l.fn.self.core l.fn.log (l.fn.count - l.counter) l.self.core l.log
+invariant-loop l = record {
+  name : l.self.name ≡ l.fn.self.name;
+  on : DrivesOn l.fn.self.name l.fn.is_quiet l.fn.count l.fn.self.core l.fn.log (l.fn.count - l.counter) l.self.core (record l.log { steps = l.steps });
+  within : l.steps ≤ STEPS_MOST;
+}

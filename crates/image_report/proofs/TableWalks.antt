@@ -5,7 +5,7 @@ use Rattle.std.proofs.Math.ListN.{drop_of_length-le}
 use Rattle.resource_table.specs.declared.entries.Entry.{Entry}
 use Rattle.fw_load.specs.declared.traces.TraceAt.{TraceAt}
 use Rattle.journal.specs.declared.tables.TableLine.{TableLine}
-use Rattle.script_run.specs.TableRows.{entry_rows, is_available, rows_from, traces_behind}
+use Rattle.image_report.specs.TableRows.{entry_rows, is_available, rows_from, traces_behind}
 
 some_same : {A : Type 0} {x y : A} → Some x ≡ Some y → x ≡ y
 some_same {A} {x} is = ap (λ o. content o) is

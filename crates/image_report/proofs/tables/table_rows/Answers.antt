@@ -1,9 +1,9 @@
 use Rattle.std.proofs.Common.{ℕ, ◌≤◌, Bool, List, ◌++◌, length, Option, sym, ap, ◌∙◌, subst}
 use Rattle.resource_table.specs.declared.faults.TableFault.{TableFault}
 use Rattle.resource_table.specs.Entries.{entries_of}
-use Rattle.script_run.specs.TableRows.{entry_rows, rows_of, rows_from}
-use Rattle.script_run.proofs.TableWalks.{rows_end, rows_more}
-use Rattle.script_run.proofs.table_rows.table_rows.Goals as goal
+use Rattle.image_report.specs.TableRows.{entry_rows, rows_of, rows_from}
+use Rattle.image_report.proofs.TableWalks.{rows_end, rows_more}
+use Rattle.image_report.proofs.tables.table_rows.Goals as goal
 
 pub loop-index-preserved : goal.loop-index-preserved
 loop-index-preserved c =

@@ -11,8 +11,8 @@ use Rattle.fw_load.specs.Loading.{IsLoaded, Loads}
 use Rattle.fw_load.specs.Memory.{memory_at}
 use Rattle.fw_load.specs.Rings.{traces_of}
 use Rattle.fw_load.specs.Tables.{table_of, entries_in, patched_in}
-use Rattle.script_run.specs.TableRows.{table_rows}
-use Rattle.script_run.specs.Reports.{blocks_in, image_report, loaded_report, loads_report, rows_of_image}
+use Rattle.image_report.specs.TableRows.{table_rows}
+use Rattle.image_report.specs.Reports.{blocks_in, image_report, loaded_report, loads_report, rows_of_image}
 
 -- the lines of the table are those of what was loaded
 rows_same : (image : List ℕ) (loaded : Loaded) → IsLoaded image standard_regions loaded → table_rows loaded.table.items loaded.traces.items ≡ rows_of_image image

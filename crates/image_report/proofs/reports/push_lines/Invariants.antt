@@ -1,7 +1,7 @@
 use Rattle.std.proofs.Common.{◌≡◌, ◌++◌, map, take}
 use Rattle.journal.specs.declared.notices.Notice.TheVariants as notice
-use Rattle.script_run.specs.Reports.{segment_notice}
-use Rattle.script_run.proofs.reports.push_lines.Given as goal
+use Rattle.image_report.specs.Reports.{segment_notice}
+use Rattle.image_report.proofs.reports.push_lines.Given as goal
 
 -- the lines so far and those of the segments that are left
 abbrev pub invariant-loop-segment : goal.invariant-loop-segment

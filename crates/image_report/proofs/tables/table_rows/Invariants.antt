@@ -1,7 +1,7 @@
 use Rattle.std.proofs.Common.{◌≡◌, ◌++◌, drop}
 use Rattle.resource_table.specs.Entries.{entries_of}
-use Rattle.script_run.specs.TableRows.{rows_from}
-use Rattle.script_run.proofs.table_rows.table_rows.Given as goal
+use Rattle.image_report.specs.TableRows.{rows_from}
+use Rattle.image_report.proofs.tables.table_rows.Given as goal
 
 -- the lines so far and those of the entries that are left
 abbrev pub invariant-loop-index : goal.invariant-loop-index

@@ -1,11 +1,11 @@
 use Rattle.std.proofs.Common.{ℕ, List, IfOk, ap, ◌∙◌, subst}
 use Rattle.elf_image.specs.Images.{entry_of}
 use Rattle.elf_image.specs.Segments.{segments_of}
-use Rattle.script_run.specs.TableRows.{table_rows}
-use Rattle.script_run.specs.Reports.{Report, loads_report}
-use Rattle.script_run.specs.ImageReports.{IsImageReport}
-use Rattle.script_run.proofs.LoadReports.{loaded_same}
-use Rattle.script_run.proofs.reports.report_image.Goals as goal
+use Rattle.image_report.specs.TableRows.{table_rows}
+use Rattle.image_report.specs.Reports.{Report, loads_report}
+use Rattle.image_report.specs.Reports.{IsImageReport}
+use Rattle.image_report.proofs.LoadReports.{loaded_same}
+use Rattle.image_report.proofs.reports.report_image.Goals as goal
 
 pub returns-in-Ok-load : goal.returns-in-Ok-load
 returns-in-Ok-load c =

@@ -1,5 +1,5 @@
 ghost use Rattle.std.specs.Prelude.{◌≡◌, ◌++◌, slice_get, IfOk, OnOk};
-ghost use Rattle.script_run.specs.TableRows.{device_rows, entry_rows, is_available, ring_row, table_rows, trace_row, traces_behind};
+ghost use Rattle.image_report.specs.TableRows.{device_rows, entry_rows, is_available, ring_row, table_rows, trace_row, traces_behind};
 
 use fw_load::TraceAt;
 use journal::TableLine;
@@ -9,7 +9,9 @@ use std::alloc::Global;
 
 /// The lines about a patched resource table, whose traces are these in order. There are none where
 /// there is no table.
-pub(crate) fn table_rows(
+///
+/// Errors: only for want of memory.
+pub fn table_rows(
     alloc: Global,
     table: &[u8],
     traces: &[TraceAt],

@@ -1,0 +1,2 @@
+mod TableWalks
+mod LoadReports

@@ -1,0 +1,143 @@
+ghost use Rattle.std.specs.Prelude.{◌≡◌, ◌≤◌};
+ghost use Rattle.script_lang.specs.Runnable.{AreRunnable};
+ghost use Rattle.script_run.specs.declared.demos.DemoFault.TheVariants as fault;
+ghost use Rattle.script_run.specs.Demos.{accepted_sum, demo_output, drive_accepted, link_accepted, none_accepted};
+ghost use Rattle.script_run.specs.DemoRuns.{IsCounted, IsDemoCount};
+ghost use Rattle.script_run.specs.Endings.{Writes};
+
+use crate::endings::end_with;
+use crate::fetches::Fetched;
+use crate::logs::RunLog;
+use crate::objects::Objects;
+use crate::statuses::{Status, Stop};
+use crash_recover::Core;
+use image_maker::{SESSIONS_MOST, demo_script};
+use journal::Notice;
+use rp_base::NoMemory;
+use rp_io::Sink;
+use script_lang::{Command, ParseFault, parse};
+use std::alloc::Global;
+
+/// How many messages links accepted to the host and to the remote.
+#[derive(Clone, Copy)]
+pub struct Accepted {
+    pub to_host: u64,
+    pub to_remote: u64,
+}
+
+impl Accepted {
+    /// No message.
+    fn none() -> Accepted
+        ensures { result ≡ none_accepted }
+    {
+        Accepted {
+            to_host: 0,
+            to_remote: 0,
+        }
+    }
+
+    /// These messages and more. Each sum stands still at 2^64 - 1.
+    fn and(self, more: Accepted) -> Accepted
+        ensures { result ≡ accepted_sum self more }
+    {
+        Accepted {
+            to_host: self.to_host.saturating_add(more.to_host),
+            to_remote: self.to_remote.saturating_add(more.to_remote),
+        }
+    }
+}
+
+/// Why the messages of a demo were not counted.
+#[derive(Clone, Copy)]
+pub enum DemoFault {
+    /// The run stopped in its midst.
+    Stopped(Stop),
+    /// Memory ran out.
+    NoMemory,
+}
+
+impl From<NoMemory> for DemoFault {
+    ghost from_gives = { λ _ e. e ≡ fault.NoMemory };
+
+    fn from(_error: NoMemory) -> DemoFault {
+        DemoFault::NoMemory
+    }
+}
+
+/// Runs the script of a demo over an empty store, and writes how many messages its links accepted.
+pub(crate) fn demo<K: Sink>(alloc: Global, sessions: u32, out: &mut K) -> Status
+    requires some { 1 ≤ sessions }
+    requires most { sessions ≤ SESSIONS_MOST }
+    ensures { Writes result (demo_output sessions) (K.written out.old) (K.written out.new) (K.faults out.old) (K.faults out.new) }
+{
+    match count_demo(alloc, sessions) {
+        Ok(accepted) => {
+            let counts = Notice::Demo(sessions, accepted.to_host, accepted.to_remote);
+            end_with(alloc, &[counts], Status::Done, out)
+        }
+        Err(DemoFault::Stopped(Stop::StepLimit)) => {
+            end_with(alloc, &[Notice::StepLimit], Status::StepLimit, out)
+        }
+        Err(DemoFault::NoMemory) => Status::NoMemory,
+    }
+}
+
+/// Runs the script of a demo over an empty store, and counts the messages that its links accepted.
+fn count_demo(alloc: Global, sessions: u32) -> Result<Accepted, DemoFault>
+    requires some { 1 ≤ sessions }
+    requires most { sessions ≤ SESSIONS_MOST }
+    ensures { IsDemoCount sessions result }
+{
+    let text = demo_script(alloc, sessions)?;
+    match parse(alloc, text.as_slice()) {
+        Ok(script) => count_accepted(alloc, script.commands.as_slice()),
+        Err(ParseFault::Refused(_, _)) => unreachable!(),
+        Err(ParseFault::NoMemory) => Err(DemoFault::NoMemory),
+    }
+}
+
+/// Runs commands in order from nothing over an empty store, and sums up the messages that the links
+/// of their cores accepted, each at the end of a drive.
+fn count_accepted(alloc: Global, commands: &[Command]) -> Result<Accepted, DemoFault>
+    requires { AreRunnable commands.now }
+    ensures { IsCounted commands.now result }
+{
+    let mut objects = Objects::new(alloc);
+    let mut log = RunLog::new(alloc);
+    let mut accepted = Accepted::none();
+    for command in commands {
+        let stop = objects.run(command, &Fetched::Missing, &mut log)?;
+        if let Some(stop) = stop {
+            return Err(DemoFault::Stopped(stop));
+        }
+        log.clear();
+        accepted = accepted.and(drive_accepted(&objects, command));
+    }
+    Ok(accepted)
+}
+
+/// How many messages the link of the core that a command drives accepted; none for another command.
+fn drive_accepted(objects: &Objects, command: &Command) -> Accepted
+    ensures { result ≡ drive_accepted objects.now command.now }
+{
+    let Command::Drive(name, _) = command else {
+        return Accepted::none();
+    };
+    match objects.core_named(name.bytes()) {
+        Some(named) => link_accepted(&named.core),
+        None => Accepted::none(),
+    }
+}
+
+/// How many messages the link of a core accepted.
+fn link_accepted(core: &Core) -> Accepted
+    ensures { result ≡ link_accepted core.now.bench }
+{
+    match core.link() {
+        Some(bench) => Accepted {
+            to_host: bench.counts(0).0,
+            to_remote: bench.counts(1).0,
+        },
+        None => Accepted::none(),
+    }
+}
