@@ -3,6 +3,8 @@
 
 #[cfg(test)]
 mod base;
+#[cfg(test)]
+mod demo;
 pub mod desks;
 #[cfg(test)]
 mod drivers;

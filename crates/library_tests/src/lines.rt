@@ -374,3 +374,28 @@ fn each_notice_is_one_line(rt: HostRuntime) -> Result<(), Fail> {
     }
     Ok(())
 }
+
+/// The transcript of two messages, each line with `;` for its line feed.
+const TWO_MESSAGES: &str = "L open 1;\n\
+    L caller 0 remote;\n\
+    L caller 1 host;\n\
+    L 0 sent 0;\n\
+    L 0 sent 1;\n\
+    L 1 took 0 from 1 dropped 1024 6869;\n\
+    L 1 took 1 from 1 dropped 1024 -;\n\
+    L 1 gave 0;";
+
+#[test]
+fn a_transcript_is_read_back_line_by_line(rt: HostRuntime) -> Result<(), Fail> {
+    let alloc = rt.alloc();
+    for text in TWO_MESSAGES.split('\n') {
+        let (written, _last) = unfolded(alloc, text)?;
+        let event = read_line(alloc, written.as_slice())
+            .ok()
+            .ok_or("a line is refused")?;
+        let mut again = Vec::new(alloc);
+        line(alloc, &event, &mut again)?;
+        assert_eq!(rt; again.as_slice(), written.as_slice(), "at {text:?}");
+    }
+    Ok(())
+}
