@@ -4,7 +4,7 @@ use std::alloc::Global;
 use std::marker::Model;
 
 /// The zeros that a new memory is made of, piece by piece.
-const ZEROS: [u8; 1024] = [0; 1024];
+const ZEROS: [u8; 2048] = [0; 2048];
 
 /// The memory of a core: the bytes of its regions, one after the other as they were declared.
 /// Contracts see the bytes.
