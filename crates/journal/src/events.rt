@@ -94,7 +94,7 @@ pub enum Event {
     /// The ring of a lane: the lane, and how many bytes the ring has.
     Ring(Name, u64, u64),
     /// Up to sixteen bytes of a ring that aren't all zero: where they begin, and the bytes.
-    Dump(Name, u32, Data),
+    Dump(Name, u64, Data),
     /// A turn of the link is out: its caller.
     StillTurn(Name, u64),
     /// The receiver of a pump is on the sender's end.
@@ -130,7 +130,7 @@ pub enum Event {
     Crashed(Name, CrashKind),
     /// The core had crashed before.
     AlreadyCrashed(Name),
-    /// Whether a core that crashes is recovered at once.
+    /// Whether a core that crashed may be recovered.
     Recovery(Name, Switch),
     /// The state of the core, its users and its incarnation.
     State(Name, LifeState, u64, u64),

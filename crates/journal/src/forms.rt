@@ -9,7 +9,7 @@ use rp_base::{CrashKind, Era};
 use std::alloc::{AllocError, Global};
 use word_kinds::{
     Slot, bytes_at, channel_at, decimal_at, dotted_at, driver_at, end_at, endpoint_at, fit, hex_at,
-    lane_at, name_at, open_at, row_at, service_at, state_at, switch_at, trace_at,
+    lane_at, name_at, offset_at, open_at, row_at, service_at, state_at, switch_at, trace_at,
 };
 
 /// The form of a line: its fixed words, and what stands in the other places.
@@ -531,7 +531,7 @@ pub(crate) fn event_in(alloc: Global, form: Form, words: &[&[u8]]) -> Result<Eve
         Form::Ring => Ok(Event::Ring(name_at(words, 0), lane_at(words, 2), decimal_at(words, 3))),
         Form::Dump => Ok(Event::Dump(
             name_at(words, 0),
-            hex_at(words, 2),
+            offset_at(words, 2),
             row_at(alloc, words, 3)?,
         )),
         Form::StillTurn => Ok(Event::StillTurn(name_at(words, 0), decimal_at(words, 2))),

@@ -127,7 +127,7 @@ pub(crate) fn ring_line(out: &mut Vec<u8>, name: &Name, lane: u64, len: u64) -> 
 pub(crate) fn ring_row<'w>(
     out: &mut Vec<u8>,
     name: &'w Name,
-    offset: u32,
+    offset: u64,
     bytes: &'w Data,
 ) -> Result<(), NoMemory>
     ensures whole { OnOk result (out.new.items ≡ out.old.items ++ line_of (Named name.now ∷ Fixed (codes "dump") ∷ Offset offset ∷ Row 16 bytes.now ∷ [])) }

@@ -23,7 +23,7 @@ pub enum Command {
     /// Makes a link: the entries of the ring to the host and of the ring to the remote, and how many
     /// messages each lane accepts.
     Link(Name, u64, u64, u64),
-    /// Makes a link whose ends have the name service, with the same numbers.
+    /// Makes a link whose host end has the name service, with the same numbers.
     NsLink(Name, u64, u64, u64),
     /// Makes a caller at an end.
     Caller(Name, End),
@@ -92,7 +92,7 @@ pub enum Command {
     Crash(Name, CrashKind),
     /// Recovers a crashed core.
     Recover(Name),
-    /// Whether a core is recovered by itself when it crashes.
+    /// Whether a core that crashed may be recovered.
     Recovery(Name, Switch),
     /// Takes so many steps of the actors of a core: steps.
     Drive(Name, u64),

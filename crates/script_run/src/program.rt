@@ -28,6 +28,12 @@ use std::alloc::Global;
 /// the transcript; with `check NAME` it writes whether the image of that name loads; with `demo N` it
 /// runs the script of a demo over an empty store and writes how many messages its links accepted; all
 /// other words are answered by the usage line.
+///
+/// The number is 0 where the whole output is written; 1 where `check` found no such image, one too
+/// large, or one that doesn't load; 2 for other words; 3 where the source failed; 4 where the sink
+/// failed; 5 where memory ran out; 6 where the text is no script; 7 where the run was to take one step
+/// more than it may; and 8 where the store failed. With `run` it is 0 or 3 to 8, with `check` 0, 1, 4,
+/// 5 or 8, with `demo` 0, 4, 5 or 7, and for other words 2, 4 or 5.
 pub fn run_program<S: Source, F: FirmwareStore, K: Sink>(
     alloc: Global,
     words: &[&str],
@@ -170,7 +176,8 @@ fn run_bytes<F: FirmwareStore, K: Sink>(
 }
 
 /// Runs a script from nothing, and writes its transcript. An image that the script didn't make is
-/// fetched from the store. It answers the number with which the process ends: 0, 4, 5, 7 or 8.
+/// fetched from the store. It answers the number with which the process ends: 0, 4, 5, 7 or 8, each
+/// where [`run_program`] answers it.
 pub fn run_script<F: FirmwareStore, K: Sink>(
     alloc: Global,
     script: &Script,

@@ -1,4 +1,4 @@
-ghost use Rattle.std.specs.Prelude.{◌≡◌, ◌++◌, ◌<◌, ◌≤◌, ◌^◌, ◌==◌, IfOk, OnOk, length};
+ghost use Rattle.std.specs.Prelude.{◌≡◌, ◌++◌, ◌≤◌, ◌==◌, IfOk, OnOk, length};
 ghost use Rattle.std.specs.List.{list_all};
 ghost use Rattle.journal.specs.Lines.{transcript};
 ghost use Rattle.script_run.specs.Logs.{HasEffect};
@@ -41,8 +41,7 @@ pub(crate) fn tell_bytes(
     bytes: &[u8],
     log: &mut RunLog,
 ) -> Result<(), NoMemory>
-    requires lane { lane ≤ 1 }
-    requires short { length bytes.now < 2 ^ 32 }
+    requires { lane ≤ 1 }
     ensures { OnOk result (log.new ≡ record log.old { lines = log.old.lines ++ transcript (ring_events name lane bytes.now) }) }
 {
     log.tell(&Event::Ring(name, lane, bytes.len() as u64))?;
@@ -51,19 +50,18 @@ pub(crate) fn tell_bytes(
 
 /// Tells bytes, sixteen a line, but no line of zeros.
 fn tell_rows(name: Name, bytes: &[u8], log: &mut RunLog) -> Result<(), NoMemory>
-    requires { length bytes.now < 2 ^ 32 }
     ensures { OnOk result (log.new ≡ record log.old { lines = log.old.lines ++ transcript (dump_rows (row_count bytes.now) name 0 bytes.now) }) }
 {
     for row in 0..(bytes.len() + 15) / ROW {
         let first = ROW * row;
         let past = bytes.len().min(first + ROW);
-        tell_row(name, first as u32, &bytes[first..past], log)?;
+        tell_row(name, first as u64, &bytes[first..past], log)?;
     }
     Ok(())
 }
 
 /// Tells up to sixteen bytes at an offset, unless all are zero.
-fn tell_row(name: Name, offset: u32, row: &[u8], log: &mut RunLog) -> Result<(), NoMemory>
+fn tell_row(name: Name, offset: u64, row: &[u8], log: &mut RunLog) -> Result<(), NoMemory>
     requires { length row.now ≤ 16 }
     ensures { OnOk result (log.new ≡ record log.old { lines = log.old.lines ++ transcript (row_events name offset row.now) }) }
 {

@@ -1,8 +1,8 @@
-ghost use Rattle.std.specs.Prelude.{◌≡◌, map, IfOk, IfErr, Some, None, false, ◌∷◌, if◌then◌else◌};
+ghost use Rattle.std.specs.Prelude.{◌≡◌, map, IfOk, IfErr, false, ◌∷◌};
 ghost use Rattle.std.specs.List.{list_any};
 ghost use Rattle.clap.specs.Words.{kind_of};
 ghost use Rattle.script_run.specs.Outputs.{argument_of, demo_form, form_of, named_form};
-ghost use Rattle.word_kinds.specs.Spellings.{hex_value, is_digit_to, name_of};
+ghost use Rattle.word_kinds.specs.Spellings.{name_of};
 ghost use Rattle.script_run.specs.Asked.{AreMatched, IsInForm, asked_form, begins_with_dash};
 
 use clap::error::ErrorKind;
@@ -10,6 +10,7 @@ use clap::{Arg, ArgMatches, Command};
 use image_maker::SESSIONS_MOST;
 use rp_base::{Name, NoMemory};
 use std::alloc::Global;
+use word_kinds::number_to_base;
 
 /// What the words of the command line ask for.
 #[derive(Clone, Copy)]
@@ -99,35 +100,20 @@ fn sessions_in_word(word: &str) -> Asked<'_>
     ensures form { asked_form result ≡ demo_form (argument_of word.now) }
     ensures in_form { IsInForm result }
 {
-    match number(word.as_bytes()) {
-        Some(sessions) if sessions >= 1 && sessions <= SESSIONS_MOST => Asked::Demo(sessions),
+    match argument(word.as_bytes()) {
+        Some(sessions) if sessions >= 1 && sessions <= u64::from(SESSIONS_MOST) => {
+            Asked::Demo(sessions as u32)
+        }
         _ => Asked::Other,
     }
 }
 
 /// The number of one to ten decimal digits; none above 2^32 - 1.
-fn number(word: &[u8]) -> Option<u32>
+fn argument(word: &[u8]) -> Option<u64>
     ensures { result ≡ argument_of word.now }
 {
-    if word.is_empty() || word.len() > 10 {
-        return None;
-    }
-    let mut value = 0u64;
-    for byte in word {
-        value = 10 * value + u64::from(digit(*byte)?);
-        if value > u64::from(u32::MAX) {
-            return None;
-        }
-    }
-    Some(value as u32)
-}
-
-/// The value of a decimal digit.
-fn digit(byte: u8) -> Option<u8>
-    ensures { result ≡ (if is_digit_to 10 byte then Some (hex_value byte) else None) }
-{
-    match byte {
-        b'0'..=b'9' => Some(byte - b'0'),
+    match word.len() {
+        1..=10 => number_to_base(10, word),
         _ => None,
     }
 }

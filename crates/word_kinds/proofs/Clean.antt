@@ -1,7 +1,7 @@
 -- The texts of good words have no space, and are not empty.
 use Rattle.std.proofs.Common.{◌≡◌, ℕ, ◌+◌, ◌/◌, ◌%◌, ◌^◌, ◌<◌, ◌==◌, ◌&&◌, ◌||◌, not, Bool, true, false, cond, List, [], ◌∷◌, ◌++◌, length, codes, refl, ◌∙◌, ap, arith, length-append}
 use Rattle.std.specs.Prelude.{All, nat_le, nat_lt}
-use Rattle.std.specs.Fmt.{decimal}
+use Rattle.std.specs.Fmt.{decimal, digits}
 use Rattle.std.specs.List.{flat_map, list_all}
 use Rattle.std.proofs.lemmas.Bool.{ne_eqb}
 use Rattle.std.proofs.lemmas.Bool.Decides.{nat_tests}
@@ -14,8 +14,9 @@ use Rattle.rp_base.specs.declared.kinds.LifeState.TheVariants as state
 use Rattle.rp_base.specs.declared.kinds.DriverKind.TheVariants as driver
 use Rattle.rp_base.specs.declared.kinds.Switch.TheVariants as switch
 use Rattle.word_kinds.specs.Spellings.{is_letter, is_digit, is_name_byte, is_name}
-use Rattle.word_kinds.specs.Texts.{Word, Fixed, Name, Number, Digits, Offset, Bytes, Row, Escaped, Trace, Lane, Bound, Dotted, Side, Open, Service, State, Driver, OnOff, text, hex_digit, hex_byte, hex_bytes, eight_digits, leading_digits, four_digits, is_plain, escaped_byte, with_escapes}
+use Rattle.word_kinds.specs.Texts.{Word, Fixed, Name, Number, Digits, Offset, Bytes, Row, Escaped, Trace, Lane, Bound, Dotted, Side, Open, Service, State, Driver, OnOff, text, hex_digit, hex_byte, hex_bytes, eight_digits, four_digits, is_plain, escaped_byte, with_escapes}
 use Rattle.word_kinds.specs.Readings.{is_clean, IsGood}
+use Rattle.word_kinds.proofs.Hexadecimals.{hexadecimal_by_steps}
 
 abbrev pub is_other : ℕ → Bool
 is_other byte = not (byte == 32)
@@ -81,29 +82,26 @@ clean_eight n =
     let second = hex_more (n / 65536 % 256) (hex_byte (n / 256 % 256) ++ hex_byte (n % 256)) third in
     clean_if (eight_digits n) (omega arith) (hex_more (n / 16777216) (hex_byte (n / 65536 % 256) ++ hex_byte (n / 256 % 256) ++ hex_byte (n % 256)) second)
 
-pick_other : (b : Bool) (xs ys : List ℕ) → list_all is_other xs ≡ true → list_all is_other ys ≡ true → list_all is_other (cond b xs ys) ≡ true
-pick_other true xs ys h g = h
-pick_other false xs ys h g = g
+one_other : (v : ℕ) → list_all is_other (hex_digit v ∷ []) ≡ true
+one_other v = both (is_other (hex_digit v)) true (hex_other v) refl
 
-one_other : (v : ℕ) (rest : List ℕ) → list_all is_other rest ≡ true → list_all is_other (hex_digit v ∷ rest) ≡ true
-one_other v rest e = both (is_other (hex_digit v)) (list_all is_other rest) (hex_other v) e
+clean_behind : (front : List ℕ) (byte : ℕ) → is_clean front ≡ true → list_all is_other (byte ∷ []) ≡ true → is_clean (front ++ byte ∷ []) ≡ true
+clean_behind front byte e h =
+    let g = parts (not (length front == 0)) (list_all is_other front) e in
+    clean_if (front ++ byte ∷ []) (omega (arith, length-append front (byte ∷ []))) (list_all-append is_other front (byte ∷ []) ∙ both (list_all is_other front) (list_all is_other (byte ∷ [])) g.1 h)
 
-leading_other : (n : ℕ) → list_all is_other (leading_digits n) ≡ true
-leading_other n =
-    pick_other (n == 0) [] _ refl
-    (pick_other (nat_lt n 16) (hex_digit n ∷ []) _ (one_other n [] refl)
-    (pick_other (nat_lt n 256) (hex_byte n) _ (hex_more n [] refl)
-    (pick_other (nat_lt n 4096) (hex_digit (n / 256) ∷ hex_byte (n % 256)) (hex_byte (n / 256) ++ hex_byte (n % 256)) (one_other (n / 256) (hex_byte (n % 256)) (hex_more (n % 256) [] refl))
-    (hex_more (n / 256) (hex_byte (n % 256)) (hex_more (n % 256) [] refl)))))
+clean_hexadecimal : (n : ℕ) → n < 2 ^ 64 → is_clean (digits 16 false n) ≡ true
+clean_hexadecimal n small = hexadecimal_by_steps (λ number text. is_clean text ≡ true) (λ number h. clean (hex_digit (number % 16)) [] (one_other (number % 16))) (λ number front h before. clean_behind front (hex_digit (number % 16)) before (one_other (number % 16))) n small
 
-clean_four : (n : ℕ) → is_clean (four_digits n) ≡ true
-clean_four n =
-    let leading = leading_digits (n / 65536) in
-    let high = hex_byte (n / 256 % 256) in
-    let low = hex_byte (n % 256) in
-    clean_if (four_digits n) (omega (arith, length-append (leading ++ high) low))
-    (list_all-append is_other (leading ++ high) low
-    ∙ both (list_all is_other (leading ++ high)) (list_all is_other low) (list_all-append is_other leading high ∙ both (list_all is_other leading) (list_all is_other high) (leading_other (n / 65536)) (hex_more (n / 256 % 256) [] refl)) (hex_more (n % 256) [] refl))
+picked_clean : (b : Bool) (xs ys : List ℕ) → is_clean xs ≡ true → is_clean ys ≡ true → is_clean (cond b xs ys) ≡ true
+picked_clean true xs ys h g = h
+picked_clean false xs ys h g = g
+
+clean_four : (n : ℕ) → n < 2 ^ 64 → is_clean (four_digits n) ≡ true
+clean_four n small =
+    picked_clean (nat_lt n 65536) (hex_byte (n / 256) ++ hex_byte (n % 256)) (digits 16 false n)
+    (clean_if (hex_byte (n / 256) ++ hex_byte (n % 256)) (omega arith) (hex_more (n / 256) (hex_byte (n % 256)) (hex_more (n % 256) [] refl)))
+    (clean_hexadecimal n small)
 
 clean_bytes : (bytes : List ℕ) → is_clean (hex_bytes bytes) ≡ true
 clean_bytes [] = refl
@@ -145,7 +143,7 @@ clean_text (Fixed bytes) good = good
 clean_text (Name name) good = clean_name name good
 clean_text (Number number) good = clean_if (decimal number) (decimal_nonempty number good) (digits_other number good)
 clean_text (Digits number) good = clean_eight number
-clean_text (Offset number) good = clean_four number
+clean_text (Offset number) good = clean_four number good
 clean_text (Bytes bytes) good = clean_bytes bytes
 clean_text (Row most bytes) good = clean_bytes bytes
 clean_text (Escaped bytes) good = clean_escaped bytes

@@ -30,7 +30,7 @@ number_good : (value : ℕ) (word : List ℕ) → value < 2 ^ 64 → fold digit_
 number_good value [] h = h
 number_good value (byte ∷ more) h = number_good (digit_more value byte) more (omega arith)
 
-hex_good : (value : ℕ) (word : List ℕ) → value < 2 ^ 32 → fold hex_more value word < 2 ^ 32
+hex_good : (value : ℕ) (word : List ℕ) → value < 2 ^ 64 → fold hex_more value word < 2 ^ 64
 hex_good value [] h = h
 hex_good value (byte ∷ more) h = hex_good (hex_more value byte) more (omega arith)
 
@@ -127,7 +127,7 @@ good_at : (kind : LineKind) (word : List ℕ) → is_fixed kind ≡ true → Sma
 good_at (OfText text) word fixed h e = fixed
 good_at OfName word fixed h e = name_good word e
 good_at OfNumber word fixed h e = number_good 0 word (omega arith)
-good_at OfDigits word fixed h e = hex_good 0 word (omega arith)
+good_at OfDigits word fixed h e = omega arith
 good_at OfOffset word fixed h e = hex_good 0 word (omega arith)
 good_at OfBytes word fixed h e =
     (bytes_short word (is_repeated word) refl (leb-true (length word) 1024 e), pick (is_repeated word) (repeated_bytes word) (bytes_of_pairs word) (repeated_small word) (pairs_small word))

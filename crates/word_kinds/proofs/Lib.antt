@@ -4,6 +4,7 @@ pub mod Splits
 pub mod Matches
 pub mod Joins
 pub mod Firsts
+pub mod Hexadecimals
 pub mod Numbers
 pub mod Clean
 pub mod Rows

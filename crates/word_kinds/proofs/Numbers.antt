@@ -1,7 +1,7 @@
 -- Numbers and bytes are read back from their texts.
 use Rattle.std.proofs.Common.{◌≡◌, ℕ, ◌+◌, ◌*◌, ◌/◌, ◌%◌, ◌^◌, ◌<◌, ◌≤◌, ◌==◌, ◌&&◌, not, Bool, true, false, cond, List, [], ◌∷◌, ◌++◌, length, codes, refl, ◌∙◌, ap, arith, append_assoc}
 use Rattle.std.specs.Prelude.{fold, All, nat_le, nat_lt}
-use Rattle.std.specs.Fmt.{decimal}
+use Rattle.std.specs.Fmt.{decimal, digits}
 use Rattle.std.specs.List.{flat_map, list_all, slice_split}
 use Rattle.std.proofs.lemmas.Bool.{ne_eqb, le-leb, ltb-true}
 use Rattle.std.proofs.lemmas.Bool.Decides.{nat_tests}
@@ -16,8 +16,9 @@ use Rattle.rp_base.specs.declared.kinds.DriverKind.TheVariants as driver
 use Rattle.rp_base.specs.declared.kinds.Switch.TheVariants as switch
 use Rattle.word_kinds.specs.Spellings.{hex_value, is_hex_digit}
 use Rattle.word_kinds.specs.Payloads.{byte_of, bytes_of_pairs, is_repeated, repeated_bytes, bytes_in}
-use Rattle.word_kinds.specs.Texts.{Word, Fixed, Name, Number, Digits, Offset, Bytes, Row, Escaped, Trace, Lane, Bound, Dotted, Side, Open, Service, State, Driver, OnOff, text, hex_digit, hex_byte, hex_bytes, eight_digits, leading_digits, four_digits, is_plain, escaped_byte, with_escapes, dotted_text}
+use Rattle.word_kinds.specs.Texts.{Word, Fixed, Name, Number, Digits, Offset, Bytes, Row, Escaped, Trace, Lane, Bound, Dotted, Side, Open, Service, State, Driver, OnOff, text, hex_digit, hex_byte, hex_bytes, eight_digits, four_digits, is_plain, escaped_byte, with_escapes, dotted_text}
 use Rattle.word_kinds.specs.Readings.{digit_more, number_read, hex_more, hex_read, dot_parts, first_part, other_parts, first_number, second_number, without_escapes, endpoint_read, kind_of, is_channel, IsGood, word_read}
+use Rattle.word_kinds.proofs.Hexadecimals.{hexadecimal_by_steps}
 
 fold_more : (value : ℕ) (digits : List ℕ) (digit : ℕ) → fold digit_more value (digits ++ digit ∷ []) ≡ digit_more (fold digit_more value digits) digit
 fold_more value [] digit = refl
@@ -47,7 +48,7 @@ byte_back byte small =
     omega (arith, high, low)
 
 -- hexadecimal digits
-two_digits : (value byte : ℕ) (rest : List ℕ) → byte < 256 → 256 * value + byte < 2 ^ 32 → fold hex_more value (hex_byte byte ++ rest) ≡ fold hex_more (256 * value + byte) rest
+two_digits : (value byte : ℕ) (rest : List ℕ) → byte < 256 → 256 * value + byte < 2 ^ 64 → fold hex_more value (hex_byte byte ++ rest) ≡ fold hex_more (256 * value + byte) rest
 two_digits value byte rest small h =
     let high = digit_back (byte / 16) (omega arith) in
     let low = digit_back (byte % 16) (omega arith) in
@@ -71,40 +72,31 @@ eight_back n small =
     ∙ ap (λ v. fold hex_more v (hex_byte (n % 256))) three
     ∙ two_digits (n / 256) (n % 256) [] (omega arith) (omega arith) ∙ omega arith
 
-fold_both : (value : ℕ) (front rest : List ℕ) → fold hex_more value (front ++ rest) ≡ fold hex_more (fold hex_more value front) rest
-fold_both value [] rest = refl
-fold_both value (first ∷ more) rest = fold_both (hex_more value first) more rest
+hex_fold : (value : ℕ) (front : List ℕ) (digit : ℕ) → fold hex_more value (front ++ digit ∷ []) ≡ hex_more (fold hex_more value front) digit
+hex_fold value [] digit = refl
+hex_fold value (first ∷ more) digit = hex_fold (hex_more value first) more digit
 
-picked : (n : ℕ) (b : Bool) (xs ys : List ℕ) → (b ≡ true → hex_read xs ≡ n) → (b ≡ false → hex_read ys ≡ n) → hex_read (cond b xs ys) ≡ n
+abbrev IsHexReadAs : ℕ → List ℕ → Type 0
+IsHexReadAs number digits = number < 2 ^ 64 → hex_read digits ≡ number
+
+one_hex : (n : ℕ) → n < 16 → IsHexReadAs n (hex_digit (n % 16) ∷ [])
+one_hex n h small = let back = digit_back (n % 16) (omega arith) in omega (arith, back)
+
+more_hex : (n : ℕ) (front : List ℕ) → 16 ≤ n → IsHexReadAs (n / 16) front → IsHexReadAs n (front ++ hex_digit (n % 16) ∷ [])
+more_hex n front large before small =
+    let back = digit_back (n % 16) (omega arith) in
+    hex_fold 0 front (hex_digit (n % 16)) ∙ ap (λ value. hex_more value (hex_digit (n % 16))) (before (omega arith)) ∙ omega (arith, back)
+
+picked : (n : ℕ) (b : Bool) (xs ys : List ℕ) → (b ≡ true → hex_read xs ≡ n) → hex_read ys ≡ n → hex_read (cond b xs ys) ≡ n
 picked n true xs ys h g = h refl
-picked n false xs ys h g = g refl
+picked n false xs ys h g = g
 
-is_zero : (n : ℕ) → (n == 0) ≡ true → 0 ≡ n
-is_zero n e = grind (arith, nat_tests)
+two_bytes : (n : ℕ) → n < 65536 → hex_read (hex_byte (n / 256) ++ hex_byte (n % 256)) ≡ n
+two_bytes n small = first_two (n / 256) (hex_byte (n % 256)) (omega arith) ∙ two_digits (n / 256) (n % 256) [] (omega arith) (omega arith) ∙ omega arith
 
-one_hex : (n : ℕ) → n < 16 → hex_more 0 (hex_digit n) ≡ n
-one_hex n h = let back = digit_back n h in omega (arith, back)
-
-leading_back : (n : ℕ) → n < 65536 → hex_read (leading_digits n) ≡ n
-leading_back n small =
-    let low : n % 256 < 256 = omega arith in
-    let whole : 256 * (n / 256) + n % 256 ≡ n = omega arith in
-    picked n (n == 0) [] _ (λ e. is_zero n e) (λ not_zero.
-    picked n (nat_lt n 16) (hex_digit n ∷ []) _ (λ e. one_hex n (ltb-true n 16 e)) (λ no_digit.
-    picked n (nat_lt n 256) (hex_byte n) _ (λ e. first_two n [] (ltb-true n 256 e)) (λ no_byte.
-    picked n (nat_lt n 4096) (hex_digit (n / 256) ∷ hex_byte (n % 256)) (hex_byte (n / 256) ++ hex_byte (n % 256))
-    (λ e. ap (λ v. fold hex_more v (hex_byte (n % 256))) (one_hex (n / 256) (omega (arith, ltb-true n 4096 e))) ∙ two_digits (n / 256) (n % 256) [] low (omega (arith, small)) ∙ whole)
-    (λ large. first_two (n / 256) (hex_byte (n % 256)) (omega (arith, small)) ∙ two_digits (n / 256) (n % 256) [] low (omega (arith, small)) ∙ whole))))
-
-pub four_back : (n : ℕ) → n < 2 ^ 32 → hex_read (four_digits n) ≡ n
+pub four_back : (n : ℕ) → n < 2 ^ 64 → hex_read (four_digits n) ≡ n
 four_back n small =
-    let leading = leading_digits (n / 65536) in
-    let high = n / 256 % 256 in
-    let low = n % 256 in
-    fold_both 0 (leading ++ hex_byte high) (hex_byte low) ∙ ap (λ v. fold hex_more v (hex_byte low)) (fold_both 0 leading (hex_byte high))
-    ∙ ap (λ v. fold hex_more (fold hex_more v (hex_byte high)) (hex_byte low)) (leading_back (n / 65536) (omega arith))
-    ∙ ap (λ v. fold hex_more v (hex_byte low)) (two_digits (n / 65536) high [] (omega arith) (omega arith) ∙ omega arith)
-    ∙ two_digits (n / 256) low [] (omega arith) (omega arith) ∙ omega arith
+    picked n (nat_lt n 65536) (hex_byte (n / 256) ++ hex_byte (n % 256)) (digits 16 false n) (λ e. two_bytes n (ltb-true n 65536 e)) (hexadecimal_by_steps IsHexReadAs one_hex more_hex n small small)
 
 pairs_back : (bytes : List ℕ) → All (λ byte. byte < 256) bytes → bytes_of_pairs (flat_map hex_byte bytes) ≡ bytes
 pairs_back [] small = refl
@@ -201,7 +193,7 @@ pub word_back : (word : Word) → IsGood word → word_read (kind_of word) (text
 word_back (Fixed bytes) good = refl
 word_back (Name name) good = ap (λ b. Name (cond b name [])) good
 word_back (Number number) good = ap Number (number_back number good)
-word_back (Digits number) good = ap Digits (eight_back number good)
+word_back (Digits number) good = ap Digits (ap (λ n. n % 2 ^ 32) (eight_back number good) ∙ omega (arith, good))
 word_back (Offset number) good = ap Offset (four_back number good)
 word_back (Bytes bytes) good = ap Bytes (bytes_back bytes good.1)
 word_back (Row most []) good = absurd (omega (arith, good.0))

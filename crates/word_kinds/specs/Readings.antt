@@ -62,14 +62,14 @@ kind_of (OnOff switch) = OfSwitch
 abbrev pub is_clean : List ℕ → Bool
 is_clean text = not (length text == 0) && list_all (λ byte. not (byte == 32)) text
 
--- a word that a line may have: numbers of 64 bits, addresses of 32, names as scripts spell them, payloads of at most 512 bytes, rows
+-- a word that a line may have: numbers and offsets of 64 bits, addresses of 32, names as scripts spell them, payloads of at most 512 bytes, rows
 -- of at least one byte, names of channels of at most 31 bytes without a zero, texts without a zero, and a lane that is 0 or 1
 abbrev pub IsGood : Word → Type 0
 IsGood (Fixed text) = is_clean text ≡ true
 IsGood (Name name) = is_name name ≡ true
 IsGood (Number number) = number < 2 ^ 64
 IsGood (Digits number) = number < 2 ^ 32
-IsGood (Offset number) = number < 2 ^ 32
+IsGood (Offset number) = number < 2 ^ 64
 IsGood (Bytes bytes) = (length bytes ≤ 512) × All (λ byte. byte < 256) bytes
 IsGood (Row most bytes) = (1 ≤ length bytes) × (length bytes ≤ most) × All (λ byte. byte < 256) bytes
 IsGood (Escaped text) = (length text ≤ 31) × All (λ byte. (0 < byte) × (byte < 256)) text
@@ -91,9 +91,9 @@ digit_more value byte = (10 * value % 2 ^ 64 + (byte + 208) % 256) % 2 ^ 64
 abbrev pub number_read : List ℕ → ℕ
 number_read word = fold digit_more 0 word
 
--- the value of hexadecimal digits, modulo 2^32
+-- the value of hexadecimal digits, modulo 2^64
 abbrev pub hex_more : ℕ → ℕ → ℕ
-hex_more value byte = (16 * value % 2 ^ 32 + hex_value byte) % 2 ^ 32
+hex_more value byte = (16 * value % 2 ^ 64 + hex_value byte) % 2 ^ 64
 
 abbrev pub hex_read : List ℕ → ℕ
 hex_read word = fold hex_more 0 word
@@ -172,7 +172,7 @@ abbrev pub word_read : LineKind → List ℕ → Word
 word_read (OfText text) word = Fixed text
 word_read OfName word = Name (if is_name word then word else [])
 word_read OfNumber word = Number (number_read word)
-word_read OfDigits word = Digits (hex_read word)
+word_read OfDigits word = Digits (hex_read word % 2 ^ 32)
 word_read OfOffset word = Offset (hex_read word)
 word_read OfBytes word = Bytes (bytes_in word)
 word_read (OfRow most) word = Row most (bytes_of_pairs word)

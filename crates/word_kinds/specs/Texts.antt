@@ -1,7 +1,7 @@
 -- The words of transcript lines, and the text of each (own).
-use Rattle.std.specs.Prelude.{ℕ, ◌+◌, ◌/◌, ◌%◌, Bool, ◌==◌, ◌&&◌, not, nat_le, nat_lt, if◌then◌else◌, List, [], ◌∷◌, ◌++◌, length, codes}
+use Rattle.std.specs.Prelude.{ℕ, ◌+◌, ◌/◌, ◌%◌, Bool, false, ◌==◌, ◌&&◌, not, nat_le, nat_lt, if◌then◌else◌, List, [], ◌∷◌, ◌++◌, length, codes}
 use Rattle.std.specs.List.{flat_map}
-use Rattle.std.specs.Fmt.{decimal}
+use Rattle.std.specs.Fmt.{decimal, digits}
 use Rattle.rp_base.specs.declared.kinds.End.{End}
 use Rattle.rp_base.specs.declared.kinds.End.TheVariants as side
 use Rattle.rp_base.specs.declared.kinds.Endpoint.{Endpoint}
@@ -27,15 +27,9 @@ abbrev pub eight_digits : ℕ → List ℕ
 eight_digits number =
     hex_byte (number / 16777216) ++ hex_byte (number / 65536 % 256) ++ hex_byte (number / 256 % 256) ++ hex_byte (number % 256)
 
--- a number below 65,536 as hexadecimal digits without leading zeros, or none for 0
-abbrev pub leading_digits : ℕ → List ℕ
-leading_digits number =
-    if number == 0 then [] else (if nat_lt number 16 then hex_digit number ∷ [] else (if nat_lt number 256 then hex_byte number
-    else (if nat_lt number 4096 then hex_digit (number / 256) ∷ hex_byte (number % 256) else hex_byte (number / 256) ++ hex_byte (number % 256))))
-
--- a number of 32 bits as at least four digits
+-- a number as four digits, or as more without a leading zero where it needs them
 abbrev pub four_digits : ℕ → List ℕ
-four_digits number = leading_digits (number / 65536) ++ hex_byte (number / 256 % 256) ++ hex_byte (number % 256)
+four_digits number = if nat_lt number 65536 then hex_byte (number / 256) ++ hex_byte (number % 256) else digits 16 false number
 
 -- bytes as pairs of digits, or `-` where there is none
 abbrev pub hex_bytes : List ℕ → List ℕ

@@ -82,8 +82,9 @@ fn is_digit_to(base: u8, byte: u8) -> bool
     is_hex_digit(byte) && hex_value(byte) < base
 }
 
-/// The number of these digits to a base; none above 2^32 - 1, or where a byte is no digit.
-fn digits(base: u8, word: &[u8]) -> Option<u64>
+/// The number of these digits to a base of at most 16, and 0 for none of them. There is none above
+/// 2^32 - 1, or where a byte is no digit.
+pub fn number_to_base(base: u8, word: &[u8]) -> Option<u64>
     requires { base ≤ 16 }
     ensures value { result ≡ digits_from base 0 word.now }
     ensures small { IfSome result (λ number. number ≤ 4294967295) }
@@ -109,7 +110,7 @@ pub(crate) fn decimal(word: &[u8]) -> Option<u64>
     match word {
         [] => None,
         [b'0', _, ..] => None,
-        _ => digits(10, word),
+        _ => number_to_base(10, word),
     }
 }
 
@@ -120,7 +121,7 @@ fn hexadecimal(word: &[u8]) -> Option<u64>
     if word.is_empty() {
         return None;
     }
-    digits(16, word)
+    number_to_base(16, word)
 }
 
 /// The number that a word is: decimal, or `0x` and hexadecimal digits, at most 2^32 - 1.

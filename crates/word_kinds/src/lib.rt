@@ -15,7 +15,7 @@ mod words;
 
 pub use causes::Cause;
 pub use cuts::cut_at;
-pub use digits::{is_name, name};
+pub use digits::{is_name, name, number_to_base};
 pub use kinds::{Kind, are_of};
 pub use pieces::{Piece, push_line, push_line_behind};
 pub use places::{
@@ -23,8 +23,8 @@ pub use places::{
     region_kind_at, word_at,
 };
 pub use readings::{
-    channel_at, decimal_at, dotted_at, driver_at, endpoint_at, hex_at, lane_at, open_at, row_at,
-    service_at, state_at, switch_at, trace_at,
+    channel_at, decimal_at, dotted_at, driver_at, endpoint_at, hex_at, lane_at, offset_at, open_at,
+    row_at, service_at, state_at, switch_at, trace_at,
 };
 pub use slots::{Slot, fit};
 pub use words::{WORDS_MOST, first_words};

@@ -1,7 +1,7 @@
-ghost use Rattle.std.specs.Prelude.{◌≡◌, ◌++◌, ◌∷◌, ◌<◌, [], OnOk, OnErr, map};
-ghost use Rattle.std.specs.Fmt.{decimal};
+ghost use Rattle.std.specs.Prelude.{◌≡◌, ◌++◌, ◌∷◌, ◌<◌, [], OnOk, OnErr, false, map};
+ghost use Rattle.std.specs.Fmt.{decimal, digits};
 ghost use Rattle.std.specs.List.{flat_map, join_with_byte};
-ghost use Rattle.word_kinds.specs.Texts.{hex_digit, hex_byte, eight_digits, four_digits, leading_digits, hex_bytes, with_escapes, is_plain, dotted_text, end_text, service_text, state_text, driver_text, switch_text, text};
+ghost use Rattle.word_kinds.specs.Texts.{hex_digit, hex_byte, eight_digits, four_digits, hex_bytes, with_escapes, is_plain, dotted_text, end_text, service_text, state_text, driver_text, switch_text, text};
 ghost use Rattle.word_kinds.specs.Lines.{line_of, word_of};
 ghost use Rattle.word_kinds.specs.Fronts.{IsFront};
 
@@ -19,8 +19,9 @@ pub enum Piece<'a> {
     Number(u64),
     /// A number as eight lower-case hexadecimal digits.
     Digits(u32),
-    /// A number as lower-case hexadecimal digits, at least four.
-    Offset(u32),
+    /// A number as four lower-case hexadecimal digits, and more without a leading zero where it
+    /// needs them.
+    Offset(u64),
     /// Bytes as pairs of lower-case hexadecimal digits, or `-` where there is none.
     Bytes(&'a [u8]),
     /// From one to so many bytes as pairs of lower-case hexadecimal digits.
@@ -250,34 +251,27 @@ fn push_digits(out: &mut Vec<u8>, number: u32) -> Result<(), AllocError>
     push_byte(out, (number % 256) as u8)
 }
 
-fn push_offset(out: &mut Vec<u8>, number: u32) -> Result<(), AllocError>
+fn push_offset(out: &mut Vec<u8>, number: u64) -> Result<(), AllocError>
     ensures whole { OnOk result (out.new.items ≡ out.old.items ++ four_digits number) }
     ensures front { IsFront out.old.items out.new.items }
 {
-    push_leading(out, (number / 65_536) as u16)?;
-    push_byte(out, (number / 256 % 256) as u8)?;
+    if number >= 65_536 {
+        return push_hexadecimal(out, number);
+    }
+    push_byte(out, (number / 256) as u8)?;
     push_byte(out, (number % 256) as u8)
 }
 
-/// Appends the digits of a number without leading zeros.
-fn push_leading(out: &mut Vec<u8>, number: u16) -> Result<(), AllocError>
-    ensures whole { OnOk result (out.new.items ≡ out.old.items ++ leading_digits number) }
+/// Appends the hexadecimal digits of a number without leading zeros.
+fn push_hexadecimal(out: &mut Vec<u8>, number: u64) -> Result<(), AllocError>
+    ensures whole { OnOk result (out.new.items ≡ out.old.items ++ digits 16 false number) }
     ensures front { IsFront out.old.items out.new.items }
 {
-    let (high, low) = ((number / 256) as u8, (number % 256) as u8);
-    match number {
-        0 => Ok(()),
-        1..=15 => out.extend_from_slice(&[hex_digit(low)]),
-        16..=255 => push_byte(out, low),
-        256..=4095 => {
-            out.extend_from_slice(&[hex_digit(high)])?;
-            push_byte(out, low)
-        }
-        _ => {
-            push_byte(out, high)?;
-            push_byte(out, low)
-        }
+    if number >= 16 {
+        push_hexadecimal(out, number / 16)?;
     }
+    out.push(hex_digit((number % 16) as u8))?;
+    Ok(())
 }
 
 fn push_hex(out: &mut Vec<u8>, bytes: &[u8]) -> Result<(), AllocError>

@@ -1,4 +1,4 @@
-ghost use Rattle.std.specs.Prelude.{◌≡◌, ◌∷◌, ◌<◌, [], length, map, IfSome, IfNone, IfOk, Some, None, if◌then◌else◌, bytes_eq, codes};
+ghost use Rattle.std.specs.Prelude.{◌≡◌, ◌∷◌, ◌<◌, ◌%◌, ◌^◌, [], length, map, IfSome, IfNone, IfOk, Some, None, if◌then◌else◌, bytes_eq, codes};
 ghost use Rattle.word_kinds.specs.Readings.{number_read, hex_read, first_part, other_parts, dot_parts, first_number, second_number, endpoint_read, without_escapes, is_zeroless, is_channel, channel_read, service_read, state_read, driver_read, switch_read, lane_read};
 ghost use Rattle.word_kinds.specs.Payloads.{bytes_of_pairs};
 ghost use Rattle.word_kinds.specs.Rows.{text_at};
@@ -28,15 +28,22 @@ pub fn decimal_at(words: &[&[u8]], place: usize) -> u64
     number_read(word_at(words, place))
 }
 
-/// The number of hexadecimal digits in a place, modulo 2^32; 0 where there is no word.
-pub fn hex_at(words: &[&[u8]], place: usize) -> u32
+/// The number of hexadecimal digits in a place, modulo 2^64; 0 where there is no word.
+pub fn offset_at(words: &[&[u8]], place: usize) -> u64
     ensures { result ≡ hex_read (text_at (map (λ word. word.now) words.now) place) }
 {
-    word_at(words, place).iter().fold(0u32, |value, byte| {
+    word_at(words, place).iter().fold(0u64, |value, byte| {
         value
             .wrapping_mul(16)
-            .wrapping_add(u32::from(hex_value(*byte)))
+            .wrapping_add(u64::from(hex_value(*byte)))
     })
+}
+
+/// The number of hexadecimal digits in a place, modulo 2^32; 0 where there is no word.
+pub fn hex_at(words: &[&[u8]], place: usize) -> u32
+    ensures { result ≡ hex_read (text_at (map (λ word. word.now) words.now) place) % 2 ^ 32 }
+{
+    (offset_at(words, place) % 4_294_967_296) as u32
 }
 
 /// The bytes of the pairs of hexadecimal digits in a place.

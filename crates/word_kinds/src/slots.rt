@@ -15,7 +15,8 @@ pub enum Slot<'a> {
     Number,
     /// A number as eight lower-case hexadecimal digits.
     Digits,
-    /// A number as lower-case hexadecimal digits, at least four.
+    /// A number as four lower-case hexadecimal digits, and more without a leading zero where it
+    /// needs them.
     Offset,
     /// Bytes as pairs of lower-case hexadecimal digits, or `-` for none.
     Bytes,

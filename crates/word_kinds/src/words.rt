@@ -3,7 +3,8 @@ ghost use Rattle.word_kinds.specs.Spellings.{words_of};
 
 use crate::cuts::cut_at;
 
-/// How many words of a line are looked at: one more than any form has.
+/// How many words of a line are looked at: as many as the longest form of transcript lines has. The
+/// forms of scripts have fewer.
 pub const WORDS_MOST: usize = 9;
 
 /// The first nine words of a line, or all where there are fewer, and how many these are.

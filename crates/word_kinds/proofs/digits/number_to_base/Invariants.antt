@@ -1,6 +1,6 @@
 use Rattle.std.proofs.Common.{◌≡◌, ◌≤◌, drop}
 use Rattle.word_kinds.specs.Spellings.{digits_from}
-use Rattle.word_kinds.proofs.digits.digits.Given as goal
+use Rattle.word_kinds.proofs.digits.number_to_base.Given as goal
 
 abbrev pub invariant-loop-byte : goal.invariant-loop-byte
 invariant-loop-byte l = record {
