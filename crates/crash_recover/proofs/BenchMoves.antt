@@ -59,7 +59,7 @@ begun_reached bench caller call reached ready sendable = record {
 }
 
 -- the call that is in a place
-begun_at : (place : Option (Option BegunCall)) (call : BegunCall) → option_and_then (λ found. found) place ≡ Some call → place ≡ Some (Some call)
+pub begun_at : (place : Option (Option BegunCall)) (call : BegunCall) → option_and_then (λ found. found) place ≡ Some call → place ≡ Some (Some call)
 begun_at None call is = absurd (true≢false (sym (ap is_some is)))
 begun_at (Some found) call is = ap Some is
 
@@ -73,7 +73,7 @@ calling_at : (link : LinkState EndState) (found : Option End) (caller : ℕ)
 calling_at link None caller is = absurd (true≢false (sym is))
 calling_at link (Some end) caller is = is
 
-calling_may : (link : LinkState EndState) (caller : ℕ) → is_calling link caller ≡ true → MayStep link caller None
+pub calling_may : (link : LinkState EndState) (caller : ℕ) → is_calling link caller ≡ true → MayStep link caller None
 calling_may link caller is = record { may = calling_at link (end_of link.callers caller) caller is }
 
 -- a link that steps of a caller left who has begun no call
@@ -84,7 +84,7 @@ left_reached bench after rings caller reached none leaves = record {
   fit = fit_after bench.begun caller bench.link after none reached.fit leaves.others;
 }
 
-begun_or : (found : Option BegunCall) (under_way : Bool) → found ≡ None → is_some found || under_way ≡ true → under_way ≡ true
+pub begun_or : (found : Option BegunCall) (under_way : Bool) → found ≡ None → is_some found || under_way ≡ true → under_way ≡ true
 begun_or None under_way none is = is
 begun_or (Some call) under_way none is = absurd (true≢false (ap is_some none))
 

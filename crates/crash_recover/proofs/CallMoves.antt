@@ -45,7 +45,7 @@ walk_leaves before state caller steps (outcome.At step) later first may rest = l
 walk_leaves before state caller steps (outcome.Ended ended) later first may rest = first
 
 -- a step that goes on may be followed by the next one
-next_may : (link : LinkState EndState) (caller follows : ℕ) (wished : Option Wish) → MayStep link caller wished
+pub next_may : (link : LinkState EndState) (caller follows : ℕ) (wished : Option Wish) → MayStep link caller wished
     → WhereOn (caller_step side_meaning link caller follows wished).outcome (MayStep (caller_step side_meaning link caller follows wished).state caller None)
 next_may link caller follows wished may =
     let after = (caller_step side_meaning link caller follows wished).state in

@@ -195,7 +195,7 @@ step_reached bench caller wanted reached sendable =
     (λ _. cond_both (is_some (begin_fault bench caller wanted)) none (start_walk bench 0 caller wanted) (λ (walk : BenchWalk). IsReachedBench walk.bench)
     (λ _. reached) (λ ready. started bench 0 caller wanted reached (no_fault (begin_fault bench caller wanted) ready) sendable))
 
-first_sendable : (calls : List Wish) → All IsSendable calls → IsSendable (first_or_take calls)
+pub first_sendable : (calls : List Wish) → All IsSendable calls → IsSendable (first_or_take calls)
 first_sendable [] are = tt
 first_sendable (first ∷ later) are = are 0 first (omega arith)
 

@@ -22,3 +22,14 @@ pub mod CoreTurnWalks
 pub mod DriveSteps
 pub mod CoreTurnMoves
 pub mod Recovered
+pub mod BenchSteps
+pub mod KeptLinks
+pub mod KeptCrashes
+pub mod KeptCallers
+pub mod KeptCores
+pub mod PendingLanes
+pub mod PendingSteps
+pub mod PendingCores
+pub mod PendingDrives
+pub mod PendingOthers
+pub mod PendingTurns

@@ -1,12 +1,15 @@
 -- What a bench shows of its rings (VIRTIO 1.2 section 2.7 for their bytes, else own).
-use Rattle.std.specs.Prelude.{ℕ, ◌+◌, ◌*◌, ◌==◌, List, Option, Some, None, if◌then◌else◌}
+use Rattle.std.specs.Prelude.{◌≡◌, ℕ, ◌+◌, ◌*◌, ◌==◌, List, Option, Some, None, if◌then◌else◌}
+use Rattle.vring_layout.specs.declared.snapshots.Snapshot.{Snapshot}
+use Rattle.vring_layout.specs.declared.snapshots.SnapshotFault.{SnapshotFault}
+use Rattle.vring_layout.specs.declared.snapshots.SnapshotFault.TheVariants as snapshot_fault
 use Rattle.vring_layout.specs.declared.words.RingWords.{RingWords}
 use Rattle.vring_layout.specs.Rings.{ring_layout}
 use Rattle.channel_bus.specs.Sides.{EndState}
 use Rattle.lane_model.specs.Lanes.{holder}
 use Rattle.lane_model.specs.Links.{LinkState}
 use Rattle.ring_core.specs.RingWords.{words_of}
-use Rattle.crash_recover.specs.Benches.{RingsState}
+use Rattle.crash_recover.specs.Benches.{BenchState, RingsState}
 
 -- where the buffers of a lane begin: those of lane 0, so many of 512 bytes, at the base, and those of lane 1 behind them
 abbrev pub lane_base : ℕ → ℕ → ℕ → ℕ
@@ -34,3 +37,20 @@ abbrev pub turn_holder : LinkState EndState → Option ℕ
 turn_holder link =
     first_holder (holder link.to_host.sender) (first_holder (holder link.to_host.receiver)
     (first_holder (holder link.to_remote.sender) (holder link.to_remote.receiver)))
+
+-- the life of a link and the words of both its lanes, over buffers that begin at an address, so many of them on lane 0
+abbrev pub snapshot_at : BenchState → ℕ → ℕ → Snapshot
+snapshot_at bench base capacity = record {
+  era = bench.link.era;
+  to_host = lane_words bench.rings 0 (lane_base base capacity 0);
+  to_remote = lane_words bench.rings 1 (lane_base base capacity 1);
+}
+
+-- the same of a link that no memory was given: its buffers from address 0 on
+abbrev pub bench_snapshot : BenchState → Snapshot
+bench_snapshot bench = snapshot_at bench 0 bench.rings.to_host.rings.sizes.capacity
+
+-- why a link shows nothing: this caller has a turn that is to be free, or else memory ran out
+abbrev pub IsSnapshotFault : Option ℕ → SnapshotFault → Type 0
+IsSnapshotFault (Some holder) why = why ≡ snapshot_fault.StillTurn holder
+IsSnapshotFault None why = why ≡ snapshot_fault.NoMemory

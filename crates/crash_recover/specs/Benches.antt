@@ -22,6 +22,8 @@ use Rattle.crash_recover.specs.declared.benches.Progress.{Progress}
 use Rattle.crash_recover.specs.declared.benches.Progress.TheVariants as progress
 use Rattle.crash_recover.specs.declared.benches.Reach.{Reach}
 use Rattle.crash_recover.specs.declared.benches.Reach.TheVariants as reach
+use Rattle.crash_recover.specs.declared.bench_steps.Done.{Done}
+use Rattle.crash_recover.specs.declared.bench_steps.Done.TheVariants as step_done
 use Rattle.crash_recover.specs.declared.benches.BenchFault.{BenchFault}
 use Rattle.crash_recover.specs.declared.benches.BenchFault.TheVariants as fault
 use Rattle.channel_bus.specs.Sides.{EndState}
@@ -32,6 +34,11 @@ abbrev pub reach_of : Progress → CallEnd → Reach
 reach_of (progress.At step) end = reach.At step
 reach_of progress.Ended end = reach.Ended end
 reach_of progress.Limit end = reach.Limit
+
+-- how far a call came by one step that was done
+abbrev pub reach_of_done : Done → Reach
+reach_of_done (step_done.At step) = reach.At step
+reach_of_done (step_done.Ended end) = reach.Ended end
 
 -- a link over rings, with all its words
 abbrev pub RingsState : Type 0
@@ -209,6 +216,10 @@ begin_fault bench caller wanted = first_fault (ready_fault bench caller) (wish_f
 abbrev pub advance_fault : Option End → Bool → Option BenchFault
 advance_fault None in_call = Some fault.NoCaller
 advance_fault (Some end) in_call = if in_call then None else Some fault.NoCall
+
+-- the same of a caller of a bench
+abbrev pub step_fault : BenchState → ℕ → Option BenchFault
+step_fault bench caller = advance_fault (end_of bench.link.callers caller) (is_in_call bench caller)
 
 -- the next step of every other caller may be done where it might before
 abbrev pub OthersMay : LinkState EndState → LinkState EndState → ℕ → Type 0

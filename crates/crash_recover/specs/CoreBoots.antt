@@ -1,5 +1,5 @@
 -- What a boot and a shutdown of a core answer and leave (`rproc_boot`, `rproc_shutdown` and `rproc_fw_boot` of Linux remoteproc_core.c; the faults and their order are own).
-use Rattle.std.specs.Prelude.{◌≡◌, ℕ, ◌+◌, ◌==◌, Bool, true, false, not, ◌&&◌, List, [], Option, Some, None, option_map, option_and_then, unwrap_or, Ok, Err, if◌then◌else◌}
+use Rattle.std.specs.Prelude.{◌≡◌, ◌≢◌, ℕ, ◌+◌, ◌==◌, Bool, true, false, not, ◌&&◌, List, [], Option, Some, None, option_map, option_and_then, unwrap_or, Ok, Err, if◌then◌else◌}
 use Rattle.std.specs.Option.{option_or}
 use Rattle.std.specs.Result.{result_err, result_ok}
 use Rattle.rp_base.specs.declared.kinds.End.TheVariants as side
@@ -117,7 +117,7 @@ pub record IsUnloadable (images : Option (List (List ℕ × List ℕ))) (core : 
 -- why a boot from a store of these images is refused: its life's fault comes before the store is asked
 abbrev pub IsBootFault : Option (List (List ℕ × List ℕ)) → CoreState → List ℕ → CoreFault → Type 0
 IsBootFault images core name (fault.Life why) = (needs_image core ≡ false) × (result_err (life_after_boot core.life).answer ≡ Some why)
-IsBootFault images core name (fault.Fetch why) = (needs_image core ≡ true) × IsFetched images name (Err why)
+IsBootFault images core name (fault.Fetch why) = (needs_image core ≡ true) × (why ≢ fetch.NoMemory) × IsFetched images name (Err why)
 IsBootFault images core name (fault.Load why) = (needs_image core ≡ true) × IsUnloadable images core name why
 IsBootFault images core name fault.NoMemory = needs_image core ≡ true
 IsBootFault images core name fault.RingsChanged = ⊥

@@ -11,5 +11,8 @@ pub mod CoreLinks
 pub mod CoreRings
 pub mod Actors
 pub mod Drives
+pub mod CoreCallers
 pub mod BenchMoves
 pub mod CoreTurns
+pub mod KeptCores
+pub mod PendingCalls

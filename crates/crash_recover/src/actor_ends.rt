@@ -84,6 +84,17 @@ impl Actors {
         }
     }
 
+    /// The same where there is room for what a driver may send.
+    pub(crate) fn see_call(&mut self, bench: &Bench, caller: CallerNo, end: &CallEnd)
+        requires { deque_len self.old.host_calls < deque_capacity self.old.host_calls }
+        ensures { actors_view self.new ≡ actors_after_end bench.now caller end.now (actors_view self.old) }
+    {
+        match bench.end_of(caller) {
+            Some(End::Host) => self.see_end(bench.message_of(caller, end), end),
+            Some(End::Remote) | None => {}
+        }
+    }
+
     /// Has the drivers see the end of a call of a host caller, which was handed this message. What a
     /// driver sends is the last of the host actor's calls.
     pub(crate) fn see_end(&mut self, message: &[u8], end: &CallEnd)

@@ -1,4 +1,4 @@
-ghost use Rattle.std.specs.Prelude.{◌≡◌, ◌⊎◌, ◌<◌, IfOk, IfErr, None, Some};
+ghost use Rattle.std.specs.Prelude.{◌≡◌, ◌⊎◌, ◌<◌, IfOk, IfErr, None, Some, length};
 ghost use Rattle.lane_model.specs.declared.recoveries.ReopenFault.TheVariants as reopen_fault;
 ghost use Rattle.lane_model.specs.Recoveries.{unclosed_by, unopened_by, unreclaimed_by};
 ghost use Rattle.lane_model.specs.Links.{end_of};
@@ -49,13 +49,12 @@ impl Bench {
     ///
     /// [`BenchFault::NoCaller`] exactly where the caller isn't in use.
     pub fn reclaim(&mut self, caller: CallerNo) -> Result<Reclaim, BenchFault>
-        requires { caller < 64 }
         ensures answer { result ≡ reclaim_answer (end_of self.old.link.callers caller) (unreclaimed_by self.old.link caller) }
         ensures left { self.new ≡ reclaim_leaves self.old caller (unreclaimed_by self.old.link caller) }
     {
-        if self.end_of(caller).is_none() {
+        let Some(_) = self.end_of(caller) else {
             return Err(BenchFault::NoCaller);
-        }
+        };
         match self.link.reclaim_refusal(caller) {
             Some(ReclaimRefusal::StillOpen(era)) => Ok(Reclaim::StillOpen(era)),
             Some(ReclaimRefusal::Busy(holder)) => Ok(Reclaim::Busy(holder)),
@@ -76,7 +75,8 @@ impl Bench {
     }
 
     /// Begins the next incarnation, with empty lanes and ends without endpoints and channels. A call that
-    /// was begun keeps the incarnation that it follows. Answers the books of the incarnation before.
+    /// was begun keeps the incarnation that it follows. Answers the books of the incarnation before: of
+    /// each lane the messages accepted, who took each that was handed over, and how many those are.
     ///
     /// # Errors
     ///
@@ -89,6 +89,12 @@ impl Bench {
         ensures open { IfOk result (λ _. unopened_by self.old.link ≡ None) }
         ensures left { IfOk result (λ _. self.new ≡ after_reopen self.old) }
         ensures inc { IfOk result (λ books. books.inc ≡ self.old.link.era.inc) }
+        ensures to_host { IfOk result (λ books. (books.to_host.entries ≡ self.old.link.to_host.lane.accepted)
+            × (books.to_host_takers.items ≡ self.old.link.to_host.lane.takers)
+            × (books.to_host_handed ≡ length self.old.link.to_host.lane.takers)) }
+        ensures to_remote { IfOk result (λ books. (books.to_remote.entries ≡ self.old.link.to_remote.lane.accepted)
+            × (books.to_remote_takers.items ≡ self.old.link.to_remote.lane.takers)
+            × (books.to_remote_handed ≡ length self.old.link.to_remote.lane.takers)) }
     {
         self.link.reopen(alloc)
     }

@@ -1,4 +1,4 @@
-ghost use Rattle.std.specs.Prelude.{◌≡◌, ◌<◌, IfSome};
+ghost use Rattle.std.specs.Prelude.{◌≡◌, IfSome};
 ghost use Rattle.crash_recover.specs.BenchHolds.{caller_out, holds, is_out};
 
 use crate::benches::Bench;
@@ -8,7 +8,6 @@ use rp_base::{CALLERS_MOST, CallerNo, End};
 impl Bench {
     /// Whether a caller is in use and in no call, and holds some buffer.
     pub fn holds(&self, caller: CallerNo) -> bool
-        requires { caller < 64 }
         ensures { result ≡ holds self.now caller }
     {
         self.end_of(caller).is_some()
@@ -18,7 +17,6 @@ impl Bench {
 
     /// Whether a caller of the host end is in a call or holds a buffer.
     fn is_out(&self, caller: CallerNo) -> bool
-        requires { caller < 64 }
         ensures { result ≡ is_out self.now caller }
     {
         matches!(self.end_of(caller), Some(End::Host))

@@ -1,16 +1,16 @@
-ghost use Rattle.std.specs.Prelude.{◌≡◌, ◌⊎◌, ◌+◌, ◌*◌, ◌<◌, ◌^◌, IfOk, IfErr, None, Some, length};
+ghost use Rattle.std.specs.Prelude.{◌≡◌, ◌⊎◌, ◌+◌, ◌*◌, ◌<◌, ◌^◌, IfOk, IfErr, OnOk, None, Some, length};
 ghost use Rattle.std.specs.Option.{option_map};
 ghost use Rattle.lane_model.specs.Lanes.{holder};
 ghost use Rattle.vring_layout.specs.declared.snapshots.SnapshotFault.TheVariants as snapshot_fault;
 ghost use Rattle.vring_layout.specs.Sizes.{IsRingAlign};
 ghost use Rattle.rp_base.specs.Limits.{IsRingSize, ring_capacity};
-ghost use Rattle.crash_recover.specs.BenchRings.{lane_base, lane_bytes, lane_words, placed_bytes, turn_holder};
+ghost use Rattle.crash_recover.specs.BenchRings.{IsSnapshotFault, bench_snapshot, lane_base, lane_bytes, lane_words, placed_bytes, snapshot_at, turn_holder};
 
 use crate::benches::Bench;
 use name_service::Channel;
 use rp_base::{CallerNo, Da, NoMemory};
 use std::alloc::Global;
-use vring_layout::{RingWords, SnapshotFault, ring_bytes, vring_size};
+use vring_layout::{RingWords, Snapshot, SnapshotFault, ring_bytes, vring_size};
 
 impl Bench {
     /// Who has the first turn of the link that is out: of lane 0's sender and receiver, then of lane
@@ -45,6 +45,43 @@ impl Bench {
         match self.link.to_host.receiver_holder() {
             Some(holder) => Err(SnapshotFault::StillTurn(holder)),
             None => Ok(self.link.to_host.desk().channels().to_vec(alloc)?),
+        }
+    }
+
+    /// The era of the link and the words of both its lanes as they stand. No memory was given to the
+    /// link, so its buffers stand from address 0 on.
+    ///
+    /// # Errors
+    ///
+    /// [`SnapshotFault::StillTurn`] exactly where a turn is out, with the holder of the first of lane
+    /// 0's sender and receiver, then lane 1's; else only want of memory.
+    pub fn snapshot(&self, alloc: Global) -> Result<Snapshot, SnapshotFault>
+        ensures free { OnOk result (turn_holder self.now.link ≡ None) }
+        ensures words { IfOk result (λ snapshot. snapshot ≡ bench_snapshot self.now) }
+        ensures refused { IfErr result (IsSnapshotFault (turn_holder self.now.link)) }
+    {
+        self.snapshot_at(alloc, 0, self.link.to_host.sizes().capacity)
+    }
+
+    /// The same over buffers that begin at a device address, so many of them on lane 0.
+    pub(crate) fn snapshot_at(
+        &self,
+        alloc: Global,
+        base: Da,
+        capacity: u16,
+    ) -> Result<Snapshot, SnapshotFault>
+        requires { base + 512 * capacity < 2 ^ 32 }
+        ensures free { OnOk result (turn_holder self.now.link ≡ None) }
+        ensures words { IfOk result (λ snapshot. snapshot ≡ snapshot_at self.now base capacity) }
+        ensures refused { IfErr result (IsSnapshotFault (turn_holder self.now.link)) }
+    {
+        match self.turn_holder() {
+            Some(holder) => Err(SnapshotFault::StillTurn(holder)),
+            None => Ok(Snapshot {
+                era: self.era(),
+                to_host: self.lane_words(alloc, 0, lane_base(base, capacity, 0))?,
+                to_remote: self.lane_words(alloc, 1, lane_base(base, capacity, 1))?,
+            }),
         }
     }
 

@@ -1,4 +1,4 @@
-ghost use Rattle.std.specs.Prelude.{◌≡◌, ◌<◌, ◌≤◌, ◌++◌, ◌+◌, ℕ, length, true, false, IfOk, IfErr, IfSome, Some, None};
+ghost use Rattle.std.specs.Prelude.{◌≡◌, ◌<◌, ◌≤◌, ◌++◌, ◌+◌, ℕ, length, true, false, IfOk, IfErr, IfNone, IfSome, Some, None};
 ghost use Rattle.rp_base.specs.declared.limits.TheConstants.{STEPS_MOST, MESSAGE_MOST};
 ghost use Rattle.lane_model.specs.declared.calls.Wish.TheVariants as wish;
 ghost use Rattle.lane_model.specs.Links.{end_of, free_number};
@@ -120,6 +120,14 @@ impl Bench {
     /// Whether a caller has begun a call that has not ended.
     #[inline(always)]
     pub fn is_in_call(&self, caller: CallerNo) -> bool
+        ensures { result ≡ is_in_call self.now caller }
+    {
+        matches!(self.begun.get(usize::from(caller)), Some(Some(_))) || self.link.is_calling(caller)
+    }
+
+    /// The same of a number that is known to be below 64.
+    #[inline(always)]
+    pub(crate) fn is_caller_busy(&self, caller: CallerNo) -> bool
         requires { caller < 64 }
         ensures { result ≡ is_in_call self.now caller }
     {
@@ -135,8 +143,8 @@ impl Bench {
 
     /// Why this caller can't begin a call, if it can't: it isn't in use, or it is in a call.
     pub fn ready_fault(&self, caller: CallerNo) -> Option<BenchFault>
-        requires { caller < 64 }
-        ensures { result ≡ ready_fault self.now caller }
+        ensures fault { result ≡ ready_fault self.now caller }
+        ensures within { IfNone result (caller < 64) }
     {
         match self.end_of(caller) {
             None => Some(BenchFault::NoCaller),
@@ -148,8 +156,8 @@ impl Bench {
     /// Why this caller can't begin this call, if it can't: it isn't in use, it is in a call, or it
     /// doesn't hold the buffer that it is to give back.
     pub fn begin_fault(&self, caller: CallerNo, wished: &Wish) -> Option<BenchFault>
-        requires { caller < 64 }
-        ensures { result ≡ begin_fault self.now caller wished.now }
+        ensures fault { result ≡ begin_fault self.now caller wished.now }
+        ensures within { IfNone result (caller < 64) }
     {
         if let Some(fault) = self.ready_fault(caller) {
             return Some(fault);
@@ -169,7 +177,6 @@ impl Bench {
     /// [`BenchFault::NoCaller`], then [`BenchFault::InCall`], then [`BenchFault::NotHeld`] of a give
     /// of what the caller doesn't hold. The bench is as it was then.
     pub fn begin(&mut self, caller: CallerNo, wished: Wish) -> Result<(), BenchFault>
-        requires { caller < 64 }
         ensures fault { IfErr result (λ why. begin_fault self.old caller wished ≡ Some why) }
         ensures refused { IfErr result (λ _. self.new ≡ self.old) }
         ensures none { IfOk result (λ _. begin_fault self.old caller wished ≡ None) }

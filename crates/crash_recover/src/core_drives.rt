@@ -148,7 +148,7 @@ impl Core {
         let Some(bench) = &mut self.bench else {
             return Ok(DriveProgress::Rest);
         };
-        let goes_on = bench.is_in_call(0);
+        let goes_on = bench.is_caller_busy(0);
         if !goes_on && self.actors.host_calls.is_empty() && is_drained(bench, 0) {
             return Ok(DriveProgress::Rest);
         }
@@ -171,7 +171,7 @@ impl Core {
             }
             return self.record_step();
         };
-        let goes_on = bench.is_in_call(1);
+        let goes_on = bench.is_caller_busy(1);
         if !goes_on {
             if waits(bench, &self.actors) {
                 return Ok(DriveProgress::Rest);
@@ -241,7 +241,7 @@ fn host_is_idle(bench: &Option<Bench>, actors: &Actors) -> bool
 {
     match bench {
         Some(bench) => {
-            !bench.is_in_call(0) && actors.host_calls.is_empty() && is_drained(bench, 0)
+            !bench.is_caller_busy(0) && actors.host_calls.is_empty() && is_drained(bench, 0)
         }
         None => true,
     }
@@ -252,7 +252,7 @@ fn worker_is_idle(bench: &Option<Bench>, actors: &Actors) -> bool
     ensures { result ≡ worker_is_idle bench.now (actors_view actors.now) }
 {
     match bench {
-        Some(bench) => !bench.is_in_call(1) && waits(bench, actors),
+        Some(bench) => !bench.is_caller_busy(1) && waits(bench, actors),
         None => actors.worker.is_halted(),
     }
 }

@@ -17,3 +17,4 @@ mod LinksReached
 mod CoresReached
 mod RunsReached
 mod DemoSums
+pub mod CoresKept

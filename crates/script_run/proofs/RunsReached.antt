@@ -100,7 +100,7 @@ module _ (run : RunState) (are : AreReached run.objects) where
 -- ---- commands on what there is
 
 -- an item at a place
-item_at : {X : Type 0} (P : X → Type 0) (items : List X) (place : ℕ) (item : X) → slice_get items place ≡ Some item → All P items → P item
+pub item_at : {X : Type 0} (P : X → Type 0) (items : List X) (place : ℕ) (item : X) → slice_get items place ≡ Some item → All P items → P item
 item_at P items place item found all = subst P (get_or_from_slice_get items place item item found) (all place item (slice_get_within items place item found))
 
 module _ (answer : Answer) (run : RunState) (wanted : Command) (runs : IsRunnable wanted) (are : AreReached run.objects) where

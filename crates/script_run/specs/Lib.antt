@@ -29,3 +29,4 @@ pub mod Logs
 pub mod Fetches
 pub mod Told
 pub mod Reached
+pub mod Kept

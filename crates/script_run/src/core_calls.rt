@@ -1,7 +1,6 @@
 ghost use Rattle.std.specs.Prelude.{◌≡◌, ◌<◌, ◌≤◌, ◌∷◌, [], IfOk, None};
 ghost use Rattle.rp_base.specs.declared.limits.TheConstants.{STEPS_MOST};
-ghost use Rattle.lane_model.specs.Links.{end_of};
-ghost use Rattle.crash_recover.specs.Benches.{advance_fault, is_in_call, reach_of};
+ghost use Rattle.crash_recover.specs.Benches.{reach_of};
 ghost use Rattle.crash_recover.specs.CoreTurns.{core_turns};
 ghost use Rattle.journal.specs.declared.events.Event.TheVariants as event;
 ghost use Rattle.script_run.specs.Logs.{HasCoreEffect};
@@ -62,7 +61,7 @@ impl NamedCore {
         let Some(link) = self.core.link() else {
             return self.tell(&Event::NoLink(name), log);
         };
-        if let Some(fault) = advance_fault(link, caller) {
+        if let Some(fault) = link.step_fault(caller) {
             return self.tell(&fault_event(name, caller, fault), log);
         }
         let Some(mut bench) = self.core.take_link() else {
@@ -196,18 +195,6 @@ impl NamedCore {
     {
         log.tell(last)?;
         self.tell(&Event::Pumped(self.name, done), log)
-    }
-}
-
-/// Why no step of a call of this caller can be done, if none can.
-fn advance_fault(bench: &Bench, caller: CallerNo) -> Option<BenchFault>
-    requires { caller < 64 }
-    ensures { result ≡ advance_fault (end_of bench.now.link.callers caller) (is_in_call bench.now caller) }
-{
-    match bench.end_of(caller) {
-        None => Some(BenchFault::NoCaller),
-        Some(_) if bench.is_in_call(caller) => None,
-        Some(_) => Some(BenchFault::NoCall),
     }
 }
 

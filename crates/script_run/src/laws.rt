@@ -4,6 +4,7 @@ ghost use Rattle.std.specs.Prelude.{◌≡◌, ℕ, List, Option, Some, false, C
 ghost use Rattle.script_lang.specs.declared.commands.Command.{Command};
 ghost use Rattle.script_lang.specs.Runnable.{AreRunnable, IsRunnable};
 ghost use Rattle.crash_recover.specs.Benches.{BenchState};
+ghost use Rattle.script_run.specs.Kept.{AreKept};
 ghost use Rattle.script_run.specs.NamedCores.{NamedCoreState};
 ghost use Rattle.script_run.specs.NamedLinks.{NamedLink};
 ghost use Rattle.script_run.specs.Reached.{AreReached, HandsInOrder};
@@ -37,4 +38,11 @@ pub fn links_in_order()
         → Contains (run_of told commands).last.objects.links named → HandsInOrder named.bench.link }
     ensures cores { (told : Told) (commands : List Command) (named : NamedCoreState) → AreRunnable commands
         → Contains (run_of told commands).last.objects.cores named → IfSome named.core.bench (λ (bench : BenchState). HandsInOrder bench.link) }
+{}
+
+/// After each list of commands the link of each core has the core's own callers in use, 0 at the host and 1 at the remote, no turn of it is the
+/// manager's, and it is in the incarnation of the core's life, live exactly while the core runs.
+pub fn cores_kept()
+    ensures command { (answer : Answer) (run : RunState) (command : Command) → AreKept run.objects → AreKept (effect_of answer run command).run.objects }
+    ensures run { (told : Told) (commands : List Command) → AreKept (run_of told commands).last.objects }
 {}

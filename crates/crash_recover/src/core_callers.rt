@@ -1,0 +1,200 @@
+ghost use Rattle.std.specs.Prelude.{◌≡◌, ◌<◌, true, None, Some, IfErr, IfOk, OnErr, OnOk, is_some};
+ghost use Rattle.std.specs.VecDeque.{deque_len, deque_capacity};
+ghost use Rattle.crash_recover.specs.Actors.{actors_view};
+ghost use Rattle.crash_recover.specs.Benches.{advance_walk, reach_of_done, step_fault};
+ghost use Rattle.crash_recover.specs.BenchRings.{IsSnapshotFault};
+ghost use Rattle.crash_recover.specs.CoreCallers.{IsStepFault, actors_after_reach, after_core_reclaim, core_begin_fault, core_channels, core_receiver, core_reclaim_answer, core_snapshot, core_step, core_step_fault, core_turn_holder, is_own, new_caller, with_core_call, with_core_caller};
+
+use crate::actor_steps::make_room;
+use crate::actors::Actors;
+use crate::bench_crashes::Reclaim;
+use crate::bench_steps::Done;
+use crate::benches::{Bench, BenchFault};
+use crate::cores::Core;
+use lane_model::Wish;
+use name_service::Channel;
+use rp_base::{CallerNo, End, NoMemory, ring_capacity};
+use std::alloc::Global;
+use vring_layout::{Snapshot, SnapshotFault};
+
+/// Why a caller of a core's link does no step.
+#[derive(Clone, Copy)]
+pub enum StepFault {
+    /// What the caller is in, or that it isn't in use.
+    Bench(BenchFault),
+    /// Memory ran out.
+    NoMemory,
+}
+
+impl From<NoMemory> for StepFault {
+    ghost use Rattle.std.specs.Prelude.{◌≡◌};
+    ghost use Rattle.crash_recover.specs.declared.core_callers.StepFault.TheVariants as fault;
+
+    ghost from_gives = { λ _ e. e ≡ fault.NoMemory };
+
+    fn from(_error: NoMemory) -> StepFault {
+        StepFault::NoMemory
+    }
+}
+
+/// The calls of the core's link for callers other than the core's own, which are 0 and 1. The core has
+/// a link: there is one exactly where [`Core::link`] gives it.
+impl Core {
+    /// A new caller at this end of the core's link, under the least number that is not in use. There is
+    /// none exactly where all 64 are.
+    pub fn caller(&mut self, end: End) -> Option<CallerNo>
+        requires { is_some self.old.bench ≡ true }
+        ensures number { result ≡ new_caller self.old }
+        ensures left { self.new ≡ with_core_caller self.old end }
+        ensures linked { is_some self.new.bench ≡ true }
+    {
+        let Some(bench) = &mut self.bench else {
+            unreachable!()
+        };
+        bench.caller(end)
+    }
+
+    /// Begins a call on the core's link, which follows the incarnation that the link is in, and does no
+    /// step of it.
+    ///
+    /// # Errors
+    ///
+    /// [`BenchFault::NoCaller`], for the callers 0 and 1 too, then [`BenchFault::InCall`], then
+    /// [`BenchFault::NotHeld`] of a give of what the caller doesn't hold. The core is as it was then.
+    pub fn begin(&mut self, caller: CallerNo, wished: Wish) -> Result<(), BenchFault>
+        requires { is_some self.old.bench ≡ true }
+        ensures may { OnOk result (core_begin_fault self.old caller wished ≡ None) }
+        ensures begun { OnOk result (self.new ≡ with_core_call self.old caller wished) }
+        ensures refused { IfErr result (λ why. core_begin_fault self.old caller wished ≡ Some why) }
+        ensures unchanged { OnErr result (self.new ≡ self.old) }
+        ensures linked { is_some self.new.bench ≡ true }
+    {
+        if is_own(caller) {
+            return Err(BenchFault::NoCaller);
+        }
+        let Some(bench) = &mut self.bench else {
+            unreachable!()
+        };
+        bench.begin(caller, wished)
+    }
+
+    /// Does one step of the call that a caller of the core's link is in. Where it ends a call of the
+    /// host, the drivers see the end: what one sends is the last of the host actor's calls, and an
+    /// endpoint that was unbound is driven no more.
+    ///
+    /// # Errors
+    ///
+    /// [`BenchFault::NoCaller`], for the callers 0 and 1 too, then [`BenchFault::NoCall`], then
+    /// [`StepFault::NoMemory`] where there is no room for what a driver may send. The core is as it was
+    /// then.
+    pub fn step(&mut self, _alloc: Global, caller: CallerNo) -> Result<Done, StepFault>
+        requires { is_some self.old.bench ≡ true }
+        ensures may { OnOk result (core_step_fault self.old caller ≡ None) }
+        ensures left { OnOk result (self.new ≡ (core_step self.old caller).core) }
+        ensures done { IfOk result (λ done. reach_of_done done ≡ (core_step self.old caller).reach) }
+        ensures refused { IfErr result (IsStepFault (core_step_fault self.old caller)) }
+        ensures unchanged { OnErr result (self.new ≡ self.old) }
+        ensures linked { is_some self.new.bench ≡ true }
+    {
+        if is_own(caller) {
+            return Err(StepFault::Bench(BenchFault::NoCaller));
+        }
+        let Some(bench) = &mut self.bench else {
+            unreachable!()
+        };
+        if let Some(fault) = bench.step_fault(caller) {
+            return Err(StepFault::Bench(fault));
+        }
+        make_room(&mut self.actors.host_calls, 1)?;
+        Ok(step_on(bench, &mut self.actors, caller))
+    }
+
+    /// Reclaims a caller of the core's link: its call is gone, a begun one too, its turn is free, what
+    /// it held is back, and its number is free.
+    ///
+    /// # Errors
+    ///
+    /// [`BenchFault::NoCaller`] exactly where the caller isn't in use, or is one of the core's own, 0 or
+    /// 1. The core is as it was then.
+    pub fn reclaim(&mut self, caller: CallerNo) -> Result<Reclaim, BenchFault>
+        requires { is_some self.old.bench ≡ true }
+        ensures answer { result ≡ core_reclaim_answer caller self.old.bench }
+        ensures left { self.new ≡ after_core_reclaim self.old caller }
+        ensures linked { is_some self.new.bench ≡ true }
+    {
+        let Some(bench) = &mut self.bench else {
+            unreachable!()
+        };
+        if is_own(caller) {
+            return Err(BenchFault::NoCaller);
+        }
+        bench.reclaim(caller)
+    }
+
+    /// The era of the core's link and the words of both its lanes as they stand, over the buffers that
+    /// the image's device for RPMsg was given.
+    ///
+    /// # Errors
+    ///
+    /// [`SnapshotFault::StillTurn`] exactly where a turn is out, with the holder of the first of lane
+    /// 0's sender and receiver, then lane 1's; else only want of memory.
+    pub fn snapshot(&self, alloc: Global) -> Result<Snapshot, SnapshotFault>
+        requires { is_some self.now.bench ≡ true }
+        ensures free { OnOk result (core_turn_holder self.now ≡ None) }
+        ensures words { IfOk result (λ snapshot. core_snapshot self.now ≡ Some snapshot) }
+        ensures refused { IfErr result (IsSnapshotFault (core_turn_holder self.now)) }
+    {
+        let Some(bench) = &self.bench else {
+            unreachable!()
+        };
+        let Some(loaded) = &self.loaded else {
+            return bench.snapshot(alloc);
+        };
+        match &loaded.rings {
+            Some(rings) => bench.snapshot_at(alloc, rings.base, ring_capacity(rings.to_host.num)),
+            None => bench.snapshot(alloc),
+        }
+    }
+
+    /// The channels of the host end of the core's link, in the order of creation.
+    ///
+    /// # Errors
+    ///
+    /// [`SnapshotFault::StillTurn`] exactly where a caller has the turn of lane 0's receiver; else only
+    /// want of memory.
+    pub fn channels(&self, alloc: Global) -> Result<Vec<Channel>, SnapshotFault>
+        requires { is_some self.now.bench ≡ true }
+        ensures free { OnOk result (core_receiver self.now ≡ None) }
+        ensures channels { IfOk result (λ channels. core_channels self.now ≡ Some channels.items) }
+        ensures refused { IfErr result (IsSnapshotFault (core_receiver self.now)) }
+    {
+        let Some(bench) = &self.bench else {
+            unreachable!()
+        };
+        bench.channels(alloc)
+    }
+}
+
+/// Whether a caller is one of a core's own.
+fn is_own(caller: CallerNo) -> bool
+    ensures { result ≡ is_own caller }
+{
+    caller < 2
+}
+
+/// One step of the call that a caller of a core's link is in, of which the drivers see the end.
+fn step_on(bench: &mut Bench, actors: &mut Actors, caller: CallerNo) -> Done
+    requires caller { caller < 64 }
+    requires may { step_fault bench.old caller ≡ None }
+    requires room { deque_len actors.old.host_calls < deque_capacity actors.old.host_calls }
+    ensures bench { bench.new ≡ (advance_walk bench.old 0 0 caller).bench }
+    ensures actors { let walk = advance_walk bench.old 0 0 caller in
+        actors_view actors.new ≡ actors_after_reach walk.bench caller walk.reach (actors_view actors.old) }
+    ensures done { reach_of_done result ≡ (advance_walk bench.old 0 0 caller).reach }
+{
+    let done = bench.next_step(caller);
+    if let Done::Ended(end) = &done {
+        actors.see_call(bench, caller, end);
+    }
+    done
+}
