@@ -1,5 +1,14 @@
-// Tests of the calls of a core that the program doesn't make: a boot and a recovery from a store of images.
+// Tests of calls that the program doesn't make: a bench step by step, a boot and a recovery from a store of images, the
+// calls of a caller on a core's link, single steps of its actors, and a run of a script that was read before.
 #![tactic(auto)]
 
 #[cfg(test)]
+mod benches;
+#[cfg(test)]
+mod callers;
+#[cfg(test)]
+mod drives;
+#[cfg(test)]
 mod recoveries;
+#[cfg(test)]
+mod scripts;

@@ -11,9 +11,14 @@ use std::test::Fail;
 const RECIPE: &str =
     "image a\nentry 0\nload 0 - 16\ntable 0x100\nvdev 7 3\nvring any 4096 16\nvring any 4096 8\nend";
 
-/// A store that has the image of the recipe under this name.
-fn store_of(alloc: Global, name: &str) -> Result<MemoryStore, Fail> {
-    let script = parse(alloc, RECIPE.as_bytes()).ok().ok_or("no script")?;
+/// A store that has the image of that recipe under this name.
+pub(crate) fn store_of(alloc: Global, name: &str) -> Result<MemoryStore, Fail> {
+    store_with(alloc, name, RECIPE)
+}
+
+/// A store that has the image of a recipe under this name.
+pub(crate) fn store_with(alloc: Global, name: &str, recipe: &str) -> Result<MemoryStore, Fail> {
+    let script = parse(alloc, recipe.as_bytes()).ok().ok_or("no script")?;
     let image = match script.commands.as_slice() {
         [Command::Image(_, recipe)] => build(alloc, recipe)?,
         _ => return Err("no image".into()),

@@ -27,6 +27,8 @@ mod placement;
 #[cfg(test)]
 mod records;
 #[cfg(test)]
+mod reopens;
+#[cfg(test)]
 mod table;
 #[cfg(test)]
 mod text;

@@ -185,6 +185,13 @@ const NO_LINES: &str = "\
     L lane 2 accepted 3 handed 2 returned 1;\n\
     L dump 000 aa;\n\
     L dump 00000 aa;\n\
+    L dump 0ffff aa;\n\
+    L dump 00FF aa;\n\
+    L dump 10000000A aa;\n\
+    L dump 0100000000 aa;\n\
+    L dump 10000000000000000 aa;\n\
+    L dump 0ffffffffffffffff aa;\n\
+    L dump 000g aa;\n\
     L dump 0000 -;\n\
     L dump 0000 aA;\n\
     L dump 0000 000102030405060708090a0b0c0d0e0f10;\n\
@@ -271,6 +278,18 @@ const SERVICE: [(NsKind, &[u8], u64, &str); 5] = [
     (NsKind::ChannelsFull, b"led", 1024, "full led 1024"),
 ];
 
+/// Offsets of a dump, and how they print.
+const OFFSETS: [(u64, &str); 8] = [
+    (0, "0000"),
+    (0x1a0, "01a0"),
+    (0xffff, "ffff"),
+    (0x1_0000, "10000"),
+    (0xfff_0000, "fff0000"),
+    (0xffff_ffff, "ffffffff"),
+    (0x1_0000_0000, "100000000"),
+    (18_446_744_073_709_551_615, "ffffffffffffffff"),
+];
+
 /// The event's line, and the line of the event that it is read back as.
 fn both_ways(alloc: Global, event: &Event) -> Result<(Vec<u8>, Vec<u8>), Fail> {
     let mut out = Vec::new(alloc);
@@ -302,6 +321,13 @@ fn each_event_is_one_line(rt: HostRuntime) -> Result<(), Fail> {
         line(alloc, &event, &mut out)?;
         let wanted = format!(in alloc; "L open 1\nL 1 took 0 ns {words}\n")?;
         assert_eq!(rt; out.as_slice(), wanted.as_bytes());
+    }
+    for (offset, digits) in OFFSETS {
+        let event = Event::Dump(l, offset, Data::copy_of(alloc, &[0, 0x2a])?);
+        let (out, again) = both_ways(alloc, &event)?;
+        let wanted = format!(in alloc; "L dump {digits} 002a\n")?;
+        assert_eq!(rt; out.as_slice(), wanted.as_bytes());
+        assert_eq!(rt; again.as_slice(), wanted.as_bytes());
     }
     Ok(())
 }
@@ -366,7 +392,15 @@ fn each_notice_is_one_line(rt: HostRuntime) -> Result<(), Fail> {
             Notice::Segment(1, 0x40, 16, 65_536),
             "segment 1 00000040 16 65536\n",
         ),
+        (
+            Notice::Table(TableLine::Skipped(1, 128)),
+            "entry 1 skipped 128\n",
+        ),
         (Notice::Loads, "ok\n"),
+        (
+            Notice::Demo(500, 150_000, 70_001),
+            "demo 500 sessions 500 to-host 150000 to-remote 70001\n",
+        ),
     ] {
         let mut out = Vec::new(rt.alloc());
         push_notice(rt.alloc(), &notice, &mut out)?;

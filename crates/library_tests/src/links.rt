@@ -16,7 +16,7 @@ use vring_layout::ring_bytes;
 
 /// What a caller does next: it begins a call, or takes one step more of the call under way.
 #[derive(Clone, Copy)]
-enum Move {
+pub(crate) enum Move {
     Send,
     Take,
     Give(u64),
@@ -39,14 +39,14 @@ fn wished_by(next: Move, caller: CallerNo) -> Option<Wish> {
 
 /// What a move is answered.
 #[derive(Clone, Copy)]
-enum Said {
+pub(crate) enum Said {
     NoStep,
     At(u8),
     Ended(CallEnd),
 }
 
 /// Whether two calls ended alike. Messages that were handed over were dropped, with their lengths.
-fn is_same(found: CallEnd, want: CallEnd) -> bool {
+pub(crate) fn is_same(found: CallEnd, want: CallEnd) -> bool {
     match found {
         CallEnd::Sent(number) => matches!(want, CallEnd::Sent(n) if n == number),
         CallEnd::Took(number, Verdict::Dropped(len)) => {
@@ -65,7 +65,7 @@ fn is_same(found: CallEnd, want: CallEnd) -> bool {
 }
 
 /// Whether a move was answered so.
-fn is_said(found: Said, want: Said) -> bool {
+pub(crate) fn is_said(found: Said, want: Said) -> bool {
     match found {
         Said::NoStep => matches!(want, Said::NoStep),
         Said::At(step) => matches!(want, Said::At(s) if s == step),
@@ -77,7 +77,7 @@ fn is_said(found: Said, want: Said) -> bool {
 }
 
 /// Whether a message is there with these bytes.
-fn has_bytes(found: Option<&[u8]>, want: &[u8]) -> bool {
+pub(crate) fn has_bytes(found: Option<&[u8]>, want: &[u8]) -> bool {
     match found {
         Some(bytes) => bytes == want,
         None => false,
@@ -85,7 +85,7 @@ fn has_bytes(found: Option<&[u8]>, want: &[u8]) -> bool {
 }
 
 /// Takes a step of a caller who follows incarnation 1, or a whole call where `is_whole`.
-fn moved<L: LaneForm>(
+pub(crate) fn moved<L: LaneForm>(
     link: &mut LaneLink<L>,
     caller: CallerNo,
     next: Move,
@@ -128,33 +128,33 @@ fn first_wrong<L: LaneForm>(
     None
 }
 
-/// Rings of so many entries each way, live in incarnation 1.
-fn config(entries: u32, book: u32) -> Option<LinkConfig>
+/// Rings of so many entries each way, live in the first incarnation.
+pub(crate) fn config(entries: u32, book: u32, first: Inc) -> Option<LinkConfig>
     ensures { IfSome result (λ config. IsConfig config) }
 {
-    if !is_ring_size(entries) || book == 0 || book > BOOK_MOST {
+    if !is_ring_size(entries) || book == 0 || book > BOOK_MOST || first == 0 {
         return None;
     }
     Some(LinkConfig {
         num0: entries,
         num1: entries,
         book,
-        first: 1,
+        first,
         base: 0,
     })
 }
 
 /// A link over rings of so many entries, with callers 0 and 2 on the remote, 1 and 3 on the host.
-fn rings(alloc: Global, entries: u32, book: u32) -> Result<RingLink<TestDesk>, Fail> {
-    let config = config(entries, book).ok_or("sizes of rings")?;
+pub(crate) fn rings(alloc: Global, entries: u32, book: u32) -> Result<RingLink<TestDesk>, Fail> {
+    let config = config(entries, book, 1).ok_or("sizes of rings")?;
     let mut link = ring_link(alloc, config, TestDesk, TestDesk)?;
     join(&mut link);
     Ok(link)
 }
 
 /// The same over lists.
-fn lists(alloc: Global, entries: u32, book: u32) -> Result<ListLink<TestDesk>, Fail> {
-    let config = config(entries, book).ok_or("sizes of rings")?;
+pub(crate) fn lists(alloc: Global, entries: u32, book: u32) -> Result<ListLink<TestDesk>, Fail> {
+    let config = config(entries, book, 1).ok_or("sizes of rings")?;
     let mut link = ListLink::make(alloc, config, TestDesk, TestDesk)?;
     join(&mut link);
     Ok(link)
@@ -168,7 +168,11 @@ fn join<L: LaneForm>(link: &mut LaneLink<L>) {
 }
 
 /// A whole call, where this caller may make it, and how it ended.
-fn whole<L: LaneForm>(link: &mut LaneLink<L>, caller: CallerNo, wish: Wish) -> Option<CallEnd> {
+pub(crate) fn whole<L: LaneForm>(
+    link: &mut LaneLink<L>,
+    caller: CallerNo,
+    wish: Wish,
+) -> Option<CallEnd> {
     let wished = Some(wish);
     if !may_step(link, caller, &wished) {
         return None;
