@@ -1,20 +1,33 @@
+ghost use Rattle.std.specs.Prelude.{IfSome};
+ghost use Rattle.lane_model.specs.Conditions.{IsConfig};
+
 use channel_bus::Side;
 use crash_recover::{Bench, BenchFault, Done};
 use lane_model::{Books, CallEnd, LinkConfig, ReopenFault, Wish};
-use rp_base::{CallerNo, End, Message, Verdict};
+use rp_base::{CallerNo, End, Message, Verdict, is_ring_size};
 use std::alloc::Global;
 use std::test::Fail;
 use vring_layout::{RingWords, SnapshotFault, UsedWord};
 
-/// A bench over rings of four and of two entries, with the caller 0 at the host and 1 at the remote.
-fn small_bench(alloc: Global) -> Result<Bench, Fail> {
-    let config = LinkConfig {
+/// Rings of four and of two entries, and a book of three messages.
+fn small_config() -> Option<LinkConfig>
+    ensures { IfSome result (λ config. IsConfig config) }
+{
+    if !is_ring_size(4) || !is_ring_size(2) {
+        return None;
+    }
+    Some(LinkConfig {
         num0: 4,
         num1: 2,
         book: 3,
         first: 1,
         base: 0,
-    };
+    })
+}
+
+/// A bench over these rings, with the caller 0 at the host and 1 at the remote.
+fn small_bench(alloc: Global) -> Result<Bench, Fail> {
+    let config = small_config().ok_or("sizes of rings")?;
     let host = Side::new(alloc, false, Vec::new(alloc))?;
     let remote = Side::new(alloc, false, Vec::new(alloc))?;
     let mut bench = Bench::new(alloc, config, host, remote)?;
@@ -62,48 +75,90 @@ fn is_one_message(books: &Books, bytes: &[u8]) -> bool {
         && books.to_remote_takers.is_empty()
 }
 
+/// Whether calls and steps of callers that aren't in use or in no call are refused so.
+fn refuses(bench: &mut Bench) -> bool {
+    matches!(bench.step(0), Err(BenchFault::NoCall))
+        && matches!(bench.step(200), Err(BenchFault::NoCaller))
+        && matches!(bench.begin(200, Wish::Take), Err(BenchFault::NoCaller))
+}
+
+/// Whether caller 1 sends these bytes, as message 0.
+fn sends(bench: &mut Bench, bytes: &[u8]) -> bool {
+    let Some(message) = Message::of(bytes) else {
+        return false;
+    };
+    matches!(
+        finish(bench, 1, Wish::Send(message)),
+        Some((7, CallEnd::Sent(0)))
+    )
+}
+
+/// Whether the words of the link are those after one message of three bytes on lane 0.
+fn is_shown(bench: &Bench, alloc: Global) -> bool {
+    let Ok(snapshot) = bench.snapshot(alloc) else {
+        return false;
+    };
+    let has_used = matches!(
+        snapshot.to_host.used.as_slice().first(),
+        Some(UsedWord { id: 0, len: 3 })
+    );
+    has_used
+        && snapshot.era.inc == 1
+        && snapshot.era.is_live
+        && is_ring(&snapshot.to_host, 4, 0, 4, 1)
+        && is_ring(&snapshot.to_remote, 2, 2048, 0, 0)
+        && snapshot.to_host.device_writes
+        && !snapshot.to_remote.device_writes
+        && matches!(snapshot.to_host.avail.as_slice(), [0, 1, 2, 3])
+}
+
+/// Whether a snapshot is refused once caller 1 has a turn.
+fn is_out(bench: &mut Bench, alloc: Global) -> bool {
+    bench.begin(1, Wish::Take).is_ok()
+        && matches!(bench.step(1), Ok(Done::At(1)))
+        && matches!(bench.snapshot(alloc), Err(SnapshotFault::StillTurn(1)))
+}
+
 #[test]
 fn a_bench_goes_step_by_step(rt: HostRuntime) -> Result<(), Fail> {
     let alloc = rt.alloc();
     let mut bench = small_bench(alloc)?;
-    assert!(rt; matches!(bench.step(0), Err(BenchFault::NoCall)));
-    assert!(rt; matches!(bench.step(200), Err(BenchFault::NoCaller)));
-    assert!(rt; matches!(bench.begin(200, Wish::Take), Err(BenchFault::NoCaller)));
-    let message = Message::of(&[7, 5, 9]).ok_or("no message")?;
-    let sent = finish(&mut bench, 1, Wish::Send(message));
-    assert!(rt; matches!(sent, Some((7, CallEnd::Sent(0)))));
-    let snapshot = bench.snapshot(alloc).ok().ok_or("no snapshot")?;
-    assert_eq!(rt; snapshot.era.inc, 1);
-    assert!(rt; snapshot.era.is_live);
-    assert!(rt; is_ring(&snapshot.to_host, 4, 0, 4, 1));
-    assert!(rt; is_ring(&snapshot.to_remote, 2, 2048, 0, 0));
-    assert!(rt; snapshot.to_host.device_writes && !snapshot.to_remote.device_writes);
-    assert!(rt; matches!(snapshot.to_host.avail.as_slice(), [0, 1, 2, 3]));
-    let first = snapshot.to_host.used.as_slice().first();
-    assert!(rt; matches!(first, Some(UsedWord { id: 0, len: 3 })));
-    assert!(rt; bench.begin(1, Wish::Take).is_ok());
-    assert!(rt; matches!(bench.step(1), Ok(Done::At(1))));
-    assert!(rt; matches!(bench.snapshot(alloc), Err(SnapshotFault::StillTurn(1))));
+    assert!(rt; refuses(&mut bench));
+    assert!(rt; sends(&mut bench, &[7, 5, 9]));
+    assert!(rt; is_shown(&bench, alloc));
+    assert!(rt; is_out(&mut bench, alloc));
     Ok(())
+}
+
+/// Whether caller 0 takes message 0, and the link is reopened neither before its close nor before the buffer is back.
+fn gives_back(bench: &mut Bench, alloc: Global) -> bool {
+    let took = finish(bench, 0, Wish::Take);
+    let is_refused = matches!(took, Some((6, CallEnd::Took(0, Verdict::Malformed))))
+        && matches!(bench.reopen(alloc), Err(ReopenFault::StillOpen(_)))
+        && bench.close().is_ok()
+        && matches!(bench.reopen(alloc), Err(ReopenFault::StillHeld(0, 0)));
+    is_refused && matches!(finish(bench, 0, Wish::Give(0)), Some((4, CallEnd::Gave(0))))
+}
+
+/// Whether the link is reopened with the books of one message of these bytes, and is empty then.
+fn reopens(bench: &mut Bench, alloc: Global, bytes: &[u8]) -> bool {
+    match bench.reopen(alloc) {
+        Ok(books) => {
+            books.inc == 1
+                && is_one_message(&books, bytes)
+                && bench.era().inc == 2
+                && bench.counts(0) == (0, 0, 0)
+        }
+        Err(_) => false,
+    }
 }
 
 #[test]
 fn a_reopened_bench_gives_its_books(rt: HostRuntime) -> Result<(), Fail> {
     let alloc = rt.alloc();
     let mut bench = small_bench(alloc)?;
-    let message = Message::of(&[7, 5, 9]).ok_or("no message")?;
-    assert!(rt; finish(&mut bench, 1, Wish::Send(message)).is_some());
-    let took = finish(&mut bench, 0, Wish::Take);
-    assert!(rt; matches!(took, Some((6, CallEnd::Took(0, Verdict::Malformed)))));
-    assert!(rt; matches!(bench.reopen(alloc), Err(ReopenFault::StillOpen(_))));
-    assert!(rt; bench.close().is_ok());
-    assert!(rt; matches!(bench.reopen(alloc), Err(ReopenFault::StillHeld(0, 0))));
-    let gave = finish(&mut bench, 0, Wish::Give(0));
-    assert!(rt; matches!(gave, Some((4, CallEnd::Gave(0)))));
-    let books = bench.reopen(alloc).ok().ok_or("not reopened")?;
-    assert_eq!(rt; books.inc, 1);
-    assert!(rt; is_one_message(&books, &[7, 5, 9]));
-    assert_eq!(rt; bench.era().inc, 2);
-    assert_eq!(rt; bench.counts(0), (0, 0, 0));
+    assert!(rt; sends(&mut bench, &[7, 5, 9]));
+    assert!(rt; gives_back(&mut bench, alloc));
+    assert!(rt; reopens(&mut bench, alloc, &[7, 5, 9]));
     Ok(())
 }

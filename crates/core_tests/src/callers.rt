@@ -2,9 +2,95 @@ use crate::recoveries::store_of;
 use crash_recover::{BenchFault, Core, Done, Reclaim};
 use lane_model::{CallEnd, Wish};
 use memory_pool::Regions;
-use rp_base::End;
+use rp_base::{CallerNo, End};
+use std::alloc::Global;
 use std::test::Fail;
 use vring_layout::SnapshotFault;
+
+/// Whether the next caller at the host is this one.
+fn joins(core: &mut Core, caller: CallerNo) -> bool {
+    let Some(_) = core.link() else {
+        return false;
+    };
+    core.caller(End::Host) == Some(caller)
+}
+
+/// Whether this caller begins to bind an endpoint.
+fn begins(core: &mut Core, caller: CallerNo) -> bool {
+    let Some(_) = core.link() else {
+        return false;
+    };
+    core.begin(caller, Wish::Bind(1024)).is_ok()
+}
+
+/// Whether a call of this caller is refused as of one that isn't in use.
+fn is_no_caller(core: &mut Core, caller: CallerNo) -> bool {
+    let Some(_) = core.link() else {
+        return false;
+    };
+    matches!(core.begin(caller, Wish::Take), Err(BenchFault::NoCaller))
+}
+
+/// Whether a step of this caller is the one of this number, and its call goes on.
+fn goes_on(core: &mut Core, alloc: Global, caller: CallerNo, number: u8) -> bool {
+    let Some(_) = core.link() else {
+        return false;
+    };
+    matches!(core.step(alloc, caller), Ok(Done::At(step)) if step == number)
+}
+
+/// Whether a step of this caller ends its call, and an endpoint is bound.
+fn binds(core: &mut Core, alloc: Global, caller: CallerNo) -> bool {
+    let Some(_) = core.link() else {
+        return false;
+    };
+    matches!(
+        core.step(alloc, caller),
+        Ok(Done::Ended(CallEnd::Bound(endpoint))) if endpoint.address == 1024
+    )
+}
+
+/// Whether channels are refused since this caller has the turn.
+fn is_out(core: &Core, alloc: Global, caller: CallerNo) -> bool {
+    let Some(_) = core.link() else {
+        return false;
+    };
+    matches!(core.channels(alloc), Err(SnapshotFault::StillTurn(holder)) if holder == caller)
+}
+
+/// Whether there are channels to be told, and none is there.
+fn has_no_channel(core: &Core, alloc: Global) -> bool {
+    let Some(_) = core.link() else {
+        return false;
+    };
+    match core.channels(alloc) {
+        Ok(channels) => channels.is_empty(),
+        Err(_) => false,
+    }
+}
+
+/// Whether the rings are those of a new link, the buffers of lane 1 behind the 16 of lane 0.
+fn is_shown(core: &Core, alloc: Global) -> bool {
+    let Some(_) = core.link() else {
+        return false;
+    };
+    match core.snapshot(alloc) {
+        Ok(snapshot) => {
+            u64::from(snapshot.to_remote.base) == u64::from(snapshot.to_host.base) + 512 * 16
+                && snapshot.to_host.avail_idx == 16
+                && snapshot.to_remote.avail_idx == 0
+        }
+        Err(_) => false,
+    }
+}
+
+/// Whether this caller isn't reclaimed, since the link is live.
+fn is_kept(core: &mut Core, caller: CallerNo) -> bool {
+    let Some(_) = core.link() else {
+        return false;
+    };
+    matches!(core.reclaim(caller), Ok(Reclaim::StillOpen(_)))
+}
 
 #[test]
 fn a_caller_of_a_core_binds_an_endpoint(rt: HostRuntime) -> Result<(), Fail> {
@@ -12,21 +98,15 @@ fn a_caller_of_a_core_binds_an_endpoint(rt: HostRuntime) -> Result<(), Fail> {
     let mut store = store_of(alloc, "fw")?;
     let mut core = Core::new(alloc, Regions::standard(alloc)?, Vec::new(alloc), 16)?;
     assert!(rt; core.boot(alloc, "fw", &mut store).is_ok());
-    let Some(_) = core.link() else {
-        return Err("no link".into());
-    };
-    assert_eq!(rt; core.caller(End::Host), Some(2));
-    assert!(rt; matches!(core.begin(0, Wish::Take), Err(BenchFault::NoCaller)));
-    assert!(rt; core.begin(2, Wish::Bind(1024)).is_ok());
-    assert!(rt; matches!(core.step(alloc, 2), Ok(Done::At(1))));
-    assert!(rt; matches!(core.channels(alloc), Err(SnapshotFault::StillTurn(2))));
-    assert!(rt; matches!(core.step(alloc, 2), Ok(Done::At(2))));
-    assert!(rt; matches!(core.step(alloc, 2), Ok(Done::Ended(CallEnd::Bound(_)))));
-    assert!(rt; matches!(core.channels(alloc), Ok(channels) if channels.is_empty()));
-    let snapshot = core.snapshot(alloc).ok().ok_or("no snapshot")?;
-    assert_eq!(rt; snapshot.to_remote.base, snapshot.to_host.base + 512 * 16);
-    assert_eq!(rt; snapshot.to_host.avail_idx, 16);
-    assert_eq!(rt; snapshot.to_remote.avail_idx, 0);
-    assert!(rt; matches!(core.reclaim(2), Ok(Reclaim::StillOpen(_))));
+    assert!(rt; joins(&mut core, 2));
+    assert!(rt; is_no_caller(&mut core, 0));
+    assert!(rt; begins(&mut core, 2));
+    assert!(rt; goes_on(&mut core, alloc, 2, 1));
+    assert!(rt; is_out(&core, alloc, 2));
+    assert!(rt; goes_on(&mut core, alloc, 2, 2));
+    assert!(rt; binds(&mut core, alloc, 2));
+    assert!(rt; has_no_channel(&core, alloc));
+    assert!(rt; is_shown(&core, alloc));
+    assert!(rt; is_kept(&mut core, 2));
     Ok(())
 }
