@@ -7,7 +7,6 @@ use Rattle.lane_model.specs.Links.{LinkState, caller_step}
 use Rattle.channel_bus.specs.Sides.{EndState, side_meaning}
 use Rattle.crash_recover.specs.declared.benches.BegunCall.{BegunCall}
 use Rattle.crash_recover.specs.declared.benches.Progress.TheVariants as progress
-use Rattle.crash_recover.specs.declared.benches.Reach.{Reach}
 use Rattle.crash_recover.specs.declared.benches.Reach.TheVariants as reach
 use Rattle.crash_recover.specs.Benches.{BenchState, Walk, advance_steps, advance_walk, begun_of, call_steps, later_steps, reach_of}
 use Rattle.crash_recover.proofs.Walks.{call_done, later_after, later_done, later_none}

@@ -1,7 +1,6 @@
 -- Who makes a step of a drive.
-use Rattle.std.proofs.Common.{◌≡◌, Bool, true, false, cond, not, ◌&&◌, sym, ap, refl, ◌∙◌}
+use Rattle.std.proofs.Common.{◌≡◌, Bool, false, cond, sym, ap, refl, ◌∙◌}
 use Rattle.std.proofs.lemmas.Bool.{and_right}
-use Rattle.lane_model.specs.declared.calls.CallEnd.{CallEnd}
 use Rattle.crash_recover.specs.declared.actors.Actor.{Actor}
 use Rattle.crash_recover.specs.declared.actors.Actor.TheVariants as actor
 use Rattle.crash_recover.specs.declared.core_drives.Driven.TheVariants as driven

@@ -33,3 +33,9 @@ pub mod PendingCores
 pub mod PendingDrives
 pub mod PendingOthers
 pub mod PendingTurns
+pub mod OwnCalls
+pub mod ActorCalls
+pub mod CallCosts
+pub mod ActorBounds
+pub mod DriveBounds
+pub mod BootBounds

@@ -81,7 +81,7 @@ gone_fit link (Some side.Remote) gone caller side.Remote is_first calls differ a
 
 -- ---- what others do
 
-put_other : (begun : List (Option BegunCall)) (other caller : ℕ) (found : Option BegunCall) → other ≢ caller → option_and_then (λ found. found) (slice_get begun caller) ≡ None
+pub put_other : (begun : List (Option BegunCall)) (other caller : ℕ) (found : Option BegunCall) → other ≢ caller → option_and_then (λ found. found) (slice_get begun caller) ≡ None
     → option_and_then (λ found. found) (slice_get (slice_set begun other found) caller) ≡ None
 put_other [] other caller found differ none = none
 put_other (first ∷ begun) zero zero found differ none = absurd (differ refl)

@@ -22,7 +22,7 @@ use Rattle.crash_recover.proofs.BenchMoves.{turn_sendable}
 use Rattle.crash_recover.proofs.PendingOthers.{call_ready, seen_ready}
 
 -- the link of a core in this state, with its actors
-record Stands (state : LifeState) (actors : ActorsState) (bench : BenchState) : Type 0 where
+pub record Stands (state : LifeState) (actors : ActorsState) (bench : BenchState) : Type 0 where
   pub begun : HasNoneBegun bench
   pub calls : is_running state ≡ true → IsReadyBench actors bench
 

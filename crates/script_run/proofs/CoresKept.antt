@@ -127,7 +127,7 @@ module _ (life : CoreLife) (name : List ℕ) (bench : BenchState) (steps : ℕ) 
   books_kept = is
 
 -- a command that is for another caller than the core's own
-other_caller : (caller : ℕ) → own_caller caller ≡ None → 1 < caller
+pub other_caller : (caller : ℕ) → own_caller caller ≡ None → 1 < caller
 other_caller caller none = leb-false caller 1 (not_own (nat_le caller 1) none)
   where
     not_own : (own : Bool) → cond own (Some caller) None ≡ None → own ≡ false

@@ -26,7 +26,7 @@ none_held : (asked : Option (List ℕ)) → answer_for (fetch_answer []) asked �
 none_held None = refl
 none_held (Some name) = refl
 
-bare_is : (state : RunState) (command : Command) → effect_of (Err fetch_fault.Missing) state command ≡ bare_effect state command
+pub bare_is : (state : RunState) (command : Command) → effect_of (Err fetch_fault.Missing) state command ≡ bare_effect state command
 bare_is state command = ap (λ answer. effect_of answer state command) (sym (none_held (asked_name state.objects command)))
 
 -- a run that stops with its first command, and one that goes on
@@ -36,7 +36,7 @@ module _ (state : RunState) (first : Command) (more : List Command) where
       ap (λ (run : Run). run.ending) (run_first (held []) state first more
       ∙ ap (λ ending. run_on (bare_effect state first) ending (run_from (later_told (held [])) (bare_effect state first).run more)) is)
 
-  goes_on : (bare_effect state first).ending ≡ None
+  pub goes_on : (bare_effect state first).ending ≡ None
       → (run_from (held []) state (first ∷ more)).ending ≡ (run_from (held []) (bare_effect state first).run more).ending
   goes_on is =
       ap (λ (run : Run). run.ending) (run_first (held []) state first more
@@ -146,7 +146,7 @@ module _ (commands : List Command) (objects after_objects : ObjectsState) (befor
       (counts_first commands state accepted first more (subst (CountsSoFar commands state accepted) is so_far) (sym first_did.ending ∙ goes))
 
 -- the output of a demo, by the commands that its script says
-demo_is : (sessions : ℕ) (commands : List Command) → script_of (demo_text sessions) ≡ Ok commands
+pub demo_is : (sessions : ℕ) (commands : List Command) → script_of (demo_text sessions) ≡ Ok commands
     → demo_output sessions ≡ counted_output sessions (accepted_from new_run commands) (run_of (held []) commands).ending
 unfolding demo_output
 demo_is sessions commands says = ap (said_output sessions) says

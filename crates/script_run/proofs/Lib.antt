@@ -18,3 +18,8 @@ mod CoresReached
 mod RunsReached
 mod DemoSums
 pub mod CoresKept
+pub mod CoresReady
+pub mod DemoEnds
+pub mod DemoPrograms
+pub mod DemoLoads
+pub mod DemoBoots

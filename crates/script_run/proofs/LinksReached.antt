@@ -44,10 +44,10 @@ unless_reached name bench steps caller (Some why) effect is rest = is
 
 -- ---- calls
 
-neither : (ready later : Option BenchFault) → ready ≡ None → later ≡ None → first_fault ready later ≡ None
+pub neither : (ready later : Option BenchFault) → ready ≡ None → later ≡ None → first_fault ready later ≡ None
 neither ready later none_ready none_later = ap (λ (f : Option BenchFault). first_fault f later) none_ready ∙ none_later
 
-header_sendable : (src dst : ℕ) (payload : List ℕ) → length payload ≤ PAYLOAD_MOST → IsSendable (wish.Send (header_bytes src dst payload))
+pub header_sendable : (src dst : ℕ) (payload : List ℕ) → length payload ≤ PAYLOAD_MOST → IsSendable (wish.Send (header_bytes src dst payload))
 header_sendable src dst payload short =
     let long = header_length src dst payload in
     omega arith

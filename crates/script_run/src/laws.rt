@@ -1,15 +1,17 @@
 //! Laws of runs: over a store of images, and of the links that they leave. Each is the contract of an empty function, and speaks of definitions alone.
 
-ghost use Rattle.std.specs.Prelude.{◌≡◌, ℕ, List, Option, Some, false, Contains, IfSome};
+ghost use Rattle.std.specs.Prelude.{◌≡◌, ◌≤◌, ℕ, List, [], None, Option, Some, false, Contains, IfSome};
+ghost use Rattle.image_maker.specs.Demo.{demo_commands};
 ghost use Rattle.script_lang.specs.declared.commands.Command.{Command};
 ghost use Rattle.script_lang.specs.Runnable.{AreRunnable, IsRunnable};
 ghost use Rattle.crash_recover.specs.Benches.{BenchState};
-ghost use Rattle.script_run.specs.Kept.{AreKept};
+ghost use Rattle.script_run.specs.Kept.{AreKept, AreReady};
 ghost use Rattle.script_run.specs.NamedCores.{NamedCoreState};
 ghost use Rattle.script_run.specs.NamedLinks.{NamedLink};
 ghost use Rattle.script_run.specs.Reached.{AreReached, HandsInOrder};
 ghost use Rattle.script_run.specs.Stores.{Answer, IsHeld, Told, held};
-ghost use Rattle.script_run.specs.Runs.{RunState, effect_of, run_of};
+ghost use Rattle.script_run.specs.Demos.{accepted_from, counted_output, demo_output};
+ghost use Rattle.script_run.specs.Runs.{RunState, effect_of, new_run, run_of};
 
 /// Over a store that tells its images and doesn't fail, a run is a function of the images and the commands.
 pub fn images_and_commands()
@@ -45,4 +47,19 @@ pub fn links_in_order()
 pub fn cores_kept()
     ensures command { (answer : Answer) (run : RunState) (command : Command) → AreKept run.objects → AreKept (effect_of answer run command).run.objects }
     ensures run { (told : Told) (commands : List Command) → AreKept (run_of told commands).last.objects }
+{}
+
+/// The actors of each core hold, while the core runs, what their calls give back, so that the next call of each may always begin, and have begun
+/// no call without a step of it.
+pub fn cores_ready()
+    ensures command { (answer : Answer) (run : RunState) (command : Command) → IsRunnable command → AreReached run.objects → AreKept run.objects
+        → AreReady run.objects → AreReady (effect_of answer run command).run.objects }
+    ensures run { (told : Told) (commands : List Command) → AreRunnable commands → AreReady (run_of told commands).last.objects }
+{}
+
+/// The run of a demo of up to 500 sessions goes to its end, and never meets the limit of steps: the demo writes how much was accepted.
+pub fn demo_ends()
+    ensures run { (sessions : ℕ) → sessions ≤ 500 → (run_of (held []) (demo_commands sessions)).ending ≡ None }
+    ensures output { (sessions : ℕ) → sessions ≤ 500
+        → demo_output sessions ≡ counted_output sessions (accepted_from new_run (demo_commands sessions)) None }
 {}

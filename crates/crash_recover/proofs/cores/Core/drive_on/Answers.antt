@@ -1,8 +1,8 @@
-use Rattle.std.proofs.Common.{◌≡◌, Bool, false, sym, ap, refl, ◌∙◌}
+use Rattle.std.proofs.Common.{◌≡◌, false, sym, ap, ◌∙◌}
 use Rattle.std.proofs.lemmas.Bool.{and_right}
 use Rattle.crash_recover.specs.declared.actors.Actor.TheVariants as actor
 use Rattle.crash_recover.specs.Cores.{CoreState}
-use Rattle.crash_recover.specs.Drives.{DriveStep, host_is_idle, is_rest, worker_is_idle}
+use Rattle.crash_recover.specs.Drives.{DriveStep, host_is_idle, worker_is_idle}
 use Rattle.crash_recover.proofs.DriveSteps.{does_something, worker_drives}
 use Rattle.crash_recover.proofs.cores.Core.drive_on.Goals as goal
 
