@@ -51,6 +51,11 @@ move_sound desk link (Part end caller which) sound may = part_sound link end cal
 move_sound desk link (Take end which) sound may = taken_sound link end which sound
 move_sound desk link (Leave end which) sound may = left_sound link end which sound
 
+-- and so does each list of moves
+pub moves_sound : {D : Type 0} (desk : DeskMeaning D) (start : Recorded D) (moves : List Move) → SoundLink start.link → MayMoves desk start.link moves → SoundLink (after_moves desk start moves).link
+moves_sound desk start [] sound may = sound
+moves_sound desk start (move ∷ moves) sound may = moves_sound desk (after_move desk start move) moves (move_sound desk start.link move sound may.0) may.1
+
 -- a sound link, of one of whose lanes a fact holds
 pub record HoldsAt {D : Type 0} (P : List BookEntry → ℕ → D → List Handing → Type 0) (end : End) (now : Recorded D) : Type 0 where
   pub sound : SoundLink now.link

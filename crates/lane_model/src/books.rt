@@ -50,6 +50,7 @@ impl Book {
     pub fn len(&self) -> u64
         ensures len { result ≡ length self.now.entries }
         ensures within { length self.now.entries ≤ self.now.room }
+        ensures few { length self.now.entries ≤ BOOK_MOST }
     {
         self.marks.len() as u64
     }

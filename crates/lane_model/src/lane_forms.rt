@@ -45,7 +45,8 @@ pub trait LaneForm: Drop {
 
     /// How many messages were accepted.
     fn accepted(&self) -> u64
-        ensures { result ≡ length (form.state self.now).lane.accepted };
+        ensures count { result ≡ length (form.state self.now).lane.accepted }
+        ensures few { result ≤ BOOK_MOST };
 
     /// How many messages were handed over.
     fn handed(&self) -> u64

@@ -10,7 +10,7 @@ ghost use Rattle.lane_model.specs.declared.recoveries.LaneTurn.{LaneTurn};
 ghost use Rattle.lane_model.specs.Parts.{part_done, MayPart, with_manager, without_manager};
 ghost use Rattle.lane_model.specs.Links.{lanes_of, end_of, LinkState, caller_step, opened_link, with_caller, free_number};
 ghost use Rattle.lane_model.specs.Forms.{list_form};
-ghost use Rattle.lane_model.specs.Recoveries.{link_after_close, link_after_reclaim, link_after_reopen, HandsNone, IsEmptyLane};
+ghost use Rattle.lane_model.specs.Recoveries.{link_after_close, link_after_reclaim, link_after_reopen, unopened_by, HandsNone, IsEmptyLane};
 ghost use Rattle.lane_model.specs.Conditions.{MayStep};
 ghost use Rattle.lane_model.specs.Soundness.{SoundLink};
 ghost use Rattle.lane_model.specs.Desks.{IsFreshDesk, IsBound};
@@ -33,22 +33,41 @@ pub fn seven_suffice<D: Desk>()
         → HasEnd (steps_to_end 7 D.meaning link caller follows wished) }
 {}
 
-/// A step of one caller leaves every other caller's next step possible.
+/// A step of one caller, and its reclaim, leave every other caller's next step possible. The making of a caller and a close leave every
+/// caller's next step possible, and a reopening every first step.
 pub fn others_may<D: Desk>()
-    ensures { (link : LinkState D) (caller other follows : ℕ) (wished next : Option Wish) → caller ≢ other
+    ensures step { (link : LinkState D) (caller other follows : ℕ) (wished next : Option Wish) → caller ≢ other
         → MayStep link caller wished → MayStep link other next → MayStep (caller_step D.meaning link caller follows wished).state other next }
+    ensures caller { (link : LinkState D) (new : End) (other : ℕ) (next : Option Wish) → MayStep link other next
+        → MayStep (record link { callers = with_caller link.callers new (free_number link.callers) }) other next }
+    ensures close { (link : LinkState D) (inc other : ℕ) (next : Option Wish) → MayStep link other next → MayStep (link_after_close link inc) other next }
+    ensures reclaim { (link : LinkState D) (caller other : ℕ) (next : Option Wish) → caller ≢ other → MayStep link other next
+        → MayStep (link_after_reclaim (list_form D.meaning) link caller) other next }
+    ensures reopen { (link : LinkState D) (other : ℕ) (next : Wish) → unopened_by link ≡ None → MayStep link other (Some next)
+        → MayStep (link_after_reopen (list_form D.meaning) link) other (Some next) }
 {}
 
-/// The making of a caller leaves every caller's next step possible.
-pub fn caller_may<D: Desk>()
-    ensures { (link : LinkState D) (new : End) (caller : ℕ) (wished : Option Wish) → MayStep link caller wished
-        → MayStep (record link { callers = with_caller link.callers new (free_number link.callers) }) caller wished }
-{}
-
-/// Every step of a call keeps the link sound.
+/// Whatever befalls a sound link leaves it sound: every step of a call, the making of a caller, a close at any time, and in a closed era a
+/// reclaim, whole or each of its parts, where it may be done; a turn, on either lane, that the manager takes or leaves; any of these one
+/// after the other; and a reopening.
 pub fn sound_kept<D: Desk>()
-    ensures { (link : LinkState D) (caller follows : ℕ) (wished : Option Wish) → SoundLink link → MayStep link caller wished
+    ensures step { (link : LinkState D) (caller follows : ℕ) (wished : Option Wish) → SoundLink link → MayStep link caller wished
         → SoundLink (caller_step D.meaning link caller follows wished).state }
+    ensures caller { (link : LinkState D) (new : End) → SoundLink link
+        → SoundLink (record link { callers = with_caller link.callers new (free_number link.callers) }) }
+    ensures close { (link : LinkState D) (inc : ℕ) → SoundLink link → SoundLink (link_after_close link inc) }
+    ensures reclaim { (link : LinkState D) (caller : ℕ) → link.era.is_live ≡ false → SoundLink link
+        → SoundLink (link_after_reclaim (list_form D.meaning) link caller) }
+    ensures part { (link : LinkState D) (end : End) (caller : ℕ) (which : ReclaimPart) → link.era.is_live ≡ false
+        → end_of link.callers caller ≡ Some end → MayPart (lanes_of link end) caller which → SoundLink link
+        → SoundLink (part_done link end caller which) }
+    ensures manager_takes { (link : LinkState D) (which : LaneTurn) → SoundLink link
+        → SoundLink (record link { to_host = with_manager link.to_host which }) × SoundLink (record link { to_remote = with_manager link.to_remote which }) }
+    ensures manager_leaves { (link : LinkState D) (which : LaneTurn) → SoundLink link
+        → SoundLink (record link { to_host = without_manager link.to_host which }) × SoundLink (record link { to_remote = without_manager link.to_remote which }) }
+    ensures moves { (start : Recorded D) (moves : List Move) → SoundLink start.link → MayMoves D.meaning start.link moves
+        → SoundLink (after_moves D.meaning start moves).link }
+    ensures reopen { (link : LinkState D) → SoundLink (link_after_reopen (list_form D.meaning) link) }
 {}
 
 /// A new link is sound.
@@ -56,58 +75,10 @@ pub fn opened_sound<D: Desk>()
     ensures { (config : LinkConfig) (host remote : D) → SoundLink (opened_link config host remote) }
 {}
 
-/// The making of a caller keeps a link sound.
-pub fn caller_sound<D: Desk>()
-    ensures { (link : LinkState D) (new : End) → SoundLink link
-        → SoundLink (record link { callers = with_caller link.callers new (free_number link.callers) }) }
-{}
-
-/// A close keeps a link sound.
-pub fn close_sound<D: Desk>()
-    ensures { (link : LinkState D) (inc : ℕ) → SoundLink link → SoundLink (link_after_close link inc) }
-{}
-
-/// A reclaim, which needs a closed era, keeps a link sound.
-pub fn reclaim_sound<D: Desk>()
-    ensures { (link : LinkState D) (caller : ℕ) → link.era.is_live ≡ false → SoundLink link
-        → SoundLink (link_after_reclaim (list_form D.meaning) link caller) }
-{}
-
-/// A reopened link is sound.
-pub fn reopen_sound<D: Desk>()
-    ensures { (link : LinkState D) → SoundLink (link_after_reopen (list_form D.meaning) link) }
-{}
-
-/// No step of a call hands a message over in a closed era.
-pub fn closed_hands_none<D: Desk>()
-    ensures { (link : LinkState D) (caller follows : ℕ) (wished : Option Wish) → link.era.is_live ≡ false
-        → HandsNone link (caller_step D.meaning link caller follows wished).state }
-{}
-
-/// No reclaim hands a message over.
-pub fn reclaim_hands_none<D: Desk>()
-    ensures { (link : LinkState D) (caller : ℕ) → HandsNone link (link_after_reclaim (list_form D.meaning) link caller) }
-{}
-
 /// After a reopening both lanes are empty, so what is handed over in an incarnation was accepted in it.
 pub fn fresh<D: Desk>()
     ensures { (link : LinkState D) → IsEmptyLane (link_after_reopen (list_form D.meaning) link).to_host
         × IsEmptyLane (link_after_reopen (list_form D.meaning) link).to_remote }
-{}
-
-/// Each part of a reclaim, which needs a closed era, keeps a link sound.
-pub fn part_sound<D: Desk>()
-    ensures { (link : LinkState D) (end : End) (caller : ℕ) (which : ReclaimPart) → link.era.is_live ≡ false
-        → end_of link.callers caller ≡ Some end → MayPart (lanes_of link end) caller which → SoundLink link
-        → SoundLink (part_done link end caller which) }
-{}
-
-/// A turn that the manager takes or leaves, on either lane, keeps a link sound.
-pub fn manager_sound<D: Desk>()
-    ensures takes { (link : LinkState D) (which : LaneTurn) → SoundLink link
-        → SoundLink (record link { to_host = with_manager link.to_host which }) × SoundLink (record link { to_remote = with_manager link.to_remote which }) }
-    ensures leaves { (link : LinkState D) (which : LaneTurn) → SoundLink link
-        → SoundLink (record link { to_host = without_manager link.to_host which }) × SoundLink (record link { to_remote = without_manager link.to_remote which }) }
 {}
 
 /// A new link is at the start of its incarnation.
@@ -161,8 +132,12 @@ pub fn prefix<D: Desk>()
         IsBound D.meaning (lane_to now.link end).desk other → other.endpoint ≡ bound.endpoint → other ≡ bound }
 {}
 
-/// From a close on, whatever befalls the link in that incarnation, nothing is handed over to either end.
+/// In a closed era no step of a call and no reclaim hands a message over, and from a close on, whatever befalls the link in that incarnation,
+/// nothing is handed over to either end.
 pub fn closed<D: Desk>()
+    ensures step { (link : LinkState D) (caller follows : ℕ) (wished : Option Wish) → link.era.is_live ≡ false
+        → HandsNone link (caller_step D.meaning link caller follows wished).state }
+    ensures reclaim { (link : LinkState D) (caller : ℕ) → HandsNone link (link_after_reclaim (list_form D.meaning) link caller) }
     ensures handings { (start : Recorded D) (moves : List Move) (end : End) → start.link.era.is_live ≡ false
         → handings_to (after_moves D.meaning start moves) end ≡ handings_to start end }
     ensures takers { (start : Recorded D) (moves : List Move) → start.link.era.is_live ≡ false

@@ -32,25 +32,16 @@ pub fn opened_sound<D: Desk>()
     ensures { (config : LinkConfig) (host remote : D) → IsConfig config → HasSoundRings (opened_ring_link config host remote) }
 {}
 
-/// Every step of a call keeps the rings of a link sound.
+/// Every step of a call, a close, a reclaim and a reopening keep the rings of a link sound, so that each buffer has one owner still. A
+/// reopening leaves no buffer aside.
 pub fn sound_kept<D: Desk>()
-    ensures { (caller follows : ℕ) (link : LaneLink (RingState D)) (wished : Option Wish) → HasSoundRings link
+    ensures step { (caller follows : ℕ) (link : LaneLink (RingState D)) (wished : Option Wish) → HasSoundRings link
         → MayStep (link_of (ring_form D.meaning) link) caller wished
         → HasSoundRings (form_step (ring_form D.meaning) D.meaning link caller follows wished).state }
-{}
-
-/// A close keeps the rings of a link sound.
-pub fn close_sound<D: Desk>()
-    ensures { (link : LaneLink (RingState D)) (inc : ℕ) → HasSoundRings link → HasSoundRings (link_after_close link inc) }
-{}
-
-/// A reclaim keeps the rings of a link sound, so each buffer has one owner still.
-pub fn reclaim_sound<D: Desk>()
-    ensures { (link : LaneLink (RingState D)) (caller : ℕ) → HasSoundRings link → HasSoundRings (link_after_reclaim (ring_form D.meaning) link caller) }
-{}
-
-/// A reopening keeps the rings of a link sound, and leaves no buffer aside.
-pub fn reopen_sound<D: Desk>()
-    ensures sound { (link : LaneLink (RingState D)) → HasSoundRings link → HasSoundRings (link_after_reopen (ring_form D.meaning) link) }
-    ensures aside { (link : LaneLink (RingState D)) → ((link_after_reopen (ring_form D.meaning) link).to_host.rings.aside ≡ []) × ((link_after_reopen (ring_form D.meaning) link).to_remote.rings.aside ≡ []) }
+    ensures close { (link : LaneLink (RingState D)) (inc : ℕ) → HasSoundRings link → HasSoundRings (link_after_close link inc) }
+    ensures reclaim { (link : LaneLink (RingState D)) (caller : ℕ) → HasSoundRings link
+        → HasSoundRings (link_after_reclaim (ring_form D.meaning) link caller) }
+    ensures reopen { (link : LaneLink (RingState D)) → HasSoundRings link → HasSoundRings (link_after_reopen (ring_form D.meaning) link) }
+    ensures aside { (link : LaneLink (RingState D)) → ((link_after_reopen (ring_form D.meaning) link).to_host.rings.aside ≡ [])
+        × ((link_after_reopen (ring_form D.meaning) link).to_remote.rings.aside ≡ []) }
 {}

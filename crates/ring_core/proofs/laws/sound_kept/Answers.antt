@@ -1,5 +1,12 @@
-use Rattle.ring_core.proofs.Links.{link_kept}
+use Rattle.std.proofs.Common.{refl}
+use Rattle.ring_core.proofs.Links.{close_kept, link_kept, reclaim_kept, reopen_kept}
 use Rattle.ring_core.proofs.laws.sound_kept.Goals as goal
 
 pub returns : goal.returns
-returns g c = link_kept g.D.Desk.meaning
+returns g c = record {
+  step = link_kept g.D.Desk.meaning;
+  close = λ link inc sound. close_kept link inc sound;
+  reclaim = λ link caller sound. reclaim_kept g.D.Desk.meaning link caller sound;
+  reopen = λ link sound. reopen_kept g.D.Desk.meaning link sound;
+  aside = λ link. (refl, refl);
+}

@@ -21,7 +21,7 @@ invariant_of-self g c =
     let message = message_is old.lane.sender send_stage.Buffer c.outgoing-message.result.now at c.outgoing-message.ensures.sent in
     let filled = c.fill.ensures ∙ ap (set old.rings.buffers old.rings.sending) message in
     let entry = ap (λ n. record { id = old.rings.sending; len = n }) (c.entry_length-len.ensures ∙ ap (λ (m : List ℕ). entry_length old.rings.sizes (length m)) message) in
-    let stored = c.store_at.ensures ∙ ap₂ (λ (n : ℕ) (e : UsedWord). set old.rings.forward (n % old.rings.sizes.entries) e) c.accepted-accepted.ensures entry in
+    let stored = c.store_at.ensures ∙ ap₂ (λ (n : ℕ) (e : UsedWord). set old.rings.forward (n % old.rings.sizes.entries) e) c.accepted-accepted.ensures.count entry in
     inside_after _ _ _ c.self.invariant
     (sent_at _ g.D.Desk.meaning old c.args.era _ _ (send_stage.Buffer) at c.advance_send.ensures.left (ap₂ (λ (b : List (List ℕ)) (f : List UsedWord). record old.rings { buffers = b; forward = f }) filled stored))
     (sent_on_sound g.D.Desk.meaning old c.args.era c.self.invariant.sound) (omega arith) (omega arith)
@@ -33,7 +33,7 @@ returns-clause-left g c =
     let message = message_is old.lane.sender send_stage.Buffer c.outgoing-message.result.now at c.outgoing-message.ensures.sent in
     let filled = c.fill.ensures ∙ ap (set old.rings.buffers old.rings.sending) message in
     let entry = ap (λ n. record { id = old.rings.sending; len = n }) (c.entry_length-len.ensures ∙ ap (λ (m : List ℕ). entry_length old.rings.sizes (length m)) message) in
-    let stored = c.store_at.ensures ∙ ap₂ (λ (n : ℕ) (e : UsedWord). set old.rings.forward (n % old.rings.sizes.entries) e) c.accepted-accepted.ensures entry in
+    let stored = c.store_at.ensures ∙ ap₂ (λ (n : ℕ) (e : UsedWord). set old.rings.forward (n % old.rings.sizes.entries) e) c.accepted-accepted.ensures.count entry in
     sent_at _ g.D.Desk.meaning old c.args.era _ _ (send_stage.Buffer) at c.advance_send.ensures.left (ap₂ (λ (b : List (List ℕ)) (f : List UsedWord). record old.rings { buffers = b; forward = f }) filled stored)
     ∙ ap (λ s. (ring_form g.D.Desk.meaning).sent_on s c.args.era) c.self.view_is
 

@@ -44,7 +44,7 @@ invariant_of-self g c =
     let lane = c.accept_at_once.ensures ∙ ap (λ (m : List ℕ). record old.lane { lane = with_accepted old.lane.lane c.args.caller m }) c.set.ensures in
     let made : ℕ → List ℕ → List UsedWord → Rings = λ b m f. record rings { sending = b; buffers = set rings.buffers b m; forward = f; forward_index = next_index rings.forward_index } in
     let stored : ℕ → ℕ → ℕ → List UsedWord = λ n b l. set rings.forward (n % rings.sizes.entries) (record { id = b; len = l }) in
-    let forward = c.store_at.ensures ∙ ap₂ (λ (n l : ℕ). stored n buffer l) c.accepted-number.ensures c.entry_length.ensures in
+    let forward = c.store_at.ensures ∙ ap₂ (λ (n l : ℕ). stored n buffer l) c.accepted-number.ensures.count c.entry_length.ensures in
     let left = ap (made buffer c.set.new.self) forward
     ∙ ap (λ (m : List ℕ). made buffer m (stored accepted buffer (entry_length rings.sizes (length m)))) c.set.ensures
     ∙ ap (λ (b : ℕ). made b message (stored accepted b (entry_length rings.sizes (length message)))) source in
