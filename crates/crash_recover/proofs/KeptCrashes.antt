@@ -14,11 +14,11 @@ use Rattle.lane_model.specs.Crashes.{ended_turn, has_held, needed_holder, other_
 use Rattle.lane_model.specs.Forms.{list_form}
 use Rattle.lane_model.specs.Lanes.{has_call, holder, is_live_in}
 use Rattle.lane_model.specs.Links.{LinkState, end_of, free_number, lanes_of, with_caller}
-use Rattle.lane_model.specs.Moves.{Move, MayMoves, Recorded, after_move, after_moves, no_handings}
+use Rattle.lane_model.specs.Moves.{no_handings}
 use Rattle.lane_model.specs.Recoveries.{link_after_close, unreclaimed_by, without_caller}
 use Rattle.lane_model.specs.Soundness.{IsSoundTurn, SoundLink}
 use Rattle.lane_model.proofs.CrashLaws.{close_sound, freed}
-use Rattle.lane_model.proofs.LinkRuns.{move_sound}
+use Rattle.lane_model.proofs.LinkRuns.{moves_sound}
 use Rattle.channel_bus.specs.Sides.{EndState, side_meaning}
 use Rattle.crash_recover.specs.BenchCrashes.{after_close, after_reclaim}
 use Rattle.crash_recover.specs.BenchMoves.{IsReached}
@@ -255,13 +255,9 @@ turn_has link (turn.Leaving other ended) caller is unmanaged sound held =
 turn_has link turn.Manager caller is unmanaged sound held = absurd unmanaged
 
 -- a reached link is sound
-moves_sound : (now : Recorded EndState) (moves : List Move) → MayMoves side_meaning now.link moves → SoundLink now.link → SoundLink (after_moves side_meaning now moves).link
-moves_sound now [] may sound = sound
-moves_sound now (move ∷ moves) may sound = moves_sound (after_move side_meaning now move) moves may.1 (move_sound side_meaning now.link move sound may.0)
-
 pub reached_sound : (link : LinkState EndState) → IsReached link → SoundLink link
 reached_sound link reached =
-    subst (λ (left : LinkState EndState). SoundLink left) reached.came.left (moves_sound (no_handings reached.start) reached.came.moves reached.came.may reached.new.sound)
+    subst (λ (left : LinkState EndState). SoundLink left) reached.came.left (moves_sound side_meaning (no_handings reached.start) reached.came.moves reached.new.sound reached.came.may)
 
 -- ---- the close of a crash
 

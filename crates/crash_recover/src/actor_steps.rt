@@ -1,6 +1,5 @@
-ghost use Rattle.std.specs.Prelude.{◌≡◌, ◌<◌, ◌≤◌, ◌+◌, length, false, is_some, OnErr, OnOk};
+ghost use Rattle.std.specs.Prelude.{◌≡◌, ◌<◌, ◌≤◌, ◌+◌, length, false, is_some, OnOk};
 ghost use Rattle.std.specs.VecDeque.{deque_len, deque_capacity};
-ghost use Rattle.addr_translate.specs.Maps.{Mapping};
 ghost use Rattle.lane_model.specs.declared.calls.CallEnd.{CallEnd};
 ghost use Rattle.remote_core.specs.Works.{memory_after, work_of};
 ghost use Rattle.crash_recover.specs.Actors.{actors_view};

@@ -1,4 +1,4 @@
-ghost use Rattle.std.specs.Prelude.{◌≡◌, IfSome};
+ghost use Rattle.std.specs.Prelude.{◌≡◌};
 ghost use Rattle.crash_recover.specs.BenchHolds.{caller_out, holds, is_out};
 
 use crate::benches::Bench;

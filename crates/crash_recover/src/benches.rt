@@ -1,11 +1,11 @@
-ghost use Rattle.std.specs.Prelude.{◌≡◌, ◌<◌, ◌≤◌, ◌++◌, ◌+◌, ℕ, length, true, false, IfOk, IfErr, IfNone, IfSome, Some, None};
-ghost use Rattle.rp_base.specs.declared.limits.TheConstants.{STEPS_MOST, MESSAGE_MOST};
+ghost use Rattle.std.specs.Prelude.{◌≡◌, ◌<◌, ◌≤◌, ◌++◌, ◌+◌, length, true, IfOk, IfErr, IfNone, IfSome, Some, None};
+ghost use Rattle.rp_base.specs.declared.limits.TheConstants.{BOOK_MOST, MESSAGE_MOST, STEPS_MOST};
 ghost use Rattle.lane_model.specs.declared.calls.Wish.TheVariants as wish;
 ghost use Rattle.lane_model.specs.Links.{end_of, free_number};
 ghost use Rattle.channel_bus.specs.Sides.{side_meaning};
 ghost use Rattle.lane_model.specs.Desks.{IsFreshDesk};
-ghost use Rattle.lane_model.specs.Conditions.{IsConfig, IsFitWish, is_holding};
-ghost use Rattle.crash_recover.specs.Benches.{IsSendable, advance_fault, advance_walk, begin_fault, call_walk, counts_of, is_in_call, new_bench_of, no_begun, reach_of, ready_fault, start_walk, taken_on, with_begun, with_new_caller};
+ghost use Rattle.lane_model.specs.Conditions.{IsConfig, is_holding};
+ghost use Rattle.crash_recover.specs.Benches.{IsSendable, advance_walk, begin_fault, call_walk, counts_of, is_in_call, new_bench_of, no_begun, reach_of, ready_fault, start_walk, taken_on, with_begun, with_new_caller};
 
 use crate::steps::{BenchLink, call_steps, later_steps};
 use crate::whole_steps::{whole_send, whole_steps};
@@ -318,10 +318,11 @@ impl Bench {
     }
 
     /// How many messages were accepted, handed over and given back on a lane: 0 to the host, 1 to the
-    /// remote.
+    /// remote. No more are accepted than the largest book has room for.
     pub fn counts(&self, lane: u8) -> (u64, u64, u64)
         requires { lane < 2 }
-        ensures { result ≡ counts_of self.now lane }
+        ensures counts { result ≡ counts_of self.now lane }
+        ensures few { result.0 ≤ BOOK_MOST }
     {
         let counted = if lane == 0 {
             &self.link.to_host

@@ -1,6 +1,6 @@
 //! Laws of the links of benches and of cores. Each is the contract of an empty function, and speaks of definitions alone.
 
-ghost use Rattle.std.specs.Prelude.{◌≡◌, ◌++◌, ◌<◌, ℕ, false, true, List, None, Some};
+ghost use Rattle.std.specs.Prelude.{◌≡◌, ◌<◌, ℕ, false, true, List, None, Some};
 ghost use Rattle.rp_base.specs.declared.kinds.End.{End};
 ghost use Rattle.lane_model.specs.declared.calls.LinkConfig.{LinkConfig};
 ghost use Rattle.lane_model.specs.declared.calls.Wish.{Wish};
@@ -8,6 +8,7 @@ ghost use Rattle.lane_model.specs.Desks.{IsFreshDesk};
 ghost use Rattle.lane_model.specs.Lanes.{holder};
 ghost use Rattle.lane_model.specs.Links.{LinkState, end_of, free_number};
 ghost use Rattle.lane_model.specs.Recoveries.{unopened_by, unreclaimed_by};
+ghost use Rattle.lane_model.specs.Soundness.{SoundLink};
 ghost use Rattle.channel_bus.specs.Sides.{EndState, side_meaning};
 ghost use Rattle.crash_recover.specs.declared.benches.BegunCall.{BegunCall};
 ghost use Rattle.crash_recover.specs.Actors.{ActorsState};
@@ -21,7 +22,7 @@ ghost use Rattle.crash_recover.specs.Cores.{CoreState, new_core};
 ghost use Rattle.crash_recover.specs.CoreTurns.{core_turns};
 ghost use Rattle.crash_recover.specs.Drives.{after_call_end, drive_step, first_or_take};
 ghost use Rattle.crash_recover.specs.BenchMoves.{ComesBy, IsReached, IsReachedBench, IsReachedCore, WasBoundOnTheWay, history_of};
-ghost use Rattle.crash_recover.specs.KeptCores.{AreOwnUsed, IsKeptBench, IsKeptCore, IsUnmanaged, crash_reaches, end_after_crash, is_running, with_next_life};
+ghost use Rattle.crash_recover.specs.KeptCores.{AreOwnUsed, IsKeptBench, IsKeptCore, IsUnmanaged, crash_reaches, end_after_crash, with_next_life};
 ghost use Rattle.crash_recover.specs.PendingCalls.{HasNoneBegun, IsReadyBench, IsReadyCore};
 ghost use Rattle.proc_state.specs.Lives.{CoreLife};
 ghost use Rattle.rp_base.specs.declared.kinds.End.TheVariants as side;
@@ -83,6 +84,11 @@ pub fn core_reached()
     ensures call_end { (core : CoreState) (caller : ℕ) (end : CallEnd) → IsReachedCore core → IsReachedCore (after_call_end core caller end) }
     ensures turns { (count sender receiver : ℕ) (core : CoreState) (steps : ℕ) → IsReachedCore core
         → IsReachedCore (core_turns count sender receiver core steps).core }
+{}
+
+/// A link that comes so is sound.
+pub fn reached_sound()
+    ensures { (link : LinkState EndState) → IsReached link → SoundLink link }
 {}
 
 /// What a link has handed over to an end in its incarnation is, in order, the first messages of the book of that lane: each number once, with

@@ -1,4 +1,4 @@
-ghost use Rattle.std.specs.Prelude.{◌≡◌, ◌≢◌, ◌≤◌, ◌++◌, ◌+◌, ℕ, length, Option, Some, None};
+ghost use Rattle.std.specs.Prelude.{◌≡◌, ◌≤◌, ◌++◌, ◌+◌, length, Some, None};
 ghost use Rattle.rp_base.specs.declared.limits.TheConstants.{STEPS_MOST, MESSAGE_MOST};
 ghost use Rattle.lane_model.specs.declared.calls.Wish.{Wish};
 ghost use Rattle.lane_model.specs.declared.calls.Wish.TheVariants as wish;

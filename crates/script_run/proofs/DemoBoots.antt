@@ -1,5 +1,5 @@
 -- The images of a demo's workers, where they load, have a program of few records, and rings with room; so a demo ends.
-use Rattle.std.proofs.Common.{◌≡◌, ◌<◌, ◌≤◌, ℕ, List, length, None, refl, arith}
+use Rattle.std.proofs.Common.{◌≡◌, ◌∙◌, ◌<◌, ◌≤◌, ℕ, List, [], length, None, IfSome, IfOk, Result, Ok, Err, refl, sym, ap, arith}
 use Rattle.rp_base.specs.declared.limits.TheConstants.{IMAGE_MOST}
 use Rattle.memory_pool.specs.declared.blocks.Block.{Block}
 use Rattle.memory_pool.specs.Regions.{standard_regions}
@@ -13,17 +13,17 @@ use Rattle.crash_recover.specs.Cores.{LoadState}
 use Rattle.crash_recover.specs.Drives.{placed_map}
 use Rattle.crash_recover.proofs.BootBounds.{AreRoomy}
 use Rattle.crash_recover.proofs.DriveBounds.{IsProgram}
+use Rattle.script_lang.specs.declared.commands.Command.{Command}
+use Rattle.script_run.specs.declared.demos.Accepted.{Accepted}
 use Rattle.script_run.specs.Demos.{accepted_from, counted_output, demo_output}
 use Rattle.script_run.specs.Runs.{new_run, run_of}
 use Rattle.script_run.specs.Stores.{held}
-use Rattle.std.proofs.Common.{ap}
 use Rattle.image_maker.proofs.DemoSizes.{demo_is_said}
 use Rattle.script_run.proofs.DemoSums.{demo_is}
 use Rattle.script_run.proofs.DemoEnds.{AreBootable, demo_ends}
 use Rattle.script_run.proofs.DemoLoads.{loadable, memory_front, records_stand, rings_roomy, one_device, table_entries}
 use Rattle.script_run.proofs.DemoPrograms.{IsAtRecord, credit_of, demo_program, records_left}
 use Rattle.remote_core.specs.Workers.{new_worker}
-use Rattle.std.proofs.Common.{IfSome, ◌∙◌, []}
 
 -- what an image becomes, where these blocks are placed
 record Boots (reply : ℕ) (load : LoadState) : Type 0 where
@@ -59,3 +59,10 @@ pub demo_writes : (sessions : ℕ) → sessions ≤ 500 → demo_output sessions
 demo_writes sessions few =
     demo_is sessions (demo_commands sessions) (demo_is_said sessions few)
     ∙ ap (counted_output sessions (accepted_from new_run (demo_commands sessions))) (demo_goes_on sessions few)
+
+-- a count of what its commands' run accepted
+pub demo_counted : {E : Type 0} (sessions : ℕ) (commands : List Command) (result : Result Accepted E) → sessions ≤ 500 → commands ≡ demo_commands sessions
+    → IfOk result (λ accepted. accepted ≡ accepted_from new_run commands) → IfOk result (λ accepted. demo_output sessions ≡ counted_output sessions accepted None)
+demo_counted sessions commands (Ok accepted) few same is =
+    demo_writes sessions few ∙ ap (λ (a : Accepted). counted_output sessions a None) (sym (is ∙ ap (accepted_from new_run) same))
+demo_counted sessions commands (Err error) few same is = is

@@ -1,24 +1,26 @@
 -- The run of a demo's commands over an empty store, command by command, and what its links accepted.
-use Rattle.std.proofs.Common.{◌≡◌, ℕ, ◌+◌, ◌-◌, ◌^◌, ◌≤◌, List, [], ◌∷◌, Option, Some, None, Result, Ok, Err, is_ok, refl, sym, ap, ap₂, subst, ◌∙◌, min, arith}
-use Rattle.std.proofs.lemmas.Bool.{true≢false}
+use Rattle.std.proofs.Common.{◌≡◌, ℕ, zero, suc, ◌+◌, ◌*◌, ◌-◌, ◌^◌, ◌≤◌, List, [], ◌∷◌, length, length-append, Option, Some, None, Result, Ok, Err, is_ok, is_some, nat_lt, refl, sym, ap, ap₂, subst, ◌∙◌, arith}
+use Rattle.std.proofs.lemmas.Bool.{cond_both, true≢false}
+use Rattle.std.specs.Result.{result_unwrap_or}
+use Rattle.rp_base.specs.declared.kinds.DriverKind.TheVariants as driver
+use Rattle.rp_base.specs.declared.limits.TheConstants.{BOOK_MOST, SCRIPT_LINES_MOST}
 use Rattle.rp_io.specs.declared.faults.FetchFault.TheVariants as fetch_fault
 use Rattle.rp_io.specs.Images.{fetch_answer}
 use Rattle.script_lang.specs.declared.commands.Command.{Command}
+use Rattle.script_lang.specs.declared.commands.Command.TheVariants as command
+use Rattle.script_lang.specs.declared.commands.RegionSet.TheVariants as regions
 use Rattle.script_lang.specs.Grammar.{Refusal, script_of}
 use Rattle.script_lang.specs.Runnable.{AreRunnable}
 use Rattle.script_lang.proofs.Runnable.{are_runnable}
-use Rattle.image_maker.specs.Demo.{demo_commands, demo_text}
+use Rattle.image_maker.specs.Demo.{core_commands, demo_commands, demo_text, first_sessions, number_at, reply_length, sample_channel, session_commands, session_core, session_image, worker_lines}
 use Rattle.image_maker.proofs.DemoSizes.{demo_is_said}
 use Rattle.script_run.specs.declared.demos.Accepted.{Accepted}
-use Rattle.script_run.specs.declared.demos.DemoFault.{DemoFault}
-use Rattle.script_run.specs.declared.demos.DemoFault.TheVariants as fault
 use Rattle.script_run.specs.declared.statuses.Stop.{Stop}
 use Rattle.script_run.specs.Stores.{answer_for, held, later_told}
 use Rattle.script_run.specs.Logs.{HasRunEffect, LogState}
 use Rattle.script_run.specs.Runs.{ObjectsState, Run, RunState, asked_name, effect_of, new_run, run_from, run_of, run_on}
 use Rattle.script_run.specs.Demos.{accepted_from, accepted_sum, bare_effect, counted_output, demo_output, drive_accepted, none_accepted, said_output}
-use Rattle.script_run.specs.DemoRuns.{IsCounted, IsDemoCount}
-use Rattle.script_run.proofs.RunSteps.{run_first, run_none}
+use Rattle.script_run.proofs.RunSteps.{run_first}
 use Rattle.script_run.proofs.Shelves.{held_run}
 
 -- an empty store has no image
@@ -52,74 +54,62 @@ accepted_none : (state : RunState) → accepted_from state [] ≡ none_accepted
 unfolding accepted_from
 accepted_none state = refl
 
--- counts that a number of 64 bits holds
-pub record IsWithin (accepted : Accepted) : Type 0 where
-  pub to_host : accepted.to_host ≤ 2 ^ 64 - 1
-  pub to_remote : accepted.to_remote ≤ 2 ^ 64 - 1
-
-none_first : (accepted : Accepted) → IsWithin accepted → accepted ≡ accepted_sum none_accepted accepted
-none_first accepted is =
-    let host : accepted.to_host ≡ min (0 + accepted.to_host) (2 ^ 64 - 1) = omega (arith, is.to_host) in
-    let remote : accepted.to_remote ≡ min (0 + accepted.to_remote) (2 ^ 64 - 1) = omega (arith, is.to_remote) in
+none_first : (accepted : Accepted) → accepted ≡ accepted_sum none_accepted accepted
+none_first accepted =
+    let host : accepted.to_host ≡ 0 + accepted.to_host = omega arith in
+    let remote : accepted.to_remote ≡ 0 + accepted.to_remote = omega arith in
     ap₂ (λ (h r : ℕ). record { to_host = h; to_remote = r }) host remote
 
-none_last : (accepted : Accepted) → IsWithin accepted → accepted_sum accepted none_accepted ≡ accepted
-none_last accepted is =
-    let host : min (accepted.to_host + 0) (2 ^ 64 - 1) ≡ accepted.to_host = omega (arith, is.to_host) in
-    let remote : min (accepted.to_remote + 0) (2 ^ 64 - 1) ≡ accepted.to_remote = omega (arith, is.to_remote) in
+none_last : (accepted : Accepted) → accepted_sum accepted none_accepted ≡ accepted
+none_last accepted =
+    let host : accepted.to_host + 0 ≡ accepted.to_host = omega arith in
+    let remote : accepted.to_remote + 0 ≡ accepted.to_remote = omega arith in
     ap₂ (λ (h r : ℕ). record { to_host = h; to_remote = r }) host remote
 
-count_assoc : (a b c : ℕ) → min (a + min (b + c) (2 ^ 64 - 1)) (2 ^ 64 - 1) ≡ min (min (a + b) (2 ^ 64 - 1) + c) (2 ^ 64 - 1)
+count_assoc : (a b c : ℕ) → a + (b + c) ≡ (a + b) + c
 count_assoc a b c = omega arith
 
 sum_assoc : (a b c : Accepted) → accepted_sum a (accepted_sum b c) ≡ accepted_sum (accepted_sum a b) c
 sum_assoc a b c =
     ap₂ (λ (h r : ℕ). record { to_host = h; to_remote = r }) (count_assoc a.to_host b.to_host c.to_host) (count_assoc a.to_remote b.to_remote c.to_remote)
 
-sum_within : (a b : Accepted) → IsWithin (accepted_sum a b)
-sum_within a b = record { to_host = omega arith; to_remote = omega arith }
-
-accepted_within : (state : RunState) (commands : List Command) → IsWithin (accepted_from state commands)
-accepted_within state [] = subst IsWithin (sym (accepted_none state)) (record { to_host = omega arith; to_remote = omega arith })
-accepted_within state (first ∷ more) = subst IsWithin (sym (accepted_first state first more))
-    (sum_within (drive_accepted (bare_effect state first).run.objects first) (accepted_from (bare_effect state first).run more))
+-- no more messages than a book has room for
+pub record IsOfBooks (accepted : Accepted) : Type 0 where
+  pub to_host : accepted.to_host ≤ BOOK_MOST
+  pub to_remote : accepted.to_remote ≤ BOOK_MOST
 
 -- so much was accepted before this state of a run, in which these commands are left
 pub record CountsSoFar (commands : List Command) (state : RunState) (accepted : Accepted) (left : List Command) : Type 0 where
   pub ending : (run_of (held []) commands).ending ≡ (run_from (held []) state left).ending
   pub counted : accepted_from new_run commands ≡ accepted_sum accepted (accepted_from state left)
-  pub within : IsWithin accepted
+  pub to_host : accepted.to_host + BOOK_MOST * length left ≤ BOOK_MOST * SCRIPT_LINES_MOST
+  pub to_remote : accepted.to_remote + BOOK_MOST * length left ≤ BOOK_MOST * SCRIPT_LINES_MOST
 
 -- nothing is done
-pub counts_none : (commands : List Command) → CountsSoFar commands new_run none_accepted commands
-counts_none commands = record {
-  ending = refl;
-  counted = none_first (accepted_from new_run commands) (accepted_within new_run commands);
-  within = record { to_host = omega arith; to_remote = omega arith };
-}
+pub counts_none : (commands : List Command) → length commands ≤ SCRIPT_LINES_MOST → CountsSoFar commands new_run none_accepted commands
+counts_none commands few = record { ending = refl; counted = none_first (accepted_from new_run commands); to_host = omega (arith, few); to_remote = omega (arith, few) }
 
 module _ (commands : List Command) (state : RunState) (accepted : Accepted) where
   -- nothing is left
-  pub counts_all : CountsSoFar commands state accepted [] → ((run_of (held []) commands).ending ≡ None) × (accepted ≡ accepted_from new_run commands)
-  counts_all so_far = (
-    so_far.ending ∙ ap (λ (run : Run). run.ending) (run_none (held []) state),
-    sym (so_far.counted ∙ ap (accepted_sum accepted) (accepted_none state) ∙ none_last accepted so_far.within),
-  )
+  pub counts_all : CountsSoFar commands state accepted [] → accepted ≡ accepted_from new_run commands
+  counts_all so_far = sym (so_far.counted ∙ ap (accepted_sum accepted) (accepted_none state) ∙ none_last accepted)
 
-  module _ (first : Command) (more : List Command) (so_far : CountsSoFar commands state accepted (first ∷ more)) where
-    -- the run stops with the first command that is left
-    stops_first : (why : Stop) → (bare_effect state first).ending ≡ Some why → (run_of (held []) commands).ending ≡ Some why
-    stops_first why is = so_far.ending ∙ stops state first more why is
+  module _ (first : Command) (more : List Command) (so_far : CountsSoFar commands state accepted (first ∷ more)) (ends : (run_of (held []) commands).ending ≡ None) where
+    -- a run that goes to its end doesn't stop with the first command that is left
+    first_goes_on : (ending : Option Stop) → (bare_effect state first).ending ≡ ending → ending ≡ None
+    first_goes_on None is = refl
+    first_goes_on (Some why) is = absurd (true≢false (ap is_some (sym (stops state first more why is) ∙ sym so_far.ending ∙ ends)))
 
-    -- the run goes on after it
-    counts_first : (bare_effect state first).ending ≡ None
+    -- it goes on after it
+    counts_first : IsOfBooks (drive_accepted (bare_effect state first).run.objects first)
         → CountsSoFar commands (bare_effect state first).run (accepted_sum accepted (drive_accepted (bare_effect state first).run.objects first)) more
-    counts_first is =
+    counts_first few =
         let driven = drive_accepted (bare_effect state first).run.objects first in
         record {
-          ending = so_far.ending ∙ goes_on state first more is;
+          ending = so_far.ending ∙ goes_on state first more (first_goes_on (bare_effect state first).ending refl);
           counted = so_far.counted ∙ ap (accepted_sum accepted) (accepted_first state first more) ∙ sum_assoc accepted driven (accepted_from (bare_effect state first).run more);
-          within = sum_within accepted driven;
+          to_host = omega (arith, so_far.to_host, few.to_host);
+          to_remote = omega (arith, so_far.to_remote, few.to_remote);
         }
 
 -- the same by what the command left in code
@@ -129,21 +119,29 @@ module _ (commands : List Command) (objects after_objects : ObjectsState) (befor
   first_did : HasRunEffect (bare_effect (record { objects = objects; steps = before.steps }) first) after_objects before after answer
   first_did = subst (λ effect. HasRunEffect effect after_objects before after answer) (bare_is (record { objects = objects; steps = before.steps }) first) did
 
-  pub counts_until : (why : Stop) → answer ≡ Some why → (run_of (held []) commands).ending ≡ Some why
-  counts_until why stops =
-      stops_first commands (record { objects = objects; steps = before.steps }) accepted first more
-      (subst (CountsSoFar commands (record { objects = objects; steps = before.steps }) accepted) is so_far) why (sym first_did.ending ∙ stops)
+  first_so_far : CountsSoFar commands (record { objects = objects; steps = before.steps }) accepted (first ∷ more)
+  first_so_far = subst (CountsSoFar commands (record { objects = objects; steps = before.steps }) accepted) is so_far
 
-  pub counts_after : (steps : ℕ) → steps ≡ after.steps → answer ≡ None
+  -- a run that goes to its end doesn't stop with the command
+  pub counts_goes_on : (run_of (held []) commands).ending ≡ None → answer ≡ None
+  counts_goes_on ends =
+      first_goes_on commands (record { objects = objects; steps = before.steps }) accepted first more first_so_far ends answer (sym first_did.ending)
+
+  -- a number of 64 bits holds so many and those of one drive
+  pub sum_fits : (driven : Accepted) → IsOfBooks driven → (accepted.to_host + driven.to_host ≤ 2 ^ 64 - 1) × (accepted.to_remote + driven.to_remote ≤ 2 ^ 64 - 1)
+  sum_fits driven few = (omega (arith, first_so_far.to_host, few.to_host), omega (arith, first_so_far.to_remote, few.to_remote))
+
+  pub counts_after : (run_of (held []) commands).ending ≡ None → (steps : ℕ) → steps ≡ after.steps → IsOfBooks (drive_accepted after_objects first)
       → CountsSoFar commands (record { objects = after_objects; steps = steps }) (accepted_sum accepted (drive_accepted after_objects first)) more
-  counts_after steps same goes =
+  counts_after ends steps same few =
       let state : RunState = record { objects = objects; steps = before.steps } in
       let effect = bare_effect state first in
       let reached : effect.run ≡ record { objects = after_objects; steps = steps } =
       ap (λ (l : ObjectsState). record { objects = l; steps = effect.run.steps }) (sym first_did.objects)
       ∙ ap (λ (s : ℕ). record { objects = after_objects; steps = s }) (sym first_did.steps ∙ sym same) in
       subst (λ (run : RunState). CountsSoFar commands run (accepted_sum accepted (drive_accepted run.objects first)) more) reached
-      (counts_first commands state accepted first more (subst (CountsSoFar commands state accepted) is so_far) (sym first_did.ending ∙ goes))
+      (counts_first commands state accepted first more first_so_far ends
+      (subst (λ (run : RunState). IsOfBooks (drive_accepted run.objects first)) (sym reached) few))
 
 -- the output of a demo, by the commands that its script says
 pub demo_is : (sessions : ℕ) (commands : List Command) → script_of (demo_text sessions) ≡ Ok commands
@@ -151,11 +149,37 @@ pub demo_is : (sessions : ℕ) (commands : List Command) → script_of (demo_tex
 unfolding demo_output
 demo_is sessions commands says = ap (said_output sessions) says
 
-pub demo_count : (sessions : ℕ) (commands : List Command) (result : Result Accepted DemoFault) → script_of (demo_text sessions) ≡ Ok commands → IsCounted commands result → IsDemoCount sessions result
-demo_count sessions commands (Ok accepted) says is =
-    demo_is sessions commands says ∙ ap (counted_output sessions (accepted_from new_run commands)) is.0 ∙ ap (λ (a : Accepted). counted_output sessions a None) (sym is.1)
-demo_count sessions commands (Err (fault.Stopped why)) says is = demo_is sessions commands says ∙ ap (counted_output sessions (accepted_from new_run commands)) is
-demo_count sessions commands (Err fault.NoMemory) says is = tt
+-- the commands that the script of a demo says are those of a demo
+pub said_commands : (sessions : ℕ) (text : List ℕ) (commands : List Command) → sessions ≤ 500 → text ≡ demo_text sessions → script_of text ≡ Ok commands → commands ≡ demo_commands sessions
+said_commands sessions text commands few is says =
+    ap (λ (read : Result (List Command) Refusal). result_unwrap_or read []) (sym says ∙ ap script_of is ∙ demo_is_said sessions few)
+
+-- they are no more than a script has lines
+core_count : (session : ℕ) → length (core_commands session) ≤ 2
+core_count session =
+    cond_both (nat_lt session 8)
+    (command.Core (session_core session) regions.Standard 128 ∷ command.Driver (session_core session) sample_channel driver.Sample ∷ []) []
+    (λ (commands : List Command). length commands ≤ 2) (λ _. omega arith) (λ _. omega arith)
+
+sessions_count : (seed count : ℕ) → length (first_sessions seed count) ≤ 6 * count
+sessions_count seed zero = omega arith
+sessions_count seed (suc session) =
+    let name = session_core session in
+    let reply = reply_length (number_at seed (suc session)) in
+    let image = session_image session in
+    let before = sessions_count seed session in
+    let core = core_count session in
+    omega (
+      arith,
+      before,
+      core,
+      length-append (first_sessions seed session) (session_commands session reply),
+      length-append (core_commands session) (command.Image image (worker_lines reply) ∷ command.Boot name image ∷ command.Drive name 100000 ∷ command.Shutdown name ∷ []),
+    )
+
+pub demo_count : (sessions : ℕ) → sessions ≤ 500 → length (demo_commands sessions) ≤ SCRIPT_LINES_MOST
+unfolding demo_commands
+demo_count sessions few = let all = sessions_count sessions sessions in omega (arith, all, few)
 
 -- the script of a demo is not refused, and can be run
 pub not_refused : (sessions : ℕ) (text : List ℕ) (refusal : Refusal) → sessions ≤ 500 → text ≡ demo_text sessions → script_of text ≡ Err refusal → ⊥

@@ -16,10 +16,12 @@ use Rattle.script_lang.specs.Runnable.{AreRunnable, IsRunnable}
 use Rattle.journal.specs.declared.events.Event.TheVariants as event
 use Rattle.image_maker.specs.Images.{image_of}
 use Rattle.crash_recover.specs.Benches.{BenchState}
+use Rattle.lane_model.specs.Soundness.{SoundLink}
 use Rattle.crash_recover.specs.BenchMoves.{IsReached, IsReachedBench, IsReachedCore}
 use Rattle.crash_recover.proofs.BenchMoves.{new_reached}
 use Rattle.crash_recover.proofs.CoreMoves.{new_core_reached}
 use Rattle.crash_recover.proofs.Handed.{got_front, got_whole, handed_once}
+use Rattle.crash_recover.proofs.KeptCrashes.{reached_sound}
 use Rattle.script_run.specs.declared.statuses.Stop.{Stop}
 use Rattle.script_run.specs.NamedCores.{NamedCoreState}
 use Rattle.script_run.specs.NamedLinks.{NamedLink}
@@ -202,3 +204,17 @@ pub cores_in_order : (told : Told) (commands : List Command) (named : NamedCoreS
     → IfSome named.core.bench (λ (bench : BenchState). HandsInOrder bench.link)
 cores_in_order told commands named runs there =
     core_in_order named.core.bench (All-contains (λ (named : NamedCoreState). IsReachedCore named.core) _ named (runs_reached told commands runs).cores there).bench
+
+pub links_sound : (told : Told) (commands : List Command) (named : NamedLink) → AreRunnable commands → Contains (run_of told commands).last.objects.links named
+    → SoundLink named.bench.link
+links_sound told commands named runs there =
+    reached_sound named.bench.link (All-contains (λ (named : NamedLink). IsReachedBench named.bench) _ named (runs_reached told commands runs).links there).link
+
+core_sound : (found : Option BenchState) → IfSome found IsReachedBench → IfSome found (λ (bench : BenchState). SoundLink bench.link)
+core_sound None is = is
+core_sound (Some bench) is = reached_sound bench.link is.link
+
+pub cores_sound : (told : Told) (commands : List Command) (named : NamedCoreState) → AreRunnable commands → Contains (run_of told commands).last.objects.cores named
+    → IfSome named.core.bench (λ (bench : BenchState). SoundLink bench.link)
+cores_sound told commands named runs there =
+    core_sound named.core.bench (All-contains (λ (named : NamedCoreState). IsReachedCore named.core) _ named (runs_reached told commands runs).cores there).bench

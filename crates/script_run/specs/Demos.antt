@@ -1,5 +1,5 @@
 -- What `demo` writes (own).
-use Rattle.std.specs.Prelude.{ℕ, ◌+◌, ◌-◌, ◌^◌, min, List, [], ◌∷◌, length, Option, Some, None, Result, Ok, Err}
+use Rattle.std.specs.Prelude.{ℕ, ◌+◌, List, [], ◌∷◌, length, Option, Some, None, Result, Ok, Err}
 use Rattle.rp_io.specs.Images.{fetch_answer}
 use Rattle.script_lang.specs.declared.commands.Command.{Command}
 use Rattle.script_lang.specs.declared.commands.Command.TheVariants as command
@@ -20,13 +20,9 @@ use Rattle.script_run.specs.Outputs.{Output, script_output, stop_output}
 abbrev pub none_accepted : Accepted
 none_accepted = record { to_host = 0; to_remote = 0 }
 
--- the sum of two counts, which stands still at 2^64 - 1
-abbrev pub count_sum : ℕ → ℕ → ℕ
-count_sum first second = min (first + second) (2 ^ 64 - 1)
-
 -- the messages of both
 abbrev pub accepted_sum : Accepted → Accepted → Accepted
-accepted_sum first second = record { to_host = count_sum first.to_host second.to_host; to_remote = count_sum first.to_remote second.to_remote }
+accepted_sum first second = record { to_host = first.to_host + second.to_host; to_remote = first.to_remote + second.to_remote }
 
 -- how many messages the lanes of a link accepted; none where there is no link
 abbrev pub link_accepted : Option BenchState → Accepted

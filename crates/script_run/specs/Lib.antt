@@ -22,7 +22,6 @@ pub mod Reports
 pub mod Asked
 pub mod Outputs
 pub mod Demos
-pub mod DemoRuns
 pub mod Endings
 pub mod ImageReports
 pub mod Logs

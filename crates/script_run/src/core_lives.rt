@@ -1,8 +1,6 @@
-ghost use Rattle.std.specs.Prelude.{◌≡◌, None, IfOk, MatchResult, Ok, Err, option_map};
+ghost use Rattle.std.specs.Prelude.{◌≡◌, None, IfOk, MatchResult, Ok, Err};
 ghost use Rattle.std.specs.Option.{option_copied};
-ghost use Rattle.rp_base.specs.declared.kinds.LifeState.TheVariants as state;
 ghost use Rattle.crash_recover.specs.CoreBoots.{after_shutdown, shutdown_fault};
-ghost use Rattle.crash_recover.specs.CoreCrashes.{after_report};
 ghost use Rattle.script_run.specs.Logs.{HasCoreEffect};
 ghost use Rattle.script_run.specs.CoreLives.{boot_effect, crash_effect, first_crash_effect, found_or_told, image_boot_effect, image_bytes, last_shutdown_effect, life_fault_event, live_inc, load_fault_event, power_event, refused_effect, shutdown_effect};
 ghost use Rattle.script_run.specs.Fetches.{answer_of};

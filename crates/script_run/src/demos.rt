@@ -1,15 +1,16 @@
-ghost use Rattle.std.specs.Prelude.{◌≡◌, ◌≤◌};
+ghost use Rattle.std.specs.Prelude.{◌≡◌, ◌+◌, ◌-◌, ◌^◌, ◌≤◌, [], None, IfOk, length};
+ghost use Rattle.rp_base.specs.declared.limits.TheConstants.{BOOK_MOST, SCRIPT_LINES_MOST};
 ghost use Rattle.script_lang.specs.Runnable.{AreRunnable};
-ghost use Rattle.script_run.specs.declared.demos.DemoFault.TheVariants as fault;
-ghost use Rattle.script_run.specs.Demos.{accepted_sum, demo_output, drive_accepted, link_accepted, none_accepted};
-ghost use Rattle.script_run.specs.DemoRuns.{IsCounted, IsDemoCount};
+ghost use Rattle.script_run.specs.Demos.{accepted_from, accepted_sum, counted_output, demo_output, drive_accepted, link_accepted, none_accepted};
 ghost use Rattle.script_run.specs.Endings.{Writes};
+ghost use Rattle.script_run.specs.Runs.{new_run, run_of};
+ghost use Rattle.script_run.specs.Stores.{held};
 
 use crate::endings::end_with;
 use crate::fetches::Fetched;
 use crate::logs::RunLog;
 use crate::objects::Objects;
-use crate::statuses::{Status, Stop};
+use crate::statuses::Status;
 use crash_recover::Core;
 use image_maker::{SESSIONS_MOST, demo_script};
 use journal::Notice;
@@ -36,31 +37,16 @@ impl Accepted {
         }
     }
 
-    /// These messages and more. Each sum stands still at 2^64 - 1.
+    /// These messages and more, where a number of 64 bits holds each sum.
     fn and(self, more: Accepted) -> Accepted
+        requires to_host { self.to_host + more.to_host ≤ 2 ^ 64 - 1 }
+        requires to_remote { self.to_remote + more.to_remote ≤ 2 ^ 64 - 1 }
         ensures { result ≡ accepted_sum self more }
     {
         Accepted {
-            to_host: self.to_host.saturating_add(more.to_host),
-            to_remote: self.to_remote.saturating_add(more.to_remote),
+            to_host: self.to_host + more.to_host,
+            to_remote: self.to_remote + more.to_remote,
         }
-    }
-}
-
-/// Why the messages of a demo were not counted.
-#[derive(Clone, Copy)]
-pub enum DemoFault {
-    /// The run stopped in its midst.
-    Stopped(Stop),
-    /// Memory ran out.
-    NoMemory,
-}
-
-impl From<NoMemory> for DemoFault {
-    ghost from_gives = { λ _ e. e ≡ fault.NoMemory };
-
-    fn from(_error: NoMemory) -> DemoFault {
-        DemoFault::NoMemory
     }
 }
 
@@ -75,40 +61,39 @@ pub(crate) fn demo<K: Sink>(alloc: Global, sessions: u32, out: &mut K) -> Status
             let counts = Notice::Demo(sessions, accepted.to_host, accepted.to_remote);
             end_with(alloc, &[counts], Status::Done, out)
         }
-        Err(DemoFault::Stopped(Stop::StepLimit)) => {
-            end_with(alloc, &[Notice::StepLimit], Status::StepLimit, out)
-        }
-        Err(DemoFault::NoMemory) => Status::NoMemory,
+        Err(NoMemory) => Status::NoMemory,
     }
 }
 
 /// Runs the script of a demo over an empty store, and counts the messages that its links accepted.
-fn count_demo(alloc: Global, sessions: u32) -> Result<Accepted, DemoFault>
+fn count_demo(alloc: Global, sessions: u32) -> Result<Accepted, NoMemory>
     requires some { 1 ≤ sessions }
     requires most { sessions ≤ SESSIONS_MOST }
-    ensures { IsDemoCount sessions result }
+    ensures { IfOk result (λ accepted. demo_output sessions ≡ counted_output sessions accepted None) }
 {
     let text = demo_script(alloc, sessions)?;
     match parse(alloc, text.as_slice()) {
         Ok(script) => count_accepted(alloc, script.commands.as_slice()),
         Err(ParseFault::Refused(_, _)) => unreachable!(),
-        Err(ParseFault::NoMemory) => Err(DemoFault::NoMemory),
+        Err(ParseFault::NoMemory) => Err(NoMemory),
     }
 }
 
-/// Runs commands in order from nothing over an empty store, and sums up the messages that the links
-/// of their cores accepted, each at the end of a drive.
-fn count_accepted(alloc: Global, commands: &[Command]) -> Result<Accepted, DemoFault>
-    requires { AreRunnable commands.now }
-    ensures { IsCounted commands.now result }
+/// Runs commands whose run goes to its end, in order from nothing over an empty store, and sums up
+/// the messages that the links of their cores accepted, each at the end of a drive.
+fn count_accepted(alloc: Global, commands: &[Command]) -> Result<Accepted, NoMemory>
+    requires runnable { AreRunnable commands.now }
+    requires few { length commands.now ≤ SCRIPT_LINES_MOST }
+    requires ends { (run_of (held []) commands.now).ending ≡ None }
+    ensures { IfOk result (λ accepted. accepted ≡ accepted_from new_run commands.now) }
 {
     let mut objects = Objects::new(alloc);
     let mut log = RunLog::new(alloc);
     let mut accepted = Accepted::none();
     for command in commands {
         let stop = objects.run(command, &Fetched::Missing, &mut log)?;
-        if let Some(stop) = stop {
-            return Err(DemoFault::Stopped(stop));
+        if stop.is_some() {
+            unreachable!()
         }
         log.clear();
         accepted = accepted.and(drive_accepted(&objects, command));
@@ -118,7 +103,9 @@ fn count_accepted(alloc: Global, commands: &[Command]) -> Result<Accepted, DemoF
 
 /// How many messages the link of the core that a command drives accepted; none for another command.
 fn drive_accepted(objects: &Objects, command: &Command) -> Accepted
-    ensures { result ≡ drive_accepted objects.now command.now }
+    ensures accepted { result ≡ drive_accepted objects.now command.now }
+    ensures to_host { result.to_host ≤ BOOK_MOST }
+    ensures to_remote { result.to_remote ≤ BOOK_MOST }
 {
     let Command::Drive(name, _) = command else {
         return Accepted::none();
@@ -131,7 +118,9 @@ fn drive_accepted(objects: &Objects, command: &Command) -> Accepted
 
 /// How many messages the link of a core accepted.
 fn link_accepted(core: &Core) -> Accepted
-    ensures { result ≡ link_accepted core.now.bench }
+    ensures accepted { result ≡ link_accepted core.now.bench }
+    ensures to_host { result.to_host ≤ BOOK_MOST }
+    ensures to_remote { result.to_remote ≤ BOOK_MOST }
 {
     match core.link() {
         Some(bench) => Accepted {

@@ -1,4 +1,4 @@
-ghost use Rattle.std.specs.Prelude.{◌≡◌, ◌≢◌, ◌∷◌, []};
+ghost use Rattle.std.specs.Prelude.{◌≢◌};
 ghost use Rattle.journal.specs.Notices.{report_text};
 ghost use Rattle.script_run.specs.declared.statuses.Status.TheVariants as ended;
 ghost use Rattle.script_run.specs.Endings.{IsFinal, Writes};

@@ -4,6 +4,7 @@ ghost use Rattle.std.specs.Prelude.{◌≡◌, ◌≤◌, ℕ, List, [], None, O
 ghost use Rattle.image_maker.specs.Demo.{demo_commands};
 ghost use Rattle.script_lang.specs.declared.commands.Command.{Command};
 ghost use Rattle.script_lang.specs.Runnable.{AreRunnable, IsRunnable};
+ghost use Rattle.lane_model.specs.Soundness.{SoundLink};
 ghost use Rattle.crash_recover.specs.Benches.{BenchState};
 ghost use Rattle.script_run.specs.Kept.{AreKept, AreReady};
 ghost use Rattle.script_run.specs.NamedCores.{NamedCoreState};
@@ -33,7 +34,15 @@ pub fn links_reached()
     ensures run { (told : Told) (commands : List Command) → AreRunnable commands → AreReached (run_of told commands).last.objects }
 {}
 
-/// So each link of a run, and the link of each core, hands over each message at most once and in order, and what each endpoint got from a
+/// So each link of a run, and the link of each core, is sound after each front of a script.
+pub fn links_sound()
+    ensures links { (told : Told) (commands : List Command) (named : NamedLink) → AreRunnable commands
+        → Contains (run_of told commands).last.objects.links named → SoundLink named.bench.link }
+    ensures cores { (told : Told) (commands : List Command) (named : NamedCoreState) → AreRunnable commands
+        → Contains (run_of told commands).last.objects.cores named → IfSome named.core.bench (λ (bench : BenchState). SoundLink bench.link) }
+{}
+
+/// Each link of a run, and the link of each core, hands over each message at most once and in order, and what each endpoint got from a
 /// sender is a front of what is due to it.
 pub fn links_in_order()
     ensures links { (told : Told) (commands : List Command) (named : NamedLink) → AreRunnable commands

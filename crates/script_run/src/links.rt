@@ -1,9 +1,8 @@
-ghost use Rattle.std.specs.Prelude.{◌≡◌, ◌-◌, ◌<◌, ◌∷◌, [], IfOk, None};
-ghost use Rattle.lane_model.specs.Links.{free_number};
+ghost use Rattle.std.specs.Prelude.{◌≡◌, ◌-◌, ◌<◌, IfOk, None};
 ghost use Rattle.script_lang.specs.Runnable.{IsRunnable};
 ghost use Rattle.journal.specs.declared.events.Event.TheVariants as event;
 ghost use Rattle.script_run.specs.Logs.{HasEffect};
-ghost use Rattle.script_run.specs.Effects.{books_effect, caller_effect, new_caller_effect, tells};
+ghost use Rattle.script_run.specs.Effects.{books_effect, caller_effect, tells};
 ghost use Rattle.script_run.specs.LinkCommands.{link_effect};
 ghost use Rattle.script_run.specs.Runs.{image_wanted};
 

@@ -1,9 +1,5 @@
-ghost use Rattle.std.specs.Prelude.{◌≡◌, ◌≢◌, ◌++◌, IfOk, OnOk, OnErr, Ok, Err};
-ghost use Rattle.std.specs.Io.KnownBytes.{Appends};
-ghost use Rattle.rp_io.specs.Causes.{Rose};
-ghost use Rattle.rp_io.specs.Contents.{AppendsFront};
+ghost use Rattle.std.specs.Prelude.{◌≡◌, ◌≢◌, Ok, Err};
 ghost use Rattle.script_lang.specs.Runnable.{AreRunnable};
-ghost use Rattle.journal.specs.Lines.{transcript};
 ghost use Rattle.script_run.specs.Runs.{AsksNone, new_run};
 ghost use Rattle.script_run.specs.declared.runs.RunFault.TheVariants as fault;
 ghost use Rattle.script_run.specs.Outputs.{stop_output, store_fault_output};
