@@ -12,7 +12,4 @@ pub mod CoreRings
 pub mod Actors
 pub mod Drives
 pub mod CoreCallers
-pub mod BenchMoves
 pub mod CoreTurns
-pub mod KeptCores
-pub mod PendingCalls

@@ -20,7 +20,6 @@ mod core_recoveries;
 mod core_rings;
 mod core_turns;
 mod cores;
-pub mod laws;
 mod steps;
 mod turns;
 mod whole_steps;
