@@ -1,8 +1,6 @@
-use crash_recover::{Core, CoreFault};
 use image_maker::build;
-use memory_pool::Regions;
-use rp_base::{CrashKind, LifeState, Name};
-use rp_io::{FetchFault, MemoryStore};
+use rp_base::Name;
+use rp_io::MemoryStore;
 use script_lang::{Command, parse};
 use std::alloc::Global;
 use std::test::Fail;
@@ -26,21 +24,4 @@ pub(crate) fn store_with(alloc: Global, name: &str, recipe: &str) -> Result<Memo
     let name = Name::of(name.as_bytes()).ok_or("no name")?;
     let images = vec![in alloc; (name, image)]?;
     Ok(MemoryStore::new(images, Vec::new(alloc)))
-}
-
-#[test]
-fn a_core_recovers_from_a_store(rt: HostRuntime) -> Result<(), Fail> {
-    let alloc = rt.alloc();
-    let mut store = store_of(alloc, "fw")?;
-    let mut without = store_of(alloc, "other")?;
-    let mut core = Core::new(alloc, Regions::standard(alloc)?, Vec::new(alloc), 16)?;
-    assert!(rt; core.boot(alloc, "fw", &mut store).is_ok());
-    assert!(rt; core.report(CrashKind::Watchdog).is_ok());
-    let missing = core.recover(alloc, &mut without);
-    assert!(rt; matches!(missing, Err(CoreFault::Fetch(FetchFault::Missing))));
-    assert_eq!(rt; core.life().state(), LifeState::Crashed);
-    assert!(rt; core.recover(alloc, &mut store).is_ok());
-    assert_eq!(rt; core.life().state(), LifeState::Running);
-    assert_eq!(rt; core.life().incarnation(), 2);
-    Ok(())
 }
