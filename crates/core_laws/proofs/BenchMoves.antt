@@ -18,17 +18,17 @@ use Rattle.lane_model.proofs.Others.{caller_may}
 use Rattle.lane_model.proofs.LinkRuns.{opened_new, reopened_new}
 use Rattle.channel_bus.specs.Sides.{EndState, side_meaning}
 use Rattle.channel_bus.specs.Laws.{side_laws}
-use Rattle.crash_recover.specs.declared.benches.BegunCall.{BegunCall}
-use Rattle.crash_recover.specs.declared.benches.BenchFault.{BenchFault}
-use Rattle.crash_recover.specs.declared.benches.Reach.TheVariants as reach
-use Rattle.crash_recover.specs.declared.turns.TurnEnd.{TurnEnd}
-use Rattle.crash_recover.specs.declared.turns.TurnEnd.TheVariants as turn_end
-use Rattle.crash_recover.specs.Benches.{BenchState, BenchWalk, IsSendable, RingsState, advance_steps, advance_walk, begin_fault, begun_of, bench_walk, call_rings, call_steps, call_walk, is_in_call, later_steps, new_bench_of, ready_fault, start_walk, wish_fault, with_begun, with_new_caller}
-use Rattle.crash_recover.specs.BenchCrashes.{after_close, after_reclaim, after_reopen, left_by_reclaim, reclaim_leaves}
-use Rattle.crash_recover.specs.Turns.{Pumped, TurnCall, Turns, give_turn, is_whole, one_turn, pump_turns, take_turn, tested_call, then_more, turn_call, turn_message}
+use Rattle.link_bench.specs.declared.benches.BegunCall.{BegunCall}
+use Rattle.link_bench.specs.declared.benches.BenchFault.{BenchFault}
+use Rattle.link_bench.specs.declared.benches.Reach.TheVariants as reach
+use Rattle.link_bench.specs.declared.turns.TurnEnd.{TurnEnd}
+use Rattle.link_bench.specs.declared.turns.TurnEnd.TheVariants as turn_end
+use Rattle.link_bench.specs.Benches.{BenchState, BenchWalk, IsSendable, RingsState, advance_steps, advance_walk, begin_fault, begun_of, bench_walk, call_rings, call_steps, call_walk, is_in_call, later_steps, new_bench_of, ready_fault, start_walk, wish_fault, with_begun, with_new_caller}
+use Rattle.link_bench.specs.BenchCrashes.{after_close, after_reclaim, after_reopen, left_by_reclaim, reclaim_leaves}
+use Rattle.link_bench.specs.Turns.{Pumped, TurnCall, Turns, give_turn, is_whole, one_turn, pump_turns, take_turn, tested_call, then_more, turn_call, turn_message}
 use Rattle.core_laws.specs.BenchMoves.{IsReachedBench}
-use Rattle.crash_recover.proofs.Begun.{begin_may, fit_after, fit_cleared, fit_put, neither_fault, none_begun, none_in_none}
-use Rattle.crash_recover.proofs.BenchMay.{fit_closed, fit_reclaimed, fit_reopened}
+use Rattle.link_bench.proofs.Begun.{begin_may, fit_after, fit_cleared, fit_put, neither_fault, none_begun, none_in_none}
+use Rattle.link_bench.proofs.BenchMay.{fit_closed, fit_reclaimed, fit_reopened}
 use Rattle.core_laws.proofs.LinkMoves.{comes_move, comes_none, reached_by}
 use Rattle.core_laws.proofs.ShortMoves.{short_lane}
 use Rattle.core_laws.proofs.CallMoves.{Leaves, call_leaves, later_leaves}

@@ -12,8 +12,8 @@ use Rattle.lane_model.specs.WholeCalls.{WhereOn, left_of}
 use Rattle.lane_model.proofs.GoesOn.{goes_on, where_on}
 use Rattle.lane_model.proofs.Others.{others_may}
 use Rattle.channel_bus.specs.Sides.{EndState, side_meaning}
-use Rattle.crash_recover.specs.declared.benches.Reach.TheVariants as reach
-use Rattle.crash_recover.specs.Benches.{OthersMay, Walk, walk_on, later_steps, call_steps}
+use Rattle.link_bench.specs.declared.benches.Reach.TheVariants as reach
+use Rattle.link_bench.specs.Benches.{OthersMay, Walk, walk_on, later_steps, call_steps}
 use Rattle.core_laws.specs.BenchMoves.{ComesBy}
 use Rattle.core_laws.proofs.LinkMoves.{comes_none, comes_move, comes_then}
 

@@ -19,24 +19,25 @@ use Rattle.channel_bus.specs.Sides.{EndState, side_meaning}
 use Rattle.fw_load.specs.declared.rings.RingPair.{RingPair}
 use Rattle.crash_recover.specs.declared.actors.Actor.{Actor}
 use Rattle.crash_recover.specs.declared.actors.Actor.TheVariants as actor
-use Rattle.crash_recover.specs.declared.benches.BenchFault.{BenchFault}
-use Rattle.crash_recover.specs.declared.benches.Reach.TheVariants as reach
+use Rattle.link_bench.specs.declared.benches.BenchFault.{BenchFault}
+use Rattle.link_bench.specs.declared.benches.Reach.TheVariants as reach
 use Rattle.crash_recover.specs.declared.core_drives.Driven.{Driven}
 use Rattle.crash_recover.specs.declared.core_drives.Driven.TheVariants as driven
 use Rattle.crash_recover.specs.declared.core_faults.CoreFault.{CoreFault}
 use Rattle.crash_recover.specs.declared.core_faults.CoreFault.TheVariants as fault
-use Rattle.crash_recover.specs.declared.benches.Reach.{Reach}
+use Rattle.link_bench.specs.declared.benches.Reach.{Reach}
 use Rattle.std.proofs.lemmas.List.Elements.{All-append, All-drop}
 use Rattle.rp_base.specs.declared.limits.TheConstants.{MESSAGE_MOST}
 use Rattle.remote_core.specs.Works.{work_of}
 use Rattle.memory_pool.specs.declared.regions.Region.{Region}
 use Rattle.host_driver.specs.Drivers.{Declared}
 use Rattle.crash_recover.specs.Actors.{ActorsState, driver_names}
-use Rattle.crash_recover.specs.Benches.{BenchState, BenchWalk, IsSendable, advance_walk, begin_fault, is_in_call, start_walk}
-use Rattle.crash_recover.specs.BenchCrashes.{after_close, after_reclaim, after_reopen}
+use Rattle.link_bench.specs.Benches.{BenchState, BenchWalk, IsSendable, advance_walk, begin_fault, is_in_call, start_walk}
+use Rattle.link_bench.specs.BenchCrashes.{after_close, after_reclaim, after_reopen}
 use Rattle.crash_recover.specs.CoreBoots.{after_boot, after_shutdown, config_of, core_bench, fresh_end, first_start, loaded_from, needs_image}
-use Rattle.crash_recover.specs.CoreCrashes.{after_report, crashed_bench, crashed_core, is_first, is_remote, with_fresh_caller, without_one, without_other, without_others, without_remote}
-use Rattle.crash_recover.specs.CoreRecoveries.{after_recovery, fault_with, link_fault, readied_bench, readied_core, renewed_unless, reopen_fault, reopen_refusal_of, reopened_core, spent_fault, unopened_unless}
+use Rattle.link_bench.specs.BenchEnds.{crashed_bench, is_first, is_remote, with_fresh_caller, without_one, without_other, without_others, without_remote, readied_bench, renewed_unless, reopen_refusal_of, unopened_unless}
+use Rattle.crash_recover.specs.CoreCrashes.{after_report, crashed_core}
+use Rattle.crash_recover.specs.CoreRecoveries.{after_recovery, fault_with, link_fault, readied_core, reopen_fault, reopened_core, spent_fault}
 use Rattle.crash_recover.specs.Cores.{CoreState, LoadState, new_core}
 use Rattle.crash_recover.specs.Drives.{DriveStep, acting, actor_step, actors_at_end, after_call_end, asked_by, drive_step, driven_on, end_answer, first_or_take, gives_of, has_calls, host_begun, host_begun_as, host_ended, host_reached, host_step, is_idle, left_of, link_step, message_of, number_taken, placed_map, record_run, record_step, reported_by, seen_by, sends_of, with_turn_after, worker_call, worker_reached, worker_step}
 use Rattle.core_laws.specs.BenchMoves.{AreSendable, IsReachedBench, IsReachedCore, IsShortLink}

@@ -3,15 +3,15 @@ use Rattle.std.proofs.Common.{ℕ, zero, suc, ◌+◌, Option, Some, None, IfSom
 use Rattle.std.proofs.lemmas.Bool.{cond_both}
 use Rattle.lane_model.specs.Links.{end_of}
 use Rattle.lane_model.specs.declared.calls.Wish.TheVariants as wish
-use Rattle.crash_recover.specs.declared.benches.Reach.{Reach}
-use Rattle.crash_recover.specs.declared.benches.Reach.TheVariants as reach
-use Rattle.crash_recover.specs.declared.turns.TurnEnd.{TurnEnd}
+use Rattle.link_bench.specs.declared.benches.Reach.{Reach}
+use Rattle.link_bench.specs.declared.benches.Reach.TheVariants as reach
+use Rattle.link_bench.specs.declared.turns.TurnEnd.{TurnEnd}
 use Rattle.crash_recover.specs.Actors.{ActorsState}
-use Rattle.crash_recover.specs.Benches.{BenchState, call_walk}
+use Rattle.link_bench.specs.Benches.{BenchState, call_walk}
 use Rattle.core_laws.specs.BenchMoves.{AreSendable, IsReachedBench, IsReachedCore, IsShortLink}
 use Rattle.crash_recover.specs.CoreTurns.{LinkPumped, LinkTurns, actors_after_take, core_turns, core_turns_on, one_turn_on, pump_turns_on, take_turn_on, then_give, then_take}
 use Rattle.crash_recover.specs.Cores.{CoreState}
-use Rattle.crash_recover.specs.Turns.{TurnCall, is_whole, turn_call, turn_message}
+use Rattle.link_bench.specs.Turns.{TurnCall, is_whole, turn_call, turn_message}
 use Rattle.core_laws.proofs.BenchMoves.{give_reached, turn_called, turn_sendable}
 use Rattle.core_laws.proofs.CoreMoves.{seen_calls}
 

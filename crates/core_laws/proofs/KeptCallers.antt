@@ -10,9 +10,9 @@ use Rattle.lane_model.specs.Links.{LinkState, end_of, free_number, with_caller}
 use Rattle.lane_model.specs.Recoveries.{without_caller}
 use Rattle.lane_model.proofs.CrashLaws.{freed}
 use Rattle.channel_bus.specs.Sides.{EndState, side_meaning}
-use Rattle.crash_recover.specs.BenchCrashes.{after_close, after_reclaim}
-use Rattle.crash_recover.specs.Benches.{BenchState}
-use Rattle.crash_recover.specs.CoreCrashes.{crashed_bench, is_first, is_remote, with_fresh_caller, without_one, without_other, without_others, without_remote}
+use Rattle.link_bench.specs.BenchCrashes.{after_close, after_reclaim}
+use Rattle.link_bench.specs.Benches.{BenchState}
+use Rattle.link_bench.specs.BenchEnds.{crashed_bench, is_first, is_remote, with_fresh_caller, without_one, without_other, without_others, without_remote}
 use Rattle.core_laws.specs.KeptCores.{AreOwnUsed, end_after_crash}
 use Rattle.core_laws.proofs.KeptCrashes.{close_is, cleared, host_is_no_remote, is_remote_end, no_end, remote_again}
 

@@ -21,24 +21,25 @@ use Rattle.lane_model.specs.Recoveries.{unreclaimed_by}
 use Rattle.lane_model.proofs.Others.{stays_in_use}
 use Rattle.crash_recover.specs.declared.actors.Actor.{Actor}
 use Rattle.crash_recover.specs.declared.actors.Actor.TheVariants as actor
-use Rattle.crash_recover.specs.declared.benches.Reach.{Reach}
-use Rattle.crash_recover.specs.declared.benches.Reach.TheVariants as reach
+use Rattle.link_bench.specs.declared.benches.Reach.{Reach}
+use Rattle.link_bench.specs.declared.benches.Reach.TheVariants as reach
 use Rattle.crash_recover.specs.declared.core_drives.Driven.{Driven}
 use Rattle.crash_recover.specs.declared.core_drives.Driven.TheVariants as driven
 use Rattle.crash_recover.specs.declared.core_faults.CoreFault.{CoreFault}
-use Rattle.crash_recover.specs.declared.turns.TurnEnd.{TurnEnd}
-use Rattle.crash_recover.specs.declared.turns.TurnEnd.TheVariants as turn_end
+use Rattle.link_bench.specs.declared.turns.TurnEnd.{TurnEnd}
+use Rattle.link_bench.specs.declared.turns.TurnEnd.TheVariants as turn_end
 use Rattle.crash_recover.specs.Actors.{ActorsState, driver_names}
-use Rattle.crash_recover.specs.BenchCrashes.{after_reopen, left_by_reclaim, reclaim_leaves}
-use Rattle.crash_recover.specs.Benches.{BenchState, BenchWalk, advance_walk, begin_fault, call_walk, is_in_call, start_walk, with_new_caller}
+use Rattle.link_bench.specs.BenchCrashes.{after_reopen, left_by_reclaim, reclaim_leaves}
+use Rattle.link_bench.specs.Benches.{BenchState, BenchWalk, advance_walk, begin_fault, call_walk, is_in_call, start_walk, with_new_caller}
 use Rattle.crash_recover.specs.CoreBoots.{after_boot, after_shutdown, core_bench, first_start, loaded_from, needs_image}
-use Rattle.crash_recover.specs.CoreCrashes.{after_report, crashed_bench, crashed_core}
-use Rattle.crash_recover.specs.CoreRecoveries.{after_recovery, fault_with, readied_bench, readied_core, recovery_fault, renewed_unless, reopen_fault, reopened_core, spent_fault, unrecovered_in}
+use Rattle.link_bench.specs.BenchEnds.{crashed_bench, readied_bench, renewed_unless}
+use Rattle.crash_recover.specs.CoreCrashes.{after_report, crashed_core}
+use Rattle.crash_recover.specs.CoreRecoveries.{after_recovery, fault_with, readied_core, recovery_fault, reopen_fault, reopened_core, spent_fault, unrecovered_in}
 use Rattle.crash_recover.specs.CoreTurns.{LinkPumped, core_turns, core_turns_on, one_turn_on, pump_turns_on, take_turn_on, then_give, then_take}
 use Rattle.crash_recover.specs.Cores.{CoreState, LoadState}
 use Rattle.crash_recover.specs.Drives.{DriveStep, acting, actor_step, after_call_end, drive_step, first_or_take, has_calls, host_step, is_idle, link_step, record_run, record_step, reported_by, seen_by, with_turn_after, worker_call, worker_step}
 use Rattle.core_laws.specs.KeptCores.{IsKeptBench, IsKeptCore, is_running, next_life, with_next_life}
-use Rattle.crash_recover.specs.Turns.{TurnCall, Turns, give_turn, is_whole, then_more, turn_call, turn_message}
+use Rattle.link_bench.specs.Turns.{TurnCall, Turns, give_turn, is_whole, then_more, turn_call, turn_message}
 use Rattle.core_laws.proofs.KeptCrashes.{crash_kept, gone_kept, host_renewed}
 use Rattle.core_laws.proofs.KeptLinks.{advance_kept, start_kept, turn_call_kept}
 

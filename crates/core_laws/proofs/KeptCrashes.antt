@@ -20,10 +20,10 @@ use Rattle.lane_model.specs.Soundness.{IsSoundTurn, SoundLink}
 use Rattle.lane_model.proofs.CrashLaws.{close_sound, freed}
 use Rattle.lane_model.proofs.LinkRuns.{moves_sound}
 use Rattle.channel_bus.specs.Sides.{EndState, side_meaning}
-use Rattle.crash_recover.specs.BenchCrashes.{after_close, after_reclaim}
+use Rattle.link_bench.specs.BenchCrashes.{after_close, after_reclaim}
 use Rattle.core_laws.specs.BenchMoves.{IsReached}
-use Rattle.crash_recover.specs.Benches.{BenchState}
-use Rattle.crash_recover.specs.CoreCrashes.{crashed_bench, is_first, is_remote, with_fresh_caller, without_one, without_other, without_others, without_remote}
+use Rattle.link_bench.specs.Benches.{BenchState}
+use Rattle.link_bench.specs.BenchEnds.{crashed_bench, is_first, is_remote, with_fresh_caller, without_one, without_other, without_others, without_remote}
 use Rattle.core_laws.specs.KeptCores.{AreOwnUsed, IsKeptBench, IsKeptLink, IsUnmanaged, IsUnmanagedTurn, crash_reaches, is_running}
 
 -- ---- numbers of callers

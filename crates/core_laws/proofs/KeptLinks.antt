@@ -30,12 +30,12 @@ use Rattle.lane_model.specs.Forms.{list_form}
 use Rattle.lane_model.specs.Links.{LinkState, Lanes, caller_step, end_of, lanes_of, lanes_step, on_lanes, receive_later, send_later}
 use Rattle.lane_model.proofs.SoundLanes.{turn_step_has}
 use Rattle.channel_bus.specs.Sides.{EndState, side_meaning}
-use Rattle.crash_recover.specs.declared.benches.BegunCall.{BegunCall}
-use Rattle.crash_recover.specs.declared.benches.BenchFault.{BenchFault}
-use Rattle.crash_recover.specs.declared.benches.Reach.TheVariants as reach
-use Rattle.crash_recover.specs.Benches.{BenchState, BenchWalk, Walk, advance_steps, advance_walk, begin_fault, begun_of, bench_walk, call_rings, call_steps, call_walk, later_steps, start_walk, walk_on, with_begun}
+use Rattle.link_bench.specs.declared.benches.BegunCall.{BegunCall}
+use Rattle.link_bench.specs.declared.benches.BenchFault.{BenchFault}
+use Rattle.link_bench.specs.declared.benches.Reach.TheVariants as reach
+use Rattle.link_bench.specs.Benches.{BenchState, BenchWalk, Walk, advance_steps, advance_walk, begin_fault, begun_of, bench_walk, call_rings, call_steps, call_walk, later_steps, start_walk, walk_on, with_begun}
 use Rattle.core_laws.specs.KeptCores.{IsKeptBench, IsKeptLink, IsUnmanagedLane, IsUnmanagedTurn}
-use Rattle.crash_recover.specs.Turns.{tested_call, turn_call}
+use Rattle.link_bench.specs.Turns.{tested_call, turn_call}
 
 -- ---- turns
 

@@ -11,11 +11,11 @@ use Rattle.lane_model.specs.declared.states.Holding.{Holding}
 use Rattle.lane_model.specs.Conditions.{MayEndStep, MayStep, is_calling, is_holding, is_in_call as is_in_call_on}
 use Rattle.lane_model.specs.Lanes.{has_call, holds}
 use Rattle.lane_model.specs.Links.{end_of, lanes_of}
-use Rattle.crash_recover.specs.declared.benches.BegunCall.{BegunCall}
-use Rattle.crash_recover.specs.declared.benches.BenchFault.{BenchFault}
-use Rattle.crash_recover.specs.declared.benches.BenchFault.TheVariants as fault
-use Rattle.crash_recover.specs.declared.benches.Reach.TheVariants as reach
-use Rattle.crash_recover.specs.Benches.{BenchState, BenchWalk, advance_steps, advance_walk, begin_fault, begun_of, bench_walk, caller_fault, calling_fault, first_fault, is_in_call, later_rings, later_steps, start_walk, wish_fault}
+use Rattle.link_bench.specs.declared.benches.BegunCall.{BegunCall}
+use Rattle.link_bench.specs.declared.benches.BenchFault.{BenchFault}
+use Rattle.link_bench.specs.declared.benches.BenchFault.TheVariants as fault
+use Rattle.link_bench.specs.declared.benches.Reach.TheVariants as reach
+use Rattle.link_bench.specs.Benches.{BenchState, BenchWalk, advance_steps, advance_walk, begin_fault, begun_of, bench_walk, caller_fault, calling_fault, first_fault, is_in_call, later_rings, later_steps, start_walk, wish_fault}
 use Rattle.crash_recover.specs.Drives.{first_or_take, gives_of, left_of, number_taken, sends_of}
 use Rattle.core_laws.specs.PendingCalls.{AreFitLanes, AreGivable, IsNamedEnd, given_after, given_by, is_among}
 use Rattle.core_laws.proofs.PendingSteps.{IsNext}

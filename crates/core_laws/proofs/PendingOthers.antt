@@ -27,20 +27,21 @@ use Rattle.lane_model.specs.Recoveries.{unreclaimed_by, without_caller}
 use Rattle.lane_model.proofs.CrashSteps.{others_still_hold}
 use Rattle.lane_model.proofs.Steps.{no_other}
 use Rattle.channel_bus.specs.Sides.{EndState, side_meaning}
-use Rattle.crash_recover.specs.declared.benches.BegunCall.{BegunCall}
-use Rattle.crash_recover.specs.declared.benches.Reach.TheVariants as reach
+use Rattle.link_bench.specs.declared.benches.BegunCall.{BegunCall}
+use Rattle.link_bench.specs.declared.benches.Reach.TheVariants as reach
 use Rattle.crash_recover.specs.Actors.{ActorsState, driver_names}
-use Rattle.crash_recover.specs.BenchCrashes.{after_reopen, left_by_reclaim, reclaim_leaves}
+use Rattle.link_bench.specs.BenchCrashes.{after_reopen, left_by_reclaim, reclaim_leaves}
 use Rattle.core_laws.specs.BenchMoves.{IsReachedBench}
-use Rattle.crash_recover.specs.Benches.{BenchState, BenchWalk, IsSendable, advance_steps, advance_walk, begin_fault, begun_of, bench_walk, call_rings, call_steps, call_walk, is_in_call, start_walk, with_begun, with_new_caller}
+use Rattle.link_bench.specs.Benches.{BenchState, BenchWalk, IsSendable, advance_steps, advance_walk, begin_fault, begun_of, bench_walk, call_rings, call_steps, call_walk, is_in_call, start_walk, with_begun, with_new_caller}
 use Rattle.crash_recover.specs.CoreBoots.{after_boot, after_shutdown, core_bench, first_start, loaded_from, needs_image}
-use Rattle.crash_recover.specs.CoreRecoveries.{after_recovery, readied_bench, readied_core, recovery_fault, renewed_unless, unrecovered_in}
+use Rattle.link_bench.specs.BenchEnds.{readied_bench, renewed_unless}
+use Rattle.crash_recover.specs.CoreRecoveries.{after_recovery, readied_core, recovery_fault, unrecovered_in}
 use Rattle.crash_recover.specs.Cores.{CoreState}
 use Rattle.crash_recover.specs.Drives.{actors_at_end, after_call_end, end_answer, message_of, seen_by, sends_of}
 use Rattle.core_laws.specs.KeptCores.{is_running}
 use Rattle.core_laws.specs.PendingCalls.{AreFitLanes, AreGivable, HasNoneBegun, IsNamed, IsOwnTurn, IsReadyBench, IsReadyCore, IsSendsTurn, given_after, given_by}
 use Rattle.core_laws.proofs.BenchMoves.{begun_at, begun_or, calling_may}
-use Rattle.crash_recover.proofs.Begun.{begin_may}
+use Rattle.link_bench.proofs.Begun.{begin_may}
 use Rattle.core_laws.proofs.KeptCores.{counted, left_life}
 use Rattle.core_laws.proofs.PendingCores.{given_both, none_behind, sends_nothing}
 use Rattle.core_laws.proofs.PendingDrives.{cleared_begun, map_begun, reclaim_begun}

@@ -27,10 +27,10 @@ use Rattle.lane_model.specs.Soundness.{IsSoundLane, SoundLink}
 use Rattle.lane_model.specs.WholeCalls.{WhereOn}
 use Rattle.lane_model.proofs.Steps.{same}
 use Rattle.channel_bus.specs.Sides.{EndState, side_meaning}
-use Rattle.crash_recover.specs.declared.benches.Reach.{Reach}
-use Rattle.crash_recover.specs.declared.benches.Reach.TheVariants as reach
-use Rattle.crash_recover.specs.Benches.{Walk, call_steps, later_steps, walk_on}
-use Rattle.crash_recover.specs.BenchHolds.{is_host}
+use Rattle.link_bench.specs.declared.benches.Reach.{Reach}
+use Rattle.link_bench.specs.declared.benches.Reach.TheVariants as reach
+use Rattle.link_bench.specs.Benches.{Walk, call_steps, later_steps, walk_on}
+use Rattle.link_bench.specs.BenchHolds.{is_host}
 use Rattle.core_laws.specs.PendingCalls.{AreFitLanes, AreGivable, IsFitLane, IsNamed, IsSendsEnd, IsSendsTurn, given_by}
 use Rattle.core_laws.proofs.CallMoves.{next_may}
 use Rattle.core_laws.proofs.PendingLanes.{Follows, HasEnded, KeepsOwn, SendsFollow, begin_keeps, fit_kept, keeps_same, receive_follows, receiver_keeps, sender_keeps, sender_turn, sends_follow, take_keeps, taken_sends}

@@ -5,19 +5,19 @@ use Rattle.rp_base.specs.declared.kinds.LifeState.{LifeState}
 use Rattle.lane_model.specs.declared.calls.Wish.{Wish}
 use Rattle.lane_model.specs.declared.calls.Wish.TheVariants as wish
 use Rattle.lane_model.specs.Links.{end_of}
-use Rattle.crash_recover.specs.declared.benches.BenchFault.{BenchFault}
-use Rattle.crash_recover.specs.declared.benches.Reach.{Reach}
-use Rattle.crash_recover.specs.declared.benches.Reach.TheVariants as reach
-use Rattle.crash_recover.specs.declared.turns.TurnEnd.{TurnEnd}
-use Rattle.crash_recover.specs.declared.turns.TurnEnd.TheVariants as turn_end
+use Rattle.link_bench.specs.declared.benches.BenchFault.{BenchFault}
+use Rattle.link_bench.specs.declared.benches.Reach.{Reach}
+use Rattle.link_bench.specs.declared.benches.Reach.TheVariants as reach
+use Rattle.link_bench.specs.declared.turns.TurnEnd.{TurnEnd}
+use Rattle.link_bench.specs.declared.turns.TurnEnd.TheVariants as turn_end
 use Rattle.crash_recover.specs.Actors.{ActorsState}
-use Rattle.crash_recover.specs.Benches.{BenchState, IsSendable, begin_fault, call_walk}
+use Rattle.link_bench.specs.Benches.{BenchState, IsSendable, begin_fault, call_walk}
 use Rattle.crash_recover.specs.CoreTurns.{LinkPumped, actors_after_take, core_turns, core_turns_on, one_turn_on, pump_turns_on, take_turn_on, then_give, then_take}
 use Rattle.crash_recover.specs.Cores.{CoreState}
 use Rattle.crash_recover.specs.Drives.{message_of}
 use Rattle.core_laws.specs.KeptCores.{is_running}
 use Rattle.core_laws.specs.PendingCalls.{HasNoneBegun, IsReadyBench, IsReadyCore}
-use Rattle.crash_recover.specs.Turns.{TurnCall, Turns, give_turn, is_whole, tested_call, then_more, turn_call, turn_message}
+use Rattle.link_bench.specs.Turns.{TurnCall, Turns, give_turn, is_whole, tested_call, then_more, turn_call, turn_message}
 use Rattle.core_laws.proofs.BenchMoves.{turn_sendable}
 use Rattle.core_laws.proofs.PendingOthers.{call_ready, seen_ready}
 

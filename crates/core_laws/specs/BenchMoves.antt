@@ -11,7 +11,7 @@ use Rattle.lane_model.specs.Links.{LinkState}
 use Rattle.lane_model.specs.Moves.{Move, MayMoves, Recorded, no_handings, after_moves, lane_to, IsNewLink}
 use Rattle.channel_bus.specs.Sides.{EndState, side_meaning}
 use Rattle.crash_recover.specs.Actors.{ActorsState}
-use Rattle.crash_recover.specs.Benches.{BenchState, AreFitCalls, IsSendable}
+use Rattle.link_bench.specs.Benches.{BenchState, AreFitCalls, IsSendable}
 use Rattle.crash_recover.specs.Cores.{CoreState}
 
 -- one link is left of another by moves, each of which may be made where the ones before it have been

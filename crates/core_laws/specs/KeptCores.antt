@@ -11,9 +11,9 @@ use Rattle.lane_model.specs.declared.stages.Turn.TheVariants as turn
 use Rattle.lane_model.specs.Lanes.{holder}
 use Rattle.lane_model.specs.Links.{LinkState, end_of}
 use Rattle.channel_bus.specs.Sides.{EndState}
-use Rattle.crash_recover.specs.Benches.{BenchState}
-use Rattle.crash_recover.specs.BenchCrashes.{after_close}
-use Rattle.crash_recover.specs.CoreCrashes.{is_remote, without_one, without_others}
+use Rattle.link_bench.specs.Benches.{BenchState}
+use Rattle.link_bench.specs.BenchCrashes.{after_close}
+use Rattle.link_bench.specs.BenchEnds.{is_remote, without_one, without_others}
 use Rattle.crash_recover.specs.Cores.{CoreState}
 
 -- a turn that is free or a caller's, and not the manager's

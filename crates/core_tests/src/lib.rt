@@ -9,6 +9,6 @@ mod callers;
 #[cfg(test)]
 mod drives;
 #[cfg(test)]
-mod stores;
-#[cfg(test)]
 mod scripts;
+#[cfg(test)]
+mod stores;

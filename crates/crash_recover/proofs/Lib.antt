@@ -1,17 +1,8 @@
-pub mod Walks
-pub mod Begun
-pub mod AtOnce
-pub mod RingWalks
-pub mod TurnWalks
-pub mod Outs
 pub mod Loads
 pub mod CoreBenches
 pub mod CoreLoads
 pub mod CoreFaults
-pub mod RemoteEnds
-pub mod BenchMay
 pub mod RecordRuns
 pub mod CoreTurnWalks
 pub mod DriveSteps
 pub mod Recovered
-pub mod BenchSteps

@@ -1,12 +1,7 @@
-pub mod Benches
-pub mod BenchRings
-pub mod Turns
-pub mod BenchHolds
 pub mod Cores
 pub mod CoreBoots
 pub mod CoreCrashes
 pub mod CoreRecoveries
-pub mod BenchCrashes
 pub mod CoreLinks
 pub mod CoreRings
 pub mod Actors

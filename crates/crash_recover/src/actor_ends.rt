@@ -2,13 +2,13 @@ ghost use Rattle.std.specs.Prelude.{◌≡◌, ◌<◌, ◌≤◌, ◌+◌, leng
 ghost use Rattle.std.specs.VecDeque.{deque_len, deque_capacity};
 ghost use Rattle.rp_base.specs.declared.limits.TheConstants.{MESSAGE_MOST};
 ghost use Rattle.crash_recover.specs.Actors.{actors_view};
-ghost use Rattle.crash_recover.specs.Benches.{reach_of};
+ghost use Rattle.link_bench.specs.Benches.{reach_of};
 ghost use Rattle.crash_recover.specs.Drives.{actors_after_end, after_endpoint, after_verdict, driven_by_verdict, driven_on, endpoint_answer, host_begun_as, host_ended, host_reached, is_tried_again, message_of, number_taken, verdict_answer, worker_ended, worker_reached};
 
 use crate::actors::Actors;
-use crate::benches::{Bench, Progress};
 use host_driver::Drivers;
 use lane_model::{CallEnd, Wish};
+use link_bench::{Bench, Progress};
 use rp_base::{CallerNo, End, Endpoint, Message, Name, NoMemory, NsKind, Verdict};
 
 impl Actors {

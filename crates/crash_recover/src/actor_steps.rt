@@ -3,14 +3,14 @@ ghost use Rattle.std.specs.VecDeque.{deque_len, deque_capacity};
 ghost use Rattle.lane_model.specs.declared.calls.CallEnd.{CallEnd};
 ghost use Rattle.remote_core.specs.Works.{memory_after, work_of};
 ghost use Rattle.crash_recover.specs.Actors.{actors_view};
-ghost use Rattle.crash_recover.specs.Benches.{begin_fault, is_in_call, reach_of};
+ghost use Rattle.link_bench.specs.Benches.{begin_fault, is_in_call, reach_of};
 ghost use Rattle.crash_recover.specs.Drives.{actors_after_record, begins_with_take, begun_step, driven_by, driven_by_work, driven_of, first_or_take, host_begun, host_reached, is_drained, is_rest, link_step, worker_reached};
 
 use crate::actors::Actors;
-use crate::benches::{Bench, Progress};
 use crate::core_drives::DriveProgress;
 use fw_load::Loaded;
 use lane_model::{CallEnd, Wish};
+use link_bench::{Bench, Progress};
 use remote_core::Task;
 use rp_base::{CallerNo, NoMemory};
 use std::collections::VecDeque;

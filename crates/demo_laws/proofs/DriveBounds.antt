@@ -26,11 +26,11 @@ use Rattle.lane_model.specs.Forms.{list_form}
 use Rattle.lane_model.specs.Lanes.{has_call}
 use Rattle.lane_model.specs.Links.{Lanes, LinkState, caller_step, end_of, lanes_of, lanes_step, on_lanes, with_lanes}
 use Rattle.channel_bus.specs.Sides.{EndState, side_meaning}
-use Rattle.crash_recover.specs.declared.benches.BegunCall.{BegunCall}
-use Rattle.crash_recover.specs.declared.benches.Reach.TheVariants as reach
+use Rattle.link_bench.specs.declared.benches.BegunCall.{BegunCall}
+use Rattle.link_bench.specs.declared.benches.Reach.TheVariants as reach
 use Rattle.crash_recover.specs.Actors.{ActorsState}
 use Rattle.core_laws.specs.BenchMoves.{IsReachedBench}
-use Rattle.crash_recover.specs.Benches.{BenchState, BenchWalk, RingsState, Walk, advance_walk, begin_fault, begun_of, bench_walk, call_rings, call_steps, is_in_call, later_rings, later_steps, start_walk}
+use Rattle.link_bench.specs.Benches.{BenchState, BenchWalk, RingsState, Walk, advance_walk, begin_fault, begun_of, bench_walk, call_rings, call_steps, is_in_call, later_rings, later_steps, start_walk}
 use Rattle.crash_recover.specs.Cores.{CoreState, LoadState}
 use Rattle.crash_recover.specs.Drives.{first_or_take, host_begun_as, host_is_idle, host_reached, host_step, is_drained, is_empty, message_of, number_taken, placed_map, worker_after_end, worker_reached, begins_with_take}
 use Rattle.core_laws.specs.KeptCores.{AreOwnUsed}

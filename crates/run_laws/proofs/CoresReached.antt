@@ -17,12 +17,12 @@ use Rattle.script_lang.specs.declared.commands.Command.TheVariants as command
 use Rattle.script_lang.specs.Runnable.{IsRunnable}
 use Rattle.journal.specs.declared.events.Event.{Event}
 use Rattle.journal.specs.declared.events.Event.TheVariants as event
-use Rattle.crash_recover.specs.declared.benches.BenchFault.{BenchFault}
-use Rattle.crash_recover.specs.declared.benches.Reach.{Reach}
-use Rattle.crash_recover.specs.declared.benches.Reach.TheVariants as reach
+use Rattle.link_bench.specs.declared.benches.BenchFault.{BenchFault}
+use Rattle.link_bench.specs.declared.benches.Reach.{Reach}
+use Rattle.link_bench.specs.declared.benches.Reach.TheVariants as reach
 use Rattle.crash_recover.specs.declared.core_faults.AddFault.{AddFault}
 use Rattle.crash_recover.specs.declared.core_faults.CoreFault.{CoreFault}
-use Rattle.crash_recover.specs.Benches.{BenchState, IsSendable, advance_fault, advance_walk, begin_fault, call_walk, is_in_call}
+use Rattle.link_bench.specs.Benches.{BenchState, IsSendable, advance_fault, advance_walk, begin_fault, call_walk, is_in_call}
 use Rattle.core_laws.specs.BenchMoves.{IsReachedBench, IsReachedCore}
 use Rattle.crash_recover.specs.CoreBoots.{after_shutdown, boot_fault, needs_image, shutdown_fault}
 use Rattle.crash_recover.specs.CoreCrashes.{after_report}

@@ -25,12 +25,12 @@ use Rattle.script_lang.specs.declared.recipes.RecipeLine.{RecipeLine}
 use Rattle.journal.specs.declared.events.Event.{Event}
 use Rattle.journal.specs.declared.events.Event.TheVariants as event
 use Rattle.image_maker.specs.Images.{image_of}
-use Rattle.crash_recover.specs.declared.benches.BenchFault.{BenchFault}
-use Rattle.crash_recover.specs.declared.benches.Reach.{Reach}
-use Rattle.crash_recover.specs.declared.benches.Reach.TheVariants as reach
+use Rattle.link_bench.specs.declared.benches.BenchFault.{BenchFault}
+use Rattle.link_bench.specs.declared.benches.Reach.{Reach}
+use Rattle.link_bench.specs.declared.benches.Reach.TheVariants as reach
 use Rattle.crash_recover.specs.declared.core_faults.AddFault.{AddFault}
 use Rattle.crash_recover.specs.declared.core_faults.CoreFault.{CoreFault}
-use Rattle.crash_recover.specs.Benches.{BenchState, advance_fault, advance_walk, begin_fault, call_walk, is_in_call, ready_fault}
+use Rattle.link_bench.specs.Benches.{BenchState, advance_fault, advance_walk, begin_fault, call_walk, is_in_call, ready_fault}
 use Rattle.crash_recover.specs.CoreBoots.{after_shutdown, boot_fault, needs_image, shutdown_fault}
 use Rattle.crash_recover.specs.CoreCrashes.{after_report}
 use Rattle.crash_recover.specs.CoreLinks.{with_link}
@@ -67,24 +67,24 @@ use Rattle.run_laws.proofs.LinksReached.{header_sendable, in_call_at, neither}
 use Rattle.core_laws.proofs.PendingOthers.{advance_ready, boot_ready, call_end_ready, call_ready, put_other, readied_ready, reclaim_ready, recovery_ready, shutdown_ready}
 use Rattle.core_laws.proofs.PendingDrives.{cleared_begun, drive_ready, reclaim_begun, report_ready}
 use Rattle.core_laws.proofs.PendingTurns.{Stands, turns_ready}
-use Rattle.crash_recover.proofs.Begun.{some_same}
+use Rattle.link_bench.proofs.Begun.{some_same}
 use Rattle.core_laws.proofs.CoreMoves.{core_driven as core_moved}
 use Rattle.core_laws.specs.BenchMoves.{IsReachedBench, IsReachedCore}
 use Rattle.core_laws.specs.PendingCalls.{AreFitLanes, HasNoneBegun, IsReadyBench, IsReadyCore}
 use Rattle.crash_recover.specs.Actors.{ActorsState}
 use Rattle.rp_base.specs.declared.kinds.End.TheVariants as side
 use Rattle.script_lang.specs.Runnable.{AreRunnable, IsRunnable}
-use Rattle.crash_recover.specs.declared.benches.BegunCall.{BegunCall}
-use Rattle.crash_recover.specs.declared.benches.BenchFault.TheVariants as fault
+use Rattle.link_bench.specs.declared.benches.BegunCall.{BegunCall}
+use Rattle.link_bench.specs.declared.benches.BenchFault.TheVariants as fault
 use Rattle.lane_model.specs.declared.recoveries.ReclaimRefusal.{ReclaimRefusal}
 use Rattle.script_run.specs.CallEvents.{fault_event}
-use Rattle.crash_recover.specs.Benches.{BenchWalk, IsSendable, advance_steps, bench_walk, begun_of, call_rings, call_steps, used_fault, wish_fault, with_begun}
+use Rattle.link_bench.specs.Benches.{BenchWalk, IsSendable, advance_steps, bench_walk, begun_of, call_rings, call_steps, used_fault, wish_fault, with_begun}
 use Rattle.std.proofs.lemmas.Bool.{leb-true}
 use Rattle.script_run.specs.CoreLinks.{first_event, own_in_pump}
 use Rattle.core_laws.specs.KeptCores.{is_running}
 use Rattle.lane_model.specs.Links.{lanes_of}
 use Rattle.script_run.specs.Runs.{ObjectsState}
-use Rattle.crash_recover.specs.BenchCrashes.{left_by_reclaim}
+use Rattle.link_bench.specs.BenchCrashes.{left_by_reclaim}
 use Rattle.lane_model.specs.Recoveries.{unreclaimed_by}
 use Rattle.std.specs.Option.{option_or}
 

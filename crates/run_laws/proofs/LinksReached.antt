@@ -15,13 +15,13 @@ use Rattle.script_lang.specs.declared.commands.Command.{Command}
 use Rattle.script_lang.specs.declared.commands.Command.TheVariants as command
 use Rattle.script_lang.specs.Runnable.{IsRunnable}
 use Rattle.journal.specs.declared.events.Event.TheVariants as event
-use Rattle.crash_recover.specs.declared.benches.BenchFault.{BenchFault}
-use Rattle.crash_recover.specs.declared.benches.BenchFault.TheVariants as fault
-use Rattle.crash_recover.specs.Benches.{BenchState, IsSendable, advance_fault, begin_fault, calling_fault, first_fault, is_in_call, ready_fault, used_fault, wish_fault, with_new_caller}
-use Rattle.crash_recover.specs.BenchCrashes.{after_close}
+use Rattle.link_bench.specs.declared.benches.BenchFault.{BenchFault}
+use Rattle.link_bench.specs.declared.benches.BenchFault.TheVariants as fault
+use Rattle.link_bench.specs.Benches.{BenchState, IsSendable, advance_fault, begin_fault, calling_fault, first_fault, is_in_call, ready_fault, used_fault, wish_fault, with_new_caller}
+use Rattle.link_bench.specs.BenchCrashes.{after_close}
 use Rattle.core_laws.specs.BenchMoves.{IsReachedBench}
-use Rattle.crash_recover.specs.BenchRings.{turn_holder}
-use Rattle.crash_recover.specs.Turns.{pump_turns}
+use Rattle.link_bench.specs.BenchRings.{turn_holder}
+use Rattle.link_bench.specs.Turns.{pump_turns}
 use Rattle.core_laws.proofs.BenchMoves.{advanced, begun_reached, called, closed, enlisted, reclaim_tried, reopened, turns_reached}
 use Rattle.core_laws.proofs.Sendable.{header_length}
 use Rattle.script_run.specs.ChannelLists.{channels_effect, listed_effect}

@@ -4,7 +4,7 @@ ghost use Rattle.std.specs.Prelude.{◌≡◌, List, Option, Some, false, Contai
 ghost use Rattle.script_lang.specs.declared.commands.Command.{Command};
 ghost use Rattle.script_lang.specs.Runnable.{AreRunnable, IsRunnable};
 ghost use Rattle.lane_model.specs.Soundness.{SoundLink};
-ghost use Rattle.crash_recover.specs.Benches.{BenchState};
+ghost use Rattle.link_bench.specs.Benches.{BenchState};
 ghost use Rattle.run_laws.specs.Kept.{AreKept, AreReady};
 ghost use Rattle.script_run.specs.NamedCores.{NamedCoreState};
 ghost use Rattle.script_run.specs.NamedLinks.{NamedLink};

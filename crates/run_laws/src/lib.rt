@@ -4,5 +4,6 @@
 mod laws;
 
 pub use laws::{
-    cores_kept, cores_ready, faults_alone, images_and_commands, links_in_order, links_reached, links_sound
+    cores_kept, cores_ready, faults_alone, images_and_commands, links_in_order, links_reached,
+    links_sound,
 };

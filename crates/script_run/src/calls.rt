@@ -3,7 +3,7 @@ ghost use Rattle.rp_base.specs.declared.limits.TheConstants.{MESSAGE_MOST, PAYLO
 ghost use Rattle.lane_model.specs.declared.calls.Wish.TheVariants as wish;
 ghost use Rattle.rpmsg_header.specs.Headers.{header_bytes};
 ghost use Rattle.script_run.specs.Logs.{HasEffect};
-ghost use Rattle.crash_recover.specs.Benches.{begin_fault, reach_of, ready_fault, wish_fault};
+ghost use Rattle.link_bench.specs.Benches.{begin_fault, reach_of, ready_fault, wish_fault};
 ghost use Rattle.script_run.specs.CallEvents.{end_event, fault_event, refused_event, took_event};
 ghost use Rattle.script_run.specs.Effects.{begun_effect, call_effect, give_effect, plain_effect, send_effect, step_effect, tells, walk_effect};
 

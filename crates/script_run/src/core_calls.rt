@@ -1,6 +1,6 @@
 ghost use Rattle.std.specs.Prelude.{◌≡◌, ◌<◌, ◌≤◌, ◌∷◌, [], IfOk, None};
 ghost use Rattle.rp_base.specs.declared.limits.TheConstants.{STEPS_MOST};
-ghost use Rattle.crash_recover.specs.Benches.{reach_of};
+ghost use Rattle.link_bench.specs.Benches.{reach_of};
 ghost use Rattle.crash_recover.specs.CoreTurns.{core_turns};
 ghost use Rattle.journal.specs.declared.events.Event.TheVariants as event;
 ghost use Rattle.script_run.specs.Logs.{HasCoreEffect};
