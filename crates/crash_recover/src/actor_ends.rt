@@ -44,7 +44,7 @@ impl Actors {
         ensures { actors_view self.new ≡ driven_on (host_ended (actors_view self.old) end.now) (message_of bench.now 0 end.now) end.now }
     {
         self.host_ended(end);
-        self.see_end(bench.message_of(0, end), end);
+        self.see_end(message_of(bench, 0, end), end);
     }
 
     /// Has the host actor see the end of its call.
@@ -77,7 +77,7 @@ impl Actors {
         match bench.end_of(caller) {
             Some(End::Host) => {
                 self.host_calls.reserve(1)?;
-                self.see_end(bench.message_of(caller, end), end);
+                self.see_end(message_of(bench, caller, end), end);
                 Ok(())
             }
             Some(End::Remote) | None => Ok(()),
@@ -90,7 +90,7 @@ impl Actors {
         ensures { actors_view self.new ≡ actors_after_end bench.now caller end.now (actors_view self.old) }
     {
         match bench.end_of(caller) {
-            Some(End::Host) => self.see_end(bench.message_of(caller, end), end),
+            Some(End::Host) => self.see_end(message_of(bench, caller, end), end),
             Some(End::Remote) | None => {}
         }
     }
@@ -128,7 +128,7 @@ impl Actors {
     {
         match progress {
             Progress::At(_) => {}
-            Progress::Ended => self.worker_ended(bench.message_of(1, end), end),
+            Progress::Ended => self.worker_ended(message_of(bench, 1, end), end),
             Progress::Limit => {
                 self.worker_calls.pop_front();
             }
@@ -152,16 +152,14 @@ impl Actors {
     }
 }
 
-impl Bench {
-    /// The message that a caller was handed by a call that ended so, or no byte.
-    pub(crate) fn message_of(&self, caller: CallerNo, end: &CallEnd) -> &[u8]
-        ensures message { result.now ≡ message_of self.now caller end.now }
-        ensures short { length result.now ≤ MESSAGE_MOST }
-    {
-        match number_taken(end) {
-            Some(number) => self.taken_message(caller, number),
-            None => &[],
-        }
+/// The message that a caller of a bench was handed by a call that ended so, or no byte.
+pub(crate) fn message_of<'a>(bench: &'a Bench, caller: CallerNo, end: &CallEnd) -> &'a [u8]
+    ensures message { result.now ≡ message_of bench.now caller end.now }
+    ensures short { length result.now ≤ MESSAGE_MOST }
+{
+    match number_taken(end) {
+        Some(number) => bench.taken_message(caller, number),
+        None => &[],
     }
 }
 
