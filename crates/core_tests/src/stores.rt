@@ -18,7 +18,7 @@ pub(crate) fn store_of(alloc: Global, name: &str) -> Result<MemoryStore, Fail> {
 pub(crate) fn store_with(alloc: Global, name: &str, recipe: &str) -> Result<MemoryStore, Fail> {
     let script = parse(alloc, recipe.as_bytes()).ok().ok_or("no script")?;
     let image = match script.commands.as_slice() {
-        [Command::Image(_, recipe)] => build(alloc, recipe)?,
+        [Command::Image { recipe, .. }] => build(alloc, recipe)?,
         _ => return Err("no image".into()),
     };
     let name = Name::of(name.as_bytes()).ok_or("no name")?;

@@ -126,7 +126,7 @@ fn drive_accepted(objects: &Objects, command: &Command) -> Accepted
     ensures to_host { result.to_host ≤ BOOK_MOST }
     ensures to_remote { result.to_remote ≤ BOOK_MOST }
 {
-    let Command::Drive(name, _) = command else {
+    let Command::Drive { name, .. } = command else {
         return Accepted::none();
     };
     match objects.core_named(name.bytes()) {
