@@ -1,0 +1,4 @@
+pub mod Parts
+pub mod Handings
+pub mod Moves
+pub mod SoundRingLinks
