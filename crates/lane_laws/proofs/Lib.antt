@@ -8,3 +8,7 @@ pub mod Judgement
 pub mod Traces
 pub mod LinkRuns
 pub mod RingLinks
+pub mod LaneTells
+pub mod Told
+pub mod WayFacts
+pub mod FormMoves

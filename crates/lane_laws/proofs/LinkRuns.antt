@@ -123,7 +123,7 @@ reopened_new desk laws link = record {
 }
 
 -- nothing is handed over, and the era stays closed
-record IsShut {D : Type 0} (before after : LinkState D) : Type 0 where
+pub record IsShut {D : Type 0} (before after : LinkState D) : Type 0 where
   pub none : HandsNone before after
   pub shut : after.era.is_live ≡ false
 
@@ -178,7 +178,7 @@ left_shut link side.Host lane_turn.Receiver shut = record { none = record { to_h
 left_shut link side.Remote lane_turn.Sender shut = record { none = record { to_host = refl; to_remote = refl }; shut = shut }
 left_shut link side.Remote lane_turn.Receiver shut = record { none = record { to_host = refl; to_remote = refl }; shut = shut }
 
-move_shut : {D : Type 0} (desk : DeskMeaning D) (link : LinkState D) (move : Move) → link.era.is_live ≡ false → IsShut link (link_after_move desk link move)
+pub move_shut : {D : Type 0} (desk : DeskMeaning D) (link : LinkState D) (move : Move) → link.era.is_live ≡ false → IsShut link (link_after_move desk link move)
 move_shut desk link (Enlist new) shut = record { none = record { to_host = refl; to_remote = refl }; shut = shut }
 move_shut desk link (Step caller follows wished) shut = record {
   none = step_hands_none desk link caller follows wished shut;

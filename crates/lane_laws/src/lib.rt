@@ -3,3 +3,4 @@
 
 pub mod links;
 pub mod rings;
+pub mod ways;
