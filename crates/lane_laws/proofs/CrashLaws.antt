@@ -1,5 +1,5 @@
 -- A close, a reclaim and a reopening keep a link sound, and nothing is handed over in a closed era.
-use Rattle.std.proofs.Common.{◌≡◌, ◌≢◌, ℕ, zero, suc, ◌==◌, ◌&&◌, eqb, Bool, true, false, cond, Option, Some, None, refl, sym, ap, subst, ◌∙◌, List, [], ◌∷◌, slice_set}
+use Rattle.std.proofs.Common.{◌≡◌, ◌≢◌, ℕ, ◌==◌, ◌&&◌, eqb, Bool, true, false, cond, Option, Some, None, refl, sym, ap, subst, ◌∙◌, List, [], ◌∷◌, slice_set}
 use Rattle.std.specs.Option.{unwrap_or}
 use Rattle.std.proofs.lemmas.Bool.{false≢true, eqb-false, cond_both}
 use Rattle.rp_base.specs.declared.kinds.Era.{Era}

@@ -25,7 +25,7 @@ close_agrees : {L D : Type 0} (form : FormMeaning L D) (link : LaneLink L) (live
 close_agrees form link true era = refl
 close_agrees form link false era = refl
 
-move_agrees : {L D : Type 0} (form : FormMeaning L D) (desk : DeskMeaning D) → IsForm form desk → (link : LaneLink L) (move : Move) → IsWholeMove move
+pub move_agrees : {L D : Type 0} (form : FormMeaning L D) (desk : DeskMeaning D) → IsForm form desk → (link : LaneLink L) (move : Move) → IsWholeMove move
     → link_of form (form_move form desk link move) ≡ link_after_move desk (link_of form link) move
 move_agrees form desk is link (Enlist new) whole = refl
 move_agrees form desk is link (Step caller follows wished) whole = step_agrees form desk is link caller follows wished

@@ -12,3 +12,4 @@ pub mod LaneTells
 pub mod Told
 pub mod WayFacts
 pub mod FormMoves
+pub mod RingMoves

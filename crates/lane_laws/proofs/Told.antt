@@ -1,8 +1,7 @@
 -- What is told of takes is what was handed over: all but what a taker is yet to be told, or the one that a reclaim took away.
-use Rattle.std.proofs.Common.{◌≡◌, ◌≤◌, ℕ, ◌+◌, ◌==◌, length, Bool, true, false, cond, Option, Some, None, List, [], ◌∷◌, ◌++◌, slice_get, refl, sym, ap, subst, ◌∙◌, arith}
-use Rattle.std.proofs.lemmas.Bool.{cond_both, true≢false, ne_eqb}
+use Rattle.std.proofs.Common.{◌≡◌, ◌≤◌, ℕ, ◌+◌, ◌==◌, length, Bool, true, false, cond, Option, Some, None, List, [], ◌∷◌, ◌++◌, slice_get, sym, ap, subst, ◌∙◌, arith}
+use Rattle.std.proofs.lemmas.Bool.{true≢false, ne_eqb}
 use Rattle.std.proofs.lemmas.List.{append-nil, append_assoc, length_push}
-use Rattle.rp_base.specs.declared.kinds.Era.{Era}
 use Rattle.rp_base.specs.declared.kinds.End.{End}
 use Rattle.rp_base.specs.declared.kinds.End.TheVariants as side
 use Rattle.lane_model.specs.declared.states.BookEntry.{BookEntry}
@@ -14,11 +13,8 @@ use Rattle.rp_base.specs.declared.kinds.Verdict.{Verdict}
 use Rattle.lane_model.specs.declared.calls.CallEnd.{CallEnd}
 use Rattle.lane_model.specs.declared.calls.CallEnd.TheVariants as end
 use Rattle.lane_model.specs.declared.calls.Outcome.TheVariants as outcome
-use Rattle.lane_model.specs.declared.calls.Wish.{Wish}
 use Rattle.lane_model.specs.Desks.{DeskMeaning}
-use Rattle.lane_model.specs.Forms.{list_form}
-use Rattle.lane_model.specs.Lanes.{is_live_in}
-use Rattle.lane_model.specs.Links.{LinkState, lanes_step, on_lanes, end_of}
+use Rattle.lane_model.specs.Links.{LinkState}
 use Rattle.lane_model.specs.Soundness.{SoundLink}
 use Rattle.lane_laws.specs.Handings.{Handing, handing_of, told_handing, handed_by}
 use Rattle.lane_laws.specs.Moves.{Move, link_after_move, lane_to, MayMoves, Recorded, no_handings, handings_to, after_move, after_moves, IsEmptyLane}

@@ -1,4 +1,4 @@
-//! Laws of the lane machine. Each is the contract of an empty function, and speaks of definitions alone.
+//! Laws of the lane machine, step by step and move by move. Each is the contract of an empty function, and speaks of definitions alone.
 
 ghost use Rattle.std.specs.Prelude.{◌≡◌, ◌≢◌, ℕ, ◌<◌, List, Option, Some, None, false};
 ghost use Rattle.rp_base.specs.declared.kinds.End.{End};
@@ -73,23 +73,6 @@ pub fn sound_kept<D: Desk>()
 /// A new link is sound.
 pub fn opened_sound<D: Desk>()
     ensures { (config : LinkConfig) (host remote : D) → SoundLink (opened_link config host remote) }
-{}
-
-/// After a reopening both lanes are empty, so what is handed over in an incarnation was accepted in it.
-pub fn fresh<D: Desk>()
-    ensures { (link : LinkState D) → IsEmptyLane (link_after_reopen (list_form D.meaning) link).to_host
-        × IsEmptyLane (link_after_reopen (list_form D.meaning) link).to_remote }
-{}
-
-/// A new link is at the start of its incarnation.
-pub fn opened_new<D: Desk>()
-    ensures { (config : LinkConfig) (host remote : D) → IsFreshDesk D.meaning host → IsFreshDesk D.meaning remote
-        → IsNewLink D.meaning (opened_link config host remote) }
-{}
-
-/// A reopened link is at the start of its incarnation.
-pub fn reopened_new<D: Desk>()
-    ensures { (link : LinkState D) → IsNewLink D.meaning (link_after_reopen (list_form D.meaning) link) }
 {}
 
 /// What was accepted stays in the book under its number, and what was handed over stays so, whatever befalls the link in its incarnation.
