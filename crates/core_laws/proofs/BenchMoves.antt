@@ -13,9 +13,9 @@ use Rattle.lane_model.specs.Forms.{list_form}
 use Rattle.lane_model.specs.Links.{LinkState, end_of, free_number, lanes_of, opened_link}
 use Rattle.lane_model.specs.Conditions.{MayStep, MayEndStep, is_calling, is_in_call as is_in_call_on}
 use Rattle.lane_model.specs.Recoveries.{unopened_by, unreclaimed_by, link_after_reopen}
-use Rattle.lane_model.specs.Moves.{Enlist, Close, Reclaim}
+use Rattle.lane_laws.specs.Moves.{Enlist, Close, Reclaim}
 use Rattle.lane_model.proofs.Others.{caller_may}
-use Rattle.lane_model.proofs.LinkRuns.{opened_new, reopened_new}
+use Rattle.lane_laws.proofs.LinkRuns.{opened_new, reopened_new}
 use Rattle.channel_bus.specs.Sides.{EndState, side_meaning}
 use Rattle.channel_bus.specs.Laws.{side_laws}
 use Rattle.link_bench.specs.declared.benches.BegunCall.{BegunCall}

@@ -7,7 +7,7 @@ use Rattle.lane_model.specs.declared.calls.Outcome.TheVariants as outcome
 use Rattle.lane_model.specs.declared.calls.Wish.{Wish}
 use Rattle.lane_model.specs.Links.{LinkState, caller_step}
 use Rattle.lane_model.specs.Conditions.{MayStep}
-use Rattle.lane_model.specs.Moves.{Step}
+use Rattle.lane_laws.specs.Moves.{Step}
 use Rattle.lane_model.specs.WholeCalls.{WhereOn, left_of}
 use Rattle.lane_model.proofs.GoesOn.{goes_on, where_on}
 use Rattle.lane_model.proofs.Others.{others_may}

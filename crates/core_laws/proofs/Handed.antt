@@ -4,10 +4,10 @@ use Rattle.rp_base.specs.declared.kinds.End.{End}
 use Rattle.rp_base.specs.declared.kinds.BoundEndpoint.{BoundEndpoint}
 use Rattle.lane_model.specs.Desks.{IsBound}
 use Rattle.lane_model.specs.Links.{LinkState}
-use Rattle.lane_model.specs.Handings.{IsPrefix, due, got, handed_front, messages_of, with_numbers}
-use Rattle.lane_model.specs.Moves.{Move, MayMoves, Recorded, no_handings, after_moves, handings_to, lane_to, WasBound}
-use Rattle.lane_model.proofs.LinkRuns.{judged_after, traced_after}
-use Rattle.lane_model.proofs.Traces.{traced_front}
+use Rattle.lane_laws.specs.Handings.{IsPrefix, due, got, handed_front, messages_of, with_numbers}
+use Rattle.lane_laws.specs.Moves.{Move, MayMoves, Recorded, no_handings, after_moves, handings_to, lane_to, WasBound}
+use Rattle.lane_laws.proofs.LinkRuns.{judged_after, traced_after}
+use Rattle.lane_laws.proofs.Traces.{traced_front}
 use Rattle.channel_bus.specs.Sides.{EndState, side_meaning}
 use Rattle.channel_bus.specs.Laws.{side_laws}
 use Rattle.core_laws.specs.BenchMoves.{IsReached, WasBoundOnTheWay, history_of}

@@ -8,7 +8,7 @@ use Rattle.lane_model.specs.Forms.{list_form}
 use Rattle.lane_model.specs.Lanes.{holder}
 use Rattle.lane_model.specs.Links.{LinkState, end_of, free_number, with_caller}
 use Rattle.lane_model.specs.Recoveries.{without_caller}
-use Rattle.lane_model.proofs.CrashLaws.{freed}
+use Rattle.lane_model.proofs.CrashMay.{freed}
 use Rattle.channel_bus.specs.Sides.{EndState, side_meaning}
 use Rattle.link_bench.specs.BenchCrashes.{after_close, after_reclaim}
 use Rattle.link_bench.specs.Benches.{BenchState}

@@ -14,11 +14,12 @@ use Rattle.lane_model.specs.Crashes.{ended_turn, has_held, needed_holder, other_
 use Rattle.lane_model.specs.Forms.{list_form}
 use Rattle.lane_model.specs.Lanes.{has_call, holder, is_live_in}
 use Rattle.lane_model.specs.Links.{LinkState, end_of, free_number, lanes_of, with_caller}
-use Rattle.lane_model.specs.Moves.{no_handings}
+use Rattle.lane_laws.specs.Moves.{no_handings}
 use Rattle.lane_model.specs.Recoveries.{link_after_close, unreclaimed_by, without_caller}
 use Rattle.lane_model.specs.Soundness.{IsSoundTurn, SoundLink}
-use Rattle.lane_model.proofs.CrashLaws.{close_sound, freed}
-use Rattle.lane_model.proofs.LinkRuns.{moves_sound}
+use Rattle.lane_laws.proofs.CrashLaws.{close_sound}
+use Rattle.lane_model.proofs.CrashMay.{freed}
+use Rattle.lane_laws.proofs.LinkRuns.{moves_sound}
 use Rattle.channel_bus.specs.Sides.{EndState, side_meaning}
 use Rattle.link_bench.specs.BenchCrashes.{after_close, after_reclaim}
 use Rattle.core_laws.specs.BenchMoves.{IsReached}

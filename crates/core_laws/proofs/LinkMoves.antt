@@ -2,7 +2,7 @@
 use Rattle.std.proofs.Common.{◌≡◌, List, [], ◌∷◌, ◌++◌, refl, sym, ap, subst, ◌∙◌}
 use Rattle.lane_model.specs.Desks.{DeskMeaning}
 use Rattle.lane_model.specs.Links.{LinkState}
-use Rattle.lane_model.specs.Moves.{Move, MayMove, MayMoves, Recorded, no_handings, link_after_move, after_move, after_moves}
+use Rattle.lane_laws.specs.Moves.{Move, MayMove, MayMoves, Recorded, no_handings, link_after_move, after_move, after_moves}
 use Rattle.channel_bus.specs.Sides.{EndState, side_meaning}
 use Rattle.core_laws.specs.BenchMoves.{ComesBy, IsReached}
 use Rattle.core_laws.proofs.ShortMoves.{short_by}

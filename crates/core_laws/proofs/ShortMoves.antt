@@ -33,8 +33,8 @@ use Rattle.lane_model.specs.Forms.{list_form}
 use Rattle.lane_model.specs.Links.{LinkState, Lanes, lanes_of, with_lanes, end_of, lanes_step, send_later, receive_later, on_lanes}
 use Rattle.lane_model.specs.Conditions.{MayEndStep, MayLanesStep}
 use Rattle.lane_model.specs.Recoveries.{without_caller}
-use Rattle.lane_model.specs.Parts.{lanes_part, manager_leaves, manager_takes, with_manager, without_manager}
-use Rattle.lane_model.specs.Moves.{Move, Enlist, Step, Close, Reclaim, Part, Take, Leave, MayMove, MayMoves, Recorded, no_handings, link_after_move, after_move, after_moves}
+use Rattle.lane_laws.specs.Parts.{lanes_part, manager_leaves, manager_takes, with_manager, without_manager}
+use Rattle.lane_laws.specs.Moves.{Move, Enlist, Step, Close, Reclaim, Part, Take, Leave, MayMove, MayMoves, Recorded, no_handings, link_after_move, after_move, after_moves}
 use Rattle.lane_model.proofs.SoundLanes.{taken_has, turn_step_has}
 use Rattle.channel_bus.specs.Sides.{EndState, side_meaning}
 use Rattle.core_laws.specs.BenchMoves.{ComesBy, IsShortLane, IsShortLink}

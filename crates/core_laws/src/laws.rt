@@ -32,8 +32,8 @@ ghost use Rattle.lane_model.specs.declared.calls.CallEnd.{CallEnd};
 ghost use Rattle.memory_pool.specs.declared.regions.Region.{Region};
 ghost use Rattle.fw_load.specs.declared.rings.RingPair.{RingPair};
 ghost use Rattle.lane_model.specs.Desks.{IsBound};
-ghost use Rattle.lane_model.specs.Handings.{IsPrefix, due, got, handed_front, messages_of, with_numbers};
-ghost use Rattle.lane_model.specs.Moves.{handings_to, lane_to};
+ghost use Rattle.lane_laws.specs.Handings.{IsPrefix, due, got, handed_front, messages_of, with_numbers};
+ghost use Rattle.lane_laws.specs.Moves.{handings_to, lane_to};
 ghost use Rattle.rp_base.specs.declared.kinds.BoundEndpoint.{BoundEndpoint};
 
 /// No move is a way from a link to itself, and moves go on where others have led.

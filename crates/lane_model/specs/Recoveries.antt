@@ -64,17 +64,3 @@ unopened_by link =
 abbrev pub link_after_reopen : {L D : Type 0} → FormMeaning L D → LaneLink L → LaneLink L
 link_after_reopen form link =
     record link { era = record { inc = link.era.inc + 1; is_live = true }; to_host = form.link_after_reopen link.to_host; to_remote = form.link_after_reopen link.to_remote }
-
--- nothing was handed over on either lane
-pub record HandsNone {D : Type 0} (before after : LinkState D) : Type 0 where
-  pub to_host : after.to_host.lane.takers ≡ before.to_host.lane.takers
-  pub to_remote : after.to_remote.lane.takers ≡ before.to_remote.lane.takers
-
--- a lane on which nothing was accepted, handed over or given back, with no call under way
-pub record IsEmptyLane {D : Type 0} (state : LaneState D) : Type 0 where
-  pub accepted : state.lane.accepted ≡ []
-  pub takers : state.lane.takers ≡ []
-  pub held : state.lane.held ≡ []
-  pub returned : state.lane.returned ≡ 0
-  pub sender : state.sender ≡ turn.Free
-  pub receiver : state.receiver ≡ turn.Free

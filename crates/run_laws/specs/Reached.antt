@@ -3,9 +3,9 @@ use Rattle.std.specs.Prelude.{◌≡◌, ℕ, All}
 use Rattle.rp_base.specs.declared.kinds.End.{End}
 use Rattle.rp_base.specs.declared.kinds.BoundEndpoint.{BoundEndpoint}
 use Rattle.lane_model.specs.Desks.{IsBound}
-use Rattle.lane_model.specs.Handings.{IsPrefix, due, got, handed_front, messages_of, with_numbers}
+use Rattle.lane_laws.specs.Handings.{IsPrefix, due, got, handed_front, messages_of, with_numbers}
 use Rattle.lane_model.specs.Links.{LinkState}
-use Rattle.lane_model.specs.Moves.{handings_to, lane_to}
+use Rattle.lane_laws.specs.Moves.{handings_to, lane_to}
 use Rattle.channel_bus.specs.Sides.{EndState, side_meaning}
 use Rattle.core_laws.specs.BenchMoves.{IsReached, IsReachedBench, IsReachedCore, WasBoundOnTheWay, history_of}
 use Rattle.script_run.specs.NamedCores.{NamedCoreState}
