@@ -134,4 +134,3 @@ module _ {D : Type 0} (desk : DeskMeaning D) (way : Way D) (since : List Move) (
         let lengths = sym (length-append (way_takes desk way end) early.rest) ∙ ap length same ∙ length-append (way_takes desk (way_on way since) end) later.rest in
         let most = early.most in
         omega (arith, lengths, most)
-
