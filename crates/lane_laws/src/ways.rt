@@ -19,7 +19,7 @@ use lane_model::{Desk, LaneForm};
 
 /// A new link and a reopened link are at the start of an incarnation, with empty lanes. So what is handed over in an incarnation was
 /// accepted in it.
-pub fn opened<D: Desk>()
+pub fn openings_are_new<D: Desk>()
     ensures new { (config : LinkConfig) (host remote : D) → IsFreshDesk D.meaning host → IsFreshDesk D.meaning remote
         → IsOpened D.meaning (opened_link config host remote) }
     ensures reopened { (link : LinkState D) → IsOpened D.meaning (link_after_reopen (list_form D.meaning) link) }
@@ -27,14 +27,14 @@ pub fn opened<D: Desk>()
 
 /// A way leads to the link with its history, and what takers were told at an end on that way is what was handed over there: in order, with
 /// number, sender, payload and verdict, all but what a taker is yet to tell, or the last one, whose taker was reclaimed.
-pub fn told<D: Desk>()
+pub fn takes_are_told<D: Desk>()
     ensures leads { (way : Way D) → (history D.meaning way).link ≡ link_of_way D.meaning way }
     ensures told { (way : Way D) (end : End) → IsWay D.meaning way → IsTold end (history D.meaning way) (way_takes D.meaning way end) }
 {}
 
 /// What takers were told at an end on a way is, in order, the first messages of the book, each number once; and what they were told that an
 /// endpoint got from a sender is how that begins which is due to it.
-pub fn told_in_order<D: Desk>()
+pub fn takes_in_order<D: Desk>()
     ensures once { (way : Way D) (end : End) → IsWay D.meaning way
         → IsPrefix (messages_of (way_takes D.meaning way end)) (with_numbers 0 (handed_front (lane_to (link_of_way D.meaning way) end).lane)) }
     ensures due { (way : Way D) (end : End) (bound : BoundEndpoint) (sender : ℕ) → IsWay D.meaning way → WasBoundOnWay D.meaning way end bound
@@ -44,7 +44,7 @@ pub fn told_in_order<D: Desk>()
 
 /// Once a way has led to a closed incarnation nothing more is handed over on it. What takers are told from then on was handed over before,
 /// and is one handing at each end at most.
-pub fn told_closed<D: Desk>()
+pub fn takes_after_close<D: Desk>()
     ensures hands { (way : Way D) (since : List Move) (end : End) → (link_of_way D.meaning way).era.is_live ≡ false
         → handings_to (history D.meaning (way_on way since)) end ≡ handings_to (history D.meaning way) end }
     ensures front { (way : Way D) (since : List Move) (end : End) → (link_of_way D.meaning way).era.is_live ≡ false

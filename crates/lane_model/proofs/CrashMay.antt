@@ -1,5 +1,5 @@
 -- A close leaves every caller's next step possible, a reclaim every other caller's, and a reopening every first step.
-use Rattle.std.proofs.Common.{◌≡◌, ◌≢◌, ℕ, zero, suc, ◌-◌, ◌^◌, ◌==◌, if◌then◌else◌, eqb, Bool, true, false, IsTrue, cond, fold, Option, Some, None, is_none, refl, sym, ap, subst, ◌∙◌, List, [], ◌∷◌, nat_lt, slice_set}
+use Rattle.std.proofs.Common.{◌≡◌, ◌≢◌, ℕ, zero, suc, ◌-◌, ◌^◌, ◌==◌, if◌then◌else◌, eqb, true, false, fold, Option, Some, None, is_none, refl, sym, ap, subst, ◌∙◌, List, [], ◌∷◌, nat_lt, slice_set}
 use Rattle.std.specs.Option.{option_map, option_or}
 use Rattle.std.proofs.lemmas.Bool.{false≢true, ne_eqb, cond_both, eqb-true}
 use Rattle.rp_base.specs.declared.kinds.Era.{Era}
@@ -10,7 +10,6 @@ use Rattle.lane_model.specs.declared.states.LaneState.{LaneState}
 use Rattle.lane_model.specs.declared.stages.Turn.{Turn}
 use Rattle.lane_model.specs.declared.stages.Turn.TheVariants as turn
 use Rattle.lane_model.specs.declared.calls.Wish.{Wish}
-use Rattle.lane_model.specs.declared.calls.Wish.TheVariants as wish
 use Rattle.lane_model.specs.declared.recoveries.ReopenFault.{ReopenFault}
 use Rattle.lane_model.specs.declared.recoveries.ReopenFault.TheVariants as reopen_fault
 use Rattle.lane_model.specs.Desks.{DeskMeaning}

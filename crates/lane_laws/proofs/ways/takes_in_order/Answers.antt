@@ -1,5 +1,5 @@
 use Rattle.lane_laws.proofs.WayFacts.{told_due, told_once}
-use Rattle.lane_laws.proofs.ways.told_in_order.Goals as goal
+use Rattle.lane_laws.proofs.ways.takes_in_order.Goals as goal
 
 pub returns : goal.returns
 returns g c = record {

@@ -1,5 +1,5 @@
 use Rattle.lane_laws.proofs.WayFacts.{shut_begins, shut_hands_none, shut_most}
-use Rattle.lane_laws.proofs.ways.told_closed.Goals as goal
+use Rattle.lane_laws.proofs.ways.takes_after_close.Goals as goal
 
 pub returns : goal.returns
 returns g c = record {

@@ -1,5 +1,5 @@
 use Rattle.lane_laws.proofs.WayFacts.{opened, reopened}
-use Rattle.lane_laws.proofs.ways.opened.Goals as goal
+use Rattle.lane_laws.proofs.ways.openings_are_new.Goals as goal
 
 pub returns : goal.returns
 returns g c = record {
