@@ -56,19 +56,19 @@ dump_read entry parts low are =
     let count = length parts in
     let loads = loads_from start parts in
     let headers = load_headers loads in
-    let data = part_bytes parts in
+    let files = part_bytes parts in
     let front = file_header 4 entry count 0 0 0 0 in
-    let bytes = front ++ (headers ++ data) in
+    let bytes = front ++ (headers ++ files) in
     let front_len : length front ≡ 52 = length_header 4 entry count 0 0 0 0 in
     let same = count_same parts start in
     let headers_len : length headers ≡ 32 * count = length_headers loads ∙ ap (λ n. 32 * n) same in
     let total : length bytes ≡ start + data_len parts =
-    omega (arith, length-append front (headers ++ data), length-append headers data, front_len, headers_len, length-flat_map (λ (part : Part). part.bytes.now) parts) in
+    omega (arith, length-append front (headers ++ files), length-append headers files, front_len, headers_len, length-flat_map (λ (part : Part). part.bytes.now) parts) in
     let small : length bytes < 2 ^ 32 = omega (arith, total, are.few, are.small) in
-    let at_headers : drop 52 bytes ≡ headers ++ data = skip 0 52 bytes front (headers ++ data) refl front_len in
-    let at_data : drop start bytes ≡ data = skip 52 (32 * count) bytes headers data at_headers headers_len in
-    let header = header_read 4 entry count 0 0 0 0 (headers ++ data) low (omega (arith, are.few)) (lit< tt) (lit< tt) (lit< tt) (lit< tt) in
-    let read = image_read loads entry 0 0 0 0 bytes data (parts_hold parts start bytes are.each small (omega (arith, total)) at_data) low (omega (arith, same, are.some)) (omega (arith, same, are.few))
-    (lit< tt) refl refl small (omega (arith, total, same)) (subst (λ n. IsHeader bytes entry n 0 0 0 0) (sym same) header) (identified 4 entry count 0 0 0 0 (headers ++ data)) (layout_is 4 entry count 0 0 0 0 (headers ++ data)) at_headers
+    let at_headers : drop 52 bytes ≡ headers ++ files = skip 0 52 bytes front (headers ++ files) refl front_len in
+    let at_data : drop start bytes ≡ files = skip 52 (32 * count) bytes headers files at_headers headers_len in
+    let header = header_read 4 entry count 0 0 0 0 (headers ++ files) low (omega (arith, are.few)) (lit< tt) (lit< tt) (lit< tt) (lit< tt) in
+    let read = image_read loads entry 0 0 0 0 bytes files (parts_hold parts start bytes are.each small (omega (arith, total)) at_data) low (omega (arith, same, are.some)) (omega (arith, same, are.few))
+    (lit< tt) refl refl small (omega (arith, total, same)) (subst (λ n. IsHeader bytes entry n 0 0 0 0) (sym same) header) (identified 4 entry count 0 0 0 0 (headers ++ files)) (layout_is 4 entry count 0 0 0 0 (headers ++ files)) at_headers
     (plain_pass bytes entry count header) in
     record { good = read.good; entry_is = read.entry_is; segments = read.segments_are ∙ segments_same parts 0 start are.each }

@@ -53,21 +53,15 @@ fn data_len(parts: &[Part<'_>]) -> usize
 }
 
 /// Appends a program header for each part, whose bytes stand from a place of the image on.
-fn put_program_headers(
-    dump: &mut Vec<u8>,
-    parts: &[Part<'_>],
-    start: u64,
-) -> Result<(), AllocError>
+fn put_program_headers(dump: &mut Vec<u8>, parts: &[Part<'_>], start: u64) -> Result<(), AllocError>
     requires { start + data_len parts.now < 2 ^ 64 }
     ensures { OnOk result (dump.new.items ≡ dump.old.items ++ load_headers (loads_from start parts.now)) }
 {
     let mut offset = start;
-    let mut rest = parts;
-    while let [part, more @ ..] = rest {
+    for part in parts {
         let len = part.bytes.len() as u64;
         put_load_header(dump, offset, u64::from(part.da), len, len)?;
         offset += len;
-        rest = more;
     }
     Ok(())
 }
