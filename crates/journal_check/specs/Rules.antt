@@ -43,8 +43,8 @@ is_took (what.Took c k fate) = true
 is_took other = false
 
 abbrev pub is_second_after_close : Bool → What → List Entry → Bool
-is_second_after_close is_closed (what.Sent c k) here = is_closed && list_any (λ entry. entry.is_closed && is_sent entry.line) here
-is_second_after_close is_closed (what.Took c k fate) here = is_closed && list_any (λ entry. entry.is_closed && is_took entry.line) here
+is_second_after_close is_closed (what.Sent c k) here = is_closed && list_any (λ entry. is_sent entry.line && entry.is_closed) here
+is_second_after_close is_closed (what.Took c k fate) here = is_closed && list_any (λ entry. is_took entry.line && entry.is_closed) here
 is_second_after_close is_closed other here = false
 
 -- the last line by which an address was bound or unbound: which of the two, and the generation

@@ -1,15 +1,16 @@
 -- What the tables of an audit keep of the lines before (own). The contracts of the crate's own functions speak of it.
-use Rattle.std.specs.Prelude.{◌≡◌, ℕ, ◌<◌, Bool, true, false, ◌&&◌, nat_eq, nat_le, List, [], ◌∷◌, Option, Some, None, unwrap_or, find, bytes_eq, IfOk, Result}
+use Rattle.std.specs.Prelude.{◌≡◌, ℕ, ◌<◌, Bool, true, false, ◌&&◌, nat_eq, nat_le, List, [], ◌∷◌, Option, Some, None, unwrap_or, find, bytes_eq}
 use Rattle.std.specs.List.{list_any, range_with_len}
 use Rattle.std.specs.Map.{lookup}
 use Rattle.indexmap.specs.IndexMap.{get}
-use Rattle.rp_base.specs.Texts.{padded_name}
+use Rattle.rp_base.specs.Texts.{padded_name, text_before_zero}
 use Rattle.rp_base.specs.declared.kinds.End.{End}
 use Rattle.rp_base.specs.declared.kinds.End.TheVariants as side
+use Rattle.rp_base.specs.declared.kinds.Endpoint.{Endpoint}
 use Rattle.rp_base.specs.declared.memory.NoMemory.{NoMemory}
-use Rattle.word_kinds.specs.Spellings.{is_name}
 use Rattle.journal_check.specs.declared.books.Book.{Book}
 use Rattle.journal_check.specs.declared.marks.What.{What}
+use Rattle.journal_check.specs.declared.marks.What.TheVariants as what
 use Rattle.journal_check.specs.declared.readings.Reading.{Reading}
 use Rattle.journal_check.specs.declared.records.Record.{Record}
 use Rattle.journal_check.specs.declared.sides.Side.{Side}
@@ -27,10 +28,15 @@ is_reached k (Some most) = nat_le k most
 pub record IsSide (here : List Entry) (kept : Side) : Type 0 where
   pub sent : (k : ℕ) → list_any (λ entry. is_sent_from k entry.line) here ≡ is_reached k kept.sent
   pub took : (k : ℕ) → list_any (λ entry. is_took_from k entry.line) here ≡ is_reached k kept.took
-  pub late_sent : list_any (λ entry. entry.is_closed && is_sent entry.line) here ≡ kept.has_late_sent
-  pub late_took : list_any (λ entry. entry.is_closed && is_took entry.line) here ≡ kept.has_late_took
+  pub late_sent : list_any (λ entry. is_sent entry.line && entry.is_closed) here ≡ kept.has_late_sent
+  pub late_took : list_any (λ entry. is_took entry.line && entry.is_closed) here ≡ kept.has_late_took
   pub generation : (k : ℕ) → list_any (λ entry. is_named_from k entry.line) here ≡ is_reached k kept.generation
   pub bindings : (address : ℕ) → get nat_eq kept.bindings address ≡ last_binding address here
+
+-- the line by which an endpoint is bound, or unbound
+abbrev pub binding_line : Bool → ℕ → Endpoint → What
+binding_line true caller endpoint = what.Bound caller endpoint
+binding_line false caller endpoint = what.Unbound caller endpoint
 
 -- the incarnation of a name, or 0 where it has had none
 abbrev pub inc_of : List What → ℕ
@@ -67,8 +73,11 @@ abbrev pub is_same_name : List ℕ → List ℕ → Bool
 is_same_name one other = bytes_eq (padded_name one) (padded_name other)
 
 -- what lines say of every name, as it is kept
+abbrev pub AreRecords : List Reading → List (List ℕ × Record) → Type 0
+AreRecords before records = (name : List ℕ) → text_before_zero name ≡ name → IsRecordOf (past_of name before) (lookup (is_same_name name) records)
+
 abbrev pub IsBook : List Reading → Book → Type 0
-IsBook before book = (name : List ℕ) → is_name name ≡ true → IsRecordOf (past_of name before) (lookup (is_same_name name) book.records.entries)
+IsBook before book = AreRecords before book.records.entries
 
 -- what became of a line: the least rule that it breaks, and what is kept where it breaks none
 pub record Judges (is_last : Bool) (bytes : List ℕ) (before : List Reading) (answer : Option ℕ) (book : Book) : Type 0 where

@@ -1,10 +1,9 @@
-ghost use Rattle.std.specs.Prelude.{◌≡◌, List, [], ◌∷◌, IfOk, Some, true};
-ghost use Rattle.word_kinds.specs.Spellings.{is_name};
+ghost use Rattle.std.specs.Prelude.{◌≡◌, List, [], ◌∷◌, IfOk, OnOk, Some, None, true, is_some};
+ghost use Rattle.std.specs.Map.{lookup};
+ghost use Rattle.rp_base.specs.Texts.{text_before_zero};
 ghost use Rattle.journal_check.specs.declared.readings.Reading.{Reading};
 ghost use Rattle.journal_check.specs.Marks.{mark_in, past_of};
-ghost use Rattle.journal_check.specs.Readings.{IsReading};
-ghost use Rattle.journal_check.specs.Rules.{least_rule};
-ghost use Rattle.journal_check.specs.Tables.{IsBook, least_of, Judges};
+ghost use Rattle.journal_check.specs.Tables.{IsBook, is_same_name, least_of, Judges};
 
 use crate::marks::{Mark, mark_of};
 use crate::readings::{Reading, reading_of};
@@ -51,18 +50,28 @@ impl Book {
 
     /// The least rule that a mark breaks; where it breaks none, it is kept.
     fn take_mark(&mut self, alloc: Global, mark: &Mark) -> Result<Option<u8>, NoMemory>
-        requires { is_name mark.now.name ≡ true }
+        requires { text_before_zero mark.now.name ≡ mark.now.name }
         ensures rule { (before : List Reading) → IsBook before self.old
             → IfOk result (λ rule. rule ≡ least_of mark.now.what (past_of mark.now.name before)) }
         ensures kept { (before : List Reading) (now : Reading) → IsBook before self.old → mark_in now ≡ Some mark.now
             → IfOk result (λ rule. rule ≡ None → IsBook (now ∷ before) self.new) }
     {
-        if !self.records.contains_key(&mark.name) {
-            self.records.insert(mark.name, Record::new(alloc))?;
-        }
+        self.make_record(alloc, mark.name)?;
         match self.records.get_mut(&mark.name) {
             Some(record) => record.take(alloc, &mark.what),
             None => unreachable!(),
         }
+    }
+
+    /// Makes the record of a name that has none.
+    fn make_record(&mut self, alloc: Global, name: Name) -> Result<(), NoMemory>
+        requires { text_before_zero name ≡ name }
+        ensures there { OnOk result (is_some (lookup (is_same_name name) self.new.records.entries) ≡ true) }
+        ensures kept { (before : List Reading) → IsBook before self.old → OnOk result (IsBook before self.new) }
+    {
+        if !self.records.contains_key(&name) {
+            self.records.insert(name, Record::new(alloc))?;
+        }
+        Ok(())
     }
 }

@@ -23,9 +23,13 @@ pub(crate) fn ending_of(alloc: Global, bytes: &[u8]) -> Result<Option<Notice>, N
     if bytes == b"* step limit\n".as_slice() {
         return Ok(Some(Notice::StepLimit));
     }
-    match refusal_in(bytes) {
-        Some(notice) if is_line_of(alloc, &notice, bytes)? => Ok(Some(notice)),
-        _ => Ok(None),
+    let Some(notice) = refusal_in(bytes) else {
+        return Ok(None);
+    };
+    if is_line_of(alloc, &notice, bytes)? {
+        Ok(Some(notice))
+    } else {
+        Ok(None)
     }
 }
 

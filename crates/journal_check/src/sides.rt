@@ -1,8 +1,8 @@
 ghost use Rattle.std.specs.Prelude.{◌≡◌, ℕ, ◌||◌, List, [], ◌∷◌, nat_le, find, OnOk, IfOk, Option, Bool, true, false, None};
 ghost use Rattle.std.specs.List.{range_with_len};
 ghost use Rattle.journal_check.specs.Entries.{Entry, Place};
-ghost use Rattle.journal_check.specs.Rules.{breaks_here, is_out_of_date, is_bound, last_binding};
-ghost use Rattle.journal_check.specs.Tables.{IsSide, is_reached};
+ghost use Rattle.journal_check.specs.Rules.{breaks_here, is_out_of_date, is_bound, is_named_from, last_binding};
+ghost use Rattle.journal_check.specs.Tables.{IsSide, is_reached, binding_line};
 
 use crate::marks::{Fate, What};
 use indexmap::IndexMap;
@@ -155,7 +155,7 @@ impl Side {
         ensures { (caller : ℕ) (here : List Entry) (place : Option Place) → IsSide here self.old
             → IsSide (record { line = What.Sent caller number; place = place; is_closed = is_closed } ∷ here) self.new }
     {
-        self.sent = Some(greatest(self.sent, number));
+        self.sent = greatest(self.sent, number);
         self.has_late_sent = is_closed || self.has_late_sent;
     }
 
@@ -164,19 +164,15 @@ impl Side {
         ensures { (caller : ℕ) (here : List Entry) (place : Option Place) → IsSide here self.old
             → IsSide (record { line = What.Took caller number fate; place = place; is_closed = is_closed } ∷ here) self.new }
     {
-        self.took = Some(greatest(self.took, number));
+        self.took = greatest(self.took, number);
         self.has_late_took = is_closed || self.has_late_took;
-        if let Fate::To(endpoint) = fate {
-            self.generation = Some(greatest(self.generation, endpoint.generation));
-        }
+        self.generation = generation_with(self.generation, fate);
     }
 
     /// Keeps a bound or an unbound line.
     fn note_binding(&mut self, is_bound: bool, endpoint: Endpoint) -> Result<(), NoMemory>
-        ensures bound { (caller : ℕ) (here : List Entry) (place : Option Place) (is_closed : Bool) → is_bound ≡ true → IsSide here self.old
-            → OnOk result (IsSide (record { line = What.Bound caller endpoint; place = place; is_closed = is_closed } ∷ here) self.new) }
-        ensures unbound { (caller : ℕ) (here : List Entry) (place : Option Place) (is_closed : Bool) → is_bound ≡ false → IsSide here self.old
-            → OnOk result (IsSide (record { line = What.Unbound caller endpoint; place = place; is_closed = is_closed } ∷ here) self.new) }
+        ensures { (caller : ℕ) (here : List Entry) (place : Option Place) (is_closed : Bool) → IsSide here self.old
+            → OnOk result (IsSide (record { line = binding_line is_bound caller endpoint; place = place; is_closed = is_closed } ∷ here) self.new) }
     {
         let generation = endpoint.generation;
         let binding = Binding {
@@ -184,7 +180,7 @@ impl Side {
             generation,
         };
         self.bindings.insert(u64::from(endpoint.address), binding)?;
-        self.generation = Some(greatest(self.generation, generation));
+        self.generation = greatest(self.generation, generation);
         Ok(())
     }
 }
@@ -199,12 +195,22 @@ fn reaches(most: Option<u64>, number: u64) -> bool
     }
 }
 
-/// The greatest of some numbers, and one more.
-fn greatest(most: Option<u64>, number: u64) -> u64
-    ensures { (k : ℕ) → nat_le k result ≡ nat_le k number || is_reached k most }
+/// The greatest of some numbers and one more.
+fn greatest(most: Option<u64>, number: u64) -> Option<u64>
+    ensures { (k : ℕ) → is_reached k result ≡ (nat_le k number || is_reached k most) }
 {
     match most {
-        Some(most) => most.max(number),
-        None => number,
+        Some(most) => Some(most.max(number)),
+        None => Some(number),
+    }
+}
+
+/// The greatest of some generations, and of the one that a took line names by its message's fate.
+fn generation_with(most: Option<u64>, fate: Fate) -> Option<u64>
+    ensures { (caller number k : ℕ) → is_reached k result ≡ (is_named_from k (What.Took caller number fate) || is_reached k most) }
+{
+    match fate {
+        Fate::To(endpoint) => greatest(most, endpoint.generation),
+        Fate::Dropped(_) | Fate::Other => most,
     }
 }
