@@ -48,22 +48,58 @@ pub(crate) fn mark_of(event: &Event) -> Option<Mark>
     ensures { result ≡ mark_of event.now }
 {
     let (name, what) = match event {
-        Event::Offline(x) => (x, What::Core),
-        Event::Open(x, inc) | Event::Running(x, inc) => (x, What::Opens(*inc)),
-        Event::Closed(x, inc) => (x, What::Closes(*inc)),
-        Event::Caller(x, c, end) => (x, What::Caller(*c, *end)),
-        Event::Sent(x, c, number) => (x, What::Sent(*c, *number)),
-        Event::TookFromTo(x, c, number, _source, endpoint, _payload) => {
-            (x, What::Took(*c, *number, Fate::To(*endpoint)))
+        Event::Offline { name } => (name, What::Core),
+        Event::Open { name, inc } | Event::Running { name, inc } => (name, What::Opens(*inc)),
+        Event::Closed { name, inc } => (name, What::Closes(*inc)),
+        Event::Caller { name, caller, end } => (name, What::Caller(*caller, *end)),
+        Event::Sent {
+            name,
+            caller,
+            number,
+        } => (name, What::Sent(*caller, *number)),
+        Event::TookFromTo {
+            name,
+            caller,
+            number,
+            endpoint,
+            ..
+        } => (name, What::Took(*caller, *number, Fate::To(*endpoint))),
+        Event::TookFromDropped {
+            name,
+            caller,
+            number,
+            destination,
+            ..
+        } => (
+            name,
+            What::Took(*caller, *number, Fate::Dropped(*destination)),
+        ),
+        Event::TookMalformed {
+            name,
+            caller,
+            number,
         }
-        Event::TookFromDropped(x, c, number, _source, destination, _payload) => {
-            (x, What::Took(*c, *number, Fate::Dropped(*destination)))
+        | Event::TookNs {
+            name,
+            caller,
+            number,
+            ..
         }
-        Event::TookMalformed(x, c, number)
-        | Event::TookNs(x, c, number, _, _, _)
-        | Event::TookNsMalformed(x, c, number) => (x, What::Took(*c, *number, Fate::Other)),
-        Event::Bound(x, c, endpoint) => (x, What::Bound(*c, *endpoint)),
-        Event::Unbound(x, c, endpoint) => (x, What::Unbound(*c, *endpoint)),
+        | Event::TookNsMalformed {
+            name,
+            caller,
+            number,
+        } => (name, What::Took(*caller, *number, Fate::Other)),
+        Event::Bound {
+            name,
+            caller,
+            endpoint,
+        } => (name, What::Bound(*caller, *endpoint)),
+        Event::Unbound {
+            name,
+            caller,
+            endpoint,
+        } => (name, What::Unbound(*caller, *endpoint)),
         _ => return None,
     };
     Some(Mark { name: *name, what })
