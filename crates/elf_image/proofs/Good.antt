@@ -3,7 +3,6 @@ use Rattle.std.proofs.Common.{◌≡◌, ℕ, List, Option, Some, None, refl, ap
 use Rattle.std.specs.Option.{option_or}
 use Rattle.elf_image.specs.Layout.{layout_of}
 use Rattle.elf_image.specs.Headers.{file_header}
-use Rattle.elf_image.specs.Segments.{loaded_from, segments_fault}
 use Rattle.elf_image.specs.Sections.{sections_fault}
 use Rattle.elf_image.specs.Images.{GoodImage, contents_fault}
 use Rattle.elf_image.specs.declared.faults.ElfFault.{ElfFault}

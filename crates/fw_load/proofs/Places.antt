@@ -110,8 +110,8 @@ pub segments_have : (image : List ℕ) → AllHaveMemory (segments_of image)
 segments_have image =
     by_layout (layout_of image) (λ layout. segments_by layout image) (All-nil (λ (segment : SegmentAt). 1 ≤ segment.memory_len))
     (λ layout. All-map (λ (segment : SegmentAt). 1 ≤ segment.memory_len) (segment_at image) (loaded_from layout (file_header layout image) image 0)
-      (kept_have is_loaded (λ numbered. 1 ≤ numbered.header.memory_len) (λ numbered e. some_memory numbered.header.kind numbered.header.memory_len e)
-      (map (numbered_header layout (file_header layout image) image) (range_with_len 0 ((file_header layout image).program_count - 0)))))
+    (kept_have is_loaded (λ numbered. 1 ≤ numbered.header.memory_len) (λ numbered e. some_memory numbered.header.kind numbered.header.memory_len e)
+    (map (numbered_header layout (file_header layout image) image) (range_with_len 0 ((file_header layout image).program_count - 0)))))
 
 -- a good table fills its section, and has some bytes
 pub table_fills : (image : List ℕ) (section : Option Section) → section_fault image section ≡ None

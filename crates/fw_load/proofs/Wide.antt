@@ -25,8 +25,8 @@ first_block : (block : Mapped) (memory_len da len : ℕ) (test : Bool) (others :
 first_block block memory_len da len true others e range inside small some wide none =
     let fits = held da len block.da block.len e in
     elim wide [
-      inl past ↦ absurd (omega (arith, range.device, fits.1))
-    | inr long ↦ no_place block.at len block.len memory_len (da - block.da) inside (omega arith) fits.0
+      | inl past ↦ absurd (omega (arith, range.device, fits.1))
+      | inr long ↦ no_place block.at len block.len memory_len (da - block.da) inside (omega arith) fits.0
     ]
 first_block block memory_len da len false others e range inside small some wide none = none
 

@@ -1,6 +1,5 @@
 pub mod Joins
 pub mod CodeBytes
-pub mod ReadFields
 pub mod ReadSegments
 pub mod ReadTable
 pub mod ReadImages

@@ -14,12 +14,14 @@ use Rattle.script_lang.specs.declared.recipes.RecipeLine.TheVariants as recipe
 use Rattle.script_lang.specs.Runnable.{IsRecipe}
 use Rattle.image_maker.specs.Segments.{segment_count}
 use Rattle.image_maker.specs.Tables.{table_len, table_bytes}
-use Rattle.image_maker.specs.Images.{entry_after, entry_address, table_after, table_address, file_header, segments_part, section_names, section_headers, data_end, image_with, image_of}
+use Rattle.image_maker.specs.Images.{entry_after, entry_address, table_after, table_address, segments_part, section_names, section_headers, data_end, image_with, image_of}
 use Rattle.image_maker.specs.ReadBack.{table_section, IsLoadable, IsReadBack}
-use Rattle.image_maker.proofs.ReadFields.{IsHeader, skip, header_read}
-use Rattle.image_maker.proofs.ReadSegments.{file_is}
+use Rattle.elf_writer.proofs.ReadFields.{IsHeader, skip, header_read}
+use Rattle.elf_writer.proofs.ReadLoads.{file_is}
 use Rattle.image_maker.proofs.ReadTable.{HasTable, length_table, section_found, sections_pass}
-use Rattle.image_maker.proofs.ReadImages.{parts_are, image_read, identified, length_header, layout_is}
+use Rattle.elf_writer.specs.Headers.{file_header}
+use Rattle.elf_writer.proofs.ReadImages.{identified, length_header, layout_is, no_sections, plain_pass}
+use Rattle.image_maker.proofs.ReadImages.{parts_are, lines_read}
 
 entry_small : (lines : List RecipeLine) (entry : ℕ) → entry < 2 ^ 32 → IsRecipe lines → fold entry_after entry lines < 2 ^ 32
 entry_small [] entry small r = small
@@ -32,33 +34,27 @@ table_small (recipe.Table at ∷ more) table da small r e = table_small more (So
 table_small (line ∷ more) table da small r e = table_small more table da small r.1 e
 
 -- without a table
-plain_sections : (bytes : List ℕ) (entry segments : ℕ) → IsHeader bytes entry segments 0 0 0 0 → not ((file_header_read elf32 bytes).section_table == 0) ≡ false
-plain_sections bytes entry segments h = ap (λ at. not (at == 0)) h.place_is
-
 plain_read : (lines : List RecipeLine) → IsLoadable lines → length (image_with lines None) < 2 ^ 32 → table_address lines ≡ None → IsReadBack lines (image_with lines None)
 unfolding image_with
 plain_read lines h short none =
     let entry = entry_address lines in
     let count = segment_count lines in
-    let front = file_header entry count 0 0 0 0 in
+    let front = file_header 2 entry count 0 0 0 0 in
     let rest = segments_part lines ++ [] in
     let bytes = front ++ rest in
     let same : bytes ≡ front ++ segments_part lines = ap (λ part. front ++ part) (append-nil (segments_part lines)) in
-    let header = header_read entry count 0 0 0 0 rest (entry_small lines 0 (lit< tt) h.recipe) (omega (arith, h.few)) (lit< tt) (lit< tt) (lit< tt) (lit< tt) in
-    let no_sections = plain_sections bytes entry count header in
-    let read = image_read lines entry 0 0 0 0 bytes [] h.recipe h.room (entry_small lines 0 (lit< tt) h.recipe) h.some h.few (lit< tt) refl refl (subst (λ image. length image < 2 ^ 32) (sym same) short) header
-    (identified entry count 0 0 0 0 rest) (layout_is entry count 0 0 0 0 rest) (parts_are lines front [] (length_header entry count 0 0 0 0))
-    (ap (λ b. cond b (first_fault
-    (fault_if (nat_lt (length bytes) ((file_header_read elf32 bytes).section_table + 40 * (file_header_read elf32 bytes).section_count)) fault.SectionsPastEnd
-    ∷ fault_if (not (nat_lt (file_header_read elf32 bytes).names_index (file_header_read elf32 bytes).section_count) || nat_lt (length bytes)
-    ((section_header_at elf32 (file_header_read elf32 bytes) bytes (file_header_read elf32 bytes).names_index).offset + (section_header_at elf32 (file_header_read elf32 bytes) bytes (file_header_read elf32 bytes).names_index).size)) fault.NamesMissing ∷ [])) None) no_sections) in
+    let header = header_read 2 entry count 0 0 0 0 rest (entry_small lines 0 (lit< tt) h.recipe) (omega (arith, h.few)) (lit< tt) (lit< tt) (lit< tt) (lit< tt) in
+    let without = no_sections bytes entry count header in
+    let read = lines_read lines entry 0 0 0 0 bytes [] h.recipe h.room (entry_small lines 0 (lit< tt) h.recipe) h.some h.few (lit< tt) refl refl (subst (λ image. length image < 2 ^ 32) (sym same) short) header
+    (identified 2 entry count 0 0 0 0 rest) (layout_is 2 entry count 0 0 0 0 rest) (parts_are lines front [] (length_header 2 entry count 0 0 0 0))
+    (plain_pass bytes entry count header) in
     subst (IsReadBack lines) same (record {
       good = read.good;
       entry = read.entry_is;
-      segments = read.segments;
+      segments = read.segments_are;
       section =
           ap (λ l. section_by l bytes (codes ".resource_table")) read.layout
-          ∙ ap (λ b. cond b (option_map section_place (find (has_name (names_of elf32 (file_header_read elf32 bytes) bytes) (codes ".resource_table")) (sections_from elf32 (file_header_read elf32 bytes) bytes 0))) None) no_sections
+          ∙ ap (λ b. cond b (option_map section_place (find (has_name (names_of elf32 (file_header_read elf32 bytes) bytes) (codes ".resource_table")) (sections_from elf32 (file_header_read elf32 bytes) bytes 0))) None) without
           ∙ sym (ap (option_map (table_section lines)) none);
       table = λ some. let never : ◌≡◌ {A = Bool} false true = subst IsSome none some in absurd (cc);
     })
@@ -79,7 +75,7 @@ table_read lines da h short some =
     let start = data_end lines in
     let len = table_len lines in
     let place = start + len + 27 in
-    let front = file_header entry count place 40 3 2 in
+    let front = file_header 2 entry count place 40 3 2 in
     let table = table_bytes lines in
     let headers = section_headers da start len in
     let tail = table ++ (section_names ++ headers) in
@@ -87,11 +83,11 @@ table_read lines da h short some =
     let bytes = front ++ rest in
     let same : bytes ≡ front ++ segments_part lines ++ table ++ section_names ++ headers = five_parts front (segments_part lines) table section_names headers in
     let small : length bytes < 2 ^ 32 = subst (λ image. length image < 2 ^ 32) (sym same) short in
-    let parts = parts_are lines front tail (length_header entry count place 40 3 2) in
+    let parts = parts_are lines front tail (length_header 2 entry count place 40 3 2) in
     let names_len : length section_names ≡ 27 = refl in
     let total : length bytes ≡ place + 120 =
     omega (arith, parts.total, length-append table (section_names ++ headers), length-append section_names headers, length_table lines h.recipe, length_section_headers da start len, names_len) in
-    let header = header_read entry count place 40 3 2 rest (entry_small lines 0 (lit< tt) h.recipe) (omega (arith, h.few)) (omega (arith, total, small)) (lit< tt) (lit< tt) (lit< tt) in
+    let header = header_read 2 entry count place 40 3 2 rest (entry_small lines 0 (lit< tt) h.recipe) (omega (arith, h.few)) (omega (arith, total, small)) (lit< tt) (lit< tt) (lit< tt) in
     let at_names = skip start len bytes table (section_names ++ headers) parts.behind (length_table lines h.recipe) in
     let has : HasTable bytes place da start len = record {
       headers = skip (start + len) 27 bytes section_names headers at_names refl;
@@ -103,12 +99,12 @@ table_read lines da h short some =
       not_first = omega arith;
     } in
     let placed : (place == 0) ≡ false = ne_eqb place 0 (λ e. absurd (omega arith)) in
-    let read = image_read lines entry place 40 3 2 bytes tail h.recipe h.room (entry_small lines 0 (lit< tt) h.recipe) h.some h.few (lit< tt) (ap (λ b. not b && false) placed) (ap (λ b. not b && false) placed) small header
-    (identified entry count place 40 3 2 rest) (layout_is entry count place 40 3 2 rest) parts (sections_pass bytes entry count place da start len header has) in
+    let read = lines_read lines entry place 40 3 2 bytes tail h.recipe h.room (entry_small lines 0 (lit< tt) h.recipe) h.some h.few (lit< tt) (ap (λ b. not b && false) placed) (ap (λ b. not b && false) placed) small header
+    (identified 2 entry count place 40 3 2 rest) (layout_is 2 entry count place 40 3 2 rest) parts (sections_pass bytes entry count place da start len header has) in
     subst (IsReadBack lines) same (record {
       good = read.good;
       entry = read.entry_is;
-      segments = read.segments;
+      segments = read.segments_are;
       section = ap (λ l. section_by l bytes (codes ".resource_table")) read.layout ∙ section_found bytes entry count place da start len header has ∙ sym (ap (option_map (table_section lines)) some);
       table = λ there. file_is start len len bytes table (section_names ++ headers) start (sym (length_table lines h.recipe)) refl parts.behind;
     })

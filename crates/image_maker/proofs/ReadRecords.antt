@@ -8,7 +8,7 @@ use Rattle.remote_code.specs.Records.{record_of}
 use Rattle.script_lang.specs.declared.recipes.RecipeLine.{RecipeLine}
 use Rattle.script_lang.specs.declared.recipes.RecipeLine.TheVariants as recipe
 use Rattle.script_lang.specs.Runnable.{IsLine}
-use Rattle.image_maker.specs.Fields.{half_field, word_field}
+use Rattle.elf_writer.specs.Fields.{half_field, word_field}
 use Rattle.image_maker.specs.Segments.{data_of}
 use Rattle.image_maker.specs.ReadBack.{record_of_line}
 

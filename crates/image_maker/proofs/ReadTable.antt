@@ -16,11 +16,11 @@ use Rattle.elf_image.specs.declared.sections.Section.{Section}
 use Rattle.script_lang.specs.declared.recipes.RecipeLine.{RecipeLine}
 use Rattle.script_lang.specs.declared.recipes.RecipeLine.TheVariants as recipe
 use Rattle.script_lang.specs.Runnable.{IsLine, IsRecipe}
-use Rattle.image_maker.specs.Fields.{word_fields}
+use Rattle.elf_writer.specs.Fields.{word_fields}
 use Rattle.image_maker.specs.Tables.{entries_of, entry_bytes, entry_len, rings_in_front, entries, offset_of, offsets, entry_count, table_len, table_bytes}
 use Rattle.image_maker.specs.Images.{section_names, section_headers}
-use Rattle.image_maker.proofs.ReadFields.{IsHeader, behind, section_read}
-use Rattle.image_maker.proofs.ReadSegments.{file_is, passes}
+use Rattle.elf_writer.proofs.ReadFields.{IsHeader, behind, section_read}
+use Rattle.elf_writer.proofs.ReadLoads.{file_is, passes}
 
 length_padded : (name : List ℕ) → length name ≤ 31 → length (padded_name name) ≡ 32
 length_padded name h = omega (arith, length-append name (replicate (32 - length name) 0), length-replicate {A = ℕ} (32 - length name) 0)

@@ -1,8 +1,9 @@
--- The image of a recipe (TIS ELF 1.2: figures 1-3, 1-9; section names of Linux remoteproc_elf_loader.c).
+-- The image of a recipe (TIS ELF 1.2: figure 1-9; section names of Linux remoteproc_elf_loader.c).
 use Rattle.std.specs.Prelude.{ℕ, ◌+◌, ◌*◌, List, [], ◌∷◌, ◌++◌, codes, fold, Option, Some, None}
 use Rattle.script_lang.specs.declared.recipes.RecipeLine.{RecipeLine}
 use Rattle.script_lang.specs.declared.recipes.RecipeLine.TheVariants as recipe
-use Rattle.image_maker.specs.Fields.{half_field, word_fields}
+use Rattle.elf_writer.specs.Fields.{word_fields}
+use Rattle.elf_writer.specs.Headers.{file_header}
 use Rattle.image_maker.specs.Segments.{program_headers, segment_bytes, segment_count, data_len}
 use Rattle.image_maker.specs.Tables.{table_bytes, table_len}
 
@@ -21,17 +22,6 @@ table_after table line = table
 
 abbrev pub table_address : List RecipeLine → Option ℕ
 table_address lines = fold table_after None lines
-
--- the identification: the magic number, ELFCLASS32, ELFDATA2LSB, EV_CURRENT, zeros
-abbrev pub identification : List ℕ
-identification = 0x7f ∷ 0x45 ∷ 0x4c ∷ 0x46 ∷ 1 ∷ 1 ∷ 1 ∷ 0 ∷ 0 ∷ 0 ∷ 0 ∷ 0 ∷ 0 ∷ 0 ∷ 0 ∷ 0 ∷ []
-
--- the ELF header: ET_EXEC, EM_ARM, the entry, program headers behind this header, the place, size and number of section headers,
--- and the number of that of the names
-unfoldable pub file_header : ℕ → ℕ → ℕ → ℕ → ℕ → ℕ → List ℕ
-file_header entry segments place size sections names =
-    identification ++ half_field 2 ++ half_field 40 ++ word_fields (1 ∷ entry ∷ 52 ∷ place ∷ 0 ∷ [])
-    ++ half_field 52 ++ half_field 32 ++ half_field segments ++ half_field size ++ half_field sections ++ half_field names
 
 -- where the bytes of the segments begin and end
 abbrev pub data_start : List RecipeLine → ℕ
@@ -54,11 +44,11 @@ section_headers da start len =
 unfoldable pub segments_part : List RecipeLine → List ℕ
 segments_part lines = program_headers (data_start lines) lines ++ segment_bytes lines
 
--- the image, with its table where there is one
+-- the image, of the type ET_EXEC, with its table where there is one
 unfoldable pub image_with : List RecipeLine → Option ℕ → List ℕ
-image_with lines None = file_header (entry_address lines) (segment_count lines) 0 0 0 0 ++ segments_part lines
+image_with lines None = file_header 2 (entry_address lines) (segment_count lines) 0 0 0 0 ++ segments_part lines
 image_with lines (Some da) =
-    file_header (entry_address lines) (segment_count lines) (data_end lines + table_len lines + 27) 40 3 2 ++ segments_part lines
+    file_header 2 (entry_address lines) (segment_count lines) (data_end lines + table_len lines + 27) 40 3 2 ++ segments_part lines
     ++ table_bytes lines ++ section_names ++ section_headers da (data_end lines) (table_len lines)
 
 -- the image of a recipe

@@ -1,4 +1,3 @@
-pub mod Fields
 pub mod Segments
 pub mod Tables
 pub mod Images

@@ -3,7 +3,8 @@ use Rattle.std.specs.Prelude.{ℕ, ◌+◌, Bool, true, false, if◌then◌else�
 use Rattle.std.specs.List.{flat_map, prefix_len}
 use Rattle.script_lang.specs.declared.recipes.RecipeLine.{RecipeLine}
 use Rattle.script_lang.specs.declared.recipes.RecipeLine.TheVariants as recipe
-use Rattle.image_maker.specs.Fields.{half_field, word_fields}
+use Rattle.elf_writer.specs.Fields.{half_field, word_fields}
+use Rattle.elf_writer.specs.Headers.{load_header}
 
 -- a record of a worker's code has 16 bytes: the number of its kind, a length, and three operands (own)
 abbrev pub record_fields : ℕ → ℕ → List ℕ → List ℕ
@@ -51,12 +52,10 @@ segments_of (recipe.Load da bytes memory_len) = 1
 segments_of (recipe.Code da) = 1
 segments_of line = 0
 
--- the program header of a line whose bytes stand at a place of the image: PT_LOAD, readable, writable and executable.
--- A code has the bytes of the records behind it, whose number is given
+-- the program header of a line whose bytes stand at a place of the image. A code has the bytes of the records behind it, whose number is given
 abbrev pub program_header : ℕ → ℕ → RecipeLine → List ℕ
-program_header code offset (recipe.Load da bytes memory_len) =
-    word_fields (1 ∷ offset ∷ da ∷ da ∷ length bytes ∷ memory_len ∷ 7 ∷ 4 ∷ [])
-program_header code offset (recipe.Code da) = word_fields (1 ∷ offset ∷ da ∷ da ∷ code ∷ code ∷ 7 ∷ 4 ∷ [])
+program_header code offset (recipe.Load da bytes memory_len) = load_header offset da (length bytes) memory_len
+program_header code offset (recipe.Code da) = load_header offset da code code
 program_header code offset line = []
 
 -- the program headers of these lines, whose bytes stand from a place of the image on, without gaps

@@ -4,7 +4,7 @@ use Rattle.std.specs.List.{prefix_len}
 use Rattle.rp_base.specs.Texts.{padded_name}
 use Rattle.script_lang.specs.declared.recipes.RecipeLine.{RecipeLine}
 use Rattle.script_lang.specs.declared.recipes.RecipeLine.TheVariants as recipe
-use Rattle.image_maker.specs.Fields.{byte_field, word_field, word_fields}
+use Rattle.elf_writer.specs.Fields.{byte_field, word_field, word_fields}
 
 -- a vring belongs to the device before it
 abbrev pub is_vring : RecipeLine → Bool

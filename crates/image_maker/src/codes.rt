@@ -1,8 +1,8 @@
 ghost use Rattle.std.specs.Prelude.{◌≡◌, ◌++◌, IfOk, OnOk, length};
 ghost use Rattle.image_maker.specs.Segments.{is_record, records_in_front, code_of, record_fields, data_of};
 
-use crate::fields::{put_half, put_words};
 use crate::sizes::times;
+use elf_writer::{put_half, put_words};
 use rp_base::NoMemory;
 use script_lang::RecipeLine;
 use std::alloc::AllocError;

@@ -1,21 +1,21 @@
 ghost use Rattle.std.specs.Prelude.{◌≡◌, ◌++◌, None, Some, IfOk, OnOk, length};
 ghost use Rattle.image_maker.specs.Segments.{code_of, program_header, program_headers, segment_bytes};
-ghost use Rattle.image_maker.specs.Images.{image_of, image_with, file_header, data_start, segments_part, section_headers};
+ghost use Rattle.image_maker.specs.Images.{image_of, image_with, data_start, segments_part, section_headers};
 ghost use Rattle.image_maker.specs.Tables.{table_len};
 
 use crate::codes::{code_len, put_line_data};
-use crate::fields::{put_half, put_words};
 use crate::sizes::{
     data_len, data_len_of, entries_len, entry_address, entry_count, plus, segment_count,
     table_address, times,
 };
 use crate::tables::put_table;
+use elf_writer::{put_file_header, put_load_header, put_words};
 use rp_base::NoMemory;
 use script_lang::{Recipe, RecipeLine};
 use std::alloc::{AllocError, Global};
 
-/// The identification of an ELF32 image, the lowest byte of a number first.
-const IDENTIFICATION: [u8; 16] = [0x7f, 0x45, 0x4c, 0x46, 1, 1, 1, 0, 0, 0, 0, 0, 0, 0, 0, 0];
+/// The type of a file that is executed, `ET_EXEC`.
+const ET_EXEC: u64 = 2;
 
 /// The image that a recipe says.
 #[tactic(auto, unfolding(crate::specs::Images::image_of))]
@@ -36,7 +36,7 @@ fn put_plain(out: &mut Vec<u8>, lines: &[RecipeLine]) -> Result<(), NoMemory>
     ensures { OnOk result (out.new.items ≡ out.old.items ++ image_with lines.now None) }
 {
     let segments = segment_count(lines)?;
-    put_file_header(out, entry_address(lines), segments, 0, 0, 0, 0)?;
+    put_file_header(out, ET_EXEC, entry_address(lines), segments, 0, 0, 0, 0)?;
     put_segments(out, lines)?;
     Ok(())
 }
@@ -49,7 +49,16 @@ fn put_with_table(out: &mut Vec<u8>, lines: &[RecipeLine], da: u64) -> Result<()
     let start = plus(data_start(lines)?, data_len(lines)?)?;
     let len = table_len(lines)?;
     let place = plus(plus(start, len)?, 27)?;
-    put_file_header(out, entry_address(lines), segments, place, 40, 3, 2)?;
+    put_file_header(
+        out,
+        ET_EXEC,
+        entry_address(lines),
+        segments,
+        place,
+        40,
+        3,
+        2,
+    )?;
     put_segments(out, lines)?;
     put_table(out, lines)?;
     out.extend_from_slice(b"\0.resource_table\0.shstrtab\0")?;
@@ -111,11 +120,11 @@ fn put_program_header(
     match line {
         RecipeLine::Load(da, bytes, memory_len) => {
             let len = bytes.bytes().len() as u64;
-            put_words(out, &[1, offset, *da, *da, len, *memory_len, 7, 4])?;
+            put_load_header(out, offset, *da, len, *memory_len)?;
         }
         RecipeLine::Code(da) => {
             let len = code_len(more)?;
-            put_words(out, &[1, offset, *da, *da, len, len, 7, 4])?;
+            put_load_header(out, offset, *da, len, len)?;
         }
         _ => {}
     }
@@ -130,32 +139,6 @@ fn put_data(out: &mut Vec<u8>, lines: &[RecipeLine]) -> Result<(), AllocError>
         put_line_data(out, line)?;
     }
     Ok(())
-}
-
-/// Appends the ELF header: the entry, the number of program headers, and the place, the size, the
-/// number and the number of the names of the section headers.
-#[tactic(auto, unfolding(crate::specs::Images::file_header))]
-fn put_file_header(
-    out: &mut Vec<u8>,
-    entry: u64,
-    segments: u64,
-    place: u64,
-    size: u64,
-    sections: u64,
-    names: u64,
-) -> Result<(), AllocError>
-    ensures { OnOk result (out.new.items ≡ out.old.items ++ file_header entry segments place size sections names) }
-{
-    out.extend_from_slice(&IDENTIFICATION)?;
-    put_half(out, 2)?;
-    put_half(out, 40)?;
-    put_words(out, &[1, entry, 52, place, 0])?;
-    put_half(out, 52)?;
-    put_half(out, 32)?;
-    put_half(out, segments)?;
-    put_half(out, size)?;
-    put_half(out, sections)?;
-    put_half(out, names)
 }
 
 /// Appends three section headers: none, the table's, and that of the names behind the table.

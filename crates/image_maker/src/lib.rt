@@ -3,7 +3,6 @@
 
 mod codes;
 mod demo;
-mod fields;
 pub mod laws;
 mod layout;
 mod sizes;

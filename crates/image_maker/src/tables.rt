@@ -2,8 +2,8 @@ ghost use Rattle.std.specs.Prelude.{◌≡◌, ◌+◌, ◌++◌, OnOk};
 ghost use Rattle.rp_base.specs.Texts.{padded_name};
 ghost use Rattle.image_maker.specs.Tables.{entry_bytes, rings_in_front, entries, offset_of, offsets, table_bytes};
 
-use crate::fields::{put_byte, put_word, put_words};
 use crate::sizes::{entries_of, entry_count, entry_len, plus, rings_in_front, times};
+use elf_writer::{put_byte, put_word, put_words};
 use rp_base::{Name, NoMemory};
 use script_lang::RecipeLine;
 use std::alloc::AllocError;

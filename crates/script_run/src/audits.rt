@@ -1,10 +1,10 @@
-ghost use Rattle.std.specs.Prelude.{◌≡◌, ◌≤◌, ◌+◌, ◌∷◌, [], length};
+ghost use Rattle.std.specs.Prelude.{◌≡◌, ◌≤◌, ◌+◌, ℕ, List, [], ◌∷◌, Option, length};
 ghost use Rattle.std.specs.Io.KnownBytes.{IsAtEnd};
 ghost use Rattle.rp_io.specs.Contents.{LosesFront};
 ghost use Rattle.journal_check.specs.declared.limits.TheConstants.{TRANSCRIPT_MOST};
 ghost use Rattle.journal.specs.Notices.{report_text};
 ghost use Rattle.script_run.specs.Outputs.{audit as audit_form, audit_output};
-ghost use Rattle.script_run.specs.Endings.{AuditEnds, Devices, Ends, IsFinal, IsReadEnd};
+ghost use Rattle.script_run.specs.Endings.{AuditEnds, Ends, IsFinal, IsReadEnd};
 
 use crate::endings::{end_with, end_with_line};
 use crate::statuses::Status;

@@ -8,6 +8,6 @@ returns-then-section-last-clause-place c =
     let map = c.args.map.now in
     let section = c.args.section.now in
     elim c.then-section-last.branch [
-      then-section-last-via-then-section-last w ↦ sym (none_wide map section.address section.size c.requires.sound c.requires.some (inl (omega arith)))
-    | then-section-last-via-else-section-last+then-section-last-2 w ↦ sym (none_wide map section.address section.size c.requires.sound c.requires.some (inr (omega arith)))
+      | then-section-last-via-then-section-last w ↦ sym (none_wide map section.address section.size c.requires.sound c.requires.some (inl (omega arith)))
+      | then-section-last-via-else-section-last+then-section-last-2 w ↦ sym (none_wide map section.address section.size c.requires.sound c.requires.some (inr (omega arith)))
     ]

@@ -1,5 +1,5 @@
 use Rattle.std.proofs.Common.{◌≡◌, ◌∷◌, ◌++◌, [], subst}
-use Rattle.image_maker.specs.Fields.{word_fields}
+use Rattle.elf_writer.specs.Fields.{word_fields}
 use Rattle.image_maker.specs.Images.{section_headers}
 use Rattle.image_maker.proofs.Joins.{three_parts}
 use Rattle.image_maker.proofs.layout.put_section_headers.Goals as goal

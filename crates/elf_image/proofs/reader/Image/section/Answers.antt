@@ -1,6 +1,4 @@
-use Rattle.std.proofs.Common.{◌≡◌, None}
 use Rattle.elf_image.specs.Layout.{layout_for}
-use Rattle.elf_image.specs.Sections.{sections_fault}
 use Rattle.elf_image.proofs.Good.{sections_good}
 use Rattle.elf_image.proofs.reader.Image.section.Goals as goal
 

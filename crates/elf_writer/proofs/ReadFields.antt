@@ -7,8 +7,8 @@ use Rattle.byteorder.specs.Numbers.{little_number-reads_back}
 use Rattle.rp_base.specs.Fields.{number_at}
 use Rattle.elf_image.specs.Layout.{elf32}
 use Rattle.elf_image.specs.Headers.{program_header as program_header_read, section_header as section_header_read, file_header as file_header_read}
-use Rattle.image_maker.specs.Fields.{half_field, word_field, word_fields}
-use Rattle.image_maker.specs.Images.{file_header}
+use Rattle.elf_writer.specs.Fields.{half_field, word_field, word_fields}
+use Rattle.elf_writer.specs.Headers.{file_header, load_header}
 
 -- what stands behind a part
 pub behind : (a b : ℕ) (bytes rest : List ℕ) → drop a bytes ≡ rest → drop (a + b) bytes ≡ drop b rest
@@ -22,12 +22,12 @@ word_read k v start bytes all e f small = ap (little_number 4) (behind start k b
 
 -- the program header of a load: its type, its offset, its address, its bytes in the image and in memory
 pub load_read : (start offset da len memory : ℕ) (bytes rest : List ℕ) → offset < 2 ^ 32 → da < 2 ^ 32 → len < 2 ^ 32 → memory < 2 ^ 32
-    → drop start bytes ≡ word_fields (1 ∷ offset ∷ da ∷ da ∷ len ∷ memory ∷ 7 ∷ 4 ∷ []) ++ rest
+    → drop start bytes ≡ load_header offset da len memory ++ rest
     → ((program_header_read elf32 start bytes).kind ≡ 1) × ((program_header_read elf32 start bytes).offset ≡ offset) × ((program_header_read elf32 start bytes).physical_address ≡ da)
     × ((program_header_read elf32 start bytes).file_len ≡ len) × ((program_header_read elf32 start bytes).memory_len ≡ memory)
 unfolding program_header_read
 load_read start offset da len memory bytes rest o d l m e =
-    let all = word_fields (1 ∷ offset ∷ da ∷ da ∷ len ∷ memory ∷ 7 ∷ 4 ∷ []) ++ rest in (
+    let all = load_header offset da len memory ++ rest in (
       word_read 0 1 start bytes all e refl (lit< tt),
       word_read 4 offset start bytes all e refl o,
       word_read 12 da start bytes all e refl d,
@@ -59,11 +59,11 @@ pub record IsHeader (bytes : List ℕ) (entry segments place size sections names
 half_read : (k v : ℕ) (bytes : List ℕ) → drop k bytes ≡ half_field v ++ drop (k + 2) bytes → v < 2 ^ 16 → number_at 2 (0 + k) bytes ≡ v
 half_read k v bytes e small = ap (λ at. number_at 2 at bytes) (zero-add k) ∙ ap (little_number 2) e ∙ little_number-reads_back 2 v (drop (k + 2) bytes) small
 
-pub header_read : (entry segments place size sections names : ℕ) (rest : List ℕ) → entry < 2 ^ 32 → segments < 2 ^ 16 → place < 2 ^ 32 → size < 2 ^ 16 → sections < 2 ^ 16 → names < 2 ^ 16
-    → IsHeader (file_header entry segments place size sections names ++ rest) entry segments place size sections names
+pub header_read : (kind entry segments place size sections names : ℕ) (rest : List ℕ) → entry < 2 ^ 32 → segments < 2 ^ 16 → place < 2 ^ 32 → size < 2 ^ 16 → sections < 2 ^ 16 → names < 2 ^ 16
+    → IsHeader (file_header kind entry segments place size sections names ++ rest) entry segments place size sections names
 unfolding file_header_read file_header
-header_read entry segments place size sections names rest e c p s n i =
-    let all = file_header entry segments place size sections names ++ rest in
+header_read kind entry segments place size sections names rest e c p s n i =
+    let all = file_header kind entry segments place size sections names ++ rest in
     record {
       entry_is = word_read 24 entry 0 all all refl refl e;
       table_is = word_read 28 52 0 all all refl refl (lit< tt);

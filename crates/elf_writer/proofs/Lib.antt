@@ -1,0 +1,3 @@
+pub mod ReadFields
+pub mod ReadLoads
+pub mod ReadImages
