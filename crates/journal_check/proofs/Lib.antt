@@ -3,3 +3,4 @@ pub mod RecordFacts
 pub mod BookFacts
 pub mod EndingFacts
 pub mod AuditFacts
+pub mod DeliveryFacts
