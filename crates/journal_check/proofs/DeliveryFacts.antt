@@ -1,7 +1,7 @@
 -- What a sound transcript says of the messages that an endpoint was handed.
-use Rattle.std.proofs.Common.{◌≡◌, ℕ, zero, suc, ◌+◌, ◌<◌, ◌≤◌, ◌==◌, nat_eq, nat_le, Bool, true, false, not, cond, ◌&&◌, ◌||◌, List, [], ◌∷◌, ◌++◌, length, take, reverse, Option, Some, None, refl, sym, ap, ◌∙◌, subst, arith, add-one, ◌⊎◌, inl, inr, bytes_eq}
+use Rattle.std.proofs.Common.{◌≡◌, ℕ, zero, suc, ◌+◌, ◌<◌, ◌≤◌, ◌==◌, nat_eq, Bool, true, false, not, cond, ◌&&◌, ◌||◌, List, [], ◌∷◌, ◌++◌, length, take, reverse, Option, Some, None, refl, sym, ap, ◌∙◌, subst, arith, inl, inr, bytes_eq}
 use Rattle.std.specs.Prelude.{find, filter, slice_get, option_and_then}
-use Rattle.std.specs.List.{list_any, filter_map, cons_option, range_with_len, AllByRecursion}
+use Rattle.std.specs.List.{list_any, cons_option, range_with_len, AllByRecursion}
 use Rattle.std.specs.Option.{option_map_or, option_or}
 use Rattle.std.specs.Cmp.{nat_eq_equiv}
 use Rattle.std.proofs.Math.Seq.{take-length}
@@ -13,7 +13,6 @@ use Rattle.std.proofs.lemmas.Slice.Eq.{bytes_eq-Decides}
 use Rattle.rp_base.specs.declared.kinds.End.{End}
 use Rattle.rp_base.specs.declared.kinds.End.TheVariants as side
 use Rattle.rp_base.specs.declared.kinds.Endpoint.{Endpoint}
-use Rattle.journal_check.specs.declared.marks.Fate.{Fate}
 use Rattle.journal_check.specs.declared.marks.Fate.TheVariants as fate
 use Rattle.journal_check.specs.declared.marks.Mark.{Mark}
 use Rattle.journal_check.specs.declared.marks.What.{What}
@@ -21,11 +20,11 @@ use Rattle.journal_check.specs.declared.marks.What.TheVariants as what
 use Rattle.journal_check.specs.declared.readings.Reading.{Reading}
 use Rattle.journal_check.specs.declared.readings.Reading.TheVariants as reading
 use Rattle.journal_check.specs.declared.sides.Binding.{Binding}
-use Rattle.journal_check.specs.Audits.{rule_at, KeepsRules}
-use Rattle.journal_check.specs.Deliveries.{handed_by, addressed_by, handed_to, addressed_to, has_sent, Descends, IsDelivery, IsBinding, HandsInOrder, other_end}
-use Rattle.journal_check.specs.Entries.{Place, Entry, entry_of, is_closed, lines_at, stands_at, is_same_place, is_same_end, place_of}
-use Rattle.journal_check.specs.Marks.{about, mark_in, mark_of, past_of}
-use Rattle.journal_check.specs.Rules.{least_rule, breaks_by, breaks_at, breaks_here, takes_no_higher, names_another_binding, drops_while_bound, binds_no_higher, is_took_from, is_named_from, is_out_of_date, is_bound, binding_told, last_binding}
+use Rattle.journal_check.specs.Audits.{KeepsRules}
+use Rattle.journal_check.specs.Deliveries.{handed_by, addressed_by, handed_to, addressed_to, Descends, IsDelivery, IsBinding, HandsInOrder}
+use Rattle.journal_check.specs.Entries.{Place, Entry, entry_of, lines_at, stands_at, is_same_place, is_same_end, place_of}
+use Rattle.journal_check.specs.Marks.{about, mark_of, past_of}
+use Rattle.journal_check.specs.Rules.{least_rule, breaks_by, breaks_at, takes_no_higher, names_another_binding, drops_while_bound, binds_no_higher, is_took_from, is_named_from, is_out_of_date, is_bound, binding_told, last_binding}
 use Rattle.journal_check.specs.Tables.{least_of}
 
 -- no line of a name breaks a rule but the first
