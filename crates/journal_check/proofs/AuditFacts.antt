@@ -1,5 +1,5 @@
 -- The lines of a text one by one, and what an audit has seen of them.
-use Rattle.std.proofs.Common.{◌≡◌, ℕ, zero, suc, ◌+◌, ◌-◌, ◌<◌, ◌≤◌, ◌==◌, nat_lt, Bool, true, false, not, cond, List, [], ◌∷◌, ◌++◌, length, take, drop, reverse, Option, Some, None, refl, sym, ap, ◌∙◌, subst, arith, add-one, ◌⊎◌, inl, inr}
+use Rattle.std.proofs.Common.{◌≡◌, ℕ, zero, suc, ◌+◌, ◌-◌, ◌<◌, ◌≤◌, ◌==◌, nat_lt, Bool, true, false, not, cond, List, [], ◌∷◌, ◌++◌, length, take, drop, reverse, Some, None, refl, sym, ap, ◌∙◌, subst, arith, add-one, ◌⊎◌, inl, inr}
 use Rattle.std.specs.Prelude.{slice_get, option_and_then, position}
 use Rattle.std.specs.List.{position_or_len, onto_first}
 use Rattle.std.proofs.Math.Seq.{take-append_seam}
@@ -13,7 +13,7 @@ use Rattle.journal_check.specs.declared.readings.Reading.{Reading}
 use Rattle.journal_check.specs.Lines.{lines_of}
 use Rattle.journal_check.specs.Readings.{IsReading, AreReadings}
 use Rattle.journal_check.specs.Rules.{least_rule}
-use Rattle.journal_check.specs.Audits.{rule_at, KeepsRules, IsAudit, IsVerdict}
+use Rattle.journal_check.specs.Audits.{rule_at, KeepsRules, IsAudit}
 use Rattle.journal_check.specs.Tables.{IsBook, Judges}
 
 abbrev pub is_feed : ℕ → Bool

@@ -1,5 +1,5 @@
 -- The lines of notices that end a transcript.
-use Rattle.std.proofs.Common.{◌≡◌, ℕ, ◌-◌, ◌+◌, ◌<◌, ◌≤◌, ◌^◌, ◌%◌, Bool, true, false, List, [], ◌∷◌, ◌++◌, length, map, take, codes, Option, Some, None, refl, sym, ap, ◌∙◌, subst, arith, length-append, bytes_eq}
+use Rattle.std.proofs.Common.{◌≡◌, ℕ, ◌-◌, ◌+◌, ◌<◌, ◌^◌, ◌%◌, true, false, List, [], ◌∷◌, ◌++◌, length, map, take, codes, refl, sym, ap, ◌∙◌, arith, length-append, bytes_eq}
 use Rattle.std.specs.List.{join_with_byte}
 use Rattle.std.specs.Fmt.{decimal}
 use Rattle.std.proofs.Math.Seq.{take-append_seam}
@@ -74,8 +74,6 @@ unfolding notice_line line_of
 refusal_said number why bytes small is =
     ap (λ front. take 9 (words_of front)) (cut (join_with_byte 32 (map text (refusal_words number why))) bytes is)
     ∙ ap (take 9) (words_back (refusal_words number why) (refl, (refl, (omega arith, (cause_clean why, tt)))))
-
-
 
 pub number_said : (number : ℕ) → number < 2 ^ 32 → number_read (decimal number) % 4294967296 ≡ number
 number_said number small =

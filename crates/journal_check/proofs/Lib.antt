@@ -3,4 +3,5 @@ pub mod RecordFacts
 pub mod BookFacts
 pub mod EndingFacts
 pub mod AuditFacts
+pub mod DeliveryFacts
 pub mod Found

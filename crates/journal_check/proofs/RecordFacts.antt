@@ -1,7 +1,6 @@
 -- What lines say of a name, as it is kept: the rules by it, and one line more.
 use Rattle.std.proofs.Common.{◌≡◌, ℕ, ◌+◌, ◌<◌, Bool, true, false, cond, ◌&&◌, ◌||◌, not, nat_eq, List, [], ◌∷◌, Option, Some, None, refl, sym, ap, ◌∙◌, subst, arith, inl, inr}
-use Rattle.std.specs.Prelude.{find, is_some, is_none, unwrap_or, filter}
-use Rattle.std.specs.List.{range_with_len}
+use Rattle.std.specs.Prelude.{is_some, is_none, unwrap_or}
 use Rattle.std.specs.Option.{option_or, option_eq, option_map_or, option_and_then}
 use Rattle.std.specs.Cmp.{nat_eq_equiv}
 use Rattle.std.proofs.lemmas.Bool.{ne_eqb}
@@ -12,10 +11,9 @@ use Rattle.rp_base.specs.declared.kinds.End.TheVariants as side
 use Rattle.journal_check.specs.declared.marks.What.{What}
 use Rattle.journal_check.specs.declared.marks.What.TheVariants as what
 use Rattle.journal_check.specs.declared.records.Record.{Record}
-use Rattle.journal_check.specs.declared.sides.Side.{Side}
-use Rattle.journal_check.specs.Entries.{Place, Entry, entry_of, is_core, says_core, incarnation, opened, closes, has_closed, is_closed, end_told, end_of, last_of, lines_at, stands_at, is_same_place, is_same_end, place_of, place_from, caller_of}
-use Rattle.journal_check.specs.Rules.{breaks, breaks_at, breaks_here, opens_another, closes_another, has_no_place}
-use Rattle.journal_check.specs.Tables.{IsSide, IsRecord, IsUnused, inc_of, place_in, least_of}
+use Rattle.journal_check.specs.Entries.{Place, entry_of, is_core, says_core, incarnation, opened, closes, has_closed, is_closed, end_told, end_of, last_of, lines_at, is_same_place, is_same_end, place_of, place_from, caller_of}
+use Rattle.journal_check.specs.Rules.{breaks_at, opens_another, closes_another}
+use Rattle.journal_check.specs.Tables.{IsSide, IsRecord, inc_of, place_in, least_of}
 use Rattle.journal_check.proofs.SideFacts.{least_here, one_more_told, entry}
 
 pub no_lines : (kept : Record) → kept.is_core ≡ false → kept.incarnation ≡ None → kept.is_closed ≡ false → ((c : ℕ) → get nat_eq kept.callers c ≡ None)
@@ -85,8 +83,8 @@ more_close past old inc kept is =
       host = kept.host;
       remote = kept.remote;
       unused = λ i at.
-        let before = kept.unused i at in
-        record { closed = ap (λ b. b || has_closed i past) (apart inc i (omega arith)) ∙ before.closed; lines = before.lines };
+          let before = kept.unused i at in
+          record { closed = ap (λ b. b || has_closed i past) (apart inc i (omega arith)) ∙ before.closed; lines = before.lines };
     }
 
 -- the rules by which an incarnation begins and ends
@@ -135,8 +133,8 @@ unplaced_rule line past c call at = sym (call_rule line past c None call at ∙ 
 pub placed_rule : (line : What) (past : List What) (c : ℕ) (place : Place) → caller_of line ≡ Some c → place_of line past ≡ Some place
     → least_of line past ≡ least_here (is_closed past) line (lines_at place past)
 placed_rule line past c place call at = call_rule line past c (Some place) call at ∙ ap (λ o. least
-  (breaks_at 2 (Some place) line past) (breaks_at 3 (Some place) line past) (breaks_at 4 (Some place) line past) (breaks_at 5 (Some place) line past) (breaks_at 6 (Some place) line past)
-  false false (is_some o && false) (breaks_at 10 (Some place) line past)) call
+    (breaks_at 2 (Some place) line past) (breaks_at 3 (Some place) line past) (breaks_at 4 (Some place) line past) (breaks_at 5 (Some place) line past) (breaks_at 6 (Some place) line past)
+    false false (is_some o && false) (breaks_at 10 (Some place) line past)) call
 
 -- where a call stands
 no_end_at_all : (inc : Option ℕ) → place_from inc None ≡ None
@@ -212,11 +210,11 @@ more_call line past c end old new call at kept same host remote =
       host = subst (λ n. IsSide (lines_at (place_in n side.Host) (line ∷ past)) new.host) (sym now) host;
       remote = subst (λ n. IsSide (lines_at (place_in n side.Remote) (line ∷ past)) new.remote) (sym now) remote;
       unused = λ i lt.
-        let before = kept.unused i (omega arith) in
-        record {
-          closed = ap (λ b. b || has_closed i past) (calls.closes i) ∙ before.closed;
-          lines = λ one. later (inc_of past) i one end line past (omega arith) at ∙ before.lines one;
-        };
+          let before = kept.unused i (omega arith) in
+          record {
+            closed = ap (λ b. b || has_closed i past) (calls.closes i) ∙ before.closed;
+            lines = λ one. later (inc_of past) i one end line past (omega arith) at ∙ before.lines one;
+          };
     })
 
 -- a call on an end: the least rule that it breaks, and what is kept of it
@@ -241,7 +239,7 @@ kept_on_host line past c old new kept call some ends same host =
     more_call line past c side.Host old new call at kept (same ∙ ap (λ r. record old { host = new.host; remote = r }) same_remote)
     (subst (λ all. IsSide all new.host) (ap (λ e. e ∷ lines) (entry_is line past old kept has_inc) ∙ sym (here (inc_of past) side.Host line past at)) host)
     (subst (IsSide (lines_at (place_in (inc_of past) side.Remote) (line ∷ past))) same_remote
-      (subst (λ all. IsSide all old.remote) (sym (elsewhere (inc_of past) side.Remote side.Host line past refl at)) kept.remote))
+    (subst (λ all. IsSide all old.remote) (sym (elsewhere (inc_of past) side.Remote side.Host line past refl at)) kept.remote))
 
 pub kept_on_remote : (line : What) (past : List What) (c : ℕ) (old new : Record) → IsRecord past old → caller_of line ≡ Some c → is_none old.incarnation ≡ false → end_of c past ≡ Some side.Remote
     → new ≡ record old { remote = new.remote } → IsSide (entry line (place_of line past) old.is_closed ∷ lines_at (place_in (inc_of past) side.Remote) past) new.remote → IsRecord (line ∷ past) new
@@ -252,7 +250,7 @@ kept_on_remote line past c old new kept call some ends same remote =
     let same_host : old.host ≡ new.host = ap (λ (r : Record). r.host) (sym same) in
     more_call line past c side.Remote old new call at kept (same ∙ ap (λ h. record old { host = h; remote = new.remote }) same_host)
     (subst (IsSide (lines_at (place_in (inc_of past) side.Host) (line ∷ past))) same_host
-      (subst (λ all. IsSide all old.host) (sym (elsewhere (inc_of past) side.Host side.Remote line past refl at)) kept.host))
+    (subst (λ all. IsSide all old.host) (sym (elsewhere (inc_of past) side.Host side.Remote line past refl at)) kept.host))
     (subst (λ all. IsSide all new.remote) (ap (λ e. e ∷ lines) (entry_is line past old kept has_inc) ∙ sym (here (inc_of past) side.Remote line past at)) remote)
 
 -- what code tells of an incarnation

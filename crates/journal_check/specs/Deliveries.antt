@@ -9,7 +9,7 @@ use Rattle.journal_check.specs.declared.marks.What.{What}
 use Rattle.journal_check.specs.declared.marks.What.TheVariants as what
 use Rattle.journal_check.specs.declared.readings.Reading.{Reading}
 use Rattle.journal_check.specs.Audits.{KeepsRules}
-use Rattle.journal_check.specs.Entries.{Place, Entry, lines_at}
+use Rattle.journal_check.specs.Entries.{Entry, lines_at}
 use Rattle.journal_check.specs.Marks.{past_of}
 
 -- a message that a caller has a sent line for, of those that stood at a place
@@ -69,6 +69,6 @@ HandsInOrder =
     (readings : List Reading) → KeepsRules (length readings) readings (length readings)
     → (name : List ℕ) (inc : ℕ) (end : End) (sender : ℕ) (endpoint : Endpoint) (later earlier : List Entry)
     → let past = past_of name (reverse readings) in
-      let here = lines_at (record { inc = inc; end = end }) past in
-      let sent = has_sent sender (lines_at (record { inc = inc; end = other_end end }) past) in
-      IsBinding endpoint here later earlier → IsDelivery (filter sent (handed_to endpoint here)) (filter sent (addressed_to endpoint.address later))
+    let here = lines_at (record { inc = inc; end = end }) past in
+    let sent = has_sent sender (lines_at (record { inc = inc; end = other_end end }) past) in
+    IsBinding endpoint here later earlier → IsDelivery (filter sent (handed_to endpoint here)) (filter sent (addressed_to endpoint.address later))

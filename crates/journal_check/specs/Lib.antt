@@ -5,3 +5,4 @@ pub mod Entries
 pub mod Rules
 pub mod Audits
 pub mod Tables
+pub mod Deliveries

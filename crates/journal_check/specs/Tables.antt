@@ -7,7 +7,6 @@ use Rattle.rp_base.specs.Texts.{padded_name, text_before_zero}
 use Rattle.rp_base.specs.declared.kinds.End.{End}
 use Rattle.rp_base.specs.declared.kinds.End.TheVariants as side
 use Rattle.rp_base.specs.declared.kinds.Endpoint.{Endpoint}
-use Rattle.rp_base.specs.declared.memory.NoMemory.{NoMemory}
 use Rattle.journal_check.specs.declared.books.Book.{Book}
 use Rattle.journal_check.specs.declared.marks.What.{What}
 use Rattle.journal_check.specs.declared.marks.What.TheVariants as what

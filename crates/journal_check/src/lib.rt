@@ -5,6 +5,7 @@ mod answers;
 mod audits;
 mod books;
 mod endings;
+pub mod laws;
 mod limits;
 mod marks;
 mod readings;

@@ -13,7 +13,7 @@ loop-rest-preserved c =
     let judges = c.in_ok-rule.ensures (reverse seen.readings) seen.kept in
     record {
       seen = seen_more _ c.loop-rest.rest.now c.loop-rest.count _ c.take.new.self c.cut_line.result.0.now c.cut_line.result.1.now c.is_empty-in-loop-rest.result seen c.cut_line.ensures.lines c.is_empty-in-loop-rest.ensures
-      (subst (λ rule. Judges c.is_empty-in-loop-rest.result c.cut_line.result.0.now (reverse seen.readings) rule c.take.new.self) c.in_default.is judges);
+          (subst (λ rule. Judges c.is_empty-in-loop-rest.result c.cut_line.result.0.now (reverse seen.readings) rule c.take.new.self) c.in_default.is judges);
       within = omega (arith, c.cut_line.ensures.shorter, c.loop-rest.invariant.within);
     }
 
@@ -23,7 +23,7 @@ returns-in-Some c =
     let judges = c.in_ok-rule.ensures (reverse seen.readings) seen.kept in
     record {
       exact = broken_at _ c.loop-rest.rest.now c.loop-rest.count _ c.take.new.self c.cut_line.result.0.now c.cut_line.result.1.now c.is_empty-in-loop-rest.result c.in-Some.rule seen c.cut_line.ensures.lines c.is_empty-in-loop-rest.ensures
-      (subst (λ rule. Judges c.is_empty-in-loop-rest.result c.cut_line.result.0.now (reverse seen.readings) rule c.take.new.self) c.in-Some.is judges)
+          (subst (λ rule. Judges c.is_empty-in-loop-rest.result c.cut_line.result.0.now (reverse seen.readings) rule c.take.new.self) c.in-Some.is judges);
     }
 
 pub returns : goal.returns

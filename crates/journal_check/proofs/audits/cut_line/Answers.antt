@@ -1,4 +1,4 @@
-use Rattle.std.proofs.Common.{◌≡◌, ◌∷◌, sym, ap, ◌∙◌}
+use Rattle.std.proofs.Common.{◌∷◌, sym, ◌∙◌}
 use Rattle.journal_check.specs.Lines.{lines_of}
 use Rattle.journal_check.proofs.AuditFacts.{line_at, one_line}
 use Rattle.journal_check.proofs.audits.cut_line.Goals as goal

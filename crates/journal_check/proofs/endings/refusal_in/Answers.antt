@@ -2,7 +2,6 @@ use Rattle.std.proofs.Common.{◌≡◌, ◌%◌, sym, ap, ◌∙◌, arith, Som
 use Rattle.word_kinds.specs.Places.{word_at}
 use Rattle.word_kinds.specs.Rows.{text_at}
 use Rattle.word_kinds.specs.Readings.{number_read}
-use Rattle.word_kinds.specs.declared.causes.Cause.{Cause}
 use Rattle.journal.specs.declared.notices.Notice.TheVariants as notice
 use Rattle.journal.specs.Notices.{cause_text}
 use Rattle.journal_check.proofs.EndingFacts.{refusal_said, number_said, some_line}

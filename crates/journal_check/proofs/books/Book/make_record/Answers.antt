@@ -1,4 +1,4 @@
-use Rattle.std.proofs.Common.{sym, ap, ◌∙◌}
+use Rattle.std.proofs.Common.{sym, ◌∙◌}
 use Rattle.journal_check.proofs.BookFacts.{made}
 use Rattle.journal_check.proofs.books.Book.make_record.Goals as goal
 
