@@ -1,0 +1,7 @@
+pub mod SideFacts
+pub mod RecordFacts
+pub mod BookFacts
+pub mod EndingFacts
+pub mod AuditFacts
+pub mod DeliveryFacts
+pub mod Found
