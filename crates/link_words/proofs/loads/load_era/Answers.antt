@@ -1,0 +1,19 @@
+use Rattle.std.proofs.Common.{◌≡◌, ℕ, ◌+◌, ◌*◌, ◌<◌, ◌≤◌, arith, refl, sym, ap, ◌∙◌, subst}
+use Rattle.link_words.specs.Steps.{MayLoadEra}
+use Rattle.link_words.proofs.Told.{send_loads_era, take_loads_era, take_hands}
+use Rattle.link_words.proofs.loads.load_era.Goals as goal
+
+pub load-requires : goal.load-requires
+load-requires g c =
+    let s = subst (λ u. MayLoadEra u c.args.seat.now.me) c.in-Send.is c.requires.call in let wide = c.requires.table.1 in
+    (c.requires.table.0, omega (arith, wide), send_loads_era g.row.D.coded g.D.Desk.meaning c.args.table.now.key _ _ c.args.seat.now.me s.0 s.1)
+
+pub load-requires-in-Take : goal.load-requires-in-Take
+load-requires-in-Take g c =
+    let s = subst (λ u. MayLoadEra u c.args.seat.now.me) c.in-Take.is c.requires.call in let wide = c.requires.table.1 in
+    (c.requires.table.0, omega (arith, wide), take_loads_era g.row.D.coded g.D.Desk.meaning c.args.table.now.key _ _ c.args.seat.now.me s.0 s.1)
+
+pub load-requires-in-Hand : goal.load-requires-in-Hand
+load-requires-in-Hand g c =
+    let s = subst (λ u. MayLoadEra u c.args.seat.now.me) c.in-Hand.is c.requires.call in let wide = c.requires.table.1 in
+    (c.requires.table.0, omega (arith, wide), take_hands g.row.D.coded g.D.Desk.meaning c.args.table.now.key _ _ c.args.seat.now.me s.lane s.at c.requires.table.2 s.slots)

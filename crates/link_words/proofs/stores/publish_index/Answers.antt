@@ -1,0 +1,9 @@
+use Rattle.std.proofs.Common.{◌≡◌, ℕ, ◌+◌, ◌*◌, ◌<◌, ◌≤◌, arith, refl, sym, ap, ◌∙◌, subst}
+use Rattle.link_words.proofs.Apart.{forward_low}
+use Rattle.link_words.proofs.Told.{send_publishes}
+use Rattle.link_words.proofs.stores.publish_index.Goals as goal
+
+pub store-requires : goal.store-requires
+store-requires g c =
+    let s = c.requires.call in let wide = c.requires.table.1 in let is = c.forward_place.ensures in let low = forward_low c.args.lane in
+    (c.requires.table.0, omega (arith, wide, is, low), send_publishes g.row.D.coded g.D.Desk.meaning c.args.table.now.key _ _ c.args.seat.now.me c.args.lane s.at c.args.count _ _ is s.count refl c.requires.table.2 s.slots)
