@@ -1,9 +1,8 @@
 -- The words stand apart: a step on a word of the table is one on the word of its number.
 use Rattle.std.proofs.Common.{◌≡◌, ℕ, zero, suc, ◌+◌, ◌*◌, ◌<◌, ◌≤◌, List, [], ◌∷◌, get_or, set, refl, sym, ap, ◌∙◌, subst, arith}
-use Rattle.atomic_table.specs.Table.{State, Me, Allows, Splits, Joins, stepped, carried_after}
+use Rattle.atomic_table.specs.Table.{Allows, Splits, Joins, carried_after}
 use base.Stored.{Coded}
 use Rattle.lane_model.specs.Desks.{DeskMeaning}
-use Rattle.link_words.specs.declared.rule.Slot.{Slot}
 use Rattle.link_words.specs.declared.rule.LinkSizes.{LinkSizes}
 use Rattle.link_words.specs.declared.rule.View.{View}
 use Rattle.std.proofs.Math.Nat.{mod-lt}
@@ -14,7 +13,7 @@ use Rattle.link_words.specs.declared.rule.Ring.{Ring}
 use Rattle.link_words.specs.declared.rule.Ring.TheVariants as ring
 use Rattle.link_words.specs.Words.{sizes_at, entries_before, ring_before, entry_number, words_in, IsSized, sender_word, receiver_word, forward_word, return_word}
 use Rattle.link_words.specs.Calls.{SeatState}
-use Rattle.link_words.specs.Layouts.{words_apart, layout, place_apart, place_in}
+use Rattle.link_words.specs.Layouts.{words_apart, place_apart, place_in}
 use Rattle.link_words.specs.Rule.{WordsRule, LinkRule}
 
 found_apart : (n : ℕ) (ws : List ℕ) (i : ℕ) → get_or (words_apart n ws) (place_apart n i) 0 ≡ get_or ws i 0
@@ -48,7 +47,9 @@ module _ {D : Type 0} (cd : Coded D) (desk : DeskMeaning D) (z : LinkSizes) wher
   apart slots id me i place f T is allows s (ws, shown, r) long at wide =
       let found : get_or s.words place 0 ≡ get_or ws i 0 = (λ k. get_or (shown k) (is k) 0) ∙ found_apart 10 ws i in
       let a = allows (record s { words = ws }) r long at (subst (λ (n : ℕ). n < 18446744073709551616) found wide) in (
-        a.0, a.1, a.2,
+        a.0,
+        a.1,
+        a.2,
         (set ws i (f (get_or ws i 0)), (λ k. set (shown k) (is k) (f (found k))) ∙ set_apart 10 ws i (f (get_or ws i 0)), a.3),
         subst (λ (n : ℕ). T n (a.0, carried_after me.1 a.1)) (sym found) a.4,
       )
@@ -85,6 +86,7 @@ entry_low z e r count sized =
     go : (z : LinkSizes) (e : End) → IsSized z → 0 < (sizes_at z e).entries
     go z side.Host sized = let some = sized.to_host.0 in omega (arith, some)
     go z side.Remote sized = let some = sized.to_remote.0 in omega (arith, some)
+
     before : (z : LinkSizes) (e : End) (r : Ring) → entries_before z e + (ring_before (sizes_at z e) r + (sizes_at z e).entries) ≤ 2 * (z.to_host.entries + z.to_remote.entries)
     before z side.Host ring.Forward = omega arith
     before z side.Host ring.Return = omega arith

@@ -1,7 +1,6 @@
 -- Step 1 of a call as its seat is told it, on the words of the table.
-use Rattle.std.proofs.Common.{◌≡◌, ◌≢◌, ℕ, zero, suc, ◌+◌, ◌<◌, ◌≤◌, Bool, true, false, eqb, cond, ◌&&◌, ◌||◌, List, [], ◌∷◌, length, refl, sym, ap, ◌∙◌, subst, arith, eq-eqb}
+use Rattle.std.proofs.Common.{◌≡◌, ℕ, zero, suc, ◌+◌, ◌<◌, ◌≤◌, Bool, true, false, eqb, cond, ◌&&◌, ◌||◌, List, [], ◌∷◌, refl, sym, ap, ◌∙◌, subst, arith, eq-eqb}
 use Rattle.std.specs.Prelude.{Some, IsTrue}
-use Rattle.std.proofs.lemmas.Bool.{eqb-true}
 use mathlib.Core.Option.{some, some-ne-none, some-injective}
 use lib.ListN.{get_elem?}
 use prog.Atomic.{either}
@@ -25,16 +24,15 @@ use Rattle.ring_core.specs.Owners.{work_is_out}
 use Rattle.ring_core.specs.RingSteps.{ring_form}
 use Rattle.link_words.specs.declared.rule.Call.TheVariants.{Sends, Receives, Rests}
 use Rattle.link_words.specs.declared.rule.LinkSizes.{LinkSizes}
-use Rattle.link_words.specs.declared.rule.Pass.{Pass}
 use Rattle.link_words.specs.declared.rule.Slot.{Slot}
 use Rattle.link_words.specs.declared.rule.Slot.TheVariants.{Sender, Receiver}
 use Rattle.link_words.specs.declared.rule.View.{View}
-use Rattle.link_words.specs.Calls.{SeatState, RestsAt, call_at, number_at, with_pass_at}
+use Rattle.link_words.specs.Calls.{SeatState, RestsAt, call_at}
 use Rattle.link_words.specs.Deeds.{Steps}
 use Rattle.link_words.specs.Histories.{hands_of}
 use Rattle.link_words.specs.Layouts.{place_in}
 use Rattle.link_words.specs.Passes.{HasNumber, with_call, place_of_number}
-use Rattle.link_words.specs.Rule.{IsCallOf, Shows, WordsRule, LinkRule}
+use Rattle.link_words.specs.Rule.{IsCallOf, Shows, LinkRule}
 use Rattle.link_words.specs.Steps.{IsStepOf, Begins, IsFit, first_work, turn_word_for, TakesSender, TakesReceiver, TakesTurn}
 use Rattle.link_words.specs.Words.{other, lane_to, sender_word, receiver_word, sender_slot, receiver_slot}
 use Rattle.link_words.proofs.Apart.{apart, sender_low, receiver_low}
@@ -54,11 +52,14 @@ held_of c k (h ∷ hs) has = go (eqb h.caller c) refl has (held_of c k hs)
   where
     left : (b : Bool) → (true || b) ≡ true
     left b = refl
+
     right : (a b : Bool) → b ≡ true → (a || b) ≡ true
     right true b is = refl
     right false b is = is
+
     here : (h.number ≡ k) → eqb h.caller c ≡ true → holds (h ∷ hs) k c ≡ true
     here same mine = (λ i. (eq-eqb h.number k same i && mine i) || holds hs k c)
+
     go : (b : Bool) → eqb h.caller c ≡ b → HasNumber (cond b (h.number ∷ hands_of c hs) (hands_of c hs)) k → (HasNumber (hands_of c hs) k → IsTrue (holds hs k c)) → IsTrue (holds (h ∷ hs) k c)
     go true mine (zero, at) rec = here (some-injective h.number k at) mine
     go true mine (suc i, at) rec = right (eqb h.number k && eqb h.caller c) (holds hs k c) (rec (i, at))
@@ -72,28 +73,34 @@ module _ {D : Type 0} (cd : Coded D) (desk : DeskMeaning D) (z : LinkSizes) (n i
   begin_told : (w : Wish) (me' : SeatState) → StepBy cd desk me s.mover (Steps s.mover.pass.number follows (Some w)) me' → Begins cd desk number follows w me me'
   begin_told w me' step = let k = place_of_number number me.0.passes in
       subst (λ (j : ℕ). IsStepOf cd desk (Steps j follows (Some w)) j (call_at k me.0.passes) (call_at k me'.0.passes) me me') (sym (number_is me s.mover k s.here) ∙ s.number)
-          (step_told me s.mover k s.here cd desk (λ j. Steps j follows (Some w)) me' step)
+      (step_told me s.mover k s.here cd desk (λ j. Steps j follows (Some w)) me' step)
 
   takes_sender : (message : List ℕ) (y : ℕ) (me' : SeatState) → SendBeginsBy cd desk z me s.mover (other e) follows message y me' → TakesSender (other e) number follows message me y me'
   takes_sender message y me' t = (
-      (λ free. let f = t.0 free in (f.0, becomes me s.mover (place_of_number number me.0.passes) s.here (λ p. with_call p (Sends (other e) (turn.Taken number (record { follows = follows; message = message; stage = stage.Turn })) f.0 0)) _ ((sender_slot (other e), Sender f.0) ∷ me.1) me'
-          (ap (λ (k : ℕ). with_call s.mover.pass (Sends (other e) (turn.Taken k (record { follows = follows; message = message; stage = stage.Turn })) f.0 0)) s.number) f.1)),
-      t.1,
-    )
+    (λ free. let f = t.0 free in (
+      f.0,
+      becomes me s.mover (place_of_number number me.0.passes) s.here (λ p. with_call p (Sends (other e) (turn.Taken number (record { follows = follows; message = message; stage = stage.Turn })) f.0 0)) _ ((sender_slot (other e), Sender f.0) ∷ me.1) me'
+          (ap (λ (k : ℕ). with_call s.mover.pass (Sends (other e) (turn.Taken k (record { follows = follows; message = message; stage = stage.Turn })) f.0 0)) s.number) f.1,
+    )),
+    t.1,
+  )
 
   takes_receiver : (first : Work) (y : ℕ) (me' : SeatState) → TakeBeginsBy me s.mover e follows first y me' → TakesReceiver e number follows first me y me'
   takes_receiver first y me' t = (
-      (λ free. let f = t.0 free in (f.0, becomes me s.mover (place_of_number number me.0.passes) s.here (λ p. with_call p (Receives e (turn.Taken number (record { follows = follows; work = first })) f.0 0 [])) _ ((receiver_slot e, Receiver f.0) ∷ me.1) me'
-          (ap (λ (k : ℕ). with_call s.mover.pass (Receives e (turn.Taken k (record { follows = follows; work = first })) f.0 0 [])) s.number) f.1)),
-      t.1,
-    )
+    (λ free. let f = t.0 free in (
+      f.0,
+      becomes me s.mover (place_of_number number me.0.passes) s.here (λ p. with_call p (Receives e (turn.Taken number (record { follows = follows; work = first })) f.0 0 [])) _ ((receiver_slot e, Receiver f.0) ∷ me.1) me'
+          (ap (λ (k : ℕ). with_call s.mover.pass (Receives e (turn.Taken k (record { follows = follows; work = first })) f.0 0 [])) s.number) f.1,
+    )),
+    t.1,
+  )
 
   send_begins : (message : List ℕ) → IsFit (wish.Send message) s.mover.pass.hands → place ≡ place_in (sender_word (other e))
       → Allows (LinkRule cd desk z) n id me place (λ y. either (eqb y 0) new y) (λ y me'. TakesTurn e number follows (wish.Send message) me y me' × (y ≤ 65) × Begins cd desk number follows (wish.Send message) me me')
   send_begins message fits is st kept long at wide =
       let a = apart cd desk z n id me (sender_word (other e)) place (λ y. either (eqb y 0) new y)
-          (λ y me'. SendBeginsBy cd desk z me s.mover (other e) follows message y me' × (y ≤ 65) × StepBy cd desk me s.mover (Steps s.mover.pass.number follows (Some (wish.Send message))) me') is
-          (starts cd desk z n id me s.mover (other e) follows new message fits (s.call ∙ ap Rests (sym (other_twice e))) suc_number) st kept long at wide in
+      (λ y me'. SendBeginsBy cd desk z me s.mover (other e) follows message y me' × (y ≤ 65) × StepBy cd desk me s.mover (Steps s.mover.pass.number follows (Some (wish.Send message))) me') is
+      (starts cd desk z n id me s.mover (other e) follows new message fits (s.call ∙ ap Rests (sym (other_twice e))) suc_number) st kept long at wide in
       (a.0, a.1, a.2, a.3, (takes_sender message _ _ a.4.0, a.4.1, begin_told (wish.Send message) _ a.4.2))
 
   work_begins : (w : Wish) (first : Work) → ((lanes : Lanes (RingState D)) (caller : ℕ) → first_step (ring_form desk) lanes caller follows w ≡ receive_first (ring_form desk) lanes caller follows first) → work_is_out first ≡ false
@@ -101,8 +108,8 @@ module _ {D : Type 0} (cd : Coded D) (desk : DeskMeaning D) (z : LinkSizes) (n i
       → Allows (LinkRule cd desk z) n id me place (λ y. either (eqb y 0) new y) (λ y me'. TakesReceiver e number follows first me y me' × (y ≤ 65) × Begins cd desk number follows w me me')
   work_begins w first begins inside fits is st kept long at wide =
       let a = apart cd desk z n id me (receiver_word e) place (λ y. either (eqb y 0) new y)
-          (λ y me'. TakeBeginsBy me s.mover e follows first y me' × (y ≤ 65) × StepBy cd desk me s.mover (Steps s.mover.pass.number follows (Some w)) me') is
-          (takes_turn desk w first follows begins cd z id me s.mover e s.call inside fits n new suc_number) st kept long at wide in
+      (λ y me'. TakeBeginsBy me s.mover e follows first y me' × (y ≤ 65) × StepBy cd desk me s.mover (Steps s.mover.pass.number follows (Some w)) me') is
+      (takes_turn desk w first follows begins cd z id me s.mover e s.call inside fits n new suc_number) st kept long at wide in
       (a.0, a.1, a.2, a.3, (takes_receiver first _ _ a.4.0, a.4.1, begin_told w _ a.4.2))
 
   give_fits : (k : ℕ) → HasNumber s.mover.pass.hands k → (st : State Slot View) (m : LaneLink (RingState D)) (p : ℕ) → Shows cd desk z st m p → get_elem? st.views id ≡ some me.0 → IsFitWish (wish.Give k) (lane_to m e).lane.lane.held s.mover.pass.number

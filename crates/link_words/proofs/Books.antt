@@ -31,7 +31,7 @@ entries_push : (caller number : ℕ) (bs : List BookEntry) (b : BookEntry) → e
 entries_push caller number [] b = ap (λ (n : ℕ). cond (eqb b.caller caller) ((n, b.message) ∷ []) []) (let e : number ≡ number + 0 = omega arith in e)
 entries_push caller number (x ∷ bs) b =
     ap (λ (l : List (ℕ × List ℕ)). cond (eqb x.caller caller) ((number, x.message) ∷ l) l)
-        (entries_push caller (suc number) bs b ∙ ap (λ (n : ℕ). entries_by caller (suc number) bs ++ cond (eqb b.caller caller) ((n, b.message) ∷ []) []) (let e : suc number + length bs ≡ number + suc (length bs) = omega arith in e))
+    (entries_push caller (suc number) bs b ∙ ap (λ (n : ℕ). entries_by caller (suc number) bs ++ cond (eqb b.caller caller) ((n, b.message) ∷ []) []) (let e : suc number + length bs ≡ number + suc (length bs) = omega arith in e))
     ∙ cond_more (eqb x.caller caller) (number, x.message) (entries_by caller (suc number) bs) (cond (eqb b.caller caller) ((number + suc (length bs), b.message) ∷ []) [])
 
 append_none : {A : Type 0} (xs : List A) → xs ++ [] ≡ xs
@@ -188,7 +188,7 @@ takes_push : (caller number : ℕ) (cs : List ℕ) (c : ℕ) → takes_by caller
 takes_push caller number [] c = ap (λ (n : ℕ). cond (eqb c caller) (n ∷ []) []) (let e : number ≡ number + 0 = omega arith in e)
 takes_push caller number (x ∷ cs) c =
     ap (λ (l : List ℕ). cond (eqb x caller) (number ∷ l) l)
-        (takes_push caller (suc number) cs c ∙ ap (λ (n : ℕ). takes_by caller (suc number) cs ++ cond (eqb c caller) (n ∷ []) []) (let e : suc number + length cs ≡ number + suc (length cs) = omega arith in e))
+    (takes_push caller (suc number) cs c ∙ ap (λ (n : ℕ). takes_by caller (suc number) cs ++ cond (eqb c caller) (n ∷ []) []) (let e : suc number + length cs ≡ number + suc (length cs) = omega arith in e))
     ∙ cond_put (eqb x caller) number (takes_by caller (suc number) cs) (cond (eqb c caller) ((number + suc (length cs)) ∷ []) [])
   where
     cond_put : (b : Bool) (n : ℕ) (xs ys : List ℕ) → cond b (n ∷ (xs ++ ys)) (xs ++ ys) ≡ cond b (n ∷ xs) xs ++ ys
@@ -210,9 +210,11 @@ history_took {D} m side.Host s c handed book number first f nth message own is c
     go : (i : End) → SendsAgree (with_lane m side.Host s) i number first (Take side.Host f nth message ∷ own)
     go side.Host since = ap (entries_by number 0) book ∙ has.sent side.Host since
     go side.Remote since = has.sent side.Remote since
+
     red : (i : End) → ReadsIn i m.era.inc (lane_to m i).lane.lane.accepted (Take side.Host f nth message ∷ own)
     red side.Host = ((λ _ _. found), has.read side.Host)
     red side.Remote = ((λ never _. absurd (false-true never)), has.read side.Remote)
+
     took : (i : End) → TakesAt (with_lane m side.Host s) i number first (Take side.Host f nth message ∷ own)
     took side.Host since = ap (takes_by number 0) handed ∙ (takes_own number m.to_host.lane.lane.takers c is
         ∙ ((λ k. has.taken side.Host since k ++ sym at k ∷ []) ∙ ap (λ (y : Bool). cond y (takes_in side.Host m.era.inc own ++ nth ∷ []) (takes_in side.Host m.era.inc own)) (sym (eq-eqb f m.era.inc current))))
@@ -222,9 +224,11 @@ history_took {D} m side.Remote s c handed book number first f nth message own is
     go : (i : End) → SendsAgree (with_lane m side.Remote s) i number first (Take side.Remote f nth message ∷ own)
     go side.Remote since = ap (entries_by number 0) book ∙ has.sent side.Remote since
     go side.Host since = has.sent side.Host since
+
     red : (i : End) → ReadsIn i m.era.inc (lane_to m i).lane.lane.accepted (Take side.Remote f nth message ∷ own)
     red side.Remote = ((λ _ _. found), has.read side.Remote)
     red side.Host = ((λ never _. absurd (false-true never)), has.read side.Host)
+
     took : (i : End) → TakesAt (with_lane m side.Remote s) i number first (Take side.Remote f nth message ∷ own)
     took side.Remote since = ap (takes_by number 0) handed ∙ (takes_own number m.to_remote.lane.lane.takers c is
         ∙ ((λ k. has.taken side.Remote since k ++ sym at k ∷ []) ∙ ap (λ (y : Bool). cond y (takes_in side.Remote m.era.inc own ++ nth ∷ []) (takes_in side.Remote m.era.inc own)) (sym (eq-eqb f m.era.inc current))))

@@ -1,5 +1,5 @@
 -- The close is the machine's, made by any seat.
-use Rattle.std.proofs.Common.{◌≡◌, ℕ, ◌+◌, ◌*◌, Bool, true, false, cond, eqb, ◌&&◌, List, ◌∷◌, get_or, set, refl, sym, ap, ◌∙◌, subst, inl, ⊎_elim, arith, eq-eqb, ne_eqb}
+use Rattle.std.proofs.Common.{◌≡◌, ℕ, ◌+◌, ◌*◌, Bool, true, false, cond, eqb, ◌&&◌, List, get_or, set, refl, sym, ap, ◌∙◌, subst, inl, ⊎_elim, arith, eq-eqb, ne_eqb}
 use Rattle.std.specs.Prelude.{Some}
 use mathlib.Core.Option.{some}
 use lib.ListN.{get_elem?}
@@ -97,51 +97,51 @@ module _ {D : Type 0} (cd : Coded D) (desk : DeskMeaning D) (z : LinkSizes) wher
       → MayDo desk m d → m ≡ after_deed desk m d → IsCallOf m p o.pass.number call → ((i : End) → has_for_manager i call ≡ true → has_for_manager i o.pass.call ≡ true) → WordsRule cd desk z (stepped st i n id cs (with_pass v o (with_call o.pass call) (Some (copied cd m))) keeps)
   stays_at st m p r i n id cs v o call d at found may deed has quiet =
       let w = with_call o.pass call in let u = with_pass v o w (Some (copied cd m)) in let each = each_set st.views id v u o w at refl in (
-      m,
-      p,
-      put_together (ap (set st.words i) found ∙ (set-get_or st.words i 0 ∙ r.words_are))
-          r.shelves r.homes_are
-          (state_in r) (sizes_in r) (buffers_in r) (one_more desk m _ d r.reached may deed)
-          (record {
-            calls = each (HasCall m p) (HasCall m p) r.numbers.places r.turns.calls (λ j l q there apart had. had) has;
-            keepers = keepers_set st.views id v u o w at refl refl quiet r.turns.keepers;
-            still = r.turns.still;
-          })
-          (record {
-            own = each (HistoryOf m) (HistoryOf m) r.numbers.places r.histories.own (λ j l q there apart had. had) (r.histories.own id o.place o.pass (v, at, o.here));
-            hands = each (HandsOf m) (HandsOf m) r.numbers.places r.histories.hands (λ j l q there apart had. had) (r.histories.hands id o.place o.pass (v, at, o.here));
-          })
-          (record {
-            places = numbers_set st.views id v u o w at refl refl r.numbers.places;
-            manager = manager_set st.views id v u o w at refl cd m m refl refl refl refl (λ old. old) (λ j y apart there manages. refl) (λ n none was not. was not) (λ n none Q was not. was not) (λ old. old) (λ j y apart there manages old. old) (λ k same _. sym (some_copy (copied cd m) k same)) r.numbers.manager;
-            many = r.numbers.many;
-          }),
-    )
+        m,
+        p,
+        put_together (ap (set st.words i) found ∙ (set-get_or st.words i 0 ∙ r.words_are))
+            r.shelves r.homes_are
+            (state_in r) (sizes_in r) (buffers_in r) (one_more desk m _ d r.reached may deed)
+            (record {
+              calls = each (HasCall m p) (HasCall m p) r.numbers.places r.turns.calls (λ j l q there apart had. had) has;
+              keepers = keepers_set st.views id v u o w at refl refl quiet r.turns.keepers;
+              still = r.turns.still;
+            })
+            (record {
+              own = each (HistoryOf m) (HistoryOf m) r.numbers.places r.histories.own (λ j l q there apart had. had) (r.histories.own id o.place o.pass (v, at, o.here));
+              hands = each (HandsOf m) (HandsOf m) r.numbers.places r.histories.hands (λ j l q there apart had. had) (r.histories.hands id o.place o.pass (v, at, o.here));
+            })
+            (record {
+              places = numbers_set st.views id v u o w at refl refl r.numbers.places;
+              manager = manager_set st.views id v u o w at refl cd m m refl refl refl refl (λ old. old) (λ j y apart there manages. refl) (λ n none was not. was not) (λ n none Q was not. was not) (λ old. old) (λ j y apart there manages old. old) (λ k same _. sym (some_copy (copied cd m) k same)) r.numbers.manager;
+              many = r.numbers.many;
+            }),
+      )
 
   -- the same, where the view stays too
   pub stays : (st : State Slot View) (m : LaneLink (RingState D)) (p : ℕ) → Shows cd desk z st m p → (i n id : ℕ) (cs : List (ℕ × Slot)) (v : View) (d : Deed) → get_elem? st.views id ≡ some v → n ≡ get_or st.words i 0
       → MayDo desk m d → m ≡ after_deed desk m d → WordsRule cd desk z (stepped st i n id cs v keeps)
   stays st m p r i n id cs v d at found may deed = subst (λ (views : List View). WordsRule cd desk z (record { words = set st.words i n; homes = st.homes; views = views })) (sym (set_again st.views id v at)) (
-      m,
-      p,
-      put_together (ap (set st.words i) found ∙ (set-get_or st.words i 0 ∙ r.words_are))
-          r.shelves r.homes_are
-          (state_in r) (sizes_in r) (buffers_in r) (one_more desk m _ d r.reached may deed)
-          (record {
-            calls = r.turns.calls;
-            keepers = r.turns.keepers;
-            still = r.turns.still;
-          })
-          (record {
-            own = r.histories.own;
-            hands = r.histories.hands;
-          })
-          (record {
-            places = r.numbers.places;
-            manager = r.numbers.manager;
-            many = r.numbers.many;
-          }),
-    )
+    m,
+    p,
+    put_together (ap (set st.words i) found ∙ (set-get_or st.words i 0 ∙ r.words_are))
+        r.shelves r.homes_are
+        (state_in r) (sizes_in r) (buffers_in r) (one_more desk m _ d r.reached may deed)
+        (record {
+          calls = r.turns.calls;
+          keepers = r.turns.keepers;
+          still = r.turns.still;
+        })
+        (record {
+          own = r.histories.own;
+          hands = r.histories.hands;
+        })
+        (record {
+          places = r.numbers.places;
+          manager = r.numbers.manager;
+          many = r.numbers.many;
+        }),
+  )
 
   pub closes : (n id : ℕ) (me : SeatState) (o : Mover me.0) (inc old new : ℕ) → old ≡ era_word (record { inc = inc; is_live = true }) → new ≡ era_word (record { inc = inc; is_live = false })
       → Allows (WordsRule cd desk z) n id me 1 (λ y. either (eqb y old) new y) (ClosesEra me)
@@ -149,37 +149,37 @@ module _ {D : Type 0} (cd : Coded D) (desk : DeskMeaning D) (z : LinkSizes) wher
       let y : ℕ = get_or st.words 1 0 in let word : y ≡ era_word m.era = ap (λ (ws : List ℕ). get_or ws 1 0) r₀.words_are in
       exchanged y old new (λ f. (w : View) × (a : Act Slot) × Valid st.homes me.1 a × WordsRule cd desk z (stepped st 1 f id me.1 w a) × ClosesEra me y (w, carried_after me.1 a))
       (λ hit.
-          let era : m.era ≡ record { inc = inc; is_live = true } = era_of_word m.era (record { inc = inc; is_live = true }) (sym word ∙ (hit ∙ is_old)) in
-          let r : Shows cd desk z st m 0 = ⊎_elim (λ (none_reset : p ≡ 0). subst (Shows cd desk z st m) none_reset r₀) (λ (still : IsStill m). absurd (true-false (ap (λ (x : Era). x.is_live) (sym era) ∙ still.0))) r₀.turns.still in
-          let m' : LaneLink (RingState D) = record m { era = record { inc = inc; is_live = false } } in
-          let deed : m' ≡ link_after_close m inc = sym (ap (λ (b : Bool). cond b m' m) (live_in m.era inc era)) in
-          let u = record me.0 { copy = Some (copied cd m') } in let again = sym (set_again me.0.passes o.place o.pass o.here) in let each = each_set st.views id me.0 u o o.pass at again in (
-            u,
-            keeps,
-            tt,
-            (
-              m',
-              0,
-              put_together (λ k. set (r.words_are k) 1 (is_new k))
-                  r.shelves r.homes_are
-                  (subst (IsSoundState desk) (sym deed) (deed_kept desk m (Closes inc) tt (state_in r))) (sizes_in r) (shut_shelved m inc (λ s e. HoldsBuffers s (shelf_to r.shelves e)) (buffers_in r)) (one_more desk m _ (Closes inc) r.reached tt deed)
-                  (record {
-                    calls = each (HasCall m 0) (HasCall m' 0) r.numbers.places r.turns.calls (λ j l q there apart. shut_call m inc q.number q.call era) (shut_call m inc o.pass.number o.pass.call era (r.turns.calls id o.place o.pass (me.0, at, o.here)));
-                    keepers = keepers_set st.views id me.0 u o o.pass at again refl (λ i k. k) r.turns.keepers;
-                    still = inl refl;
-                  })
-                  (record {
-                    own = each (HistoryOf m) (HistoryOf m') r.numbers.places r.histories.own (λ j l q there apart. history_shut m inc q.number q.first q.own (ap (λ (x : Era). x.inc) era)) (history_shut m inc o.pass.number o.pass.first o.pass.own (ap (λ (x : Era). x.inc) era) (r.histories.own id o.place o.pass (me.0, at, o.here)));
-                    hands = each (HandsOf m) (HandsOf m') r.numbers.places r.histories.hands (λ j l q there apart. shut_hands m inc q) (shut_hands m inc o.pass (r.histories.hands id o.place o.pass (me.0, at, o.here)));
-                  })
-                  (record {
-                    places = numbers_set st.views id me.0 u o o.pass at again refl r.numbers.places;
-                    manager = manager_set st.views id me.0 u o o.pass at again cd m m' refl refl refl refl (λ old. old ∙ ap (λ (x : Era). x.inc) era) (λ j y apart there manages. ap (λ (x : Era). x.inc) (sym era)) (λ n none was not. none_shut m inc n (was not)) (λ n none Q was not. none_shut m inc n (was not)) (λ old _. refl) (λ j y apart there manages old. refl) (λ k same _. sym (some_copy (copied cd m') k same)) r.numbers.manager;
-                    many = r.numbers.many;
-                  }),
-            ),
-            (m.era, word, refl),
-          ))
+      let era : m.era ≡ record { inc = inc; is_live = true } = era_of_word m.era (record { inc = inc; is_live = true }) (sym word ∙ (hit ∙ is_old)) in
+      let r : Shows cd desk z st m 0 = ⊎_elim (λ (none_reset : p ≡ 0). subst (Shows cd desk z st m) none_reset r₀) (λ (still : IsStill m). absurd (true-false (ap (λ (x : Era). x.is_live) (sym era) ∙ still.0))) r₀.turns.still in
+      let m' : LaneLink (RingState D) = record m { era = record { inc = inc; is_live = false } } in
+      let deed : m' ≡ link_after_close m inc = sym (ap (λ (b : Bool). cond b m' m) (live_in m.era inc era)) in
+      let u = record me.0 { copy = Some (copied cd m') } in let again = sym (set_again me.0.passes o.place o.pass o.here) in let each = each_set st.views id me.0 u o o.pass at again in (
+        u,
+        keeps,
+        tt,
+        (
+          m',
+          0,
+          put_together (λ k. set (r.words_are k) 1 (is_new k))
+              r.shelves r.homes_are
+              (subst (IsSoundState desk) (sym deed) (deed_kept desk m (Closes inc) tt (state_in r))) (sizes_in r) (shut_shelved m inc (λ s e. HoldsBuffers s (shelf_to r.shelves e)) (buffers_in r)) (one_more desk m _ (Closes inc) r.reached tt deed)
+              (record {
+                calls = each (HasCall m 0) (HasCall m' 0) r.numbers.places r.turns.calls (λ j l q there apart. shut_call m inc q.number q.call era) (shut_call m inc o.pass.number o.pass.call era (r.turns.calls id o.place o.pass (me.0, at, o.here)));
+                keepers = keepers_set st.views id me.0 u o o.pass at again refl (λ i k. k) r.turns.keepers;
+                still = inl refl;
+              })
+              (record {
+                own = each (HistoryOf m) (HistoryOf m') r.numbers.places r.histories.own (λ j l q there apart. history_shut m inc q.number q.first q.own (ap (λ (x : Era). x.inc) era)) (history_shut m inc o.pass.number o.pass.first o.pass.own (ap (λ (x : Era). x.inc) era) (r.histories.own id o.place o.pass (me.0, at, o.here)));
+                hands = each (HandsOf m) (HandsOf m') r.numbers.places r.histories.hands (λ j l q there apart. shut_hands m inc q) (shut_hands m inc o.pass (r.histories.hands id o.place o.pass (me.0, at, o.here)));
+              })
+              (record {
+                places = numbers_set st.views id me.0 u o o.pass at again refl r.numbers.places;
+                manager = manager_set st.views id me.0 u o o.pass at again cd m m' refl refl refl refl (λ old. old ∙ ap (λ (x : Era). x.inc) era) (λ j y apart there manages. ap (λ (x : Era). x.inc) (sym era)) (λ n none was not. none_shut m inc n (was not)) (λ n none Q was not. none_shut m inc n (was not)) (λ old _. refl) (λ j y apart there manages old. refl) (λ k same _. sym (some_copy (copied cd m') k same)) r.numbers.manager;
+                many = r.numbers.many;
+              }),
+        ),
+        (m.era, word, refl),
+      ))
       (λ miss.
-          let other : is_live_in m.era inc ≡ false = not_live_in inc m.era.inc m.era.is_live (λ same live. miss (word ∙ ((λ k. era_word (record { inc = same k; is_live = live k })) ∙ sym is_old))) in
-          (me.0, keeps, tt, stays st m p r₀ 1 y id me.1 me.0 (Closes inc) at refl tt (sym (ap (λ (b : Bool). cond b (record m { era = record { inc = inc; is_live = false } }) m) other)), (m.era, word, refl)))
+      let other : is_live_in m.era inc ≡ false = not_live_in inc m.era.inc m.era.is_live (λ same live. miss (word ∙ ((λ k. era_word (record { inc = same k; is_live = live k })) ∙ sym is_old))) in
+      (me.0, keeps, tt, stays st m p r₀ 1 y id me.1 me.0 (Closes inc) at refl tt (sym (ap (λ (b : Bool). cond b (record m { era = record { inc = inc; is_live = false } }) m) other)), (m.era, word, refl)))

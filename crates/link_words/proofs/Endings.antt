@@ -46,7 +46,6 @@ use Rattle.link_words.specs.Seats.{with_era, EndsCaller}
 use Rattle.link_words.proofs.Moving.{with_views, rebuilt, recast}
 use Rattle.link_words.proofs.Users.{end_else, call_with, history_with, hands_with}
 
-
 none_some : (c : LinkCopy) → Path (Option LinkCopy) None (Some c) → ⊥
 none_some c e = absurd (cc)
 
@@ -99,7 +98,7 @@ end_from : (views : List View) (id : ℕ) (v : View) (o : Mover v) (c : Option L
     → (s : Spot) × PassAt views s.0 s.1 q × Path Spot (one_gone id o.place s) (j, l) × (s.0 ≡ id → s.1 ≢ o.place)
 end_from views id v o c at j l q (u, eu, eq) = ⊎_elim
     (λ (x : (j ≡ id) × (after_end_at v o c ≡ u)). let r = removed_at o.place v.passes l q (subst (λ (b : View). get_elem? b.passes l ≡ some q) (sym x.1) eq) in
-        ((id, r.0), (v, at, r.1), gone_here id o.place r.0 ∙ (λ i. (sym x.0 i, r.2 i)), λ _. r.3))
+    ((id, r.0), (v, at, r.1), gone_here id o.place r.0 ∙ (λ i. (sym x.0 i, r.2 i)), λ _. r.3))
     (λ (x : (j ≢ id) × (get_elem? views j ≡ some u)). ((j, l), (u, x.1, eq), gone_not id o.place j l x.0, λ same. absurd (x.0 same)))
     (at_set views id j (after_end_at v o c) u eu)
 
@@ -118,10 +117,10 @@ module _ {D : Type 0} (cd : Coded D) (desk : DeskMeaning D) (z : LinkSizes) wher
   freed st m p r views went from e n gone manager shut rests bare =
       let cs = slice_set m.callers n None in let m' : LaneLink (RingState D) = record m { callers = cs } in let many = r.numbers.many in
       recast cd desk z st m p r cs (Frees e n) views (frees_may m p e n shut rests bare) refl (length-set m.callers n None ∙ many)
-          (each_from st.views views went from (HasCall m p) (HasCall m' p) r.turns.calls (λ j l q at has. call_with m cs p q.number q.call (end_else m.callers n q.number None (gone j l q at)) has))
-          (each_from st.views views went from (HistoryOf m) (HistoryOf m') r.histories.own (λ j l q at has. history_with m cs q has))
-          (each_from st.views views went from (HandsOf m) (HandsOf m') r.histories.hands (λ j l q at has. hands_with m cs q (end_else m.callers n q.number None (gone j l q at)) has))
-          (numbers_from st.views views went from r.numbers.places) (keepers_from st.views views went from r.turns.keepers) manager
+      (each_from st.views views went from (HasCall m p) (HasCall m' p) r.turns.calls (λ j l q at has. call_with m cs p q.number q.call (end_else m.callers n q.number None (gone j l q at)) has))
+      (each_from st.views views went from (HistoryOf m) (HistoryOf m') r.histories.own (λ j l q at has. history_with m cs q has))
+      (each_from st.views views went from (HandsOf m) (HandsOf m') r.histories.hands (λ j l q at has. hands_with m cs q (end_else m.callers n q.number None (gone j l q at)) has))
+      (numbers_from st.views views went from r.numbers.places) (keepers_from st.views views went from r.turns.keepers) manager
 
   -- a carried caller ends
   pub ends : (st : State Slot View) (m : LaneLink (RingState D)) (p : ℕ) (r : Shows cd desk z st m p) (id : ℕ) (v : View) (o : Mover v) (e : End) → get_elem? st.views id ≡ some v → Manages v → v.is_closed ≡ true → o.pass.call ≡ Rests e → o.pass.hands ≡ []
@@ -130,27 +129,31 @@ module _ {D : Type 0} (cd : Coded D) (desk : DeskMeaning D) (z : LinkSizes) wher
       let n = o.pass.number in let known = r.numbers.manager id v at manages in let m' : LaneLink (RingState D) = record m { callers = slice_set m.callers n None } in let u = after_end_at v o (Some (copied cd m')) in let views = set st.views id u in
       let rests : IsCallOf m p n (Rests e) = subst (IsCallOf m p n) call (r.turns.calls id o.place o.pass (v, at, o.here)) in let from = end_from st.views id v o (Some (copied cd m')) at in
       freed st m p r views (one_gone id o.place) (λ j l q there. let s = from j l q there in (s.0, s.1, s.2)) e n
-          (λ j l q there same. let s = from j l q there in let a = r.numbers.places id o.place s.0.0 s.0.1 o.pass q (v, at, o.here) s.1 same in s.3 (sym a.0) (sym a.1))
-          (λ i y ey manages_y. ⊎_elim
-              (λ (x : (i ≡ id) × (u ≡ y)). subst (λ (b : View). Knows cd m' views i b) x.1 (record {
-                users = ap (λ (us : List (Option End)). slice_set us n None) known.users;
-                inc = known.inc;
-                unused = λ i none not. none_with m (slice_set m.callers n None) i (known.unused i (sym (end_else m.callers n i None (λ same. not (0, ap some same))) ∙ none) (λ (was : HasNumber v.reclaims i). not (suc was.0, was.1)));
-                closed = known.closed;
-                out = λ j l q there away. ⊎_elim (λ (b : (j ≡ id) × (u ≡ there.0)). absurd (away (b.0 ∙ sym x.0)))
-                    (λ (b : (j ≢ id) × (get_elem? st.views j ≡ some there.0)). known.out j l q (there.0, b.1, there.2) b.0) (at_set st.views id j u there.0 there.1);
-                copy = λ c same _. sym (some_copy (copied cd m') c same);
-              }))
-              (λ (x : (i ≢ id) × (get_elem? st.views i ≡ some y)). absurd (x.0 (one_manager st.views r.numbers.places i id y v x.1 manages_y at manages)))
-              (at_set st.views id i u y ey))
-          (known.closed shut) rests (r.histories.hands id o.place o.pass (v, at, o.here) e rests.0 ∙ bare)
+      (λ j l q there same. let s = from j l q there in let a = r.numbers.places id o.place s.0.0 s.0.1 o.pass q (v, at, o.here) s.1 same in s.3 (sym a.0) (sym a.1))
+      (λ i y ey manages_y. ⊎_elim
+      (λ (x : (i ≡ id) × (u ≡ y)). subst (λ (b : View). Knows cd m' views i b) x.1 (record {
+        users = ap (λ (us : List (Option End)). slice_set us n None) known.users;
+        inc = known.inc;
+        unused = λ i none not. none_with m (slice_set m.callers n None) i (known.unused i (sym (end_else m.callers n i None (λ same. not (0, ap some same))) ∙ none) (λ (was : HasNumber v.reclaims i). not (suc was.0, was.1)));
+        closed = known.closed;
+        out = λ j l q there away. ⊎_elim (λ (b : (j ≡ id) × (u ≡ there.0)). absurd (away (b.0 ∙ sym x.0)))
+            (λ (b : (j ≢ id) × (get_elem? st.views j ≡ some there.0)). known.out j l q (there.0, b.1, there.2) b.0) (at_set st.views id j u there.0 there.1);
+        copy = λ c same _. sym (some_copy (copied cd m') c same);
+      }))
+      (λ (x : (i ≢ id) × (get_elem? st.views i ≡ some y)). absurd (x.0 (one_manager st.views r.numbers.places i id y v x.1 manages_y at manages)))
+      (at_set st.views id i u y ey))
+      (known.closed shut) rests (r.histories.hands id o.place o.pass (v, at, o.here) e rests.0 ∙ bare)
 
   -- the idle word is loaded, and a carried caller ends
   pub ends_caller : (slots id : ℕ) (me : SeatState) (o : Mover me.0) (e : End) → Manages me.0 → me.0.is_closed ≡ true → o.pass.call ≡ Rests e → o.pass.hands ≡ [] → Allows (WordsRule cd desk z) slots id me 0 (λ y. y) (λ y me'. me' ≡ (after_end_at me.0 o me'.0.copy, me.1))
   ends_caller slots id me o e manages shut call bare st (m, p, r) wide at _ =
-      let c = Some (copied cd (record m { callers = slice_set m.callers o.pass.number None })) in (after_end_at me.0 o c, keeps, tt,
-          subst (λ (ws : List ℕ). WordsRule cd desk z (record { words = ws; homes = st.homes; views = set st.views id (after_end_at me.0 o c) })) (sym (set-get_or st.words 0 0)) (ends st m p r id me.0 o e at manages shut call bare),
-          refl)
+      let c = Some (copied cd (record m { callers = slice_set m.callers o.pass.number None })) in (
+        after_end_at me.0 o c,
+        keeps,
+        tt,
+        subst (λ (ws : List ℕ). WordsRule cd desk z (record { words = ws; homes = st.homes; views = set st.views id (after_end_at me.0 o c) })) (sym (set-get_or st.words 0 0)) (ends st m p r id me.0 o e at manages shut call bare),
+        refl,
+      )
 
   -- a caller whose seat comes back ends
   pub joins_ended : (id other : ℕ) (v w : View) (q : Pass) (e : End) → Manages v → v.is_closed ≡ true → w.passes ≡ q ∷ [] → q.call ≡ Rests e → q.hands ≡ [] → Joins (WordsRule cd desk z) id v other w (after_end_with v w) spent_view
@@ -160,29 +163,29 @@ module _ {D : Type 0} (cd : Coded D) (desk : DeskMeaning D) (z : LinkSizes) wher
       let mine : PassAt st.views other 0 q = (w, there, ap (λ (ps : List Pass). get_elem? ps 0) only) in
       let rests : IsCallOf m p n (Rests e) = subst (IsCallOf m p n) call (r.turns.calls other 0 q mine) in
       let before : (j l : ℕ) (a : Pass) → PassAt views j l a → PassAt st.views j l a × (j ≢ other) = λ j l a here. ⊎_elim
-          (λ (x : (j ≡ other) × (spent_view ≡ here.0)). absurd (some-ne-none a (sym (subst (λ (b : View). get_elem? b.passes l ≡ some a) (sym x.1) here.2))))
-          (λ (x : (j ≢ other) × (get_elem? (set st.views id u) j ≡ some here.0)). ⊎_elim
-              (λ (y : (j ≡ id) × (u ≡ here.0)). ((v, ap (get_elem? st.views) y.0 ∙ at, subst (λ (b : View). get_elem? b.passes l ≡ some a) (sym y.1) here.2), x.0))
-              (λ (y : (j ≢ id) × (get_elem? st.views j ≡ some here.0)). ((here.0, y.1, here.2), x.0))
-              (at_set st.views id j u here.0 x.1))
-          (at_set (set st.views id u) other j spent_view here.0 here.1) in
+      (λ (x : (j ≡ other) × (spent_view ≡ here.0)). absurd (some-ne-none a (sym (subst (λ (b : View). get_elem? b.passes l ≡ some a) (sym x.1) here.2))))
+      (λ (x : (j ≢ other) × (get_elem? (set st.views id u) j ≡ some here.0)). ⊎_elim
+      (λ (y : (j ≡ id) × (u ≡ here.0)). ((v, ap (get_elem? st.views) y.0 ∙ at, subst (λ (b : View). get_elem? b.passes l ≡ some a) (sym y.1) here.2), x.0))
+      (λ (y : (j ≢ id) × (get_elem? st.views j ≡ some here.0)). ((here.0, y.1, here.2), x.0))
+      (at_set st.views id j u here.0 x.1))
+      (at_set (set st.views id u) other j spent_view here.0 here.1) in
       freed st m p r views (λ s. s) (λ j l a here. ((j, l), (before j l a here).0, refl)) e n
-          (λ j l a here same. let b = before j l a here in b.1 (sym (r.numbers.places other 0 j l q a mine b.0 same).0))
-          (λ i y ey manages_y. ⊎_elim
-              (λ (x : (i ≡ other) × (spent_view ≡ y)). let none_there = subst Manages (sym x.1) manages_y in absurd (some-ne-none none_there.1 (sym none_there.2)))
-              (λ (x : (i ≢ other) × (get_elem? (set st.views id u) i ≡ some y)). ⊎_elim
-                  (λ (b : (i ≡ id) × (u ≡ y)). subst (λ (c : View). Knows cd m' views i c) b.1 (record {
-                    users = ap (λ (ps : List Pass). callers_without ps v.users) only ∙ ap (λ (us : List (Option End)). slice_set us n None) known.users;
-                    inc = known.inc;
-                    unused = λ i none not. none_with m (slice_set m.callers n None) i (known.unused i (sym (end_else m.callers n i None (λ same. not (stands_left (numbers_of w.passes) v.reclaims i (subst (λ (ps : List Pass). HasNumber (numbers_of ps) i) (sym only) (0, ap some same))))) ∙ none) (λ (was : HasNumber v.reclaims i). not (stands_right (numbers_of w.passes) v.reclaims i was)));
-                    closed = known.closed;
-                    out = λ j l a here away. known.out j l a (before j l a here).0 (λ same. away (same ∙ sym b.0));
-                    copy = λ c same _. absurd (none_some c same);
-                  }))
-                  (λ (b : (i ≢ id) × (get_elem? st.views i ≡ some y)). absurd (b.0 (one_manager st.views r.numbers.places i id y v b.1 manages_y at manages)))
-                  (at_set st.views id i u y x.1))
-              (at_set (set st.views id u) other i spent_view y ey))
-          (known.closed shut) rests (r.histories.hands other 0 q mine e rests.0 ∙ bare)
+      (λ j l a here same. let b = before j l a here in b.1 (sym (r.numbers.places other 0 j l q a mine b.0 same).0))
+      (λ i y ey manages_y. ⊎_elim
+      (λ (x : (i ≡ other) × (spent_view ≡ y)). let none_there = subst Manages (sym x.1) manages_y in absurd (some-ne-none none_there.1 (sym none_there.2)))
+      (λ (x : (i ≢ other) × (get_elem? (set st.views id u) i ≡ some y)). ⊎_elim
+      (λ (b : (i ≡ id) × (u ≡ y)). subst (λ (c : View). Knows cd m' views i c) b.1 (record {
+        users = ap (λ (ps : List Pass). callers_without ps v.users) only ∙ ap (λ (us : List (Option End)). slice_set us n None) known.users;
+        inc = known.inc;
+        unused = λ i none not. none_with m (slice_set m.callers n None) i (known.unused i (sym (end_else m.callers n i None (λ same. not (stands_left (numbers_of w.passes) v.reclaims i (subst (λ (ps : List Pass). HasNumber (numbers_of ps) i) (sym only) (0, ap some same))))) ∙ none) (λ (was : HasNumber v.reclaims i). not (stands_right (numbers_of w.passes) v.reclaims i was)));
+        closed = known.closed;
+        out = λ j l a here away. known.out j l a (before j l a here).0 (λ same. away (same ∙ sym b.0));
+        copy = λ c same _. absurd (none_some c same);
+      }))
+      (λ (b : (i ≢ id) × (get_elem? st.views i ≡ some y)). absurd (b.0 (one_manager st.views r.numbers.places i id y v b.1 manages_y at manages)))
+      (at_set st.views id i u y x.1))
+      (at_set (set st.views id u) other i spent_view y ey))
+      (known.closed shut) rests (r.histories.hands other 0 q mine e rests.0 ∙ bare)
 
   -- the manager loads the era, and knows whether it is closed
   shut_is : (b : Bool) → not b ≡ true → b ≡ false
@@ -193,12 +196,14 @@ module _ {D : Type 0} (cd : Coded D) (desk : DeskMeaning D) (z : LinkSizes) wher
   learns_shut slots id me manages st (m, p, r) wide at _ =
       let u = with_era me.0 m.era in let views = set st.views id u in let known = r.numbers.manager id me.0 at manages in
       let before : (j l : ℕ) (a : Pass) → PassAt views j l a → PassAt st.views j l a = λ j l a here. ⊎_elim
-          (λ (y : (j ≡ id) × (u ≡ here.0)). (me.0, ap (get_elem? st.views) y.0 ∙ at, subst (λ (b : View). get_elem? b.passes l ≡ some a) (sym y.1) here.2))
-          (λ (y : (j ≢ id) × (get_elem? st.views j ≡ some here.0)). (here.0, y.1, here.2))
-          (at_set st.views id j u here.0 here.1) in (
-        u, keeps, tt,
+      (λ (y : (j ≡ id) × (u ≡ here.0)). (me.0, ap (get_elem? st.views) y.0 ∙ at, subst (λ (b : View). get_elem? b.passes l ≡ some a) (sym y.1) here.2))
+      (λ (y : (j ≢ id) × (get_elem? st.views j ≡ some here.0)). (here.0, y.1, here.2))
+      (at_set st.views id j u here.0 here.1) in (
+        u,
+        keeps,
+        tt,
         subst (λ (ws : List ℕ). WordsRule cd desk z (record { words = ws; homes = st.homes; views = views })) (sym (set-get_or st.words 1 0))
-        (rebuilt cd desk z st m p r views (λ s. s) (λ j l a here. ((j, l), before j l a here, refl)) (λ i y ey manages_y. ⊎_elim
+            (rebuilt cd desk z st m p r views (λ s. s) (λ j l a here. ((j, l), before j l a here, refl)) (λ i y ey manages_y. ⊎_elim
             (λ (x : (i ≡ id) × (u ≡ y)). subst (λ (c : View). Knows cd m views i c) x.1 (record {
               users = known.users;
               inc = known.inc;
@@ -218,21 +223,27 @@ module _ {D : Type 0} (cd : Coded D) (desk : DeskMeaning D) (z : LinkSizes) wher
   ends_named slots id me o e caller manages shut number place call bare st (m, p, r) wide at _ =
       let y : ℕ = get_or st.words 0 0 in
       let same : either (eqb y 0) 0 y ≡ y = exchanged y 0 0 (λ f. f ≡ y) (λ hit. sym hit) (λ miss. refl) in
-      let c = Some (copied cd (record m { callers = slice_set m.callers o.pass.number None })) in (after_end_at me.0 o c, keeps, tt,
-          subst (λ (ws : List ℕ). WordsRule cd desk z (record { words = ws; homes = st.homes; views = set st.views id (after_end_at me.0 o c) })) (sym (ap (set st.words 0) same ∙ set-get_or st.words 0 0)) (ends st m p r id me.0 o e at manages shut call bare),
-          (λ k. (record me.0 { copy = c; reclaims = number k ∷ me.0.reclaims; passes = without_pass (place k) me.0.passes; users = slice_set me.0.users (number k) None }, me.1)))
+      let c = Some (copied cd (record m { callers = slice_set m.callers o.pass.number None })) in (
+        after_end_at me.0 o c,
+        keeps,
+        tt,
+        subst (λ (ws : List ℕ). WordsRule cd desk z (record { words = ws; homes = st.homes; views = set st.views id (after_end_at me.0 o c) })) (sym (ap (set st.words 0) same ∙ set-get_or st.words 0 0)) (ends st m p r id me.0 o e at manages shut call bare),
+        (λ k. (record me.0 { copy = c; reclaims = number k ∷ me.0.reclaims; passes = without_pass (place k) me.0.passes; users = slice_set me.0.users (number k) None }, me.1)),
+      )
 
   -- all that were out have come back: the manager knows the state
   pub settles : (slots id : ℕ) (me : SeatState) → Manages me.0 → ((n : ℕ) → HasNumber me.0.out n → HasNumber (numbers_of me.0.passes) n) → Allows (WordsRule cd desk z) slots id me 0 (λ y. y) (λ y me'. Settles me me')
   settles slots id me manages back st (m, p, r) wide at _ =
       let k = Some (copied cd m) in let u = after_settle me.0 k in let views = set st.views id u in let known = r.numbers.manager id me.0 at manages in
       let before : (j l : ℕ) (a : Pass) → PassAt views j l a → PassAt st.views j l a = λ j l a here. ⊎_elim
-          (λ (y : (j ≡ id) × (u ≡ here.0)). (me.0, ap (get_elem? st.views) y.0 ∙ at, subst (λ (b : View). get_elem? b.passes l ≡ some a) (sym y.1) here.2))
-          (λ (y : (j ≢ id) × (get_elem? st.views j ≡ some here.0)). (here.0, y.1, here.2))
-          (at_set st.views id j u here.0 here.1) in (
-        u, keeps, tt,
+      (λ (y : (j ≡ id) × (u ≡ here.0)). (me.0, ap (get_elem? st.views) y.0 ∙ at, subst (λ (b : View). get_elem? b.passes l ≡ some a) (sym y.1) here.2))
+      (λ (y : (j ≢ id) × (get_elem? st.views j ≡ some here.0)). (here.0, y.1, here.2))
+      (at_set st.views id j u here.0 here.1) in (
+        u,
+        keeps,
+        tt,
         subst (λ (ws : List ℕ). WordsRule cd desk z (record { words = ws; homes = st.homes; views = views })) (sym (set-get_or st.words 0 0))
-        (rebuilt cd desk z st m p r views (λ s. s) (λ j l a here. ((j, l), before j l a here, refl)) (λ i y ey manages_y. ⊎_elim
+            (rebuilt cd desk z st m p r views (λ s. s) (λ j l a here. ((j, l), before j l a here, refl)) (λ i y ey manages_y. ⊎_elim
             (λ (x : (i ≡ id) × (u ≡ y)). subst (λ (c : View). Knows cd m views i c) x.1 (record {
               users = known.users;
               inc = known.inc;

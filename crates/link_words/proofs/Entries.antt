@@ -28,7 +28,7 @@ use Rattle.link_words.specs.Passes.{Mover}
 use Rattle.link_words.specs.Calls.{SeatState}
 use Rattle.link_words.proofs.Tells.{SendTakesBufferBy}
 use Rattle.link_words.proofs.Buffers.{words_here, pulls}
-use Rattle.link_words.proofs.Exact.{StepBy, step_by}
+use Rattle.link_words.proofs.Exact.{StepBy}
 use Rattle.link_words.proofs.Parts.{rings_in, sizes_in}
 use Rattle.link_words.specs.Words.{sizes_at}
 use Rattle.link_words.specs.Deeds.{Steps}
@@ -51,7 +51,7 @@ return_found side.Host era i word a b low at =
 return_found side.Remote era i word a b low at =
     let f = length-map a.forward entry_word in let g = length-map b.forward entry_word in let h = length-map b.returns entry_word in
     ap (λ (k : ℕ). get_or (words_at side.Remote era a b) k 0)
-        (let e : word ≡ suc (suc (suc (suc (suc (suc (suc (suc (suc (suc (length (map entry_word b.forward) + (length (map entry_word b.returns) + (length (map entry_word a.forward) + i)))))))))))) = omega (arith, at, f, g, h) in e)
+    (let e : word ≡ suc (suc (suc (suc (suc (suc (suc (suc (suc (suc (length (map entry_word b.forward) + (length (map entry_word b.returns) + (length (map entry_word a.forward) + i)))))))))))) = omega (arith, at, f, g, h) in e)
     ∙ (get_or-append-add (map entry_word b.forward) (map entry_word b.returns ++ entry_words_before a []) (length (map entry_word b.returns) + (length (map entry_word a.forward) + i)) 0
     ∙ (get_or-append-add (map entry_word b.returns) (entry_words_before a []) (length (map entry_word a.forward) + i) 0
     ∙ (get_or-append-add (map entry_word a.forward) (map entry_word a.returns ++ []) i 0
@@ -67,7 +67,7 @@ forward_found side.Host era i word a b low at =
 forward_found side.Remote era i word a b low at =
     let g = length-map b.forward entry_word in let h = length-map b.returns entry_word in
     ap (λ (k : ℕ). get_or (words_at side.Remote era a b) k 0)
-        (let e : word ≡ suc (suc (suc (suc (suc (suc (suc (suc (suc (suc (length (map entry_word b.forward) + (length (map entry_word b.returns) + i))))))))))) = omega (arith, at, g, h) in e)
+    (let e : word ≡ suc (suc (suc (suc (suc (suc (suc (suc (suc (suc (length (map entry_word b.forward) + (length (map entry_word b.returns) + i))))))))))) = omega (arith, at, g, h) in e)
     ∙ (get_or-append-add (map entry_word b.forward) (map entry_word b.returns ++ entry_words_before a []) (length (map entry_word b.returns) + i) 0
     ∙ (get_or-append-add (map entry_word b.returns) (entry_words_before a []) i 0
     ∙ (get_or_append_left (map entry_word a.forward) (map entry_word a.returns ++ []) 0 i (let l = length-map a.forward entry_word in omega (arith, low, l))
@@ -85,19 +85,19 @@ module _ {D : Type 0} (cd : Coded D) (desk : DeskMeaning D) (z : LinkSizes) wher
       → Allows (WordsRule cd desk z) n id me i (λ y. y) (λ y me'. SendTakesBufferBy me o first e c (record { follows = f; message = message; stage = stage.Look }) x (y % 4294967296) me' × StepBy cd desk me o (Steps o.pass.number 0 None) me')
   pulls_entry n id me o e c f message x b i first entries own before call first_at sizes_are late at_word = pulls cd desk z n id me o e c f message x b i first call first_at (λ y. y % 4294967296)
       (λ st m r side sound room.
-          let s = lane_to m e in let sizes = sizes_are st m r in let rings = s.rings in let a = length s.lane.lane.accepted in
-          let sent : x.accepted ≡ a = ap (λ (u : SenderSide). u.accepted) side in let en = sizes.0 in let ow = sizes.1 in let be = sizes.2 in
-          let j : ℕ = (a - rings.sizes.own) % rings.sizes.entries in let fl = sound.sized.forward_long in let rl = sound.sized.returns_long in
-          let some : 0 < rings.sizes.entries = let one = sound.sized.some in let fits = sound.sized.fits in omega (arith, one, fits) in
-          let low : j < rings.sizes.entries = mod-lt (a - rings.sizes.own) some in
-          let place : (x.accepted - own) % entries ≡ j = λ k. (sent k - sym ow k) % sym en k in
-          let word : i ≡ 10 + (ahead e (lane_words (lane_to m (other e))) + (length rings.forward + j)) = omega (arith, at_word, place, be, en, fl) in
-          let entry : UsedWord = get_or rings.returns j (entry_of 0) in
-          let found : get_or st.words i 0 ≡ entry_word entry = ap (λ (ws : List ℕ). get_or ws i 0) (words_here cd desk z st m r e) ∙ return_found e (era_word m.era) j i (lane_words s) (lane_words (lane_to m (other e))) (omega (arith, low, rl)) word in
-          let source : source_buffer rings.sizes.entries rings.sizes.own rings.returns a ≡ entry.id = source-late rings.sizes.entries rings.sizes.own rings.returns a (omega (arith, late, sent, ow)) in
-          let below = source-below rings.sizes a (length s.lane.lane.takers) s.lane.lane.returned rings.forward rings.returns rings.hands rings.aside sound.owned room in
-          let most = sound.sized.most in
-          ap (λ (k : ℕ). k % 4294967296) found ∙ (id_of entry (omega (arith, below, source, most)) ∙ sym source))
+      let s = lane_to m e in let sizes = sizes_are st m r in let rings = s.rings in let a = length s.lane.lane.accepted in
+      let sent : x.accepted ≡ a = ap (λ (u : SenderSide). u.accepted) side in let en = sizes.0 in let ow = sizes.1 in let be = sizes.2 in
+      let j : ℕ = (a - rings.sizes.own) % rings.sizes.entries in let fl = sound.sized.forward_long in let rl = sound.sized.returns_long in
+      let some : 0 < rings.sizes.entries = let one = sound.sized.some in let fits = sound.sized.fits in omega (arith, one, fits) in
+      let low : j < rings.sizes.entries = mod-lt (a - rings.sizes.own) some in
+      let place : (x.accepted - own) % entries ≡ j = λ k. (sent k - sym ow k) % sym en k in
+      let word : i ≡ 10 + (ahead e (lane_words (lane_to m (other e))) + (length rings.forward + j)) = omega (arith, at_word, place, be, en, fl) in
+      let entry : UsedWord = get_or rings.returns j (entry_of 0) in
+      let found : get_or st.words i 0 ≡ entry_word entry = ap (λ (ws : List ℕ). get_or ws i 0) (words_here cd desk z st m r e) ∙ return_found e (era_word m.era) j i (lane_words s) (lane_words (lane_to m (other e))) (omega (arith, low, rl)) word in
+      let source : source_buffer rings.sizes.entries rings.sizes.own rings.returns a ≡ entry.id = source-late rings.sizes.entries rings.sizes.own rings.returns a (omega (arith, late, sent, ow)) in
+      let below = source-below rings.sizes a (length s.lane.lane.takers) s.lane.lane.returned rings.forward rings.returns rings.hands rings.aside sound.owned room in
+      let most = sound.sized.most in
+      ap (λ (k : ℕ). k % 4294967296) found ∙ (id_of entry (omega (arith, below, source, most)) ∙ sym source))
 
 -- what both forms of SEND 4 ask of the sizes holds of every state of the rule
 pub sizes_known : {D : Type 0} (cd : Coded D) (desk : DeskMeaning D) (z : LinkSizes) (e : End) (st : State Slot View) (m : LaneLink (RingState D)) → Shows cd desk z st m 0
@@ -118,4 +118,4 @@ forward_entry cd desk z n e st m r count at sound low =
     let word : entry_number z e ring.Forward count ≡ 10 + (ahead e (lane_words (lane_to m (other e))) + j) = let w : 10 + (entries_before z e + (0 + count % (sizes_at z e).entries)) ≡ 10 + (ahead e (lane_words (lane_to m (other e))) + j) = omega (arith, place, be) in w in
     let entry : UsedWord = get_or s.rings.forward j (entry_of 0) in let most = sound.sized.most in
     ap (λ (k : ℕ). k % 4294967296) (ap (λ (ws : List ℕ). get_or ws (entry_number z e ring.Forward count) 0) (words_here cd desk z st m r e) ∙ forward_found e (era_word m.era) j (entry_number z e ring.Forward count) (lane_words s) (lane_words (lane_to m (other e))) (omega (arith, near, fl)) word)
-        ∙ id_of entry (omega (arith, low, most))
+    ∙ id_of entry (omega (arith, low, most))

@@ -30,13 +30,21 @@ module _ {D : Type 0} (c : Coded D) where
   copied_one m n e i = record {
     era = (e i).state.era;
     to_host = record {
-      lane = record { lane = (e i).state.to_host.lane.lane; sender = (e i).state.to_host.lane.sender; receiver = (e i).state.to_host.lane.receiver;
-          desk = c.inj m.to_host.lane.desk n.to_host.lane.desk (ap (λ (k : LinkCopy). k.state.to_host.lane.desk.code) e) i };
+      lane = record {
+        lane = (e i).state.to_host.lane.lane;
+        sender = (e i).state.to_host.lane.sender;
+        receiver = (e i).state.to_host.lane.receiver;
+        desk = c.inj m.to_host.lane.desk n.to_host.lane.desk (ap (λ (k : LinkCopy). k.state.to_host.lane.desk.code) e) i;
+      };
       rings = (e i).state.to_host.rings;
     };
     to_remote = record {
-      lane = record { lane = (e i).state.to_remote.lane.lane; sender = (e i).state.to_remote.lane.sender; receiver = (e i).state.to_remote.lane.receiver;
-          desk = c.inj m.to_remote.lane.desk n.to_remote.lane.desk (ap (λ (k : LinkCopy). k.state.to_remote.lane.desk.code) e) i };
+      lane = record {
+        lane = (e i).state.to_remote.lane.lane;
+        sender = (e i).state.to_remote.lane.sender;
+        receiver = (e i).state.to_remote.lane.receiver;
+        desk = c.inj m.to_remote.lane.desk n.to_remote.lane.desk (ap (λ (k : LinkCopy). k.state.to_remote.lane.desk.code) e) i;
+      };
       rings = (e i).state.to_remote.rings;
     };
     callers = (e i).state.callers;
@@ -60,7 +68,10 @@ call_set (x ∷ xs) (suc k) p w at = call_set xs k p w at
 pub step_by : {D : Type 0} (cd : Coded D) (desk : DeskMeaning D) (z : LinkSizes) (st : State Slot View) (m : LaneLink (RingState D)) (r : Shows cd desk z st m 0) (id : ℕ) (me : SeatState) (o : Mover me.0) (w : Pass) (d : Deed) (m' : LaneLink (RingState D)) (slots : List (ℕ × Slot))
     → get_elem? st.views id ≡ some me.0 → MayDo desk m d → m' ≡ after_deed desk m d → IsCallOf m' 0 o.pass.number w.call → StepBy cd desk me o d (with_pass me.0 o w (Some (copied cd m')), slots)
 step_by cd desk z st m r id me o w d m' slots at may is mine = record {
-  state = m; sound = state_in r; may = may; before = r.turns.calls id o.place o.pass (me.0, at, o.here);
+  state = m;
+  sound = state_in r;
+  may = may;
+  before = r.turns.calls id o.place o.pass (me.0, at, o.here);
   after = subst (λ (x : LaneLink (RingState _)). IsCallOf x 0 o.pass.number (call_at o.place (set me.0.passes o.place w))) is (subst (IsCallOf m' 0 o.pass.number) (sym (call_set me.0.passes o.place o.pass w o.here)) mine);
   copy = λ k manages none_out was. ((r.numbers.manager id me.0 at manages).copy k was none_out, ap (λ (x : LaneLink (RingState _)). Some (copied cd x)) is);
 }
@@ -76,7 +87,10 @@ pub busy_by : {D : Type 0} (cd : Coded D) (desk : DeskMeaning D) (z : LinkSizes)
 busy_by cd desk z st m p r id me o e d call at may same =
     let rests : IsCallOf m 0 o.pass.number (Rests e) = subst (IsCallOf m p o.pass.number) call (r.turns.calls id o.place o.pass (me.0, at, o.here)) in
     let before : IsCallOf m 0 o.pass.number o.pass.call = subst (IsCallOf m 0 o.pass.number) (sym call) rests in record {
-      state = m; sound = state_in r; may = may; before = before;
+      state = m;
+      sound = state_in r;
+      may = may;
+      before = before;
       after = subst (λ (x : LaneLink (RingState _)). IsCallOf x 0 o.pass.number (call_at o.place me.0.passes)) same (subst (IsCallOf m 0 o.pass.number) (call_at_is me.0.passes o.place o.pass o.here) before);
       copy = λ k manages none_out was. let is = (r.numbers.manager id me.0 at manages).copy k was none_out in (is, was ∙ ap Some (is ∙ ap (copied cd) same));
     }

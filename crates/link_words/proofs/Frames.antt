@@ -34,9 +34,9 @@ pub after_set : (views : List View) (id : ℕ) (v u : View) (k : ℕ) (w : Pass)
 after_set views id v u k w at is j l q (x, ex, eq) =
     ⊎_elim
     (λ (a : (j ≡ id) × (u ≡ x)). ⊎_elim
-        (λ (b : (l ≡ k) × (w ≡ q)). inl (a.0, b.0, b.1))
-        (λ (b : (l ≢ k) × (get_elem? v.passes l ≡ some q)). inr ((v, ap (get_elem? views) a.0 ∙ at, b.1), λ _ same. b.0 same))
-        (at_set v.passes k l w q (ap (λ (ps : List Pass). get_elem? ps l) (sym is) ∙ subst (λ (y : View). get_elem? y.passes l ≡ some q) (sym a.1) eq)))
+    (λ (b : (l ≡ k) × (w ≡ q)). inl (a.0, b.0, b.1))
+    (λ (b : (l ≢ k) × (get_elem? v.passes l ≡ some q)). inr ((v, ap (get_elem? views) a.0 ∙ at, b.1), λ _ same. b.0 same))
+    (at_set v.passes k l w q (ap (λ (ps : List Pass). get_elem? ps l) (sym is) ∙ subst (λ (y : View). get_elem? y.passes l ≡ some q) (sym a.1) eq)))
     (λ (a : (j ≢ id) × (get_elem? views j ≡ some x)). inr ((x, a.1, eq), λ same _. a.0 same))
     (at_set views id j u x ex)
 
@@ -75,11 +75,11 @@ module _ (views : List View) (id : ℕ) (v u : View) (o : Mover v) (w : Pass) (a
       go : ((i ≡ id) × (k ≡ o.place) × (w ≡ p)) ⊎ (PassAt views i k p × (i ≡ id → k ≡ o.place → ⊥)) → ((j ≡ id) × (l ≡ o.place) × (w ≡ q)) ⊎ (PassAt views j l q × (j ≡ id → l ≡ o.place → ⊥)) → p.number ≡ q.number
       go a b = ⊎_elim
           (λ (x : (i ≡ id) × (k ≡ o.place) × (w ≡ p)). ⊎_elim
-              (λ (y : (j ≡ id) × (l ≡ o.place) × (w ≡ q)). ap (λ (z : Pass). z.number) (sym x.2 ∙ y.2))
-              (λ (y : PassAt views j l q × (j ≡ id → l ≡ o.place → ⊥)). absurd (never e (ap (λ (z : Pass). has_for_manager e z.call) x.2 ∙ kp) j l q y.0 kq)) b)
+          (λ (y : (j ≡ id) × (l ≡ o.place) × (w ≡ q)). ap (λ (z : Pass). z.number) (sym x.2 ∙ y.2))
+          (λ (y : PassAt views j l q × (j ≡ id → l ≡ o.place → ⊥)). absurd (never e (ap (λ (z : Pass). has_for_manager e z.call) x.2 ∙ kp) j l q y.0 kq)) b)
           (λ (x : PassAt views i k p × (i ≡ id → k ≡ o.place → ⊥)). ⊎_elim
-              (λ (y : (j ≡ id) × (l ≡ o.place) × (w ≡ q)). absurd (never e (ap (λ (z : Pass). has_for_manager e z.call) y.2 ∙ kq) i k p x.0 kp))
-              (λ (y : PassAt views j l q × (j ≡ id → l ≡ o.place → ⊥)). old e i k j l p q x.0 y.0 kp kq) b)
+          (λ (y : (j ≡ id) × (l ≡ o.place) × (w ≡ q)). absurd (never e (ap (λ (z : Pass). has_for_manager e z.call) y.2 ∙ kq) i k p x.0 kp))
+          (λ (y : PassAt views j l q × (j ≡ id → l ≡ o.place → ⊥)). old e i k j l p q x.0 y.0 kp kq) b)
           a
 
   manages_set : w.number ≡ o.pass.number → Manages u → Manages v
@@ -96,26 +96,26 @@ module _ (views : List View) (id : ℕ) (v u : View) (o : Mover v) (w : Pass) (a
   manager_set cd m m' same callers users out inc others_inc fresh others_fresh shut others copies old i y ey manages =
       ⊎_elim
       (λ (x : (i ≡ id) × (u ≡ y)).
-          let k = old id v at (manages_set same (subst Manages (sym x.1) manages)) in
-          subst (λ (z : View). Knows cd m' (set views id u) i z) x.1 (record {
-            users = users ∙ (k.users ∙ sym callers);
-            inc = inc k.inc;
-            unused = λ n none not. fresh n (ap (λ cs. end_of cs n) (sym callers) ∙ none) (k.unused n (ap (λ cs. end_of cs n) (sym callers) ∙ none)) not;
-            closed = shut k.closed;
-            out = λ j l q there apart. let b = before_set (λ a c. a.number ≡ c.number) (λ a. refl) (sym same) j l q there in
-                subst (λ (z : List ℕ × ℕ). HasNumber z.0 z.1) (λ t. (sym out t, b.2 t)) (k.out j l b.0 b.1 (λ here. apart (here ∙ sym x.0)));
-            copy = copies;
-          }))
+      let k = old id v at (manages_set same (subst Manages (sym x.1) manages)) in
+      subst (λ (z : View). Knows cd m' (set views id u) i z) x.1 (record {
+        users = users ∙ (k.users ∙ sym callers);
+        inc = inc k.inc;
+        unused = λ n none not. fresh n (ap (λ cs. end_of cs n) (sym callers) ∙ none) (k.unused n (ap (λ cs. end_of cs n) (sym callers) ∙ none)) not;
+        closed = shut k.closed;
+        out = λ j l q there apart. let b = before_set (λ a c. a.number ≡ c.number) (λ a. refl) (sym same) j l q there in
+            subst (λ (z : List ℕ × ℕ). HasNumber z.0 z.1) (λ t. (sym out t, b.2 t)) (k.out j l b.0 b.1 (λ here. apart (here ∙ sym x.0)));
+        copy = copies;
+      }))
       (λ (x : (i ≢ id) × (get_elem? views i ≡ some y)).
-          let k = old i y x.1 manages in
-          record {
-            users = k.users ∙ sym callers;
-            inc = k.inc ∙ sym (others_inc i y x.0 x.1 manages);
-            unused = λ n none not. let before = ap (λ cs. end_of cs n) (sym callers) ∙ none in others_fresh n before (HasNumber y.reclaims n → ⊥) (k.unused n before) not;
-            closed = λ s. others i y x.0 x.1 manages (k.closed s);
-            out = λ j l q there apart. let b = before_set (λ a c. a.number ≡ c.number) (λ a. refl) (sym same) j l q there in subst (HasNumber y.out) b.2 (k.out j l b.0 b.1 apart);
-            copy = λ c same none_out. let stands = k.out id o.place o.pass (v, at, o.here) (λ here. x.0 (sym here)) in absurd (some-ne-none o.pass.number (sym (ap (λ (l : List ℕ). get_elem? l stands.0) (sym none_out) ∙ stands.1)));
-          })
+      let k = old i y x.1 manages in
+      record {
+        users = k.users ∙ sym callers;
+        inc = k.inc ∙ sym (others_inc i y x.0 x.1 manages);
+        unused = λ n none not. let before = ap (λ cs. end_of cs n) (sym callers) ∙ none in others_fresh n before (HasNumber y.reclaims n → ⊥) (k.unused n before) not;
+        closed = λ s. others i y x.0 x.1 manages (k.closed s);
+        out = λ j l q there apart. let b = before_set (λ a c. a.number ≡ c.number) (λ a. refl) (sym same) j l q there in subst (HasNumber y.out) b.2 (k.out j l b.0 b.1 apart);
+        copy = λ c same none_out. let stands = k.out id o.place o.pass (v, at, o.here) (λ here. x.0 (sym here)) in absurd (some-ne-none o.pass.number (sym (ap (λ (l : List ℕ). get_elem? l stands.0) (sym none_out) ∙ stands.1)));
+      })
       (at_set views id i u y ey)
 
 -- a fact of each lane with its buffers, where one lane changes

@@ -90,10 +90,10 @@ pub split_from : (views : List View) (id : ℕ) (v : View) → get_elem? views i
     → From views (set views id (without_last v) ++ only_last v ∷ []) (one_goes (id, length v.passes - 1) (length (set views id (without_last v)), 0))
 split_from views id v at j l p (u, eu, el) = let left = set views id (without_last v) in let from : Spot = (id, length v.passes - 1) in let to : Spot = (length left, 0) in ⊎_elim
     (λ (was : get_elem? left j ≡ some u). ⊎_elim
-        (λ (x : (j ≡ id) × (without_last v ≡ u)). let mine = subst (λ (z : View). get_elem? z.passes l ≡ some p) (sym x.1) el in let near = front_near v.passes l p mine in
-        ((id, l), (v, at, front_at v.passes l p mine), keeps_place from to (id, l) (λ _ same. let s : l ≡ length v.passes - 1 = same in omega (arith, near)) ∙ (λ i. (sym x.0 i, l))))
-        (λ (x : (j ≢ id) × (get_elem? views j ≡ some u)). ((j, l), (u, x.1, el), keeps_place from to (j, l) (λ same. absurd (x.0 same))))
-        (at_set views id j (without_last v) u was))
+    (λ (x : (j ≡ id) × (without_last v ≡ u)). let mine = subst (λ (z : View). get_elem? z.passes l ≡ some p) (sym x.1) el in let near = front_near v.passes l p mine in
+    ((id, l), (v, at, front_at v.passes l p mine), keeps_place from to (id, l) (λ _ same. let s : l ≡ length v.passes - 1 = same in omega (arith, near)) ∙ (λ i. (sym x.0 i, l))))
+    (λ (x : (j ≢ id) × (get_elem? views j ≡ some u)). ((j, l), (u, x.1, el), keeps_place from to (j, l) (λ same. absurd (x.0 same))))
+    (at_set views id j (without_last v) u was))
     (λ (new : (j ≡ length left) × (only_last v ≡ u)). let r = last_at v.passes l p (subst (λ (z : View). get_elem? z.passes l ≡ some p) (sym new.1) el) in
     (from, (v, at, r.1), goes from to ∙ (λ i. (sym new.0 i, sym r.0 i))))
     (at_new left (only_last v) u j eu)
@@ -132,12 +132,12 @@ pub join_from : (views : List View) (id other : ℕ) (v w : View) → get_elem? 
 join_from views id other v w at apart there j l p (u, eu, el) = ⊎_elim
     (λ (x : (j ≡ other) × (spent_view ≡ u)). absurd (some-ne-none p (sym (subst (λ (z : View). get_elem? z.passes l ≡ some p) (sym x.1) el))))
     (λ (x : (j ≢ other) × (get_elem? (set views id (with_passes_from v w)) j ≡ some u)). ⊎_elim
-        (λ (y : (j ≡ id) × (with_passes_from v w ≡ u)). ⊎_elim
-            (λ (mine : get_elem? v.passes l ≡ some p). ((id, l), (v, at, mine), comes_not id (length v.passes) other id l (λ same. apart (sym same)) ∙ (λ i. (sym y.0 i, l))))
-            (λ (theirs : (k : ℕ) × (l ≡ length v.passes + k) × (get_elem? w.passes k ≡ some p)). ((other, theirs.0), (w, there, theirs.2), comes id (length v.passes) other theirs.0 ∙ (λ i. (sym y.0 i, sym theirs.1 i))))
-            (at_parts v.passes w.passes l p (subst (λ (z : View). get_elem? z.passes l ≡ some p) (sym y.1) el)))
-        (λ (y : (j ≢ id) × (get_elem? views j ≡ some u)). ((j, l), (u, y.1, el), comes_not id (length v.passes) other j l x.0))
-        (at_set views id j (with_passes_from v w) u x.1))
+    (λ (y : (j ≡ id) × (with_passes_from v w ≡ u)). ⊎_elim
+    (λ (mine : get_elem? v.passes l ≡ some p). ((id, l), (v, at, mine), comes_not id (length v.passes) other id l (λ same. apart (sym same)) ∙ (λ i. (sym y.0 i, l))))
+    (λ (theirs : (k : ℕ) × (l ≡ length v.passes + k) × (get_elem? w.passes k ≡ some p)). ((other, theirs.0), (w, there, theirs.2), comes id (length v.passes) other theirs.0 ∙ (λ i. (sym y.0 i, sym theirs.1 i))))
+    (at_parts v.passes w.passes l p (subst (λ (z : View). get_elem? z.passes l ≡ some p) (sym y.1) el)))
+    (λ (y : (j ≢ id) × (get_elem? views j ≡ some u)). ((j, l), (u, y.1, el), comes_not id (length v.passes) other j l x.0))
+    (at_set views id j (with_passes_from v w) u x.1))
     (at_set (set views id (with_passes_from v w)) other j spent_view u eu)
 
 pub stands_right : (l m : List ℕ) (n : ℕ) → HasNumber m n → HasNumber (l ++ m) n

@@ -195,8 +195,8 @@ module _ {D : Type 0} (cd : Coded D) (desk : DeskMeaning D) (z : LinkSizes) wher
             (λ j l u there apart. others_beside desk m e s' refl refl refl u.number refl u.call (λ having had. free_for_all m e 0 free u.number u.call having had))
             refl refl refl (hands_kept desk m e s' o.pass (λ was. was) (r.histories.hands id o.place o.pass (me.0, at, o.here))) (λ u apart. hands_kept desk m e s' u (λ was. was))
             (keepers_new st.views id me.0 (with_pass me.0 o (with_call o.pass w) (Some (copied cd (with_lane m e s')))) o (with_call o.pass w) at refl
-                (λ i mine j l u there theirs. let same = same_end_is i e mine in free_for_all m e 0 free u.number u.call (minds_has e u.call (subst (λ (q : End). has_for_manager q u.call ≡ true) same theirs)) (r.turns.calls j l u there))
-                r.turns.keepers),
+            (λ i mine j l u there theirs. let same = same_end_is i e mine in free_for_all m e 0 free u.number u.call (minds_has e u.call (subst (λ (q : End). has_for_manager q u.call ≡ true) same theirs)) (r.turns.calls j l u there))
+            r.turns.keepers),
         (x, refl),
       )
 
@@ -206,12 +206,12 @@ module _ {D : Type 0} (cd : Coded D) (desk : DeskMeaning D) (z : LinkSizes) wher
       let found : y ≡ turn_word (lane_to m e).lane.receiver = ap (λ (ws : List ℕ). get_or ws (receiver_word e) 0) r₀.words_are ∙ seen_receiver m p e in
       exchanged y 0 65 (λ f. (w : View) × (a : Act Slot) × Valid st.homes me.1 a × WordsRule cd desk z (stepped st (receiver_word e) f id me.1 w a) × claimed me o e y (w, carried_after me.1 a))
       (λ hit.
-          let free : (lane_to m e).lane.receiver ≡ turn.Free = free_if (lane_to m e).lane.receiver (sym found ∙ hit) in
-          let r : Shows cd desk z st m 0 = ⊎_elim (λ (none_reset : p ≡ 0). subst (Shows cd desk z st m) none_reset r₀)
-              (λ (still : IsStill m). absurd (true-false (ap is_free (sym free ∙ still_receiver desk m e still.1)))) r₀.turns.still in
-          let rest_is : IsCallOf m p o.pass.number (Rests e) = subst (IsCallOf m p o.pass.number) call (r₀.turns.calls id o.place o.pass (me.0, at, o.here)) in
-          let all = claims_free id me o e st m r at rest_is.0 rest_is.1 free in
-          (all.0, all.1, all.2, all.3, ((λ _. all.4), λ never. absurd (never hit))))
+      let free : (lane_to m e).lane.receiver ≡ turn.Free = free_if (lane_to m e).lane.receiver (sym found ∙ hit) in
+      let r : Shows cd desk z st m 0 = ⊎_elim (λ (none_reset : p ≡ 0). subst (Shows cd desk z st m) none_reset r₀)
+      (λ (still : IsStill m). absurd (true-false (ap is_free (sym free ∙ still_receiver desk m e still.1)))) r₀.turns.still in
+      let rest_is : IsCallOf m p o.pass.number (Rests e) = subst (IsCallOf m p o.pass.number) call (r₀.turns.calls id o.place o.pass (me.0, at, o.here)) in
+      let all = claims_free id me o e st m r at rest_is.0 rest_is.1 free in
+      (all.0, all.1, all.2, all.3, ((λ _. all.4), λ never. absurd (never hit))))
       (λ miss. (me.0, keeps, tt, stays cd desk z st m p r₀ (receiver_word e) y id me.1 me.0 Nothing at refl tt refl, ((λ hit. absurd (miss hit)), λ _. refl)))
 
   -- the era again, while the seat has the turn
@@ -224,19 +224,19 @@ module _ {D : Type 0} (cd : Coded D) (desk : DeskMeaning D) (z : LinkSizes) wher
           → (w : View) × (a : Act Slot) × Valid st.homes me.1 a × WordsRule cd desk z (stepped st 1 (get_or st.words 1 0) id me.1 w a)
           × ((era : Era) × (get_or st.words 1 0 ≡ era_word era) × (era.is_live ≡ false → Path (Me Slot View) (w, carried_after me.1 a) (with_pass me.0 o (with_call o.pass (EndsHeld e x)) w.copy, me.1)) × (era.is_live ≡ true → Path (Me Slot View) (w, carried_after me.1 a) me))
       go false shut h word = (
-          _,
-          keeps,
-          tt,
-          stays_at cd desk z st m p r 1 (get_or st.words 1 0) id me.1 me.0 o (EndsHeld e x) Nothing at refl tt refl (h.0, h.1, h.2, h.3, shut, h.4) (λ i k. ap (has_for_manager i) call ∙ k),
-          (m.era, word, (λ _. refl), λ live. absurd (true-false (sym live ∙ shut))),
-        )
+        _,
+        keeps,
+        tt,
+        stays_at cd desk z st m p r 1 (get_or st.words 1 0) id me.1 me.0 o (EndsHeld e x) Nothing at refl tt refl (h.0, h.1, h.2, h.3, shut, h.4) (λ i k. ap (has_for_manager i) call ∙ k),
+        (m.era, word, (λ _. refl), λ live. absurd (true-false (sym live ∙ shut))),
+      )
       go true live h word = (
-          me.0,
-          keeps,
-          tt,
-          stays cd desk z st m p r 1 (get_or st.words 1 0) id me.1 me.0 Nothing at refl tt refl,
-          (m.era, word, (λ shut. absurd (true-false (sym live ∙ shut))), λ _. refl),
-        )
+        me.0,
+        keeps,
+        tt,
+        stays cd desk z st m p r 1 (get_or st.words 1 0) id me.1 me.0 Nothing at refl tt refl,
+        (m.era, word, (λ shut. absurd (true-false (sym live ∙ shut))), λ _. refl),
+      )
 
   -- part 4: the turn is left, and the caller holds nothing
   pub leaves_held : (n id : ℕ) (me : SeatState) (o : Mover me.0) (e : End) (x x' : ReceiverSide) → o.pass.call ≡ EndsHeld e x → x' ≡ record x { held = held_by_others x.held o.pass.number } → me.1 ≡ (receiver_slot e, Receiver x') ∷ rest me.1
@@ -258,7 +258,7 @@ module _ {D : Type 0} (cd : Coded D) (desk : DeskMeaning D) (z : LinkSizes) wher
             (ap (λ (t : Turn Receiving). with_lane m e (left t)) (sym h.1))
             (receiver_turn_set e (era_word m.era) 0 (lane_words s) (lane_words (lane_to m (other e))))
             (ap (λ (cs : List (ℕ × Slot)). homes_after (homes_at e ha hb) cs gives) has_slot
-                ∙ (receiver_side_set e (some (Receiver x')) ha hb ∙ ap (λ (u : ReceiverSide). homes_at e (record ha { receiver = some (Receiver u) }) hb) side))
+            ∙ (receiver_side_set e (some (Receiver x')) ha hb ∙ ap (λ (u : ReceiverSide). homes_at e (record ha { receiver = some (Receiver u) }) hb) side))
             (shelved_receiver s₀ s' (shelf_to r.shelves e) (ap receiver_is_out h.1) refl refl refl refl refl refl refl ((buffers_in r) e))
             (receive_rests cd desk z m e s' c h.0 refl h.5)
             (λ j l u there apart. others_beside desk m e s' refl refl refl u.number refl u.call (λ having had. alone st m r e id me.0 o at mine h.1 j l u there apart having had))

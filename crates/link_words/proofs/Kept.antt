@@ -82,15 +82,28 @@ end_rings desk m side.Remote caller sound = record {
 -- a lane whose turns become the manager's
 still_rings : {D : Type 0} (s : RingState D) → IsSoundRings s → IsSoundRings (record s { lane = record s.lane { sender = turn.Manager; receiver = turn.Manager } })
 still_rings s q = record {
-  sized = q.sized; counted = q.counted; forward_index = q.forward_index; return_index = q.return_index; owned = q.owned; apart = q.apart; holdings = q.holdings; filled = q.filled;
-  room = tt; fit = tt; source = tt; work = tt;
+  sized = q.sized;
+  counted = q.counted;
+  forward_index = q.forward_index;
+  return_index = q.return_index;
+  owned = q.owned;
+  apart = q.apart;
+  holdings = q.holdings;
+  filled = q.filled;
+  room = tt;
+  fit = tt;
+  source = tt;
+  work = tt;
 }
 
 still_between : {D : Type 0} (callers : List (Option End)) (sends receives : End) (live : Bool) (s : LaneState D) → IsSoundBetween callers sends receives live s
     → IsSoundBetween callers sends receives live (record s { sender = turn.Manager; receiver = turn.Manager })
 still_between callers sends receives live s q = record {
   lane = record { counts = q.lane.counts; handed = q.lane.handed; out = q.lane.out; within = q.lane.within; holdings = q.lane.holdings; room = tt; fit = tt };
-  whole = q.whole; users = q.users; sender = tt; receiver = tt;
+  whole = q.whole;
+  users = q.users;
+  sender = tt;
+  receiver = tt;
 }
 
 of_taken : {C : Type 0} (P : ℕ → C → Type 0) (t : Turn C) → OfCall t P → OfCall (manager_takes t) P
@@ -102,8 +115,18 @@ of_taken P turn.Manager has = tt
 -- a lane whose receiver's turn the manager takes
 taken_rings : {D : Type 0} (s : RingState D) → IsSoundRings s → IsSoundRings (record s { lane = with_manager s.lane lane_turn.Receiver })
 taken_rings s q = record {
-  sized = q.sized; counted = q.counted; forward_index = q.forward_index; return_index = q.return_index; owned = q.owned; apart = q.apart; holdings = q.holdings; filled = q.filled;
-  room = q.room; fit = of_taken _ s.lane.receiver q.fit; source = q.source; work = of_taken _ s.lane.receiver q.work;
+  sized = q.sized;
+  counted = q.counted;
+  forward_index = q.forward_index;
+  return_index = q.return_index;
+  owned = q.owned;
+  apart = q.apart;
+  holdings = q.holdings;
+  filled = q.filled;
+  room = q.room;
+  fit = of_taken _ s.lane.receiver q.fit;
+  source = q.source;
+  work = of_taken _ s.lane.receiver q.work;
 }
 
 free_has : {C : Type 0} (P : ℕ → C → Type 0) (t : Turn C) → t ≡ turn.Manager → OfCall (manager_leaves t) P
@@ -111,8 +134,18 @@ free_has P t is = subst (λ u. OfCall (manager_leaves u) P) (sym is) tt
 
 left_rings : {D : Type 0} (desk : DeskMeaning D) (s : RingState D) (caller : ℕ) → s.lane.receiver ≡ turn.Manager → IsSoundRings s → IsSoundRings (after_leave_without desk s caller)
 left_rings desk s caller is sound = let q = receive_ended_sound desk s caller sound in record {
-  sized = q.sized; counted = q.counted; forward_index = q.forward_index; return_index = q.return_index; owned = q.owned; apart = q.apart; holdings = q.holdings; filled = q.filled;
-  room = q.room; fit = free_has _ s.lane.receiver is; source = q.source; work = free_has _ s.lane.receiver is;
+  sized = q.sized;
+  counted = q.counted;
+  forward_index = q.forward_index;
+  return_index = q.return_index;
+  owned = q.owned;
+  apart = q.apart;
+  holdings = q.holdings;
+  filled = q.filled;
+  room = q.room;
+  fit = free_has _ s.lane.receiver is;
+  source = q.source;
+  work = free_has _ s.lane.receiver is;
 }
 
 -- every deed keeps a link sound, by the landed laws

@@ -1,6 +1,6 @@
 -- A step of a seat on one lane that is a deed of the machine keeps the rule.
 use Rattle.link_words.specs.Histories.{NoneOf}
-use Rattle.std.proofs.Common.{◌≡◌, ◌≢◌, ℕ, true, false, List, ◌∷◌, length, set, refl, sym, ap, ◌∙◌, subst, inl, ne_eqb}
+use Rattle.std.proofs.Common.{◌≡◌, ◌≢◌, ℕ, true, false, List, length, set, refl, sym, ap, ◌∙◌, subst, inl, ne_eqb}
 use Rattle.std.specs.Prelude.{Option, Some, None}
 use mathlib.Core.Option.{some}
 use mathlib.Core.Path.{Path}
@@ -225,34 +225,34 @@ module _ {D : Type 0} (cd : Coded D) (desk : DeskMeaning D) where
       → WordsRule cd desk z (stepped st i n id cs (with_pass v o w (Some (copied cd (with_lane m e s')))) a)
   lane_moves_with z st m r e s s' is i n id cs v o w a d l' at may deed words homes shelved mine others number sizes history histories hand hands fresh keepers =
       let each = each_set st.views id v (with_pass v o w (Some (copied cd (with_lane m e s')))) o w at refl in (
-      with_lane m e s',
-      0,
-      put_together (ap (λ (ws : List ℕ). set ws i n)
+        with_lane m e s',
+        0,
+        put_together (ap (λ (ws : List ℕ). set ws i n)
             (r.words_are ∙ (ap (λ (x : LaneLink (RingState D)). words_of 0 (fresh_block desk m) x) (sym (same_lane m e)) ∙ (words_seen (fresh_block desk m) m e (lane_to m e)
             ∙ ap (λ (x : RingState D). words_at e (era_word m.era) (lane_words x) (lane_words (lane_to m (other e)))) is)))
             ∙ (words ∙ sym (words_seen (fresh_block desk (with_lane m e s')) m e s')))
-          (with_shelf r.shelves e l') (ap (λ (hs : List (Option_of Slot)). homes_after hs cs a)
+            (with_shelf r.shelves e l') (ap (λ (hs : List (Option_of Slot)). homes_after hs cs a)
             (r.homes_are ∙ ((λ k. homes_of (sym (same_lane m e) k) (sym (same_shelf r.shelves e) k)) ∙ (homes_seen m r.shelves e (lane_to m e) (shelf_to r.shelves e)
             ∙ ap (λ (x : RingState D). homes_at e (lane_homes x (shelf_to r.shelves e)) (lane_homes (lane_to m (other e)) (shelf_to r.shelves (other e)))) is)))
             ∙ (homes ∙ sym (homes_seen m r.shelves e s' l')))
-          (subst (IsSoundState desk) (sym deed) (deed_kept desk m d may (state_in r))) (sizes_after desk z m e s' (sizes ∙ ap (λ (x : RingState D). x.rings.sizes) (sym is)) (sizes_in r)) (each_lane (λ _. HoldsBuffers) m r.shelves e s' l' shelved ((buffers_in r) (other e))) (one_more desk m _ d r.reached may deed)
-          (record {
-            calls = each (HasCall m 0) (HasCall (with_lane m e s') 0) r.numbers.places r.turns.calls others mine;
-            keepers = keepers;
-            still = inl refl;
-          })
-          (record {
-            own = each (HistoryOf m) (HistoryOf (with_lane m e s')) r.numbers.places r.histories.own (λ j l q there. histories q) history;
-            hands = each (HandsOf m) (HandsOf (with_lane m e s')) r.numbers.places r.histories.hands (λ j l q there. hands q) hand;
-          })
-          (record {
-            places = numbers_set st.views id v (with_pass v o w (Some (copied cd (with_lane m e s')))) o w at refl number r.numbers.places;
-            manager = manager_set st.views id v (with_pass v o w (Some (copied cd (with_lane m e s')))) o w at refl cd m (with_lane m e s') number (callers_same desk m e s') refl refl (λ old. old ∙ ap (λ (x : Era). x.inc) (sym (era_same desk m e s'))) (λ j y apart there manages. ap (λ (x : Era). x.inc) (era_same desk m e s'))
-            (λ n none was not. fresh n none (was not)) (λ n none Q was not. fresh n none (was not))
-            (λ old shut. ap (λ (x : Era). x.is_live) (era_same desk m e s') ∙ old shut) (λ j y apart there manages old. ap (λ (x : Era). x.is_live) (era_same desk m e s') ∙ old) (λ k same _. sym (some_copy (copied cd (with_lane m e s')) k same)) r.numbers.manager;
-            many = ap length (callers_same desk m e s') ∙ r.numbers.many;
-          }),
-    )
+            (subst (IsSoundState desk) (sym deed) (deed_kept desk m d may (state_in r))) (sizes_after desk z m e s' (sizes ∙ ap (λ (x : RingState D). x.rings.sizes) (sym is)) (sizes_in r)) (each_lane (λ _. HoldsBuffers) m r.shelves e s' l' shelved ((buffers_in r) (other e))) (one_more desk m _ d r.reached may deed)
+            (record {
+              calls = each (HasCall m 0) (HasCall (with_lane m e s') 0) r.numbers.places r.turns.calls others mine;
+              keepers = keepers;
+              still = inl refl;
+            })
+            (record {
+              own = each (HistoryOf m) (HistoryOf (with_lane m e s')) r.numbers.places r.histories.own (λ j l q there. histories q) history;
+              hands = each (HandsOf m) (HandsOf (with_lane m e s')) r.numbers.places r.histories.hands (λ j l q there. hands q) hand;
+            })
+            (record {
+              places = numbers_set st.views id v (with_pass v o w (Some (copied cd (with_lane m e s')))) o w at refl number r.numbers.places;
+              manager = manager_set st.views id v (with_pass v o w (Some (copied cd (with_lane m e s')))) o w at refl cd m (with_lane m e s') number (callers_same desk m e s') refl refl (λ old. old ∙ ap (λ (x : Era). x.inc) (sym (era_same desk m e s'))) (λ j y apart there manages. ap (λ (x : Era). x.inc) (era_same desk m e s'))
+                  (λ n none was not. fresh n none (was not)) (λ n none Q was not. fresh n none (was not))
+                  (λ old shut. ap (λ (x : Era). x.is_live) (era_same desk m e s') ∙ old shut) (λ j y apart there manages old. ap (λ (x : Era). x.is_live) (era_same desk m e s') ∙ old) (λ k same _. sym (some_copy (copied cd (with_lane m e s')) k same)) r.numbers.manager;
+              many = ap length (callers_same desk m e s') ∙ r.numbers.many;
+            }),
+      )
 
   -- the same, where nothing is accepted and no step is of the own list
   pub lane_moves_by : (z : LinkSizes) (st : State Slot View) (m : LaneLink (RingState D)) (r : Shows cd desk z st m 0) (e : End) (s s' : RingState D) → lane_to m e ≡ s
@@ -268,8 +268,8 @@ module _ {D : Type 0} (cd : Coded D) (desk : DeskMeaning D) where
       let books : s'.lane.lane.accepted ≡ (lane_to m e).lane.lane.accepted = book ∙ ap (λ (x : RingState D). x.lane.lane.accepted) (sym is) in
       let takers : s'.lane.lane.takers ≡ (lane_to m e).lane.lane.takers = handed ∙ ap (λ (x : RingState D). x.lane.lane.takers) (sym is) in
       lane_moves_with z st m r e s s' is i n id cs v o (with_call_and_hands o.pass call hands) a d l' at may deed words homes shelved mine others refl sizes
-          (history_kept desk m e s' books takers o.pass.number o.pass.first o.pass.own (r.histories.own id o.place o.pass (v, at, o.here)))
-          (λ q apart has. history_kept desk m e s' books takers q.number q.first q.own has) hand others_hands (λ n none. none_same m e s' books takers n) keepers
+      (history_kept desk m e s' books takers o.pass.number o.pass.first o.pass.own (r.histories.own id o.place o.pass (v, at, o.here)))
+      (λ q apart has. history_kept desk m e s' books takers q.number q.first q.own has) hand others_hands (λ n none. none_same m e s' books takers n) keepers
 
   -- by numbers, where nothing is accepted, no step is of the own list and nothing comes into a hand or leaves it
   pub lane_moves : (z : LinkSizes) (st : State Slot View) (m : LaneLink (RingState D)) (r : Shows cd desk z st m 0) (e : End) (s s' : RingState D) → lane_to m e ≡ s
@@ -283,5 +283,5 @@ module _ {D : Type 0} (cd : Coded D) (desk : DeskMeaning D) where
   lane_moves z st m r e s s' is i n id cs v o call a d l' at may deed words homes shelved mine others sizes book handed held quiet =
       let stays = λ (q : Pass) (has : HandsOf m q). hands_kept desk m e s' q (λ was. ap (hands_of q.number) (held ∙ ap (λ (x : RingState D). x.lane.lane.held) (sym is)) ∙ was) has in
       lane_moves_by z st m r e s s' is i n id cs v o call o.pass.hands a d l' at may deed words homes shelved mine (λ j l q there apart has. others q.number apart q.call has) sizes book handed
-          (stays o.pass (r.histories.hands id o.place o.pass (v, at, o.here))) (λ q apart. stays q)
-          (keepers_set st.views id v (with_pass v o (with_call o.pass call) (Some (copied cd (with_lane m e s')))) o (with_call o.pass call) at refl refl quiet r.turns.keepers)
+      (stays o.pass (r.histories.hands id o.place o.pass (v, at, o.here))) (λ q apart. stays q)
+      (keepers_set st.views id v (with_pass v o (with_call o.pass call) (Some (copied cd (with_lane m e s')))) o (with_call o.pass call) at refl refl quiet r.turns.keepers)

@@ -69,18 +69,22 @@ looked_word : (p q : Bool) (c a k : ℕ) (s : Sending) → turn_word (looked p q
 looked_word true q c a k s = refl
 looked_word false true c a k s = refl
 looked_word false false c a k s = refl
+
 looked_home : (p q : Bool) (c a k : ℕ) (s : Sending) (y : Slot) → home_if (looked p q c a k s) y ≡ none
 looked_home true q c a k s y = refl
 looked_home false true c a k s y = refl
 looked_home false false c a k s y = refl
+
 looked_out : (p q : Bool) (c a k : ℕ) (s : Sending) → sender_is_out (looked p q c a k s) ≡ false
 looked_out true q c a k s = refl
 looked_out false true c a k s = refl
 looked_out false false c a k s = refl
+
 looked_holder : (p q : Bool) (c a k : ℕ) (s : Sending) → holder (looked p q c a k s) ≡ Some c
 looked_holder true q c a k s = refl
 looked_holder false true c a k s = refl
 looked_holder false false c a k s = refl
+
 looked_current : (p q : Bool) (c a k inc : ℕ) (s : Sending) → s.follows ≡ inc → IsCurrent (looked p q c a k s) inc
 looked_current true q c a k inc s now = tt
 looked_current false true c a k inc s now = tt
@@ -106,7 +110,7 @@ forward_set side.Remote era i word entry a b low at =
     let g = length-map b.forward entry_word in let h = length-map b.returns entry_word in
     let front : List ℕ → List ℕ = λ l. 0 ∷ era ∷ b.sender ∷ b.receiver ∷ a.sender ∷ a.receiver ∷ b.forward_index ∷ b.return_index ∷ a.forward_index ∷ a.return_index ∷ l in
     ap (λ (k : ℕ). set (words_at side.Remote era a b) k (entry_word entry))
-        (let e : word ≡ suc (suc (suc (suc (suc (suc (suc (suc (suc (suc (length (map entry_word b.forward) + (length (map entry_word b.returns) + i))))))))))) = omega (arith, at, g, h) in e)
+    (let e : word ≡ suc (suc (suc (suc (suc (suc (suc (suc (suc (suc (length (map entry_word b.forward) + (length (map entry_word b.returns) + i))))))))))) = omega (arith, at, g, h) in e)
     ∙ ap front (set_behind (map entry_word b.forward) (map entry_word b.returns ++ entry_words_before a []) (length (map entry_word b.returns) + i) (entry_word entry)
     ∙ ap (λ (l : List ℕ). map entry_word b.forward ++ l) (set_behind (map entry_word b.returns) (entry_words_before a []) i (entry_word entry)
     ∙ ap (λ (l : List ℕ). map entry_word b.returns ++ l) (set_front (map entry_word a.forward) (map entry_word a.returns ++ []) i (entry_word entry) (let l = length-map a.forward entry_word in omega (arith, low, l))
@@ -131,7 +135,7 @@ module _ {D : Type 0} (cd : Coded D) (desk : DeskMeaning D) (z : LinkSizes) wher
       let may = send_may desk m e o.pass.number 0 h.0 has in let m' = with_lane m e (with_turn s t') in
       let deed : m' ≡ after_deed desk m (Steps o.pass.number 0 None) = ap (with_lane m e) (sym leaves) ∙ send_deed desk m e o.pass.number 0 h.0 has in
       let mine : IsCallOf m' 0 o.pass.number w = here_sends desk m e (with_turn s t') o.pass.number t' x b h.0
-          (refl, looked_holder full over c a k sending ∙ h.1.1, h.1.2, λ out. absurd (true-false (sym out ∙ looked_out full over c a k sending))) (looked_current full over c a k m.era.inc sending (h.2 refl)) in (
+      (refl, looked_holder full over c a k sending ∙ h.1.1, h.1.2, λ out. absurd (true-false (sym out ∙ looked_out full over c a k sending))) (looked_current full over c a k m.era.inc sending (h.2 refl)) in (
         _,
         keeps,
         tt,
@@ -142,9 +146,17 @@ module _ {D : Type 0} (cd : Coded D) (desk : DeskMeaning D) (z : LinkSizes) wher
             (looked_word full over c a k sending) (looked_home full over c a k sending) (looked_out full over c a k sending)
             mine
             (λ i l. absurd (true-false (sym l))) (looked_holder full over c a k sending ∙ h.1.1),
-        ((k, lane.book, word ∙ (sound.return_index ∙ ap (λ (u : RingSizes). return_count u k % 65536) sizes), omega (arith, side, back, behind), omega (arith, side, out, cap),
-            λ i. (with_pass me.0 o (with_call o.pass (Sends e (look_turn (sym side i) k (room i) lane.book c sending) x b)) (Some (copied cd m')), me.1)),
-            step_by cd desk z st m r id me o (with_call o.pass w) (Steps o.pass.number 0 None) m' me.1 at may deed mine),
+        (
+          (
+            k,
+            lane.book,
+            word ∙ (sound.return_index ∙ ap (λ (u : RingSizes). return_count u k % 65536) sizes),
+            omega (arith, side, back, behind),
+            omega (arith, side, out, cap),
+            λ i. (with_pass me.0 o (with_call o.pass (Sends e (look_turn (sym side i) k (room i) lane.book c sending) x b)) (Some (copied cd m')), me.1),
+          ),
+          step_by cd desk z st m r id me o (with_call o.pass w) (Steps o.pass.number 0 None) m' me.1 at may deed mine,
+        ),
       )
 
   -- SEND 5: the entry is stored while the buffer is out, and the buffers of the messages before it stand
@@ -166,7 +178,7 @@ module _ {D : Type 0} (cd : Coded D) (desk : DeskMeaning D) (z : LinkSizes) wher
       let has : has_call s₀.lane.sender o.pass.number ≡ true = has_of s₀.lane.sender o.pass.number (ap holder h.1.0 ∙ h.1.1) (ap is_manager h.1.0) in
       let back = sound.counted.back in let room = (sending_is s sound refl).1 in let cap : s.lane.lane.capacity ≡ sizes.capacity = sound.sized.lane in
       let stands : (k : ℕ) → hd ≤ k → k < a → buffer_at sizes.entries s'.rings.forward k ≡ buffer_at sizes.entries s.rings.forward k = λ k from to.
-          buffer_at_other sizes.entries s.rings.forward k a entry (entries_apart sizes.entries k a to (omega (arith, from, room, cap, back, fits))) in
+      buffer_at_other sizes.entries s.rings.forward k a entry (entries_apart sizes.entries k a to (omega (arith, from, room, cap, back, fits))) in
       let may = send_may desk m e o.pass.number 0 h.0 has in
       let deed : with_lane m e s' ≡ after_deed desk m (Steps o.pass.number 0 None) = ap (λ (u : RingState D). with_lane m e ((ring_form desk).sent_on u m.era)) (sym is) ∙ send_deed desk m e o.pass.number 0 h.0 has in
       let mine : IsCallOf (with_lane m e s') 0 o.pass.number w = here_sends desk m e s' o.pass.number t' x b h.0 (refl, h.1.1, h.1.2, λ _. h.1.3 refl) (λ past. h.2 refl) in (
@@ -177,7 +189,7 @@ module _ {D : Type 0} (cd : Coded D) (desk : DeskMeaning D) (z : LinkSizes) wher
             may
             deed
             (ap (set (words_at e (era_word m.era) (lane_words s) (lane_words (lane_to m (other e)))) word) stored
-                ∙ forward_set e (era_word m.era) j word entry (lane_words s) (lane_words (lane_to m (other e))) (omega (arith, low, fl)) place)
+            ∙ forward_set e (era_word m.era) j word entry (lane_words s) (lane_words (lane_to m (other e))) (omega (arith, low, fl)) place)
             refl
             (record { long = q.long; full = λ k from to other. ap (get_elem? (shelf_to r.shelves e)) (stands k from to) ∙ q.full k from to other; home = q.home })
             mine

@@ -66,11 +66,26 @@ reset_all (suc p) (f ∷ fs) (o ∷ os) same all = ap (λ (l : List ℕ). f ∷ 
 block_long : (a b c d : LaneWords) → length a.forward ≡ length c.forward → length a.returns ≡ length c.returns → length b.forward ≡ length d.forward → length b.returns ≡ length d.returns → length (reset_block a b) ≡ length (reset_block c d)
 block_long a b c d p q u v =
     let lengths = λ (x y : LaneWords). length-append (map entry_word x.forward) (map entry_word x.returns ++ entry_words_before y []) ∙ ap (λ (k : ℕ). length (map entry_word x.forward) + k)
-        (length-append (map entry_word x.returns) (entry_words_before y []) ∙ ap (λ (k : ℕ). length (map entry_word x.returns) + k)
-            (length-append (map entry_word y.forward) (map entry_word y.returns ++ []) ∙ ap (λ (k : ℕ). length (map entry_word y.forward) + k) (length-append (map entry_word y.returns) []))) in
+    (length-append (map entry_word x.returns) (entry_words_before y []) ∙ ap (λ (k : ℕ). length (map entry_word x.returns) + k)
+    (length-append (map entry_word y.forward) (map entry_word y.returns ++ []) ∙ ap (λ (k : ℕ). length (map entry_word y.forward) + k) (length-append (map entry_word y.returns) []))) in
     let one = lengths a b in let two = lengths c d in
-    omega (arith, one, two, p, q, u, v, length-map a.forward entry_word, length-map a.returns entry_word, length-map b.forward entry_word, length-map b.returns entry_word,
-        length-map c.forward entry_word, length-map c.returns entry_word, length-map d.forward entry_word, length-map d.returns entry_word)
+    omega (
+      arith,
+      one,
+      two,
+      p,
+      q,
+      u,
+      v,
+      length-map a.forward entry_word,
+      length-map a.returns entry_word,
+      length-map b.forward entry_word,
+      length-map b.returns entry_word,
+      length-map c.forward entry_word,
+      length-map c.returns entry_word,
+      length-map d.forward entry_word,
+      length-map d.returns entry_word,
+    )
 
 -- a holder of a turn that is the manager's is the manager
 is_64 : {C : Type 0} (t u : Turn C) (number : ℕ) → t ≡ turn.Manager → t ≡ u → holder u ≡ Some number → 64 ≡ number
@@ -126,8 +141,8 @@ module _ {D : Type 0} (cd : Coded D) (desk : DeskMeaning D) (z : LinkSizes) wher
   as_long m k =
       let opened = reopen_kept desk m k.rings in let now = k.rings in
       block_long (lane_words (link_after_reopen (ring_form desk) m).to_host) (lane_words (link_after_reopen (ring_form desk) m).to_remote) (lane_words m.to_host) (lane_words m.to_remote)
-          (opened.to_host.sized.forward_long ∙ sym now.to_host.sized.forward_long) (opened.to_host.sized.returns_long ∙ sym now.to_host.sized.returns_long)
-          (opened.to_remote.sized.forward_long ∙ sym now.to_remote.sized.forward_long) (opened.to_remote.sized.returns_long ∙ sym now.to_remote.sized.returns_long)
+      (opened.to_host.sized.forward_long ∙ sym now.to_host.sized.forward_long) (opened.to_host.sized.returns_long ∙ sym now.to_host.sized.returns_long)
+      (opened.to_remote.sized.forward_long ∙ sym now.to_remote.sized.forward_long) (opened.to_remote.sized.returns_long ∙ sym now.to_remote.sized.returns_long)
 
   homes_still : (m : LaneLink (RingState D)) (sh : Shelves) → AreManagers m → homes_of m sh ≡ homes_of (link_after_opening desk m) sh
   homes_still m sh a = λ k. home_if (a.host_sender k) (Sender (sender_side m.to_host)) ∷ home_if (a.host_receiver k) (Receiver (receiver_side m.to_host))
@@ -145,20 +160,20 @@ module _ {D : Type 0} (cd : Coded D) (desk : DeskMeaning D) (z : LinkSizes) wher
       go : (live : Bool) → m.era.is_live ≡ live → IsCallOf m p o.pass.number (HoldsAll host remote) → get_or st.words 1 0 ≡ era_word m.era
           → (w : View) × (a : Act Slot) × Valid st.homes me.1 a × WordsRule cd desk z (stepped st 1 (get_or st.words 1 0) id me.1 w a) × BeginsReopening me o (get_or st.words 1 0) (w, carried_after me.1 a)
       go false shut h word = (
-          _,
-          keeps,
-          tt,
-          stays_at cd desk z st m p r 1 (get_or st.words 1 0) id me.1 me.0 o (Reopens 0 m.era.inc) Nothing at refl tt refl
-              (h.0, sym h.1, (shut, h.2), refl, (sym (ap (λ (x : ReceiverSide). x.held) h.3) ∙ bare_host, sym (ap (λ (x : ReceiverSide). x.held) h.4) ∙ bare_remote)) (λ i k. ap (has_for_manager i) call ∙ refl),
-          (m.era, word, (λ _. refl), λ live. absurd (true-false (sym live ∙ shut))),
-        )
+        _,
+        keeps,
+        tt,
+        stays_at cd desk z st m p r 1 (get_or st.words 1 0) id me.1 me.0 o (Reopens 0 m.era.inc) Nothing at refl tt refl
+            (h.0, sym h.1, (shut, h.2), refl, (sym (ap (λ (x : ReceiverSide). x.held) h.3) ∙ bare_host, sym (ap (λ (x : ReceiverSide). x.held) h.4) ∙ bare_remote)) (λ i k. ap (has_for_manager i) call ∙ refl),
+        (m.era, word, (λ _. refl), λ live. absurd (true-false (sym live ∙ shut))),
+      )
       go true live h word = (
-          me.0,
-          keeps,
-          tt,
-          stays cd desk z st m p r 1 (get_or st.words 1 0) id me.1 me.0 Nothing at refl tt refl,
-          (m.era, word, (λ shut. absurd (true-false (sym live ∙ shut))), λ _. refl),
-        )
+        me.0,
+        keeps,
+        tt,
+        stays cd desk z st m p r 1 (get_or st.words 1 0) id me.1 me.0 Nothing at refl tt refl,
+        (m.era, word, (λ shut. absurd (true-false (sym live ∙ shut))), λ _. refl),
+      )
 
   -- one word more is reset, whatever word comes next
   pub resets : (n id : ℕ) (me : SeatState) (o : Mover me.0) (q inc i new : ℕ) → o.pass.call ≡ Reopens q inc → i ≡ 6 + q → get_elem? (fresh_of z) q ≡ some new
@@ -181,7 +196,7 @@ module _ {D : Type 0} (cd : Coded D) (desk : DeskMeaning D) (z : LinkSizes) wher
               (state_in r) (sizes_in r) (buffers_in r) (one_more desk m _ Nothing r.reached tt refl)
               (record {
                 calls = each (HasCall m p) (HasCall m (suc p)) r.numbers.places r.turns.calls
-                (λ j l u there apart. still_call m m p (suc p) h.2.1 u.number (λ same. apart (h.0 ∙ same)) u.call (λ kept. apart (r.turns.keepers side.Host id o.place j l o.pass u (me.0, at, o.here) there (ap (has_for_manager side.Host) call) kept)) (λ kept. apart (r.turns.keepers side.Remote id o.place j l o.pass u (me.0, at, o.here) there (ap (has_for_manager side.Remote) call) kept)) refl h.2.1) (h.0, ap suc h.1, h.2, h.3, h.4);
+                    (λ j l u there apart. still_call m m p (suc p) h.2.1 u.number (λ same. apart (h.0 ∙ same)) u.call (λ kept. apart (r.turns.keepers side.Host id o.place j l o.pass u (me.0, at, o.here) there (ap (has_for_manager side.Host) call) kept)) (λ kept. apart (r.turns.keepers side.Remote id o.place j l o.pass u (me.0, at, o.here) there (ap (has_for_manager side.Remote) call) kept)) refl h.2.1) (h.0, ap suc h.1, h.2, h.3, h.4);
                 keepers = keepers_set st.views id me.0 (with_pass me.0 o (with_call o.pass w) (Some (copied cd m))) o (with_call o.pass w) at refl refl (λ i k. ap (has_for_manager i) call) r.turns.keepers;
                 still = inr h.2;
               })
@@ -216,13 +231,13 @@ module _ {D : Type 0} (cd : Coded D) (desk : DeskMeaning D) (z : LinkSizes) wher
           m',
           0,
           put_together ((λ k. set (r.words_are k) 1 (word k))
-                ∙ (λ k. 0 ∷ era_word m'.era ∷ turn_word (a.host_sender k) ∷ turn_word (a.host_receiver k) ∷ turn_word (a.remote_sender k) ∷ turn_word (a.remote_receiver k) ∷ reset_all p fresh old (as_long m (state_in r)) full k))
+              ∙ (λ k. 0 ∷ era_word m'.era ∷ turn_word (a.host_sender k) ∷ turn_word (a.host_receiver k) ∷ turn_word (a.remote_sender k) ∷ turn_word (a.remote_receiver k) ∷ reset_all p fresh old (as_long m (state_in r)) full k))
               r.shelves (r.homes_are ∙ (λ k. homes_still m r.shelves a k))
               (deed_kept desk m Opens may (state_in r)) (sizes_in r) (opened_shelves m r.shelves (buffers_in r) a) (one_more desk m _ Opens r.reached may refl)
               (record {
                 calls = each (HasCall m p) (HasCall m' 0) r.numbers.places r.turns.calls
-                (λ j l u there apart. still_call m m' p 0 a u.number (λ same. apart (h.0 ∙ same)) u.call (λ kept. apart (r.turns.keepers side.Host id o.place j l o.pass u (me.0, at, o.here) there (ap (has_for_manager side.Host) call) kept)) (λ kept. apart (r.turns.keepers side.Remote id o.place j l o.pass u (me.0, at, o.here) there (ap (has_for_manager side.Remote) call) kept)) refl (record { host_sender = refl; host_receiver = refl; remote_sender = refl; remote_receiver = refl }))
-                (h.0, refl, record { host_sender = refl; host_receiver = refl; remote_sender = refl; remote_receiver = refl }, refl, refl);
+                    (λ j l u there apart. still_call m m' p 0 a u.number (λ same. apart (h.0 ∙ same)) u.call (λ kept. apart (r.turns.keepers side.Host id o.place j l o.pass u (me.0, at, o.here) there (ap (has_for_manager side.Host) call) kept)) (λ kept. apart (r.turns.keepers side.Remote id o.place j l o.pass u (me.0, at, o.here) there (ap (has_for_manager side.Remote) call) kept)) refl (record { host_sender = refl; host_receiver = refl; remote_sender = refl; remote_receiver = refl }))
+                    (h.0, refl, record { host_sender = refl; host_receiver = refl; remote_sender = refl; remote_receiver = refl }, refl, refl);
                 keepers = keepers_set st.views id me.0 u o (with_call o.pass w) at refl refl (λ i k. ap (has_for_manager i) call) r.turns.keepers;
                 still = inl refl;
               })
@@ -233,8 +248,8 @@ module _ {D : Type 0} (cd : Coded D) (desk : DeskMeaning D) (z : LinkSizes) wher
               (record {
                 places = numbers_set st.views id me.0 u o (with_call o.pass w) at refl refl r.numbers.places;
                 manager = manager_set st.views id me.0 u o (with_call o.pass w) at refl cd m m' refl refl refl refl (λ old. ap (λ (k : ℕ). k + 1) old)
-                (λ j y apart there manages. absurd (apart (r.numbers.places j manages.0 id o.place manages.1 o.pass (y, there, manages.2) (me.0, at, o.here) (manages.3 ∙ sym h.0)).0)) (λ n none was not. none_opened desk m n) (λ n none Q was not. none_opened desk m n) (λ old never. absurd (true-false (sym never)))
-                (λ j y apart there manages old. absurd (apart (r.numbers.places j manages.0 id o.place manages.1 o.pass (y, there, manages.2) (me.0, at, o.here) (manages.3 ∙ sym h.0)).0)) (λ k same _. sym (some_copy (copied cd m') k same)) r.numbers.manager;
+                    (λ j y apart there manages. absurd (apart (r.numbers.places j manages.0 id o.place manages.1 o.pass (y, there, manages.2) (me.0, at, o.here) (manages.3 ∙ sym h.0)).0)) (λ n none was not. none_opened desk m n) (λ n none Q was not. none_opened desk m n) (λ old never. absurd (true-false (sym never)))
+                    (λ j y apart there manages old. absurd (apart (r.numbers.places j manages.0 id o.place manages.1 o.pass (y, there, manages.2) (me.0, at, o.here) (manages.3 ∙ sym h.0)).0)) (λ k same _. sym (some_copy (copied cd m') k same)) r.numbers.manager;
                 many = r.numbers.many;
               }),
         ),

@@ -1,5 +1,5 @@
 -- The parts of the rule, taken out and put together.
-use Rattle.std.proofs.Common.{◌≡◌, ℕ, ◌+◌, ◌≤◌, List, ◌∷◌, length, ap, arith, sym, ◌∙◌, subst}
+use Rattle.std.proofs.Common.{◌≡◌, ℕ, ◌≤◌, List, ◌∷◌, length, ap, arith}
 use mathlib.Core.Option.{Option}
 use Rattle.atomic_table.specs.Table.{State}
 use base.Stored.{Coded}
@@ -62,8 +62,14 @@ module _ {D : Type 0} {cd : Coded D} {desk : DeskMeaning D} {z : LinkSizes} {st 
       → ((e : End) → HoldsBuffers (lane_to m e) (shelf_to shelves e)) → IsReached desk m → TurnsPart (turns_in m) p st.views → HistoriesPart m.era.inc m.callers (λ e. books_of (lane_to m e)) st.views → NumbersPart cd m st.views
       → Shows cd desk z st m p
   put_together words shelves homes kept sizes buffers reached turns histories numbers = record {
-    words_are = words; shelves = shelves; homes_are = homes; sound = kept.sound; reached = reached; turns = turns;
+    words_are = words;
+    shelves = shelves;
+    homes_are = homes;
+    sound = kept.sound;
+    reached = reached;
+    turns = turns;
     to_host = lane_part m.to_host z.to_host shelves.host sizes.0 kept.rings.to_host (buffers side.Host);
     to_remote = lane_part m.to_remote z.to_remote shelves.remote sizes.1 kept.rings.to_remote (buffers side.Remote);
-    histories = histories; numbers = numbers;
+    histories = histories;
+    numbers = numbers;
   }

@@ -82,19 +82,19 @@ shelved_home {D} s s' l y sound out q sizes forward taking receiver takers newer
     record {
       long = length-set l id (some y) ∙ (q.long ∙ ap (λ x. x.capacity) (sym sizes));
       full = λ k from to other. ap (get_elem? (set l id (some y))) (buffer k) ∙ elim (dec_lt k a) as (λ _. get_elem? (set l id (some y)) (buffer_at size.entries s.rings.forward k) ≡ some (some (Buffer (message_at s'.lane.lane.accepted k)))) [
-        yes old ↦
-          let from' : hd ≤ k = omega (arith, from, hd') in
-          set_else l id (buffer_at size.entries s.rings.forward k) (some y) (λ same. apart k from' old (same ∙ sends.0))
+        | yes old ↦
+            let from' : hd ≤ k = omega (arith, from, hd') in
+            set_else l id (buffer_at size.entries s.rings.forward k) (some y) (λ same. apart k from' old (same ∙ sends.0))
             ∙ (q.full k from' old (λ o same. other (ap receiver_is_out receiver ∙ o) (same ∙ sym hd')) ∙ ap (λ (msg : List ℕ). some (some (Buffer msg))) (sym (older k old)))
-      | no fresh ↦
-          let new = newer k to fresh in
-          ap (get_elem? (set l id (some y))) new.0 ∙ (set_here l id (some y) near ∙ ap (λ (u : Slot). some (some u)) new.1)
+        | no fresh ↦
+            let new = newer k to fresh in
+            ap (get_elem? (set l id (some y))) new.0 ∙ (set_here l id (some y) near ∙ ap (λ (u : Slot). some (some u)) new.1)
       ];
       home = λ j under mine theirs. elim (ℕ_discrete j id) as (λ _. (u : Slot) × (get_elem? (set l id (some y)) j ≡ some (some u))) [
-        yes same ↦ (y, ap (get_elem? (set l id (some y))) same ∙ set_here l id (some y) near)
-      | no other ↦
-          let ho = q.home j (subst (λ (n : ℕ). j < n) (ap (λ x. x.capacity) sizes) under) (λ _. other) (λ o same. theirs (ap receiver_is_out receiver ∙ o) (same ∙ sym taking)) in
-          (ho.0, set_else l id j (some y) other ∙ ho.1)
+        | yes same ↦ (y, ap (get_elem? (set l id (some y))) same ∙ set_here l id (some y) near)
+        | no other ↦
+            let ho = q.home j (subst (λ (n : ℕ). j < n) (ap (λ x. x.capacity) sizes) under) (λ _. other) (λ o same. theirs (ap receiver_is_out receiver ∙ o) (same ∙ sym taking)) in
+            (ho.0, set_else l id j (some y) other ∙ ho.1)
       ];
     }
 
@@ -121,7 +121,7 @@ module _ {D : Type 0} (cd : Coded D) (desk : DeskMeaning D) (z : LinkSizes) wher
       let may = send_may desk m e o.pass.number 0 h.0 has in
       let deed : with_lane m e s' ≡ after_deed desk m (Steps o.pass.number 0 None) = ap (λ (u : RingState D). with_lane m e ((ring_form desk).sent_on u m.era)) (sym is) ∙ send_deed desk m e o.pass.number 0 h.0 has in
       let mine : IsCallOf (with_lane m e s') 0 o.pass.number (Sends e t' x' b) = here_sends desk m e s' o.pass.number t' x' b h.0
-          (ap (λ (k : ℕ). turn.Leaving c (end.Sent k)) (sym side), h.1.1, (λ i. record { accepted = (ap (λ (k : ℕ). k + 1) side ∙ sym more) i }), λ o. absurd (true-false (sym o))) tt in (
+      (ap (λ (k : ℕ). turn.Leaving c (end.Sent k)) (sym side), h.1.1, (λ i. record { accepted = (ap (λ (k : ℕ). k + 1) side ∙ sym more) i }), λ o. absurd (true-false (sym o))) tt in (
         _,
         gives,
         tt,
@@ -130,12 +130,12 @@ module _ {D : Type 0} (cd : Coded D) (desk : DeskMeaning D) (z : LinkSizes) wher
             deed
             (ap (set (words_at e (era_word m.era) (lane_words s) (lane_words (lane_to m (other e)))) (forward_word e)) index ∙ index_set e (era_word m.era) (next_index s.rings.forward_index) (lane_words s) (lane_words (lane_to m (other e))))
             (ap (λ (cs : List (ℕ × Slot)). homes_after (homes_at e (lane_homes s (shelf_to r.shelves e)) (lane_homes (lane_to m (other e)) (shelf_to r.shelves (other e)))) cs gives) has_slot
-                ∙ buffer_set e first b (some (Buffer message)) (lane_homes s (shelf_to r.shelves e)) (lane_homes (lane_to m (other e)) (shelf_to r.shelves (other e))) near (first_is cd desk z st m r e first first_at))
+            ∙ buffer_set e first b (some (Buffer message)) (lane_homes s (shelf_to r.shelves e)) (lane_homes (lane_to m (other e)) (shelf_to r.shelves (other e))) near (first_is cd desk z st m r e first first_at))
             (subst (λ (k : ℕ). HoldsBuffers s' (set (shelf_to r.shelves e) k (some (Buffer message)))) out
-                (shelved_home s s' (shelf_to r.shelves e) (Buffer message) sound refl q refl refl refl refl refl
-                    (λ k to fresh. let to' : k < length (s.lane.lane.accepted ++ entry ∷ []) = to in let last : k ≡ a = omega (arith, to', more, fresh) in
-                        (ap (buffer_at s.rings.sizes.entries s.rings.forward) last ∙ stands.1, ap Buffer (sym (message_last s.lane.lane.accepted entry k last))))
-                    (λ k old. message_before s.lane.lane.accepted entry k old)))
+            (shelved_home s s' (shelf_to r.shelves e) (Buffer message) sound refl q refl refl refl refl refl
+            (λ k to fresh. let to' : k < length (s.lane.lane.accepted ++ entry ∷ []) = to in let last : k ≡ a = omega (arith, to', more, fresh) in
+            (ap (buffer_at s.rings.sizes.entries s.rings.forward) last ∙ stands.1, ap Buffer (sym (message_last s.lane.lane.accepted entry k last))))
+            (λ k old. message_before s.lane.lane.accepted entry k old)))
             mine
             (λ j l q there apart. others_send desk m e s' t o.pass.number h.1.0 h.1.1 refl refl refl (λ o. let tk = taking_is s sound o in message_before s.lane.lane.accepted entry (length s.lane.lane.takers) tk.1) (λ k apart. no_call desk t' o.pass.number k h.1.1 apart) q.number apart q.call) refl refl
             (history_published m e s' entry refl o.pass.number o.pass.first f x.accepted o.pass.own (sym (ap (λ (u : RingState D). u.lane.lane.takers) is)) who (h.2 refl) side hist)

@@ -80,8 +80,8 @@ module _ {D : Type 0} (cd : Coded D) (desk : DeskMeaning D) (z : LinkSizes) wher
             deed
             (turn_set e (era_word m.era) 0 (lane_words s) (lane_words (lane_to m (other e))))
             (ap (λ (cs : List (ℕ × Slot)). homes_after (homes_at e (lane_homes s (shelf_to r.shelves e)) (lane_homes (lane_to m (other e)) (shelf_to r.shelves (other e)))) cs gives) has_slot
-                ∙ (side_set e (some (Sender x)) (lane_homes s (shelf_to r.shelves e)) (lane_homes (lane_to m (other e)) (shelf_to r.shelves (other e)))
-                ∙ ap (λ (u : SenderSide). homes_at e (record (lane_homes s (shelf_to r.shelves e)) { sender = some (Sender u) }) (lane_homes (lane_to m (other e)) (shelf_to r.shelves (other e)))) h.1.2))
+            ∙ (side_set e (some (Sender x)) (lane_homes s (shelf_to r.shelves e)) (lane_homes (lane_to m (other e)) (shelf_to r.shelves (other e)))
+            ∙ ap (λ (u : SenderSide). homes_at e (record (lane_homes s (shelf_to r.shelves e)) { sender = some (Sender u) }) (lane_homes (lane_to m (other e)) (shelf_to r.shelves (other e)))) h.1.2))
             (shelved_turn cd desk z s turn.Free (shelf_to r.shelves e) refl (subst (λ (u : RingState D). HoldsBuffers u (shelf_to r.shelves e)) is ((buffers_in r) e)))
             mine (others_send desk m e s' t o.pass.number h.1.0 h.1.1 refl refl refl (λ _. refl) (λ k apart. refl)) refl refl refl refl (λ i k. absurd (true-false (sym k))),
         (refl, step_by cd desk z st m r id me o (with_call o.pass w) (Steps o.pass.number 0 None) (with_lane m e s') (rest me.1) at may deed mine),
@@ -97,25 +97,25 @@ module _ {D : Type 0} (cd : Coded D) (desk : DeskMeaning D) (z : LinkSizes) wher
       go : (live : Bool) → m.era.is_live ≡ live → IsCallOf m p o.pass.number (Sends e t x b) → get_or st.words 1 0 ≡ era_word m.era
           → (w : View) × (a : Act Slot) × Valid st.homes me.1 a × WordsRule cd desk z (stepped st 1 (get_or st.words 1 0) id me.1 w a) × FindsClosedEra me o e t x b (get_or st.words 1 0) (w, carried_after me.1 a)
       go false shut h word = (
-          _,
-          keeps,
-          tt,
-          stays_at cd desk z st m p r 1 (get_or st.words 1 0) id me.1 me.0 o (EndsSend e t x b) Nothing at refl tt refl (h.0, h.1, shut) (λ i k. absurd (true-false (sym k))),
-          (m.era, word, (λ _. refl), λ live. absurd (true-false (sym live ∙ shut))),
-        )
+        _,
+        keeps,
+        tt,
+        stays_at cd desk z st m p r 1 (get_or st.words 1 0) id me.1 me.0 o (EndsSend e t x b) Nothing at refl tt refl (h.0, h.1, shut) (λ i k. absurd (true-false (sym k))),
+        (m.era, word, (λ _. refl), λ live. absurd (true-false (sym live ∙ shut))),
+      )
       go true live h word = (
-          me.0,
-          keeps,
-          tt,
-          stays cd desk z st m p r 1 (get_or st.words 1 0) id me.1 me.0 Nothing at refl tt refl,
-          (m.era, word, (λ shut. absurd (true-false (sym live ∙ shut))), λ _. refl),
-        )
+        me.0,
+        keeps,
+        tt,
+        stays cd desk z st m p r 1 (get_or st.words 1 0) id me.1 me.0 Nothing at refl tt refl,
+        (m.era, word, (λ shut. absurd (true-false (sym live ∙ shut))), λ _. refl),
+      )
 
   -- what both leaves of a reclaimed send share
   module _ (st : State Slot View) (m : LaneLink (RingState D)) (r : Shows cd desk z st m 0) (e : End) (id number : ℕ) (me : SeatState) (o : Mover me.0) (t : Turn Sending) (x : SenderSide) (b : ℕ) where
     ended : (at : get_elem? st.views id ≡ some me.0) (h : IsCallOf m 0 o.pass.number (EndsSend e t x b)) → is_manager t ≡ false → (a : Act Slot) (l' : List (Option_of Slot))
         → homes_after (homes_at e (lane_homes (with_turn (lane_to m e) t) (shelf_to r.shelves e)) (lane_homes (lane_to m (other e)) (shelf_to r.shelves (other e)))) me.1 a
-          ≡ homes_at e (record (lane_homes (lane_to m e) l') { sender = some (Sender (sender_side (lane_to m e))) }) (lane_homes (lane_to m (other e)) (shelf_to r.shelves (other e)))
+        ≡ homes_at e (record (lane_homes (lane_to m e) l') { sender = some (Sender (sender_side (lane_to m e))) }) (lane_homes (lane_to m (other e)) (shelf_to r.shelves (other e)))
         → HoldsBuffers (with_turn (lane_to m e) turn.Free) l'
         → WordsRule cd desk z (stepped st (sender_word e) 0 id me.1 (with_pass me.0 o (with_call o.pass (Rests (other e))) (Some (copied cd (with_lane m e (with_turn (lane_to m e) turn.Free))))) a)
     ended at h bare a l' homes shelved =
@@ -123,10 +123,10 @@ module _ {D : Type 0} (cd : Coded D) (desk : DeskMeaning D) (z : LinkSizes) wher
         let has : has_call s₀.lane.sender o.pass.number ≡ true = has_of s₀.lane.sender o.pass.number (ap holder h.1.0 ∙ h.1.1) (ap is_manager h.1.0 ∙ bare) in
         let freed : (ring_form desk).after_send_end s₀ o.pass.number ≡ with_turn s₀ turn.Free = ap (λ (y : Bool). with_turn s₀ (cond y turn.Free s₀.lane.sender)) has in
         lane_moves cd desk z st m r e s (with_turn s₀ turn.Free) is (sender_word e) 0 id me.1 me.0 o (Rests (other e)) a (EndsCall (other e) o.pass.number) l' at
-            (h.2, h.0)
-            (ap (with_lane m e) (sym freed) ∙ end_deed desk m e o.pass.number r.sound has)
-            (turn_set e (era_word m.era) 0 (lane_words s) (lane_words (lane_to m (other e))))
-            homes shelved (rests_after m e (with_turn s₀ turn.Free) o.pass.number h.0 refl (no_receive m e o.pass.number r.sound has)) (others_send desk m e (with_turn s₀ turn.Free) t o.pass.number h.1.0 h.1.1 refl refl refl (λ _. refl) (λ k apart. refl)) refl refl refl refl (λ i k. absurd (true-false (sym k)))
+        (h.2, h.0)
+        (ap (with_lane m e) (sym freed) ∙ end_deed desk m e o.pass.number r.sound has)
+        (turn_set e (era_word m.era) 0 (lane_words s) (lane_words (lane_to m (other e))))
+        homes shelved (rests_after m e (with_turn s₀ turn.Free) o.pass.number h.0 refl (no_receive m e o.pass.number r.sound has)) (others_send desk m e (with_turn s₀ turn.Free) t o.pass.number h.1.0 h.1.1 refl refl refl (λ _. refl) (λ k apart. refl)) refl refl refl refl (λ i k. absurd (true-false (sym k)))
 
   -- part 3 of a reclaim of a send that has no buffer out
   pub ends_bare : (n id : ℕ) (me : SeatState) (o : Mover me.0) (e : End) (t : Turn Sending) (x : SenderSide) (b : ℕ) → o.pass.call ≡ EndsSend e t x b → is_manager t ≡ false → sender_is_out t ≡ false → me.1 ≡ (sender_slot e, Sender x) ∷ rest me.1
@@ -139,8 +139,8 @@ module _ {D : Type 0} (cd : Coded D) (desk : DeskMeaning D) (z : LinkSizes) wher
         tt,
         ended st m r e id o.pass.number me o t x b at h₀ bare gives (shelf_to r.shelves e)
             (ap (λ (cs : List (ℕ × Slot)). homes_after (homes_at e (lane_homes (with_turn s₀ t) (shelf_to r.shelves e)) hb) cs gives) has_slot
-                ∙ (side_set e (some (Sender x)) (lane_homes (with_turn s₀ t) (shelf_to r.shelves e)) hb
-                ∙ ap (λ (u : SenderSide). homes_at e (record (lane_homes s₀ (shelf_to r.shelves e)) { sender = some (Sender u) }) hb) h₀.1.2))
+            ∙ (side_set e (some (Sender x)) (lane_homes (with_turn s₀ t) (shelf_to r.shelves e)) hb
+            ∙ ap (λ (u : SenderSide). homes_at e (record (lane_homes s₀ (shelf_to r.shelves e)) { sender = some (Sender u) }) hb) h₀.1.2))
             (shelved_turn cd desk z s₀ turn.Free (shelf_to r.shelves e) (sym (ap sender_is_out h₀.1.0 ∙ inside)) ((buffers_in r) e)),
         refl,
       )
@@ -156,7 +156,7 @@ module _ {D : Type 0} (cd : Coded D) (desk : DeskMeaning D) (z : LinkSizes) wher
       let sends = sending_is s₀ sound out in let cap : s₀.lane.lane.capacity ≡ s₀.rings.sizes.capacity = sound.sized.lane in
       let room : length s₀.lane.lane.accepted < s₀.lane.lane.returned + s₀.rings.sizes.capacity = omega (arith, sends.1, cap) in
       let low : s₀.rings.sending < s₀.rings.sizes.capacity = subst (λ (k : ℕ). k < s₀.rings.sizes.capacity) (sym sends.0)
-          (source-below s₀.rings.sizes (length s₀.lane.lane.accepted) (length s₀.lane.lane.takers) s₀.lane.lane.returned s₀.rings.forward s₀.rings.returns s₀.rings.hands s₀.rings.aside sound.owned room) in
+      (source-below s₀.rings.sizes (length s₀.lane.lane.accepted) (length s₀.lane.lane.takers) s₀.lane.lane.returned s₀.rings.forward s₀.rings.returns s₀.rings.hands s₀.rings.aside sound.owned room) in
       let near : b < length (shelf_to r.shelves e) = omega (arith, low, ((buffers_in r) e).long, is_b) in
       let ha = lane_homes (with_turn s₀ t) (shelf_to r.shelves e) in let l' = set (shelf_to r.shelves e) b (some y) in (
         _,
@@ -164,10 +164,10 @@ module _ {D : Type 0} (cd : Coded D) (desk : DeskMeaning D) (z : LinkSizes) wher
         (tt, tt),
         ended st m r e id o.pass.number me o t x b at h₀ bare (chain gives gives) l'
             (ap (λ (cs : List (ℕ × Slot)). homes_after (homes_at e ha hb) cs (chain gives gives)) has_slots
-                ∙ (ap (λ (hs : List (Option_of Slot)). set hs (sender_slot e) (some (Sender x))) (buffer_set e first b (some y) ha hb near (first_is cd desk z st m r e first first_at))
-                ∙ (side_set e (some (Sender x)) (record ha { shelf = l' }) hb
-                ∙ ap (λ (u : SenderSide). homes_at e (record (lane_homes s₀ l') { sender = some (Sender u) }) hb) h₀.1.2)))
+            ∙ (ap (λ (hs : List (Option_of Slot)). set hs (sender_slot e) (some (Sender x))) (buffer_set e first b (some y) ha hb near (first_is cd desk z st m r e first first_at))
+            ∙ (side_set e (some (Sender x)) (record ha { shelf = l' }) hb
+            ∙ ap (λ (u : SenderSide). homes_at e (record (lane_homes s₀ l') { sender = some (Sender u) }) hb) h₀.1.2)))
             (subst (λ (k : ℕ). HoldsBuffers (with_turn s₀ turn.Free) (set (shelf_to r.shelves e) k (some y))) is_b
-                (shelved_home s₀ (with_turn s₀ turn.Free) (shelf_to r.shelves e) y sound out ((buffers_in r) e) refl refl refl refl refl (λ k to fresh. absurd (fresh to)) (λ k old. refl))),
+            (shelved_home s₀ (with_turn s₀ turn.Free) (shelf_to r.shelves e) y sound out ((buffers_in r) e) refl refl refl refl refl (λ k to fresh. absurd (fresh to)) (λ k old. refl))),
         refl,
       )

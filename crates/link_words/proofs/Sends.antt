@@ -95,7 +95,7 @@ module _ {D : Type 0} (cd : Coded D) (desk : DeskMeaning D) (z : LinkSizes) wher
       lane_moves cd desk z st m r e s (with_turn s t') refl i n id cs v o call keeps d (shelf_to r.shelves e) at may deed
       (word ∙ ap (λ (k : ℕ). words_at e (era_word m.era) (record (lane_words s) { sender = k }) (lane_words (lane_to m (other e)))) (ap turn_word is ∙ sym turns))
       (ap (λ (h : Option_of Slot). homes_at e (record (lane_homes s (shelf_to r.shelves e)) { sender = h }) (lane_homes (lane_to m (other e)) (shelf_to r.shelves (other e))))
-          (ap (λ (u : Turn Sending). home_if u (Sender (sender_side s))) is ∙ sym (home (Sender (sender_side s)))))
+      (ap (λ (u : Turn Sending). home_if u (Sender (sender_side s))) is ∙ sym (home (Sender (sender_side s)))))
       (shelved_turn s t' (shelf_to r.shelves e) (out ∙ ap sender_is_out (sym is)) ((buffers_in r) e))
       has (others_send desk m e (with_turn s t') t o.pass.number is mine refl refl refl (λ _. refl) (λ k apart. no_call desk t' o.pass.number k held apart)) refl refl refl refl quiet
 
@@ -103,12 +103,15 @@ module _ {D : Type 0} (cd : Coded D) (desk : DeskMeaning D) (z : LinkSizes) wher
   era_word_of : (b : Bool) (c : ℕ) (s : Sending) (era : Era) → turn_word (cond b (turn.Taken c (record s { stage = stage.Era })) (turn.Leaving c (end.Dead era))) ≡ suc c
   era_word_of true c s era = refl
   era_word_of false c s era = refl
+
   era_home_of : (b : Bool) (c : ℕ) (s : Sending) (era : Era) (y : Slot) → home_if (cond b (turn.Taken c (record s { stage = stage.Era })) (turn.Leaving c (end.Dead era))) y ≡ none
   era_home_of true c s era y = refl
   era_home_of false c s era y = refl
+
   era_out_of : (b : Bool) (c : ℕ) (s : Sending) (era : Era) → sender_is_out (cond b (turn.Taken c (record s { stage = stage.Era })) (turn.Leaving c (end.Dead era))) ≡ false
   era_out_of true c s era = refl
   era_out_of false c s era = refl
+
   era_holder_of : (b : Bool) (c : ℕ) (s : Sending) (era : Era) → holder (cond b (turn.Taken c (record s { stage = stage.Era })) (turn.Leaving c (end.Dead era))) ≡ Some c
   era_holder_of true c s era = refl
   era_holder_of false c s era = refl
@@ -131,7 +134,7 @@ module _ {D : Type 0} (cd : Coded D) (desk : DeskMeaning D) (z : LinkSizes) wher
       let same_deed : m' ≡ after_deed desk m (Steps o.pass.number 0 None) = ap (with_lane m e) (sym leaves) ∙ send_deed desk m e o.pass.number 0 h.0 has in
       let may = send_may desk m e o.pass.number 0 h.0 has in
       let mine : IsCallOf m' 0 o.pass.number w = here_sends desk m e (with_turn (lane_to m e) t') o.pass.number t' x b h.0
-          (refl, era_holder_of live c sending m.era ∙ h.1.1, h.1.2, λ out. absurd (true-false (sym out ∙ era_out_of live c sending m.era))) (current_of live c sending m.era refl) in (
+      (refl, era_holder_of live c sending m.era ∙ h.1.1, h.1.2, λ out. absurd (true-false (sym out ∙ era_out_of live c sending m.era))) (current_of live c sending m.era refl) in (
         _,
         keeps,
         tt,

@@ -148,14 +148,22 @@ module _ {D : Type 0} (cd : Coded D) (desk : DeskMeaning D) (z : LinkSizes) wher
       let held : y ≤ 65 = subst (λ (k : ℕ). k ≤ 65) (sym found) (sender_word_most desk m e r₀.numbers.many r₀.sound) in
       exchanged y 0 new (λ f. (w : View) × (a : Act Slot) × Valid st.homes me.1 a × WordsRule cd desk z (stepped st (sender_word e) f id me.1 w a) × (SendBeginsBy me o e follows message y (w, carried_after me.1 a) × (y ≤ 65) × StepBy cd desk me o (Steps c follows (Some (wish.Send message))) (w, carried_after me.1 a)))
       (λ hit.
-          let free : (lane_to m e).lane.sender ≡ turn.Free = free_if (lane_to m e).lane.sender (sym found ∙ hit) in
-          let r : Shows cd desk z st m 0 = ⊎_elim (λ (none_reset : p ≡ 0). subst (Shows cd desk z st m) none_reset r₀)
-              (λ (still : IsStill m). absurd (true-false (ap is_free (sym free ∙ still_sender desk m e still.1)))) r₀.turns.still in
-          let all = starts_free id me o e follows message fits call st m r at free in
-          (all.0, all.1, all.2, subst (λ (k : ℕ). WordsRule cd desk z (stepped st (sender_word e) k id me.1 all.0 all.1)) (sym num) all.3, (((λ _. all.4), λ never. absurd (never hit)), held, all.5)))
+      let free : (lane_to m e).lane.sender ≡ turn.Free = free_if (lane_to m e).lane.sender (sym found ∙ hit) in
+      let r : Shows cd desk z st m 0 = ⊎_elim (λ (none_reset : p ≡ 0). subst (Shows cd desk z st m) none_reset r₀)
+      (λ (still : IsStill m). absurd (true-false (ap is_free (sym free ∙ still_sender desk m e still.1)))) r₀.turns.still in
+      let all = starts_free id me o e follows message fits call st m r at free in
+      (all.0, all.1, all.2, subst (λ (k : ℕ). WordsRule cd desk z (stepped st (sender_word e) k id me.1 all.0 all.1)) (sym num) all.3, (((λ _. all.4), λ never. absurd (never hit)), held, all.5)))
       (λ miss.
-          let same : m ≡ after_deed desk m (Steps c follows (Some (wish.Send message))) = sym (same_lane m e)
-              ∙ (ap (λ (t : Turn Sending). with_lane m e (with_turn (lane_to m e) t)) (sym (not_free desk (lane_to m e).lane.sender c (record { follows = follows; message = message; stage = stage.Turn }) (λ none. miss (found ∙ none))))
-              ∙ start_deed desk m e c follows message rests.0) in
-          (me.0, keeps, tt, stays cd desk z st m p r₀ (sender_word e) y id me.1 me.0 (Steps c follows (Some (wish.Send message))) at refl (start_may desk m p e c follows message fits rests) same, (((λ hit. absurd (miss hit)), λ _. refl), held,
-              busy_by cd desk z st m p r₀ id me o (other e) (Steps c follows (Some (wish.Send message))) call at (start_may desk m p e c follows message fits rests) same)))
+      let same : m ≡ after_deed desk m (Steps c follows (Some (wish.Send message))) = sym (same_lane m e)
+      ∙ (ap (λ (t : Turn Sending). with_lane m e (with_turn (lane_to m e) t)) (sym (not_free desk (lane_to m e).lane.sender c (record { follows = follows; message = message; stage = stage.Turn }) (λ none. miss (found ∙ none))))
+      ∙ start_deed desk m e c follows message rests.0) in (
+        me.0,
+        keeps,
+        tt,
+        stays cd desk z st m p r₀ (sender_word e) y id me.1 me.0 (Steps c follows (Some (wish.Send message))) at refl (start_may desk m p e c follows message fits rests) same,
+        (
+          ((λ hit. absurd (miss hit)), λ _. refl),
+          held,
+          busy_by cd desk z st m p r₀ id me o (other e) (Steps c follows (Some (wish.Send message))) call at (start_may desk m p e c follows message fits rests) same,
+        ),
+      ))

@@ -65,7 +65,7 @@ module _ {D : Type 0} (cd : Coded D) (desk : DeskMeaning D) (z : LinkSizes) wher
             deed
             (receiver_turn_set e (era_word m.era) 0 (lane_words s) (lane_words (lane_to m (other e))))
             (ap (λ (cs : List (ℕ × Slot)). homes_after (homes_at e ha hb) cs gives) has_slot
-                ∙ (receiver_side_set e (some (Receiver x)) ha hb ∙ ap (λ (u : ReceiverSide). homes_at e (record ha { receiver = some (Receiver u) }) hb) h.1.2))
+            ∙ (receiver_side_set e (some (Receiver x)) ha hb ∙ ap (λ (u : ReceiverSide). homes_at e (record ha { receiver = some (Receiver u) }) hb) h.1.2))
             (shelved_receiver s₀ s' (shelf_to r.shelves e) (ap receiver_is_out h.1.0) refl refl refl refl refl refl refl ((buffers_in r) e))
             mine (others_receive desk m e s' t o.pass.number h.1.0 h.1.1 refl refl refl refl (λ k apart. refl)) refl refl refl refl (λ i k. absurd (true-false (sym k))),
         (refl, step_by cd desk z st m r id me o (with_call o.pass (Rests e)) (Steps o.pass.number 0 None) (with_lane m e s') (rest me.1) at may deed mine),
@@ -81,19 +81,19 @@ module _ {D : Type 0} (cd : Coded D) (desk : DeskMeaning D) (z : LinkSizes) wher
           → (w : View) × (a : Act Slot) × Valid st.homes me.1 a × WordsRule cd desk z (stepped st 1 (get_or st.words 1 0) id me.1 w a)
           × ((era : Era) × (get_or st.words 1 0 ≡ era_word era) × (era.is_live ≡ false → Path (Me Slot View) (w, carried_after me.1 a) (with_pass me.0 o (with_call o.pass (EndsReceive e t x b msg)) w.copy, me.1)) × (era.is_live ≡ true → Path (Me Slot View) (w, carried_after me.1 a) me))
       go false shut h word = (
-          _,
-          keeps,
-          tt,
-          stays_at cd desk z st m p r 1 (get_or st.words 1 0) id me.1 me.0 o (EndsReceive e t x b msg) Nothing at refl tt refl (h.0, h.1, shut) (λ i k. absurd (true-false (sym k))),
-          (m.era, word, (λ _. refl), λ live. absurd (true-false (sym live ∙ shut))),
-        )
+        _,
+        keeps,
+        tt,
+        stays_at cd desk z st m p r 1 (get_or st.words 1 0) id me.1 me.0 o (EndsReceive e t x b msg) Nothing at refl tt refl (h.0, h.1, shut) (λ i k. absurd (true-false (sym k))),
+        (m.era, word, (λ _. refl), λ live. absurd (true-false (sym live ∙ shut))),
+      )
       go true live h word = (
-          me.0,
-          keeps,
-          tt,
-          stays cd desk z st m p r 1 (get_or st.words 1 0) id me.1 me.0 Nothing at refl tt refl,
-          (m.era, word, (λ shut. absurd (true-false (sym live ∙ shut))), λ _. refl),
-        )
+        me.0,
+        keeps,
+        tt,
+        stays cd desk z st m p r 1 (get_or st.words 1 0) id me.1 me.0 Nothing at refl tt refl,
+        (m.era, word, (λ shut. absurd (true-false (sym live ∙ shut))), λ _. refl),
+      )
 
   -- part 3 of a reclaim of a caller that has the receiver's turn, with no buffer out: what it holds leaves `held`
   pub ends_receive_bare : (n id : ℕ) (me : SeatState) (o : Mover me.0) (e : End) (t : Turn Receiving) (x x' : ReceiverSide) (b : ℕ) (msg : List ℕ) → o.pass.call ≡ EndsReceive e t x b msg → receiver_is_out t ≡ false
@@ -115,7 +115,7 @@ module _ {D : Type 0} (cd : Coded D) (desk : DeskMeaning D) (z : LinkSizes) wher
             (ap (λ (y : Bool). with_lane m e (freed y)) (sym has) ∙ end_receive_deed desk m e c has sends)
             (receiver_turn_set e (era_word m.era) 0 (lane_words s) (lane_words (lane_to m (other e))))
             (ap (λ (cs : List (ℕ × Slot)). homes_after (homes_at e ha hb) cs gives) has_slot
-                ∙ (receiver_side_set e (some (Receiver x')) ha hb ∙ ap (λ (u : ReceiverSide). homes_at e (record ha { receiver = some (Receiver u) }) hb) side))
+            ∙ (receiver_side_set e (some (Receiver x')) ha hb ∙ ap (λ (u : ReceiverSide). homes_at e (record ha { receiver = some (Receiver u) }) hb) side))
             (shelved_receiver s₀ s' (shelf_to r.shelves e) (ap receiver_is_out h.1.0 ∙ inside) refl refl refl refl refl refl refl ((buffers_in r) e))
             (receive_rests cd desk z m e s' c h.0 refl sends) (λ j l u there apart. others_receive desk m e s' t c h.1.0 h.1.1 bare refl refl refl (λ k _. refl) u.number apart u.call)
             refl refl refl (hands_here m e s' (with_call_and_hands o.pass (Rests e) []) h.0 (hands_none c s₀.lane.lane.held)) (λ u apart. hands_kept desk m e s' u (λ was. hands_others c u.number s₀.lane.lane.held apart ∙ was))

@@ -70,15 +70,19 @@ either_turn b c q ended = cond b (turn.Taken c q) (turn.Leaving c ended)
 et_word : (b : Bool) (c : ℕ) (q : Receiving) (ended : CallEnd) → turn_word (either_turn b c q ended) ≡ suc c
 et_word true c q ended = refl
 et_word false c q ended = refl
+
 et_home : (b : Bool) (c : ℕ) (q : Receiving) (ended : CallEnd) (y : Slot) → home_if (either_turn b c q ended) y ≡ none
 et_home true c q ended y = refl
 et_home false c q ended y = refl
+
 et_holder : (b : Bool) (c : ℕ) (q : Receiving) (ended : CallEnd) → holder (either_turn b c q ended) ≡ Some c
 et_holder true c q ended = refl
 et_holder false c q ended = refl
+
 et_bare : (b : Bool) (c : ℕ) (q : Receiving) (ended : CallEnd) → is_manager (either_turn b c q ended) ≡ false
 et_bare true c q ended = refl
 et_bare false c q ended = refl
+
 et_out : (b : Bool) (c : ℕ) (q : Receiving) (ended : CallEnd) → receiver_is_out (turn.Taken c q) ≡ false → receiver_is_out (either_turn b c q ended) ≡ false
 et_out true c q ended inside = inside
 et_out false c q ended inside = refl
@@ -89,15 +93,19 @@ settled_turn b c q ended = cond b (turn.Leaving c ended) (turn.Taken c q)
 es_word : (b : Bool) (c : ℕ) (q : Receiving) (ended : CallEnd) → turn_word (settled_turn b c q ended) ≡ suc c
 es_word true c q ended = refl
 es_word false c q ended = refl
+
 es_home : (b : Bool) (c : ℕ) (q : Receiving) (ended : CallEnd) (y : Slot) → home_if (settled_turn b c q ended) y ≡ none
 es_home true c q ended y = refl
 es_home false c q ended y = refl
+
 es_holder : (b : Bool) (c : ℕ) (q : Receiving) (ended : CallEnd) → holder (settled_turn b c q ended) ≡ Some c
 es_holder true c q ended = refl
 es_holder false c q ended = refl
+
 es_bare : (b : Bool) (c : ℕ) (q : Receiving) (ended : CallEnd) → is_manager (settled_turn b c q ended) ≡ false
 es_bare true c q ended = refl
 es_bare false c q ended = refl
+
 es_out : (b : Bool) (c : ℕ) (q : Receiving) (ended : CallEnd) → receiver_is_out (turn.Taken c q) ≡ false → receiver_is_out (settled_turn b c q ended) ≡ false
 es_out true c q ended inside = refl
 es_out false c q ended inside = inside
@@ -167,17 +175,25 @@ module _ {D : Type 0} (desk : DeskMeaning D) (wished : Wish) (first : Work) (fol
         let held : y ≤ 65 = subst (λ (k : ℕ). k ≤ 65) (sym found) (receiver_word_most desk m e r₀.numbers.many r₀.sound) in
         exchanged y 0 new (λ f. (w : View) × (a : Act Slot) × Valid st.homes me.1 a × WordsRule cd desk z (stepped st (receiver_word e) f id me.1 w a) × (TakeBeginsBy me o e follows first y (w, carried_after me.1 a) × (y ≤ 65) × StepBy cd desk me o (Steps c follows (Some wished)) (w, carried_after me.1 a)))
         (λ hit.
-            let free : (lane_to m e).lane.receiver ≡ turn.Free = free_if (lane_to m e).lane.receiver (sym found ∙ hit) in
-            let r : Shows cd desk z st m 0 = ⊎_elim (λ (none_reset : p ≡ 0). subst (Shows cd desk z st m) none_reset r₀)
-                (λ (still : IsStill m). absurd (true-false (ap is_free (sym free ∙ still_receiver desk m e still.1)))) r₀.turns.still in
-            let all = work_free st m r at free in
-            (all.0, all.1, all.2, subst (λ (k : ℕ). WordsRule cd desk z (stepped st (receiver_word e) k id me.1 all.0 all.1)) (sym num) all.3, (((λ _. all.4), λ never. absurd (never hit)), held, all.5)))
+        let free : (lane_to m e).lane.receiver ≡ turn.Free = free_if (lane_to m e).lane.receiver (sym found ∙ hit) in
+        let r : Shows cd desk z st m 0 = ⊎_elim (λ (none_reset : p ≡ 0). subst (Shows cd desk z st m) none_reset r₀)
+        (λ (still : IsStill m). absurd (true-false (ap is_free (sym free ∙ still_receiver desk m e still.1)))) r₀.turns.still in
+        let all = work_free st m r at free in
+        (all.0, all.1, all.2, subst (λ (k : ℕ). WordsRule cd desk z (stepped st (receiver_word e) k id me.1 all.0 all.1)) (sym num) all.3, (((λ _. all.4), λ never. absurd (never hit)), held, all.5)))
         (λ miss.
-            let same : m ≡ after_deed desk m (Steps c follows (Some wished)) = sym (same_lane m e)
-                ∙ (ap (λ (t : Turn Receiving). with_lane m e (with_receiver (lane_to m e) t)) (sym (not_free desk (lane_to m e).lane.receiver c (record { follows = follows; work = first }) (λ none. miss (found ∙ none))))
-                ∙ work_deed m e c rests.0) in let may = work_may m p e c (fits st m p r₀ at) rests in
-            (me.0, keeps, tt, stays cd desk z st m p r₀ (receiver_word e) y id me.1 me.0 (Steps c follows (Some wished)) at refl may same, (((λ hit. absurd (miss hit)), λ _. refl), held,
-                busy_by cd desk z st m p r₀ id me o e (Steps c follows (Some wished)) call at may same)))
+        let same : m ≡ after_deed desk m (Steps c follows (Some wished)) = sym (same_lane m e)
+        ∙ (ap (λ (t : Turn Receiving). with_lane m e (with_receiver (lane_to m e) t)) (sym (not_free desk (lane_to m e).lane.receiver c (record { follows = follows; work = first }) (λ none. miss (found ∙ none))))
+        ∙ work_deed m e c rests.0) in let may = work_may m p e c (fits st m p r₀ at) rests in (
+          me.0,
+          keeps,
+          tt,
+          stays cd desk z st m p r₀ (receiver_word e) y id me.1 me.0 (Steps c follows (Some wished)) at refl may same,
+          (
+            ((λ hit. absurd (miss hit)), λ _. refl),
+            held,
+            busy_by cd desk z st m p r₀ id me o e (Steps c follows (Some wished)) call at may same,
+          ),
+        ))
 
 module _ {D : Type 0} (cd : Coded D) (desk : DeskMeaning D) (z : LinkSizes) where
   -- a load after which the receiver's turn alone is another, with the same holder
@@ -192,16 +208,17 @@ module _ {D : Type 0} (cd : Coded D) (desk : DeskMeaning D) (z : LinkSizes) wher
       let s = lane_to m e in let c = o.pass.number in
       let here : has_call s.lane.receiver c ≡ true = has_of s.lane.receiver c (ap holder is ∙ mine) (ap is_manager is ∙ bare) in
       let may = receive_may desk m e c 0 user here in
-      let deed : with_lane m e (with_receiver s t') ≡ after_deed desk m (Steps c 0 None) = ap (with_lane m e) (sym (ap (λ (u : RingState D). (ring_form desk).received_on u m.era) (λ k. with_receiver s (is k)) ∙ does)) ∙ receive_deed desk m e c 0 user (no_send desk m e c r.sound here) in
-      (lane_moves cd desk z st m r e s (with_receiver s t') refl i (get_or st.words i 0) id me.1 me.0 o call keeps (Steps c 0 None) (shelf_to r.shelves e) at
-      may
-      deed
-      (loaded cd desk z st m r e i s refl ∙ ap (λ (k : ℕ). words_at e (era_word m.era) (record (lane_words s) { receiver = k }) (lane_words (lane_to m (other e)))) (ap turn_word is ∙ sym turns))
-      (ap (λ (h : Option_of Slot). homes_at e (record (lane_homes s (shelf_to r.shelves e)) { receiver = h }) (lane_homes (lane_to m (other e)) (shelf_to r.shelves (other e))))
-          (ap (λ (u : Turn Receiving). home_if u (Receiver (receiver_side s))) is ∙ sym (home (Receiver (receiver_side s)))))
-      (shelved_receiver s (with_receiver s t') (shelf_to r.shelves e) (ap receiver_is_out is ∙ inside) out refl refl refl refl refl refl ((buffers_in r) e))
-      has (others_receive desk m e (with_receiver s t') t c is mine bare refl refl refl (λ k apart. no_call desk t' c k held apart)) refl refl refl refl quiet,
-      step_by cd desk z st m r id me o (with_call o.pass call) (Steps c 0 None) (with_lane m e (with_receiver s t')) me.1 at may deed has)
+      let deed : with_lane m e (with_receiver s t') ≡ after_deed desk m (Steps c 0 None) = ap (with_lane m e) (sym (ap (λ (u : RingState D). (ring_form desk).received_on u m.era) (λ k. with_receiver s (is k)) ∙ does)) ∙ receive_deed desk m e c 0 user (no_send desk m e c r.sound here) in (
+        lane_moves cd desk z st m r e s (with_receiver s t') refl i (get_or st.words i 0) id me.1 me.0 o call keeps (Steps c 0 None) (shelf_to r.shelves e) at
+            may
+            deed
+            (loaded cd desk z st m r e i s refl ∙ ap (λ (k : ℕ). words_at e (era_word m.era) (record (lane_words s) { receiver = k }) (lane_words (lane_to m (other e)))) (ap turn_word is ∙ sym turns))
+            (ap (λ (h : Option_of Slot). homes_at e (record (lane_homes s (shelf_to r.shelves e)) { receiver = h }) (lane_homes (lane_to m (other e)) (shelf_to r.shelves (other e))))
+            (ap (λ (u : Turn Receiving). home_if u (Receiver (receiver_side s))) is ∙ sym (home (Receiver (receiver_side s)))))
+            (shelved_receiver s (with_receiver s t') (shelf_to r.shelves e) (ap receiver_is_out is ∙ inside) out refl refl refl refl refl refl ((buffers_in r) e))
+            has (others_receive desk m e (with_receiver s t') t c is mine bare refl refl refl (λ k apart. no_call desk t' c k held apart)) refl refl refl refl quiet,
+        step_by cd desk z st m r id me o (with_call o.pass call) (Steps c 0 None) (with_lane m e (with_receiver s t')) me.1 at may deed has,
+      )
 
   -- TAKE 2
   pub takes_era : (n id : ℕ) (me : SeatState) (o : Mover me.0) (e : End) (c f : ℕ) (x : ReceiverSide) (b : ℕ) (msg : List ℕ) → o.pass.call ≡ Receives e (turn.Taken c (record { follows = f; work = work.Take take_stage.Turn })) x b msg
@@ -213,9 +230,9 @@ module _ {D : Type 0} (cd : Coded D) (desk : DeskMeaning D) (z : LinkSizes) wher
       let t' : Turn Receiving = after_take_era m.era c q in let w : Call = Receives e t' x b msg in
       let word : get_or st.words 1 0 ≡ era_word m.era = ap (λ (ws : List ℕ). get_or ws 1 0) r.words_are in
       let all = receiver_only st m r e t t' is 1 id me o w f at h.1.1 refl refl h.0 refl (et_word live c q' ended) (et_home live c q' ended) (et_out live c q' ended refl)
-            (here_receives desk m e (with_receiver (lane_to m e) t') o.pass.number t' x b msg h.0
-                (refl, et_holder live c q' ended ∙ h.1.1, h.1.2, (λ out. absurd (true-false (sym out ∙ et_out live c q' ended refl))), et_bare live c q' ended))
-            (λ i k. absurd (true-false (sym k))) (et_holder live c q' ended ∙ h.1.1) in (
+      (here_receives desk m e (with_receiver (lane_to m e) t') o.pass.number t' x b msg h.0
+      (refl, et_holder live c q' ended ∙ h.1.1, h.1.2, (λ out. absurd (true-false (sym out ∙ et_out live c q' ended refl))), et_bare live c q' ended))
+      (λ i k. absurd (true-false (sym k))) (et_holder live c q' ended ∙ h.1.1) in (
         _,
         keeps,
         tt,
@@ -239,13 +256,21 @@ module _ {D : Type 0} (cd : Coded D) (desk : DeskMeaning D) (z : LinkSizes) wher
       let t' : Turn Receiving = after_take_look lane c q in let w : Call = Receives e t' x b msg in
       let word : get_or st.words (forward_word e) 0 ≡ s.rings.forward_index = ap (λ (ws : List ℕ). get_or ws (forward_word e) 0) (words_here cd desk z st m r e) ∙ index_seen e (era_word m.era) (lane_words s) (lane_words (lane_to m (other e))) in
       let all = receiver_only st m r e t t' is (forward_word e) id me o w f at h.1.1 refl refl h.0 refl (es_word (eqb hd a) c q' ended) (es_home (eqb hd a) c q' ended) (es_out (eqb hd a) c q' ended refl)
-            (here_receives desk m e (with_receiver s t') o.pass.number t' x b msg h.0
-                (refl, es_holder (eqb hd a) c q' ended ∙ h.1.1, h.1.2, (λ out. absurd (true-false (sym out ∙ es_out (eqb hd a) c q' ended refl))), es_bare (eqb hd a) c q' ended))
-            (λ i k. absurd (true-false (sym k))) (es_holder (eqb hd a) c q' ended ∙ h.1.1) in (
+      (here_receives desk m e (with_receiver s t') o.pass.number t' x b msg h.0
+      (refl, es_holder (eqb hd a) c q' ended ∙ h.1.1, h.1.2, (λ out. absurd (true-false (sym out ∙ es_out (eqb hd a) c q' ended refl))), es_bare (eqb hd a) c q' ended))
+      (λ i k. absurd (true-false (sym k))) (es_holder (eqb hd a) c q' ended ∙ h.1.1) in (
         _,
         keeps,
         tt,
         all.0,
-        ((a, word ∙ sound.forward_index, omega (arith, side, behind), omega (arith, side, out, cap, back),
-            λ i. (with_pass me.0 o (with_call o.pass (Receives e (take_look_turn (sym side i) a c q) x b msg)) (Some (copied cd (with_lane m e (with_receiver s t')))), me.1)), all.1),
+        (
+          (
+            a,
+            word ∙ sound.forward_index,
+            omega (arith, side, behind),
+            omega (arith, side, out, cap, back),
+            λ i. (with_pass me.0 o (with_call o.pass (Receives e (take_look_turn (sym side i) a c q) x b msg)) (Some (copied cd (with_lane m e (with_receiver s t')))), me.1),
+          ),
+          all.1,
+        ),
       )

@@ -105,22 +105,22 @@ shelved_back {D} s s' l sound out q sizes forward sending sender book more =
     let a = length s.lane.lane.accepted in let hd = length s.lane.lane.takers in let size = s.rings.sizes in let tk = taking_is s sound out in
     let id : ℕ = s.rings.taking in let y : Slot = Buffer (message_at s.lane.lane.accepted hd) in
     let low : id < size.capacity = subst (λ (k : ℕ). k < size.capacity) (sym tk.0)
-        (message-below size a hd s.lane.lane.returned s.rings.forward s.rings.returns s.rings.hands s.rings.aside sound.owned hd (le_refl hd) tk.1) in
+    (message-below size a hd s.lane.lane.returned s.rings.forward s.rings.returns s.rings.hands s.rings.aside sound.owned hd (le_refl hd) tk.1) in
     let near : id < length l = omega (arith, low, q.long) in
     let buffer : (k : ℕ) → buffer_at s'.rings.sizes.entries s'.rings.forward k ≡ buffer_at size.entries s.rings.forward k = λ k i. buffer_at (sizes i).entries (forward i) k in
     record {
       long = length-set l id (some y) ∙ (q.long ∙ ap (λ x. x.capacity) (sym sizes));
       full = λ k from to other. (λ i. get_elem? (set l id (some y)) (buffer k i)) ∙ ((elim (ℕ_discrete k hd) as (λ _. get_elem? (set l id (some y)) (buffer_at size.entries s.rings.forward k) ≡ some (some (Buffer (message_at s.lane.lane.accepted k)))) [
-        yes first ↦ ap (get_elem? (set l id (some y))) (ap (buffer_at size.entries s.rings.forward) first ∙ sym tk.0) ∙ (set_here l id (some y) near ∙ ap (λ (n : ℕ). some (some (Buffer (message_at s.lane.lane.accepted n)))) (sym first))
-      | no later ↦
-          let from' : hd ≤ k = omega (arith, from, more) in let to' : k < a = subst (λ (b : List _). k < length b) book to in
-          set_else l id (buffer_at size.entries s.rings.forward k) (some y) (λ same. forward_apart s sound k from' to' later (same ∙ tk.0)) ∙ q.full k from' to' (λ _. later)
+        | yes first ↦ ap (get_elem? (set l id (some y))) (ap (buffer_at size.entries s.rings.forward) first ∙ sym tk.0) ∙ (set_here l id (some y) near ∙ ap (λ (n : ℕ). some (some (Buffer (message_at s.lane.lane.accepted n)))) (sym first))
+        | no later ↦
+            let from' : hd ≤ k = omega (arith, from, more) in let to' : k < a = subst (λ (b : List _). k < length b) book to in
+            set_else l id (buffer_at size.entries s.rings.forward k) (some y) (λ same. forward_apart s sound k from' to' later (same ∙ tk.0)) ∙ q.full k from' to' (λ _. later)
       ]) ∙ (λ i. some (some (Buffer (message_at (sym book i) k)))));
       home = λ j under mine theirs. elim (ℕ_discrete j id) as (λ _. (u : Slot) × (get_elem? (set l id (some y)) j ≡ some (some u))) [
-        yes same ↦ (y, ap (get_elem? (set l id (some y))) same ∙ set_here l id (some y) near)
-      | no other ↦
-          let ho = q.home j (subst (λ (n : ℕ). j < n) (ap (λ x. x.capacity) sizes) under) (λ o same. mine (ap sender_is_out sender ∙ o) (same ∙ sym sending)) (λ _. other) in
-          (ho.0, set_else l id j (some y) other ∙ ho.1)
+        | yes same ↦ (y, ap (get_elem? (set l id (some y))) same ∙ set_here l id (some y) near)
+        | no other ↦
+            let ho = q.home j (subst (λ (n : ℕ). j < n) (ap (λ x. x.capacity) sizes) under) (λ o same. mine (ap sender_is_out sender ∙ o) (same ∙ sym sending)) (λ _. other) in
+            (ho.0, set_else l id j (some y) other ∙ ho.1)
       ];
     }
 
@@ -232,7 +232,7 @@ module _ {D : Type 0} (cd : Coded D) (desk : DeskMeaning D) (z : LinkSizes) wher
   pub draws : (n id : ℕ) (me : SeatState) (o : Mover me.0) (e : End) (c f : ℕ) (x : ReceiverSide) (b i first : ℕ) (msg : List ℕ) → o.pass.call ≡ Receives e (turn.Taken c (record { follows = f; work = work.Take take_stage.Look })) x b msg → first ≡ z.to_host.capacity
       → (told : ℕ → ℕ)
       → ((st : State Slot View) (m : LaneLink (RingState D)) (r : Shows cd desk z st m 0) → x ≡ receiver_side (lane_to m e) → IsSoundRings (lane_to m e) → buffer_at (lane_to m e).rings.sizes.entries (lane_to m e).rings.forward (length (lane_to m e).lane.lane.takers) < (lane_to m e).rings.sizes.capacity
-          → told (get_or st.words i 0) ≡ buffer_at (lane_to m e).rings.sizes.entries (lane_to m e).rings.forward (length (lane_to m e).lane.lane.takers))
+      → told (get_or st.words i 0) ≡ buffer_at (lane_to m e).rings.sizes.entries (lane_to m e).rings.forward (length (lane_to m e).lane.lane.takers))
       → Allows (WordsRule cd desk z) n id me i (λ y. y) (λ y me'. TakeTakesBufferBy me o first e c f x (told y) me' × StepBy cd desk me o (Steps o.pass.number 0 None) me')
   draws n id me o e c f x b i first msg call first_at told knows st (m, p, r₀) wide at _ =
       let t : Turn Receiving = turn.Taken c (record { follows = f; work = work.Take take_stage.Look }) in
@@ -264,8 +264,10 @@ module _ {D : Type 0} (cd : Coded D) (desk : DeskMeaning D) (z : LinkSizes) wher
             })
             mine
             (others_receive desk m e s' t o.pass.number h.1.0 h.1.1 refl refl refl refl (λ k apart. no_call desk t' o.pass.number k h.1.1 apart)) refl refl refl refl (λ i k. absurd (true-false (sym k))),
-        ((message, λ k. (with_pass me.0 o (with_call o.pass (Receives e t' x (sym id_is k) message)) (Some (copied cd (with_lane m e s'))), (buffer_slot first e (sym id_is k), Buffer message) ∷ me.1)),
-            step_by cd desk z st m r id me o (with_call o.pass w) (Steps o.pass.number 0 None) (with_lane m e s') ((buffer_slot first e own, Buffer message) ∷ me.1) at may deed mine),
+        (
+          (message, λ k. (with_pass me.0 o (with_call o.pass (Receives e t' x (sym id_is k) message)) (Some (copied cd (with_lane m e s'))), (buffer_slot first e (sym id_is k), Buffer message) ∷ me.1)),
+          step_by cd desk z st m r id me o (with_call o.pass w) (Steps o.pass.number 0 None) (with_lane m e s') ((buffer_slot first e own, Buffer message) ∷ me.1) at may deed mine,
+        ),
       )
 
   hands_live : (n id : ℕ) (me : SeatState) (o : Mover me.0) (e : End) (c f : ℕ) (x : ReceiverSide) (b first : ℕ) (msg : List ℕ) → first ≡ z.to_host.capacity → me.1 ≡ (buffer_slot first e b, Buffer msg) ∷ rest me.1
@@ -278,7 +280,7 @@ module _ {D : Type 0} (cd : Coded D) (desk : DeskMeaning D) (z : LinkSizes) wher
       let sound : IsSoundRings s = subst IsSoundRings is (rings_to m e (rings_in r)) in let q : HoldsBuffers s (shelf_to r.shelves e) = subst (λ (u : RingState D). HoldsBuffers u (shelf_to r.shelves e)) is ((buffers_in r) e) in
       let hd = length s.lane.lane.takers in let message : List ℕ = message_at s.lane.lane.accepted hd in let out = h.1.3 refl in let tk = taking_is s sound refl in
       let low : s.rings.taking < s.rings.sizes.capacity = subst (λ (k : ℕ). k < s.rings.sizes.capacity) (sym tk.0)
-          (message-below s.rings.sizes (length s.lane.lane.accepted) hd s.lane.lane.returned s.rings.forward s.rings.returns s.rings.hands s.rings.aside sound.owned hd (le_refl hd) tk.1) in
+      (message-below s.rings.sizes (length s.lane.lane.accepted) hd s.lane.lane.returned s.rings.forward s.rings.returns s.rings.hands s.rings.aside sound.owned hd (le_refl hd) tk.1) in
       let is_b : s.rings.taking ≡ b = out.0 in let near : b < length (shelf_to r.shelves e) = omega (arith, low, q.long, is_b) in
       let leaves : Bool → RingState D = λ y. record {
         lane = cond y (after_handing desk s.lane c) (record s.lane { receiver = turn.Leaving c (end.Dead era) });
@@ -287,14 +289,14 @@ module _ {D : Type 0} (cd : Coded D) (desk : DeskMeaning D) (z : LinkSizes) wher
       let has : has_call s₀.lane.receiver o.pass.number ≡ true = has_of s₀.lane.receiver o.pass.number (ap holder h.1.0 ∙ h.1.1) (ap is_manager h.1.0) in
       let may = receive_may desk m e o.pass.number 0 h.0 has in let word : get_or st.words 1 0 ≡ era_word era = ap (λ (ws : List ℕ). get_or ws 1 0) r.words_are in
       let deed : with_lane m e (leaves true) ≡ after_deed desk m (Steps o.pass.number 0 None) =
-          ap (λ (y : Bool). with_lane m e (leaves y)) (sym is_live) ∙ (ap (λ (u : RingState D). with_lane m e ((ring_form desk).received_on u era)) (sym is) ∙ receive_deed desk m e o.pass.number 0 h.0 (no_send desk m e o.pass.number r.sound has)) in
+      ap (λ (y : Bool). with_lane m e (leaves y)) (sym is_live) ∙ (ap (λ (u : RingState D). with_lane m e ((ring_form desk).received_on u era)) (sym is) ∙ receive_deed desk m e o.pass.number 0 h.0 (no_send desk m e o.pass.number r.sound has)) in
       let hb = lane_homes (lane_to m (other e)) (shelf_to r.shelves (other e)) in let l' = set (shelf_to r.shelves e) b (some (Buffer msg)) in let s' = leaves true in
       let verdict : Verdict = desk.verdict s.lane.desk hd message in let nth : x.handed ≡ hd = ap (λ (y : ReceiverSide). y.handed) h.1.2 in
       let t' : Turn Receiving = turn.Leaving c (end.Took x.handed verdict) in
       let x' : ReceiverSide = record { handed = x.handed + 1; returned = x.returned; held = x.held ++ record { number = x.handed; caller = c } ∷ [] } in
       let more : length (s.lane.lane.takers ++ c ∷ []) ≡ hd + 1 = length-append s.lane.lane.takers (c ∷ []) in
       let side : x' ≡ receiver_side s' = ap (λ (y : ReceiverSide). record { handed = y.handed + 1; returned = y.returned; held = y.held ++ record { number = y.handed; caller = c } ∷ [] }) h.1.2
-          ∙ (λ i. record { handed = sym more i; returned = s.lane.lane.returned; held = s.lane.lane.held ++ record { number = hd; caller = c } ∷ [] }) in
+      ∙ (λ i. record { handed = sym more i; returned = s.lane.lane.returned; held = s.lane.lane.held ++ record { number = hd; caller = c } ∷ [] }) in
       let w : Call = Receives e t' x' b msg in let more_hands : List ℕ = o.pass.hands ++ x.handed ∷ [] in let pass : Pass = record o.pass { call = w; own = Take e f x.handed msg ∷ o.pass.own; hands = more_hands } in let new : Holding = record { number = hd; caller = c } in let who : c ≡ o.pass.number = some_number c o.pass.number h.1.1 in
       let held_now : hands_of o.pass.number s.lane.lane.held ≡ o.pass.hands = hands_at m e o.pass h.0 (r.histories.hands id o.place o.pass (me.0, at, o.here)) in
       let mine : IsCallOf (with_lane m e s') 0 o.pass.number w = here_receives desk m e s' o.pass.number t' x' b msg h.0 ((λ i. turn.Leaving c (end.Took (sym nth i) verdict)), h.1.1, side, (λ o. absurd (true-false (sym o))), refl) in (
@@ -313,8 +315,10 @@ module _ {D : Type 0} (cd : Coded D) (desk : DeskMeaning D) (z : LinkSizes) wher
             (λ u apart. hands_kept desk m e s' u (λ was. hands_same u.number s.lane.lane.held new (λ same. apart (sym who ∙ same)) ∙ (ap (λ (y : RingState D). hands_of u.number y.lane.lane.held) (sym is) ∙ was)))
             (λ n none. none_handed m e s' c refl refl n (λ same. not_used m.callers o.pass.number n e h.0 none (sym who ∙ same)))
             (keepers_set st.views id me.0 (with_pass me.0 o pass (Some (copied cd (with_lane m e s')))) o pass at refl refl (λ i k. absurd (true-false (sym k))) r.turns.keepers),
-        ((m.era, word, (λ _. (verdict, refl)), λ dead. absurd (true-false (sym is_live ∙ dead))),
-            step_by cd desk z st m r id me o pass (Steps o.pass.number 0 None) (with_lane m e s') (rest me.1) at may deed mine),
+        (
+          (m.era, word, (λ _. (verdict, refl)), λ dead. absurd (true-false (sym is_live ∙ dead))),
+          step_by cd desk z st m r id me o pass (Steps o.pass.number 0 None) (with_lane m e s') (rest me.1) at may deed mine,
+        ),
       )
 
   hands_dead : (n id : ℕ) (me : SeatState) (o : Mover me.0) (e : End) (c f : ℕ) (x : ReceiverSide) (b first : ℕ) (msg : List ℕ) → first ≡ z.to_host.capacity → me.1 ≡ (buffer_slot first e b, Buffer msg) ∷ rest me.1
@@ -327,7 +331,7 @@ module _ {D : Type 0} (cd : Coded D) (desk : DeskMeaning D) (z : LinkSizes) wher
       let sound : IsSoundRings s = subst IsSoundRings is (rings_to m e (rings_in r)) in let q : HoldsBuffers s (shelf_to r.shelves e) = subst (λ (u : RingState D). HoldsBuffers u (shelf_to r.shelves e)) is ((buffers_in r) e) in
       let hd = length s.lane.lane.takers in let message : List ℕ = message_at s.lane.lane.accepted hd in let out = h.1.3 refl in let tk = taking_is s sound refl in
       let low : s.rings.taking < s.rings.sizes.capacity = subst (λ (k : ℕ). k < s.rings.sizes.capacity) (sym tk.0)
-          (message-below s.rings.sizes (length s.lane.lane.accepted) hd s.lane.lane.returned s.rings.forward s.rings.returns s.rings.hands s.rings.aside sound.owned hd (le_refl hd) tk.1) in
+      (message-below s.rings.sizes (length s.lane.lane.accepted) hd s.lane.lane.returned s.rings.forward s.rings.returns s.rings.hands s.rings.aside sound.owned hd (le_refl hd) tk.1) in
       let is_b : s.rings.taking ≡ b = out.0 in let near : b < length (shelf_to r.shelves e) = omega (arith, low, q.long, is_b) in
       let leaves : Bool → RingState D = λ y. record {
         lane = cond y (after_handing desk s.lane c) (record s.lane { receiver = turn.Leaving c (end.Dead era) });
@@ -336,7 +340,7 @@ module _ {D : Type 0} (cd : Coded D) (desk : DeskMeaning D) (z : LinkSizes) wher
       let has : has_call s₀.lane.receiver o.pass.number ≡ true = has_of s₀.lane.receiver o.pass.number (ap holder h.1.0 ∙ h.1.1) (ap is_manager h.1.0) in
       let may = receive_may desk m e o.pass.number 0 h.0 has in let word : get_or st.words 1 0 ≡ era_word era = ap (λ (ws : List ℕ). get_or ws 1 0) r.words_are in
       let deed : with_lane m e (leaves false) ≡ after_deed desk m (Steps o.pass.number 0 None) =
-          ap (λ (y : Bool). with_lane m e (leaves y)) (sym is_live) ∙ (ap (λ (u : RingState D). with_lane m e ((ring_form desk).received_on u era)) (sym is) ∙ receive_deed desk m e o.pass.number 0 h.0 (no_send desk m e o.pass.number r.sound has)) in
+      ap (λ (y : Bool). with_lane m e (leaves y)) (sym is_live) ∙ (ap (λ (u : RingState D). with_lane m e ((ring_form desk).received_on u era)) (sym is) ∙ receive_deed desk m e o.pass.number 0 h.0 (no_send desk m e o.pass.number r.sound has)) in
       let hb = lane_homes (lane_to m (other e)) (shelf_to r.shelves (other e)) in let l' = set (shelf_to r.shelves e) b (some (Buffer msg)) in let s' = leaves false in
       let t' : Turn Receiving = turn.Leaving c (end.Dead era) in let x' : ReceiverSide = x in let w : Call = Receives e t' x' b msg in
       let mine : IsCallOf (with_lane m e s') 0 o.pass.number w = here_receives desk m e s' o.pass.number t' x' b msg h.0 (refl, h.1.1, h.1.2, (λ o. absurd (true-false (sym o))), refl) in (
@@ -349,8 +353,10 @@ module _ {D : Type 0} (cd : Coded D) (desk : DeskMeaning D) (z : LinkSizes) wher
             (subst (λ (v : ℕ × List ℕ). HoldsBuffers s' (set (shelf_to r.shelves e) v.0 (some (Buffer v.1)))) (λ i. (is_b i, sym out.1 i)) (shelved_back s s' (shelf_to r.shelves e) sound refl q refl refl refl refl refl (le_refl hd)))
             mine
             (others_receive desk m e s' t o.pass.number h.1.0 h.1.1 refl refl refl refl (λ k apart. no_call desk t' o.pass.number k h.1.1 apart)) refl refl refl refl (λ i k. absurd (true-false (sym k))),
-        ((m.era, word, (λ live. absurd (true-false (sym live ∙ is_live))), λ _. refl),
-            step_by cd desk z st m r id me o (with_call o.pass w) (Steps o.pass.number 0 None) (with_lane m e s') (rest me.1) at may deed mine),
+        (
+          (m.era, word, (λ live. absurd (true-false (sym live ∙ is_live))), λ _. refl),
+          step_by cd desk z st m r id me o (with_call o.pass w) (Steps o.pass.number 0 None) (with_lane m e s') (rest me.1) at may deed mine,
+        ),
       )
 
   -- TAKE 5: the era again. Live: the desk judges the message and it is handed; else the take is dead. The slot is at home either way, with the message
@@ -377,7 +383,7 @@ module _ {D : Type 0} (cd : Coded D) (desk : DeskMeaning D) (z : LinkSizes) wher
       let sound : IsSoundRings s₀ = rings_to m e (rings_in r) in let out : receiver_is_out s₀.lane.receiver ≡ true = ap receiver_is_out h.1.0 ∙ outside in let is_b = h.1.3 outside in
       let hd = length s₀.lane.lane.takers in let tk = taking_is s₀ sound out in
       let low : s₀.rings.taking < s₀.rings.sizes.capacity = subst (λ (k : ℕ). k < s₀.rings.sizes.capacity) (sym tk.0)
-          (message-below s₀.rings.sizes (length s₀.lane.lane.accepted) hd s₀.lane.lane.returned s₀.rings.forward s₀.rings.returns s₀.rings.hands s₀.rings.aside sound.owned hd (le_refl hd) tk.1) in
+      (message-below s₀.rings.sizes (length s₀.lane.lane.accepted) hd s₀.lane.lane.returned s₀.rings.forward s₀.rings.returns s₀.rings.hands s₀.rings.aside sound.owned hd (le_refl hd) tk.1) in
       let taken : s₀.rings.taking ≡ b = is_b.0 in let near : b < length (shelf_to r.shelves e) = omega (arith, low, ((buffers_in r) e).long, taken) in
       let has : has_call s₀.lane.receiver c ≡ true = has_of s₀.lane.receiver c (ap holder h.1.0 ∙ h.1.1) (ap is_manager h.1.0 ∙ bare) in
       let freed : Bool → RingState D = λ y. record ((ring_form desk).after_receive_end s₀ c) { lane = record ((ring_form desk).after_receive_end s₀ c).lane { receiver = cond y turn.Free s₀.lane.receiver } } in
@@ -391,9 +397,9 @@ module _ {D : Type 0} (cd : Coded D) (desk : DeskMeaning D) (z : LinkSizes) wher
             (ap (λ (y : Bool). with_lane m e (freed y)) (sym has) ∙ end_receive_deed desk m e c has (no_send desk m e c r.sound has))
             (receiver_turn_set e (era_word m.era) 0 (lane_words s₀) (lane_words (lane_to m (other e))))
             (ap (λ (cs : List (ℕ × Slot)). homes_after (homes_at e ha hb) cs (chain gives gives)) has_slots
-                ∙ (ap (λ (hs : List (Option_of Slot)). set hs (receiver_slot e) (some (Receiver x'))) (buffer_set e first b (some (Buffer msg)) ha hb near (first_is cd desk z st m r e first first_at))
-                ∙ (receiver_side_set e (some (Receiver x')) (record ha { shelf = l' }) hb
-                ∙ ap (λ (u : ReceiverSide). homes_at e (record (lane_homes s₀ l') { receiver = some (Receiver u) }) hb) side)))
+            ∙ (ap (λ (hs : List (Option_of Slot)). set hs (receiver_slot e) (some (Receiver x'))) (buffer_set e first b (some (Buffer msg)) ha hb near (first_is cd desk z st m r e first first_at))
+            ∙ (receiver_side_set e (some (Receiver x')) (record ha { shelf = l' }) hb
+            ∙ ap (λ (u : ReceiverSide). homes_at e (record (lane_homes s₀ l') { receiver = some (Receiver u) }) hb) side)))
             (subst (λ (v : ℕ × List ℕ). HoldsBuffers s' (set (shelf_to r.shelves e) v.0 (some (Buffer v.1)))) (λ i. (taken i, sym is_b.1 i)) (shelved_back s₀ s' (shelf_to r.shelves e) sound out ((buffers_in r) e) refl refl refl refl refl (le_refl hd)))
             (receive_rests m e s' c h.0 refl (no_send desk m e c r.sound has)) (λ j l u there apart. others_receive desk m e s' t c h.1.0 h.1.1 bare refl refl refl (λ k _. refl) u.number apart u.call)
             refl refl refl (hands_here m e s' (with_call_and_hands o.pass (Rests e) []) h.0 (hands_none c s₀.lane.lane.held)) (λ u apart. hands_kept desk m e s' u (λ was. hands_others c u.number s₀.lane.lane.held apart ∙ was))

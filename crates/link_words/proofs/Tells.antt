@@ -1,6 +1,6 @@
 -- What each step tells its seat: the view after, as a function of the one before and of what was found.
 use Rattle.lane_model.specs.declared.stages.Receiving.{Receiving}
-use Rattle.std.specs.Prelude.{◌≢◌, ◌%◌, ◌≤◌, ◌==◌, if◌then◌else◌}
+use Rattle.std.specs.Prelude.{◌≢◌, ◌%◌, ◌≤◌}
 use Rattle.ring_core.specs.declared.states.RingSizes.{RingSizes}
 use Rattle.ring_core.specs.Rings.{return_count}
 use Rattle.lane_model.specs.Receives.{after_take_era}
@@ -27,7 +27,6 @@ use Rattle.link_words.specs.declared.rule.SenderSide.{SenderSide}
 use Rattle.link_words.specs.declared.rule.ReceiverSide.{ReceiverSide}
 use Rattle.link_words.specs.declared.rule.Call.TheVariants.{Sends, Rests, Receives, EndsSend, Reopens}
 use Rattle.link_words.specs.declared.rule.Event.TheVariants.{Publish, Take}
-use Rattle.link_words.specs.declared.rule.View.{View}
 use Rattle.link_words.specs.Passes.{Mover, with_call, with_pass}
 use Rattle.link_words.specs.Words.{receiver_slot, other, era_word, buffer_slot}
 
@@ -64,8 +63,15 @@ TakeTakesBufferBy me o first e c f x id me' = (message : List ℕ)
 -- TAKE 5: the era that was found decides; the buffer's slot is at home either way
 abbrev pub TakeHandsBy : (me : SeatState) → Mover me.0 → End → ℕ → ℕ → ReceiverSide → ℕ → List ℕ → ℕ → SeatState → Type 0
 TakeHandsBy me o e c f x b message n me' = (era : Era) × (n ≡ era_word era)
-    × (is_live_in era f ≡ true → (v : Verdict) × (me' ≡ (with_pass me.0 o (record o.pass { call = Receives e (turn.Leaving c (end.Took x.handed v))
-        (record { handed = x.handed + 1; returned = x.returned; held = x.held ++ record { number = x.handed; caller = c } ∷ [] }) b message; own = Take e f x.handed message ∷ o.pass.own; hands = o.pass.hands ++ x.handed ∷ [] }) me'.0.copy, rest me.1)))
+    × (is_live_in era f ≡ true → (v : Verdict) × (me' ≡ (
+      with_pass me.0 o (record o.pass {
+        call = Receives e (turn.Leaving c (end.Took x.handed v))
+            (record { handed = x.handed + 1; returned = x.returned; held = x.held ++ record { number = x.handed; caller = c } ∷ [] }) b message;
+        own = Take e f x.handed message ∷ o.pass.own;
+        hands = o.pass.hands ++ x.handed ∷ [];
+      }) me'.0.copy,
+      rest me.1,
+    )))
     × (is_live_in era f ≡ false → me' ≡ (with_pass me.0 o (with_call o.pass (Receives e (turn.Leaving c (end.Dead era)) x b message)) me'.0.copy, rest me.1))
 
 -- SEND 3: the return index that was found tells how many buffers are back

@@ -1,6 +1,6 @@
 -- Each step of a send and of a take as its seat is told it, on the words of the table.
 use Rattle.std.proofs.Common.{◌≡◌, ℕ, ◌+◌, ◌-◌, ◌*◌, ◌%◌, ◌<◌, ◌≤◌, true, false, Bool, cond, List, [], ◌∷◌, ◌++◌, length, refl, sym, ap, ◌∙◌, subst, arith}
-use Rattle.std.specs.Prelude.{Some, None, if◌then◌else◌}
+use Rattle.std.specs.Prelude.{None, if◌then◌else◌}
 use Rattle.atomic_table.specs.Table.{Allows, rest}
 use base.Stored.{Coded}
 use Rattle.rp_base.specs.declared.kinds.End.{End}
@@ -38,7 +38,7 @@ use Rattle.link_words.specs.Layouts.{place_in}
 use Rattle.link_words.specs.Parts.{AreNear}
 use Rattle.link_words.specs.Passes.{Mover, with_call, with_pass}
 use Rattle.link_words.specs.Rule.{WordsRule, LinkRule}
-use Rattle.link_words.specs.Steps.{GoesOn, SendLoadsEra, SendLooks, SendTakesBuffer, SendStoresEntry, SendPublishes, LeavesSender, TakeLoadsEra, TakeLooks, TakeTakesBuffer, TakeHands, LeavesReceiver, look_turn, take_look_turn, lane_by, sizes_by, slot_by, accepted_by, handed_by, with_publish, with_handing}
+use Rattle.link_words.specs.Steps.{GoesOn, SendLoadsEra, SendLooks, SendTakesBuffer, SendStoresEntry, SendPublishes, LeavesSender, TakeLoadsEra, TakeLooks, TakeTakesBuffer, TakeHands, LeavesReceiver, look_turn, take_look_turn, sizes_by, accepted_by, handed_by, with_publish, with_handing}
 use Rattle.link_words.specs.Words.{other, sizes_at, entries_before, entry_number, sender_word, receiver_word, forward_word, return_word, buffer_slot}
 use Rattle.link_words.proofs.Apart.{apart}
 use Rattle.link_words.proofs.Buffers.{pulls_own}
@@ -108,9 +108,9 @@ module _ {D : Type 0} (cd : Coded D) (desk : DeskMeaning D) (z : LinkSizes) (n i
   send_looks s place is sized = told_by (return_word e) place (λ y. y) s.mover s.here (SendLooksBy me s.mover (sizes_at z e) e s.caller (record { follows = s.follows; message = s.message; stage = stage.Era }) s.side s.buffer) (λ y me'. SendLooks me y me') is
       (sends_look cd desk z n id me s.mover e s.caller s.follows s.message s.side s.buffer s.call)
       (λ y me' t₀. let t = t₀ in
-              subst (λ (v : RingSizes × ℕ). (returned : ℕ) × (book : ℕ) × (y ≡ return_count v.0 returned % 65536) × AreNear v.0.capacity v.1 returned × Becomes (with_send (λ x caller q. look_turn x.accepted returned v.0.capacity book caller q)) (place_of me) me.1 me me')
-                  (λ i. (sym (send_sizes z me e stage.Era s sized) i, sym (send_accepted me e stage.Era s) i))
-                  (t.0, t.1, t.2, (t.3, t.4), becomes me s.mover (place_of me) s.here (with_send (λ x caller q. look_turn x.accepted t.0 (sizes_at z e).capacity t.1 caller q)) _ me.1 me' (ap (send_to (λ x caller q. look_turn x.accepted t.0 (sizes_at z e).capacity t.1 caller q) s.mover.pass) (sym s.call)) t.5))
+      subst (λ (v : RingSizes × ℕ). (returned : ℕ) × (book : ℕ) × (y ≡ return_count v.0 returned % 65536) × AreNear v.0.capacity v.1 returned × Becomes (with_send (λ x caller q. look_turn x.accepted returned v.0.capacity book caller q)) (place_of me) me.1 me me')
+      (λ i. (sym (send_sizes z me e stage.Era s sized) i, sym (send_accepted me e stage.Era s) i))
+      (t.0, t.1, t.2, (t.3, t.4), becomes me s.mover (place_of me) s.here (with_send (λ x caller q. look_turn x.accepted t.0 (sizes_at z e).capacity t.1 caller q)) _ me.1 me' (ap (send_to (λ x caller q. look_turn x.accepted t.0 (sizes_at z e).capacity t.1 caller q) s.mover.pass) (sym s.call)) t.5))
 
   -- a buffer goes out: the send's call, and its slot by the sizes that the view has
   buffer_told : (s : SendAt me e stage.Look) (buffer : ℕ) (me' : SeatState) → me.0.sizes ≡ z
@@ -119,8 +119,8 @@ module _ {D : Type 0} (cd : Coded D) (desk : DeskMeaning D) (z : LinkSizes) (n i
   buffer_told s buffer me' sized t₀ =
       let F : Pass → Call → Pass = λ p k. with_call p (send_or k (λ e t x b. Sends e (under_way_or t (λ caller q. turn.Taken caller (record q { stage = stage.Buffer })) t) x buffer) k) in
       subst (λ (v : ℕ × End). (y : Slot) × Becomes (λ p. F p p.call) (place_of me) ((buffer_slot v.0 v.1 buffer, y) ∷ me.1) me me')
-          (λ i. ((sym sized i).to_host.capacity, sym (ap lane_in (send_here me e stage.Look s)) i))
-          (t₀.0, becomes me s.mover (place_of me) s.here (λ p. F p p.call) _ ((buffer_slot z.to_host.capacity e buffer, t₀.0) ∷ me.1) me' (ap (F s.mover.pass) (sym s.call)) t₀.1)
+      (λ i. ((sym sized i).to_host.capacity, sym (ap lane_in (send_here me e stage.Look s)) i))
+      (t₀.0, becomes me s.mover (place_of me) s.here (λ p. F p p.call) _ ((buffer_slot z.to_host.capacity e buffer, t₀.0) ∷ me.1) me' (ap (F s.mover.pass) (sym s.call)) t₀.1)
 
   pub send_takes_own : (s : SendAt me e stage.Look) (i place : ℕ) → place ≡ place_in i → me.0.sizes ≡ z → accepted_by me < (sizes_by me).own
       → Allows (LinkRule cd desk z) n id me place (λ y. y) (λ y me'. SendTakesBuffer (accepted_by me) me me' × GoesOn cd desk me me')
@@ -128,7 +128,7 @@ module _ {D : Type 0} (cd : Coded D) (desk : DeskMeaning D) (z : LinkSizes) (n i
       let a = send_accepted me e stage.Look s in let o : (sizes_by me).own ≡ (sizes_at z e).own = ap (λ (x : RingSizes). x.own) (send_sizes z me e stage.Look s sized) in
       told_by i place (λ y. y) s.mover s.here (λ _. SendTakesBufferBy me s.mover z.to_host.capacity e s.caller (record { follows = s.follows; message = s.message; stage = stage.Look }) s.side s.side.accepted) (λ y me'. SendTakesBuffer (accepted_by me) me me') is
       (pulls_own cd desk z n id me s.mover e s.caller s.follows s.message s.side s.buffer i z.to_host.capacity (sizes_at z e).own s.call refl
-              (λ st m r. (sizes_known cd desk z e st m r).1) (omega (arith, early, a, o)))
+      (λ st m r. (sizes_known cd desk z e st m r).1) (omega (arith, early, a, o)))
       (λ y me' t₀. subst (λ (b : ℕ). SendTakesBuffer b me me') (sym a) (buffer_told s s.side.accepted me' sized t₀))
 
   pub send_loads_entry : (s : SendAt me e stage.Look) (count place : ℕ) → place ≡ place_in (entry_number z e ring.Return count) → me.0.sizes ≡ z → accepted_by me ≡ (sizes_by me).own + count
@@ -139,7 +139,7 @@ module _ {D : Type 0} (cd : Coded D) (desk : DeskMeaning D) (z : LinkSizes) (n i
       let c : count ≡ s.side.accepted - (sizes_at z e).own = omega (arith, at, a, o) in
       told_by (entry_number z e ring.Return count) place (λ y. y) s.mover s.here (λ y. SendTakesBufferBy me s.mover z.to_host.capacity e s.caller (record { follows = s.follows; message = s.message; stage = stage.Look }) s.side (y % 4294967296)) (λ y me'. SendTakesBuffer (y % 4294967296) me me') is
       (pulls_entry cd desk z n id me s.mover e s.caller s.follows s.message s.side s.buffer (entry_number z e ring.Return count) z.to_host.capacity size (sizes_at z e).own (entries_before z e) s.call refl
-              (λ st m r. sizes_known cd desk z e st m r) late (ap (λ (k : ℕ). 10 + (entries_before z e + (size + k % size))) c))
+      (λ st m r. sizes_known cd desk z e st m r) late (ap (λ (k : ℕ). 10 + (entries_before z e + (size + k % size))) c))
       (λ y me' t₀. buffer_told s (y % 4294967296) me' sized t₀)
 
   pub send_stores_entry : (s : SendAt me e stage.Buffer) (count place new : ℕ) → place ≡ place_in (entry_number z e ring.Forward count) → s.side.accepted ≡ count → new ≡ s.buffer + entry_length (sizes_at z e) (length s.message) * 4294967296
@@ -149,7 +149,7 @@ module _ {D : Type 0} (cd : Coded D) (desk : DeskMeaning D) (z : LinkSizes) (n i
       let zero_before : entry_number z e ring.Forward count ≡ 10 + (entries_before z e + s.side.accepted % size) = (let e0 : 10 + (entries_before z e + (0 + count % size)) ≡ 10 + (entries_before z e + count % size) = omega arith in e0) ∙ ap (λ (k : ℕ). 10 + (entries_before z e + k % size)) (sym at) in
       told_by (entry_number z e ring.Forward count) place (λ _. new) s.mover s.here (λ _. SendStoresEntryBy me s.mover e s.caller (record { follows = s.follows; message = s.message; stage = stage.Buffer }) s.side s.buffer) (λ _ me'. SendStoresEntry me me') is
       (sends_entry cd desk z n id me s.mover e s.caller s.follows s.message s.side s.buffer (entry_number z e ring.Forward count) new (entries_before z e) s.call
-              (λ st m r. (sizes_known cd desk z e st m r).2) zero_before new_is)
+      (λ st m r. (sizes_known cd desk z e st m r).2) zero_before new_is)
       (λ y me' t₀. becomes me s.mover (place_of me) s.here (with_send next) _ me.1 me' (ap (send_to next s.mover.pass) (sym s.call)) t₀)
 
   pub send_publishes : (s : SendAt me e stage.Entry) (count place new : ℕ) → place ≡ place_in (forward_word e) → s.side.accepted + 1 ≡ count → new ≡ count % 65536 → me.0.sizes ≡ z
@@ -162,7 +162,7 @@ module _ {D : Type 0} (cd : Coded D) (desk : DeskMeaning D) (z : LinkSizes) (n i
       }) t) k in
       told_by (forward_word e) place (λ _. new) s.mover s.here (λ _. SendPublishesBy me s.mover e s.caller s.follows s.message s.side s.buffer) (λ _ me'. SendPublishes me me') is
       (publishes cd desk z n id me s.mover e s.caller s.follows s.message s.side s.buffer z.to_host.capacity new s.call refl
-              (slots ∙ ap (λ (w : LinkSizes). (buffer_slot w.to_host.capacity e s.buffer, Buffer s.message) ∷ rest me.1) sized) (new_is ∙ ap (λ (k : ℕ). k % 65536) (sym at)))
+      (slots ∙ ap (λ (w : LinkSizes). (buffer_slot w.to_host.capacity e s.buffer, Buffer s.message) ∷ rest me.1) sized) (new_is ∙ ap (λ (k : ℕ). k % 65536) (sym at)))
       (λ y me' t₀. becomes me s.mover (place_of me) s.here with_publish _ (rest me.1) me' (ap (F s.mover.pass) (sym s.call)) t₀)
 
   pub leaves_sender : (s : SendEnds me e) (place : ℕ) → place ≡ place_in (sender_word e) → Allows (LinkRule cd desk z) n id me place (λ _. 0) (λ _ me'. LeavesSender me me' × GoesOn cd desk me me')
@@ -188,9 +188,9 @@ module _ {D : Type 0} (cd : Coded D) (desk : DeskMeaning D) (z : LinkSizes) (n i
   take_looks s place is sized = told_by (forward_word e) place (λ y. y) s.mover s.here (TakeLooksBy me s.mover (sizes_at z e) e s.caller (record { follows = s.follows; work = work.Take take_stage.Era }) s.side s.buffer s.message) (λ y me'. TakeLooks me y me') is
       (takes_look cd desk z n id me s.mover e s.caller s.follows s.side s.buffer s.message s.call)
       (λ y me' t₀. let t = t₀ in
-              subst (λ (v : RingSizes × ℕ). (accepted : ℕ) × (y ≡ accepted % 65536) × (v.1 ≤ accepted) × (accepted ≤ v.1 + v.0.capacity) × Becomes (with_receive (λ x caller q. take_look_turn x.handed accepted caller q)) (place_of me) me.1 me me')
-                  (λ i. (sym (work_sizes z me e (work.Take take_stage.Era) s sized) i, sym (work_handed me e (work.Take take_stage.Era) s) i))
-                  (t.0, t.1, t.2, t.3, becomes me s.mover (place_of me) s.here (with_receive (λ x caller q. take_look_turn x.handed t.0 caller q)) _ me.1 me' (ap (receive_to (λ x caller q. take_look_turn x.handed t.0 caller q) s.mover.pass) (sym s.call)) t.4))
+      subst (λ (v : RingSizes × ℕ). (accepted : ℕ) × (y ≡ accepted % 65536) × (v.1 ≤ accepted) × (accepted ≤ v.1 + v.0.capacity) × Becomes (with_receive (λ x caller q. take_look_turn x.handed accepted caller q)) (place_of me) me.1 me me')
+      (λ i. (sym (work_sizes z me e (work.Take take_stage.Era) s sized) i, sym (work_handed me e (work.Take take_stage.Era) s) i))
+      (t.0, t.1, t.2, t.3, becomes me s.mover (place_of me) s.here (with_receive (λ x caller q. take_look_turn x.handed t.0 caller q)) _ me.1 me' (ap (receive_to (λ x caller q. take_look_turn x.handed t.0 caller q) s.mover.pass) (sym s.call)) t.4))
 
   pub take_loads_entry : (s : WorkAt me e (work.Take take_stage.Look)) (count place : ℕ) → place ≡ place_in (entry_number z e ring.Forward count) → me.0.sizes ≡ z → handed_by me ≡ count
       → Allows (LinkRule cd desk z) n id me place (λ y. y) (λ y me'. TakeTakesBuffer (y % 4294967296) me me' × GoesOn cd desk me me')
@@ -199,11 +199,11 @@ module _ {D : Type 0} (cd : Coded D) (desk : DeskMeaning D) (z : LinkSizes) (n i
       let h = work_handed me e (work.Take take_stage.Look) s in
       told_by (entry_number z e ring.Forward count) place (λ y. y) s.mover s.here (λ y. TakeTakesBufferBy me s.mover z.to_host.capacity e s.caller s.follows s.side (y % 4294967296)) (λ y me'. TakeTakesBuffer (y % 4294967296) me me') is
       (draws cd desk z n id me s.mover e s.caller s.follows s.side s.buffer (entry_number z e ring.Forward count) z.to_host.capacity s.message s.call refl (λ y. y % 4294967296)
-              (λ st m r side sound low. forward_entry cd desk z n e st m r count (sym at ∙ (h ∙ ap (λ (x : ReceiverSide). x.handed) side)) sound low))
+      (λ st m r side sound low. forward_entry cd desk z n e st m r count (sym at ∙ (h ∙ ap (λ (x : ReceiverSide). x.handed) side)) sound low))
       (λ y me' t₀. let buffer : ℕ = y % 4294967296 in let t = t₀ in
-              subst (λ (v : ℕ × End). (message : List ℕ) × Becomes (λ p. F buffer message p p.call) (place_of me) ((buffer_slot v.0 v.1 buffer, Buffer message) ∷ me.1) me me')
-                  (λ i. ((sym sized i).to_host.capacity, sym (ap lane_in (work_here me e (work.Take take_stage.Look) s)) i))
-                  (t.0, becomes me s.mover (place_of me) s.here (λ p. F buffer t.0 p p.call) _ ((buffer_slot z.to_host.capacity e buffer, Buffer t.0) ∷ me.1) me' (ap (F buffer t.0 s.mover.pass) (sym s.call)) t.1))
+      subst (λ (v : ℕ × End). (message : List ℕ) × Becomes (λ p. F buffer message p p.call) (place_of me) ((buffer_slot v.0 v.1 buffer, Buffer message) ∷ me.1) me me')
+      (λ i. ((sym sized i).to_host.capacity, sym (ap lane_in (work_here me e (work.Take take_stage.Look) s)) i))
+      (t.0, becomes me s.mover (place_of me) s.here (λ p. F buffer t.0 p p.call) _ ((buffer_slot z.to_host.capacity e buffer, Buffer t.0) ∷ me.1) me' (ap (F buffer t.0 s.mover.pass) (sym s.call)) t.1))
 
   abbrev handed_to : (live : Bool) (c : ℕ) (x : ReceiverSide) (b : ℕ) (message : List ℕ) (era : Era) (follows : ℕ) (verdict : Verdict) (p : Pass) → Pass
   handed_to live c x b message era follows verdict p = cond live (record p {
@@ -217,16 +217,24 @@ module _ {D : Type 0} (cd : Coded D) (desk : DeskMeaning D) (z : LinkSizes) (n i
   take_hands s sized slots =
       told_by 1 16 (λ y. y) s.mover s.here (TakeHandsBy me s.mover e s.caller s.follows s.side s.buffer s.message) (λ y me'. TakeHands me y me') refl
       (hands cd desk z n id me s.mover e s.caller s.follows s.side s.buffer z.to_host.capacity s.message s.call refl
-              (slots ∙ ap (λ (w : LinkSizes). (buffer_slot w.to_host.capacity e s.buffer, Buffer s.message) ∷ rest me.1) sized))
+      (slots ∙ ap (λ (w : LinkSizes). (buffer_slot w.to_host.capacity e s.buffer, Buffer s.message) ∷ rest me.1) sized))
       (λ y me' t₀. hands_told s y me' t₀)
     where
       hands_told : (s : WorkAt me e (work.Take take_stage.Buffer)) (y : ℕ) (me' : SeatState) → TakeHandsBy me s.mover e s.caller s.follows s.side s.buffer s.message y me' → TakeHands me y me'
       hands_told s y me' t₀ = go (is_live_in t₀.0 s.follows) refl
         where
           go : (live : Bool) → is_live_in t₀.0 s.follows ≡ live → TakeHands me y me'
-          go true live = let t = t₀.2 live in (t₀.0, t₀.1, t.0,
-              becomes me s.mover (place_of me) s.here (with_handing t₀.0 t.0) _ (rest me.1) me'
-                  (ap (λ (b : Bool). handed_to b s.caller s.side s.buffer s.message t₀.0 s.follows t.0 s.mover.pass) (sym live) ∙ ap (with_handing_of t₀.0 t.0 s.mover.pass) (sym s.call)) t.1)
-          go false dead = (t₀.0, t₀.1, verdict.Malformed,
-              becomes me s.mover (place_of me) s.here (with_handing t₀.0 verdict.Malformed) _ (rest me.1) me'
-                  (ap (λ (b : Bool). handed_to b s.caller s.side s.buffer s.message t₀.0 s.follows verdict.Malformed s.mover.pass) (sym dead) ∙ ap (with_handing_of t₀.0 verdict.Malformed s.mover.pass) (sym s.call)) (t₀.3 dead))
+          go true live = let t = t₀.2 live in (
+            t₀.0,
+            t₀.1,
+            t.0,
+            becomes me s.mover (place_of me) s.here (with_handing t₀.0 t.0) _ (rest me.1) me'
+                (ap (λ (b : Bool). handed_to b s.caller s.side s.buffer s.message t₀.0 s.follows t.0 s.mover.pass) (sym live) ∙ ap (with_handing_of t₀.0 t.0 s.mover.pass) (sym s.call)) t.1,
+          )
+          go false dead = (
+            t₀.0,
+            t₀.1,
+            verdict.Malformed,
+            becomes me s.mover (place_of me) s.here (with_handing t₀.0 verdict.Malformed) _ (rest me.1) me'
+                (ap (λ (b : Bool). handed_to b s.caller s.side s.buffer s.message t₀.0 s.follows verdict.Malformed s.mover.pass) (sym dead) ∙ ap (with_handing_of t₀.0 verdict.Malformed s.mover.pass) (sym s.call)) (t₀.3 dead),
+          )

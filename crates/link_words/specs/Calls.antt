@@ -1,6 +1,5 @@
 -- The call of a pass: at which stage it is, and what a step makes of it (own).
-use Rattle.std.specs.Prelude.{◌≡◌, Bool, true, false, ℕ, zero, suc, if◌then◌else◌, ◌==◌, List, [], ◌∷◌, Some}
-use Rattle.std.specs.Prelude.{Option as Option_of}
+use Rattle.std.specs.Prelude.{◌≡◌, Bool, true, false, ℕ, zero, suc, if◌then◌else◌, ◌==◌, List, [], ◌∷◌}
 use Rattle.atomic_table.specs.Table.{Me, rest}
 use Rattle.rp_base.specs.declared.kinds.End.{End}
 use Rattle.lane_model.specs.declared.calls.CallEnd.{CallEnd}
@@ -10,7 +9,6 @@ use Rattle.lane_model.specs.declared.stages.SendStage.{SendStage}
 use Rattle.lane_model.specs.declared.stages.Turn.{Turn}
 use Rattle.lane_model.specs.declared.stages.Turn.TheVariants as turn
 use Rattle.lane_model.specs.declared.stages.Work.{Work}
-use Rattle.link_words.specs.declared.copies.LinkCopy.{LinkCopy}
 use Rattle.link_words.specs.declared.rule.Slot.{Slot}
 use Rattle.link_words.specs.declared.rule.Slot.TheVariants.{Sender, Receiver}
 use Rattle.link_words.specs.declared.rule.SenderSide.{SenderSide}

@@ -69,7 +69,6 @@ module _ {D : Type 0} (desk : DeskMeaning D) where
   after_deed m (Closes inc) = link_after_close m inc
   after_deed m (EndsCall end caller) = with_lanes m end (lanes_after_end (lanes_of m end) caller)
   after_deed m Opens = link_after_opening m
-
   after_deed m (TakesReceiver e) = with_lane m e (record (lane_to m e) { lane = with_manager (lane_to m e).lane lane_turn.Receiver })
   after_deed m (LeavesTurn e caller) = with_lane m e (after_leave_without (lane_to m e) caller)
   after_deed m (Enlists e) = record m { callers = with_caller m.callers e (free_number m.callers) }

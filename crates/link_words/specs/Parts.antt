@@ -29,7 +29,7 @@ use Rattle.link_words.specs.declared.rule.View.{View}
 use Rattle.link_words.specs.declared.rule.Pass.{Pass}
 use Rattle.link_words.specs.Codes.{copied}
 use Rattle.link_words.specs.Passes.{PassAt, EachPass, HasNumber, Manages}
-use Rattle.link_words.specs.Words.{other, lane_to}
+use Rattle.link_words.specs.Words.{other}
 use Rattle.link_words.specs.Turns.{is_manager, LaneTurns, LinkTurns, HasFourTurns}
 use Rattle.link_words.specs.Histories.{NoneOf, same_end, LaneBooks, HasHistory, HasHands, IsCurrent}
 

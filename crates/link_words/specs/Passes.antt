@@ -45,7 +45,13 @@ with_pass v o w k = record v { passes = slice_set v.passes o.place w; copy = k }
 -- what a join leaves behind
 abbrev pub spent_view : View
 spent_view = record {
-  passes = []; out = []; users = []; inc = 0; reclaims = []; is_closed = false; copy = None;
+  passes = [];
+  out = [];
+  users = [];
+  inc = 0;
+  reclaims = [];
+  is_closed = false;
+  copy = None;
   sizes = record { to_host = record { entries = 0; capacity = 0; own = 0 }; to_remote = record { entries = 0; capacity = 0; own = 0 }; first = 0 };
 }
 

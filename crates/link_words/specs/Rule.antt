@@ -1,8 +1,7 @@
 -- The rule of the table of a link: there is a state of the ring form that its words, its slots and its views show (own).
-use Rattle.std.specs.Prelude.{◌≡◌, ℕ, false, replicate, List, [], ◌∷◌, Some, None}
+use Rattle.std.specs.Prelude.{◌≡◌, ℕ, false, replicate, List, [], ◌∷◌, None}
 use Rattle.atomic_table.specs.Table.{State}
 use base.Stored.{Coded}
-use Rattle.rp_base.specs.declared.kinds.End.{End}
 use Rattle.lane_model.specs.declared.lane_links.LaneLink.{LaneLink}
 use Rattle.lane_model.specs.Desks.{DeskMeaning}
 use Rattle.lane_model.specs.Links.{link_of}
@@ -17,7 +16,6 @@ use Rattle.link_words.specs.declared.rule.Call.TheVariants.{Idle}
 use Rattle.link_words.specs.declared.rule.Pass.{Pass}
 use Rattle.link_words.specs.declared.rule.View.{View}
 use Rattle.link_words.specs.declared.rule.Event.{Event}
-use Rattle.link_words.specs.Passes.{EachPass}
 use Rattle.link_words.specs.Words.{lane_to, lane_words, reset_block, words_of, homes_of, Shelves}
 use Rattle.link_words.specs.Layouts.{layout}
 use Rattle.link_words.specs.Turns.{turns_in}

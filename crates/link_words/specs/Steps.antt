@@ -1,6 +1,6 @@
 -- What each step tells its seat: the number that was found in the word, and the view and the slots after (own; the indexes and the entries are
 -- those of a split virtqueue, VIRTIO 1.2 sections 2.7.6 and 2.7.8).
-use Rattle.std.specs.Prelude.{◌≡◌, ◌≢◌, ℕ, ◌+◌, ◌%◌, ◌==◌, ◌<◌, ◌≤◌, if◌then◌else◌, true, false, List, [], ◌∷◌, ◌++◌, length, Some, None}
+use Rattle.std.specs.Prelude.{◌≡◌, ◌≢◌, ℕ, ◌+◌, ◌%◌, ◌==◌, ◌<◌, ◌≤◌, if◌then◌else◌, List, [], ◌∷◌, ◌++◌, length, Some, None}
 use base.Stored.{Coded}
 use Rattle.atomic_table.specs.Table.{rest}
 use Rattle.rp_base.specs.declared.kinds.End.{End}
@@ -98,14 +98,14 @@ IsFit (wish.Unbind address) hands = Unit {0}
 abbrev pub TakesSender : End → ℕ → ℕ → List ℕ → SeatState → ℕ → SeatState → Type 0
 TakesSender lane number follows message me n me' =
     (n ≡ 0 → (x : SenderSide) × Becomes (λ p. with_call p (Sends lane (turn.Taken number (record { follows = follows; message = message; stage = stage.Turn })) x 0))
-        (place_of_number number me.0.passes) ((sender_slot lane, Sender x) ∷ me.1) me me')
+    (place_of_number number me.0.passes) ((sender_slot lane, Sender x) ∷ me.1) me me')
     × (n ≢ 0 → me' ≡ me)
 
 -- step 1 of a call that needs the receiver's turn
 abbrev pub TakesReceiver : End → ℕ → ℕ → Work → SeatState → ℕ → SeatState → Type 0
 TakesReceiver lane number follows first me n me' =
     (n ≡ 0 → (x : ReceiverSide) × Becomes (λ p. with_call p (Receives lane (turn.Taken number (record { follows = follows; work = first })) x 0 []))
-        (place_of_number number me.0.passes) ((receiver_slot lane, Receiver x) ∷ me.1) me me')
+    (place_of_number number me.0.passes) ((receiver_slot lane, Receiver x) ∷ me.1) me me')
     × (n ≢ 0 → me' ≡ me)
 
 -- the turn that a caller of this end needs for what it wishes: the sender's of the lane to the other end, or the receiver's of the lane to its own

@@ -5,8 +5,8 @@ ghost use Rattle.link_words.specs.Words.{words_in, IsSized};
 
 use crate::places::{ERA_PLACE, entry_place, forward_place, return_place};
 use crate::plays::{
-    TellsSendLoadsEntry, TellsSendLoadsEra, TellsSendLooks, TellsSendTakesOwn, TellsTakeHands, TellsTakeLoadsEntry, TellsTakeLoadsEra,
-    TellsTakeLooks,
+    TellsSendLoadsEntry, TellsSendLoadsEra, TellsSendLooks, TellsSendTakesOwn, TellsTakeHands,
+    TellsTakeLoadsEntry, TellsTakeLoadsEra, TellsTakeLooks,
 };
 use crate::rule::{LinkSeat, LinkSizes, LinkTable, Ring};
 use lane_model::Desk;
@@ -36,7 +36,12 @@ pub enum EraUse {
 
 /// Step 3 of a send or a take, and step 4 of a send that takes a buffer of the sender's own list: a load of an index of the lane.
 #[inline(always)]
-pub fn load_index<D: Desk>(table: &LinkTable<D>, seat: &mut LinkSeat, lane: End, index: IndexUse) -> u64
+pub fn load_index<D: Desk>(
+    table: &LinkTable<D>,
+    seat: &mut LinkSeat,
+    lane: End,
+    index: IndexUse,
+) -> u64
     requires table { (seat.old.table_id ≡ table.now.table_id) × (words_in table.now.key ≤ table.now.table_id.words) × (seat.old.me.0.sizes ≡ table.now.key) }
     requires call { MayLoadIndex index lane seat.old.me }
     ensures same { (seat.new.table_id ≡ seat.old.table_id) × (seat.new.id ≡ seat.old.id) }
@@ -52,7 +57,14 @@ pub fn load_index<D: Desk>(table: &LinkTable<D>, seat: &mut LinkSeat, lane: End,
 
 /// Step 4 of a send or a take: a load of the entry of this count, and its buffer is out.
 #[inline(always)]
-pub fn load_entry<D: Desk>(table: &LinkTable<D>, sizes: &LinkSizes, seat: &mut LinkSeat, lane: End, ring: Ring, count: u64) -> u64
+pub fn load_entry<D: Desk>(
+    table: &LinkTable<D>,
+    sizes: &LinkSizes,
+    seat: &mut LinkSeat,
+    lane: End,
+    ring: Ring,
+    count: u64,
+) -> u64
     requires table { (seat.old.table_id ≡ table.now.table_id) × (words_in table.now.key ≤ table.now.table_id.words) × (seat.old.me.0.sizes ≡ table.now.key) }
     requires sizes { (sizes.now ≡ table.now.key) × IsSized sizes.now }
     requires call { MayLoadEntry ring lane count seat.old.me }

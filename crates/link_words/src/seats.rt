@@ -11,10 +11,9 @@ ghost use Rattle.link_words.specs.Seats.{Settles, EnlistsCaller, EndsCaller, Lea
 ghost use Rattle.link_words.specs.Words.{words_in};
 
 use crate::moves::{
-    ComesBack, TellsEndsCaller, EndsReturned, EnlistsHost, EnlistsRemote, GoesOut, MakesHost,
-    MakesRemote, TellsSettles,
+    ComesBack, EndsReturned, EnlistsHost, EnlistsRemote, GoesOut, MakesHost, MakesRemote,
+    TellsClosesEra, TellsEndsCaller, TellsLearnsEra, TellsSettles,
 };
-use crate::moves::{TellsClosesEra, TellsLearnsEra};
 use crate::places::ERA_PLACE;
 use crate::rule::{LinkSeat, LinkTable, Slot};
 use lane_model::Desk;

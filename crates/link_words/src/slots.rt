@@ -3,7 +3,7 @@ ghost use Rattle.std.specs.Prelude.{◌≡◌, ℕ, List, ◌∷◌};
 ghost use Rattle.atomic_table.specs.Table.{rest};
 ghost use Rattle.link_words.specs.declared.rule.Slot.TheVariants.{Buffer};
 
-use crate::rule::{LinkSeat, Slot, LinkTable};
+use crate::rule::{LinkSeat, LinkTable, Slot};
 use lane_model::Desk;
 use rp_base::Message;
 

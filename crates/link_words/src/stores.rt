@@ -12,7 +12,14 @@ use vring_layout::UsedWord;
 
 /// Step 5 of a send: the forward entry of this count names the buffer, in which the message is.
 #[inline(always)]
-pub fn store_entry<D: Desk>(table: &LinkTable<D>, sizes: &LinkSizes, seat: &mut LinkSeat, lane: End, count: u64, entry: UsedWord)
+pub fn store_entry<D: Desk>(
+    table: &LinkTable<D>,
+    sizes: &LinkSizes,
+    seat: &mut LinkSeat,
+    lane: End,
+    count: u64,
+    entry: UsedWord,
+)
     requires table { (seat.old.table_id ≡ table.now.table_id) × (words_in table.now.key ≤ table.now.table_id.words) × (seat.old.me.0.sizes ≡ table.now.key) }
     requires sizes { (sizes.now ≡ table.now.key) × IsSized sizes.now }
     requires call { MayStoreEntry lane count entry seat.old.me }

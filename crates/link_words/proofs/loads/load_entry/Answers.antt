@@ -1,5 +1,4 @@
-use Rattle.std.proofs.Common.{◌≡◌, ℕ, ◌+◌, ◌*◌, ◌<◌, ◌≤◌, arith, refl, sym, ap, ◌∙◌, subst}
-use Rattle.link_words.specs.declared.rule.LinkSizes.{LinkSizes}
+use Rattle.std.proofs.Common.{arith, ◌∙◌, subst}
 use Rattle.link_words.specs.declared.rule.Ring.TheVariants as ring
 use Rattle.link_words.specs.Layouts.{place_in}
 use Rattle.link_words.specs.Words.{entry_number, IsSized}

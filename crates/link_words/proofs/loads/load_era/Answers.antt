@@ -1,4 +1,4 @@
-use Rattle.std.proofs.Common.{◌≡◌, ℕ, ◌+◌, ◌*◌, ◌<◌, ◌≤◌, arith, refl, sym, ap, ◌∙◌, subst}
+use Rattle.std.proofs.Common.{arith, subst}
 use Rattle.link_words.specs.Steps.{MayLoadEra}
 use Rattle.link_words.proofs.Told.{send_loads_era, take_loads_era, take_hands}
 use Rattle.link_words.proofs.loads.load_era.Goals as goal

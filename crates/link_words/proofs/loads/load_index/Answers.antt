@@ -1,5 +1,5 @@
-use Rattle.std.proofs.Common.{◌≡◌, ℕ, ◌+◌, ◌*◌, ◌<◌, ◌≤◌, arith, refl, sym, ap, ◌∙◌, subst}
-use Rattle.link_words.specs.Words.{forward_word, return_word}
+use Rattle.std.proofs.Common.{arith, subst}
+use Rattle.link_words.specs.Words.{return_word}
 use Rattle.link_words.specs.Steps.{MayLoadIndex}
 use Rattle.link_words.proofs.Apart.{forward_low, return_low}
 use Rattle.link_words.proofs.Told.{send_looks, send_takes_own, take_looks}

@@ -1,4 +1,4 @@
-use Rattle.std.proofs.Common.{◌≡◌, ℕ, ◌+◌, ◌*◌, ◌%◌, arith, sym, ap, ◌∙◌}
+use Rattle.std.proofs.Common.{ℕ, ◌+◌, ◌%◌, arith, ap}
 use Rattle.link_words.specs.Words.{sizes_at, entries_before, ring_before}
 use Rattle.link_words.proofs.Apart.{entry_place_is}
 use Rattle.link_words.proofs.places.entry_place.Goals as goal

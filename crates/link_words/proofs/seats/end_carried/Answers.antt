@@ -1,4 +1,4 @@
-use Rattle.std.proofs.Common.{◌≡◌, ◌+◌, ◌*◌, arith, refl}
+use Rattle.std.proofs.Common.{arith, refl}
 use prog.Atomic.{either}
 use Rattle.std.proofs.Common.{eqb}
 use Rattle.link_words.specs.Seats.{EndsCaller}

@@ -1,4 +1,4 @@
-use Rattle.std.proofs.Common.{◌≡◌, ◌+◌, ◌*◌, arith, refl}
+use Rattle.std.proofs.Common.{arith}
 use Rattle.link_words.proofs.Apart.{joins_apart}
 use Rattle.link_words.proofs.Endings.{joins_ended}
 use Rattle.link_words.proofs.seats.join.Goals as goal

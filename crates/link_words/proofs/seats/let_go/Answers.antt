@@ -1,4 +1,4 @@
-use Rattle.std.proofs.Common.{◌≡◌, ◌+◌, ◌*◌, arith, refl}
+use Rattle.std.proofs.Common.{arith}
 use Rattle.link_words.proofs.Apart.{splits_apart}
 use Rattle.link_words.proofs.Moving.{splits}
 use Rattle.link_words.proofs.seats.let_go.Goals as goal

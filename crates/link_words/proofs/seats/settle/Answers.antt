@@ -1,4 +1,4 @@
-use Rattle.std.proofs.Common.{◌≡◌, ◌+◌, ◌*◌, arith, refl}
+use Rattle.std.proofs.Common.{arith, refl}
 use Rattle.link_words.specs.Seats.{Settles}
 use Rattle.link_words.proofs.Apart.{apart}
 use Rattle.link_words.proofs.Endings.{settles}

@@ -1,4 +1,4 @@
-use Rattle.std.proofs.Common.{◌≡◌, ◌+◌, ◌*◌, arith, refl}
+use Rattle.std.proofs.Common.{arith}
 use Rattle.rp_base.specs.declared.kinds.End.TheVariants as side
 use Rattle.link_words.proofs.Apart.{splits_apart}
 use Rattle.link_words.proofs.Moving.{makes}

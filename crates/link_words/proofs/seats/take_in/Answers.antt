@@ -1,4 +1,4 @@
-use Rattle.std.proofs.Common.{◌≡◌, ◌+◌, ◌*◌, arith, refl}
+use Rattle.std.proofs.Common.{arith}
 use Rattle.link_words.proofs.Apart.{joins_apart}
 use Rattle.link_words.proofs.Moving.{joins}
 use Rattle.link_words.proofs.seats.take_in.Goals as goal

@@ -1,4 +1,4 @@
-use Rattle.std.proofs.Common.{◌≡◌, ℕ, ◌+◌, ◌*◌, ◌<◌, ◌≤◌, arith, refl, sym, ap, ◌∙◌, subst}
+use Rattle.std.proofs.Common.{arith, refl}
 use Rattle.link_words.proofs.Apart.{forward_low}
 use Rattle.link_words.proofs.Told.{send_publishes}
 use Rattle.link_words.proofs.stores.publish_index.Goals as goal

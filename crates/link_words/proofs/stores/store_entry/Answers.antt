@@ -1,4 +1,4 @@
-use Rattle.std.proofs.Common.{◌≡◌, ℕ, ◌+◌, ◌*◌, ◌<◌, ◌≤◌, arith, refl, sym, ap, ◌∙◌, subst}
+use Rattle.std.proofs.Common.{◌≡◌, ◌+◌, ◌*◌, arith, ap, ◌∙◌, subst}
 use Rattle.vring_layout.specs.declared.words.UsedWord.{UsedWord}
 use Rattle.ring_core.specs.declared.states.RingSizes.{RingSizes}
 use Rattle.ring_core.specs.Rings.{entry_length}
@@ -6,7 +6,7 @@ use Rattle.std.proofs.Common.{length}
 use Rattle.lane_model.specs.declared.stages.SendStage.TheVariants as stage
 use Rattle.link_words.specs.declared.rule.Ring.TheVariants as ring
 use Rattle.link_words.specs.Layouts.{place_in}
-use Rattle.link_words.specs.Words.{entry_number, sizes_at, IsSized}
+use Rattle.link_words.specs.Words.{entry_number, IsSized}
 use Rattle.link_words.specs.Steps.{sizes_by}
 use Rattle.link_words.proofs.Apart.{entry_low}
 use Rattle.link_words.proofs.Told.{send_stores_entry, send_sizes}

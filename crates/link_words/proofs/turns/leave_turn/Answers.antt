@@ -1,4 +1,4 @@
-use Rattle.std.proofs.Common.{◌≡◌, ℕ, ◌+◌, ◌*◌, ◌<◌, ◌≤◌, arith, refl, sym, ap, ◌∙◌, subst}
+use Rattle.std.proofs.Common.{arith, subst}
 use Rattle.link_words.specs.Steps.{EndsAt}
 use Rattle.link_words.proofs.Apart.{sender_low, receiver_low}
 use Rattle.link_words.proofs.Told.{leaves_sender, leaves_receiver}

@@ -1,4 +1,4 @@
-use Rattle.std.proofs.Common.{◌≡◌, ◌+◌, ◌<◌, arith, refl}
+use Rattle.std.proofs.Common.{arith, refl}
 use Rattle.link_words.proofs.Beginnings.{call_begins, wish_low}
 use Rattle.link_words.proofs.turns.take_turn.Goals as goal
 
