@@ -1,4 +1,4 @@
-use crate::recoveries::store_of;
+use crate::stores::store_of;
 use crash_recover::{BenchFault, Core, Done, Reclaim};
 use lane_model::{CallEnd, Wish};
 use memory_pool::Regions;

@@ -1,4 +1,4 @@
-use crate::recoveries::store_with;
+use crate::stores::store_with;
 use crash_recover::{Core, Driven};
 use lane_model::CallEnd;
 use memory_pool::Regions;

@@ -1,5 +1,5 @@
-// Tests of calls that the program doesn't make: a bench step by step, a boot and a recovery from a store of images, the
-// calls of a caller on a core's link, single steps of its actors, and a run of a script that was read before.
+// Tests of calls that the program doesn't make: a bench step by step, the calls of a caller on a core's link, single steps
+// of its actors over a store of images, and a run of a script that was read before.
 #![tactic(auto)]
 
 #[cfg(test)]
@@ -9,6 +9,6 @@ mod callers;
 #[cfg(test)]
 mod drives;
 #[cfg(test)]
-mod recoveries;
-#[cfg(test)]
 mod scripts;
+#[cfg(test)]
+mod stores;

@@ -1,4 +1,4 @@
-use crate::recoveries::store_of;
+use crate::stores::store_of;
 use rp_io::MemorySink;
 use script_lang::parse;
 use script_run::run_script;

@@ -6,7 +6,7 @@ use Rattle.lane_model.specs.declared.calls.LinkConfig.{LinkConfig}
 use Rattle.endpoint_map.specs.Bindings.{no_bindings}
 use Rattle.channel_bus.specs.Sides.{EndState}
 use Rattle.fw_load.specs.declared.rings.RingPair.{RingPair}
-use Rattle.crash_recover.specs.Benches.{BenchState, new_bench_of, with_new_caller}
+use Rattle.link_bench.specs.Benches.{BenchState, new_bench_of, with_new_caller}
 use Rattle.crash_recover.specs.CoreBoots.{config_of, core_bench, fresh_end}
 
 -- an end with drivers

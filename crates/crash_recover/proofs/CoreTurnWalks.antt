@@ -1,11 +1,11 @@
 -- Turns of a pump on a core's link, one after the other.
 use Rattle.std.proofs.Common.{◌≡◌, ℕ, suc, ◌+◌, ◌-◌, ◌<◌, ◌≤◌, true, false, cond, refl, sym, ap, ◌∙◌, arith}
-use Rattle.crash_recover.specs.declared.turns.TurnEnd.{TurnEnd}
-use Rattle.crash_recover.specs.declared.turns.TurnEnd.TheVariants as turn_end
+use Rattle.link_bench.specs.declared.turns.TurnEnd.{TurnEnd}
+use Rattle.link_bench.specs.declared.turns.TurnEnd.TheVariants as turn_end
 use Rattle.crash_recover.specs.Actors.{ActorsState}
-use Rattle.crash_recover.specs.Benches.{BenchState}
+use Rattle.link_bench.specs.Benches.{BenchState}
 use Rattle.crash_recover.specs.CoreTurns.{LinkPumped, LinkTurns, one_turn_on, pump_turns_on}
-use Rattle.crash_recover.specs.Turns.{is_whole}
+use Rattle.link_bench.specs.Turns.{is_whole}
 
 -- all turns are done
 abbrev pub whole_pump : BenchState → ActorsState → ℕ → ℕ → LinkPumped

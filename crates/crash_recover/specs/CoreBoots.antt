@@ -23,9 +23,9 @@ use Rattle.channel_bus.specs.Sides.{EndState}
 use Rattle.lane_model.specs.declared.calls.LinkConfig.{LinkConfig}
 use Rattle.crash_recover.specs.declared.core_faults.CoreFault.{CoreFault}
 use Rattle.crash_recover.specs.declared.core_faults.CoreFault.TheVariants as fault
-use Rattle.crash_recover.specs.Benches.{BenchState, new_bench_of, with_new_caller}
+use Rattle.link_bench.specs.Benches.{BenchState, new_bench_of, with_new_caller}
 use Rattle.crash_recover.specs.Actors.{driver_names, fresh_actors}
-use Rattle.crash_recover.specs.BenchHolds.{caller_out}
+use Rattle.link_bench.specs.BenchHolds.{caller_out}
 use Rattle.crash_recover.specs.Cores.{CoreState, LoadState}
 
 -- the refusal of a load, where want of memory stands alone

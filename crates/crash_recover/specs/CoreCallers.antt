@@ -9,17 +9,17 @@ use Rattle.lane_model.specs.declared.calls.Wish.{Wish}
 use Rattle.lane_model.specs.Lanes.{holder}
 use Rattle.lane_model.specs.Links.{end_of, free_number}
 use Rattle.lane_model.specs.Recoveries.{unreclaimed_by}
-use Rattle.crash_recover.specs.declared.bench_crashes.Reclaim.{Reclaim}
-use Rattle.crash_recover.specs.declared.benches.BenchFault.{BenchFault}
-use Rattle.crash_recover.specs.declared.benches.BenchFault.TheVariants as fault
-use Rattle.crash_recover.specs.declared.benches.Reach.{Reach}
-use Rattle.crash_recover.specs.declared.benches.Reach.TheVariants as reach
+use Rattle.link_bench.specs.declared.bench_crashes.Reclaim.{Reclaim}
+use Rattle.link_bench.specs.declared.benches.BenchFault.{BenchFault}
+use Rattle.link_bench.specs.declared.benches.BenchFault.TheVariants as fault
+use Rattle.link_bench.specs.declared.benches.Reach.{Reach}
+use Rattle.link_bench.specs.declared.benches.Reach.TheVariants as reach
 use Rattle.crash_recover.specs.declared.core_callers.StepFault.{StepFault}
 use Rattle.crash_recover.specs.declared.core_callers.StepFault.TheVariants as step
 use Rattle.crash_recover.specs.Actors.{ActorsState}
-use Rattle.crash_recover.specs.Benches.{BenchState, BenchWalk, advance_walk, begin_fault, step_fault, with_begun, with_new_caller}
-use Rattle.crash_recover.specs.BenchCrashes.{reclaim_answer, reclaim_leaves}
-use Rattle.crash_recover.specs.BenchRings.{bench_snapshot, snapshot_at, turn_holder}
+use Rattle.link_bench.specs.Benches.{BenchState, BenchWalk, advance_walk, begin_fault, step_fault, with_begun, with_new_caller}
+use Rattle.link_bench.specs.BenchCrashes.{reclaim_answer, reclaim_leaves}
+use Rattle.link_bench.specs.BenchRings.{bench_snapshot, snapshot_at, turn_holder}
 use Rattle.crash_recover.specs.CoreLinks.{with_link}
 use Rattle.crash_recover.specs.CoreRecoveries.{loaded_rings}
 use Rattle.crash_recover.specs.Cores.{CoreState}

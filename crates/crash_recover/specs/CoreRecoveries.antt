@@ -2,7 +2,6 @@
 use Rattle.std.specs.Prelude.{◌≡◌, ◌≢◌, ℕ, ◌==◌, Bool, List, Option, Some, None, Err, option_map, option_and_then, if◌then◌else◌}
 use Rattle.std.specs.Option.{option_or}
 use Rattle.std.specs.Str.{is_utf8}
-use Rattle.rp_base.specs.declared.kinds.End.TheVariants as side
 use Rattle.rp_base.specs.declared.kinds.LifeState.{LifeState}
 use Rattle.rp_base.specs.declared.kinds.LifeState.TheVariants.{Offline, Running, Crashed}
 use Rattle.rp_io.specs.Images.{IsFetched}
@@ -13,18 +12,15 @@ use Rattle.fw_load.specs.declared.rings.RingPair.{RingPair}
 use Rattle.proc_state.specs.Lives.{CoreLife, most, life_after_recovery}
 use Rattle.proc_state.specs.declared.answers.LifeFault.{LifeFault}
 use Rattle.proc_state.specs.declared.answers.LifeFault.TheVariants as life_fault
-use Rattle.lane_model.specs.Recoveries.{unopened_by, unreclaimed_by}
-use Rattle.lane_model.specs.declared.recoveries.ReclaimRefusal.{ReclaimRefusal}
-use Rattle.lane_model.specs.declared.recoveries.ReclaimRefusal.TheVariants as refusal
 use Rattle.lane_model.specs.declared.recoveries.ReopenFault.{ReopenFault}
 use Rattle.lane_model.specs.declared.recoveries.ReopenFault.TheVariants as reopen
 use Rattle.crash_recover.specs.declared.core_faults.CoreFault.{CoreFault}
 use Rattle.crash_recover.specs.declared.core_faults.CoreFault.TheVariants as fault
 use Rattle.crash_recover.specs.Actors.{fresh_actors}
-use Rattle.crash_recover.specs.Benches.{BenchState}
-use Rattle.crash_recover.specs.BenchCrashes.{after_reclaim, after_reopen}
+use Rattle.link_bench.specs.Benches.{BenchState}
+use Rattle.link_bench.specs.BenchCrashes.{after_reopen}
+use Rattle.link_bench.specs.BenchEnds.{readied_bench, reopen_refusal_of}
 use Rattle.crash_recover.specs.CoreBoots.{IsImageIn, loaded_from}
-use Rattle.crash_recover.specs.CoreCrashes.{with_fresh_caller}
 use Rattle.crash_recover.specs.Cores.{CoreState, LoadState}
 
 -- why a core is not recovered, whatever the image, by its state
@@ -62,32 +58,6 @@ IsReloadFault core image fault.NoMemory = recovery_fault core.life ≡ None
 IsReloadFault core image (fault.Fetch why) = ⊥
 IsReloadFault core image (fault.CallerOut caller) = ⊥
 IsReloadFault core image (fault.Reopen why) = ⊥
-
--- a refused reclaim of caller 0, as a reopening names it
-abbrev pub unready_for : ReclaimRefusal → ReopenFault
-unready_for (refusal.StillOpen era) = reopen.StillOpen era
-unready_for (refusal.Busy holder) = reopen.StillTurn holder
-
--- the bench with a new caller in place of caller 0
-abbrev pub with_new_host : BenchState → BenchState
-with_new_host bench = with_fresh_caller (after_reclaim bench 0) side.Host
-
--- the same, unless something refuses the reclaim of caller 0
-abbrev pub renewed_unless : BenchState → Option ReclaimRefusal → BenchState
-renewed_unless bench None = with_new_host bench
-renewed_unless bench (Some why) = bench
-
--- the bench that a reopening finds
-abbrev pub readied_bench : BenchState → BenchState
-readied_bench bench = renewed_unless bench (unreclaimed_by bench.link 0)
-
--- why a bench is not reopened: caller 0 is not reclaimed, or the link behind it is not reopened
-abbrev pub unopened_unless : BenchState → Option ReclaimRefusal → Option ReopenFault
-unopened_unless bench None = unopened_by (with_new_host bench).link
-unopened_unless bench (Some why) = Some (unready_for why)
-
-abbrev pub reopen_refusal_of : BenchState → Option ReopenFault
-reopen_refusal_of bench = unopened_unless bench (unreclaimed_by bench.link 0)
 
 -- no incarnation is left
 abbrev pub spent_fault : Bool → Option CoreFault

@@ -3,8 +3,8 @@ use Rattle.std.specs.Prelude.{ℕ, ◌==◌, List, Option, option_map, option_an
 use Rattle.rp_base.specs.Limits.{ring_capacity}
 use Rattle.resource_table.specs.declared.entries.Ring.{Ring}
 use Rattle.fw_load.specs.declared.rings.RingPair.{RingPair}
-use Rattle.crash_recover.specs.Benches.{BenchState, RingsState}
-use Rattle.crash_recover.specs.BenchRings.{lane_base, placed_bytes}
+use Rattle.link_bench.specs.Benches.{BenchState, RingsState}
+use Rattle.link_bench.specs.BenchRings.{lane_base, placed_bytes}
 use Rattle.crash_recover.specs.CoreRecoveries.{loaded_rings}
 use Rattle.crash_recover.specs.Cores.{CoreState}
 

@@ -1,12 +1,12 @@
 -- Turns of a send, its take and its give on the link of a core, whose drivers see the ends of the host's takes (own).
 use Rattle.std.specs.Prelude.{ℕ, zero, suc, ◌+◌, Option, Some, None, Result, Ok, Err, if◌then◌else◌}
 use Rattle.lane_model.specs.declared.calls.Wish.TheVariants as wish
-use Rattle.crash_recover.specs.declared.benches.Reach.{Reach}
-use Rattle.crash_recover.specs.declared.benches.Reach.TheVariants as reach
-use Rattle.crash_recover.specs.declared.turns.TurnEnd.{TurnEnd}
-use Rattle.crash_recover.specs.declared.turns.TurnEnd.TheVariants as turn_end
-use Rattle.crash_recover.specs.Benches.{BenchState, call_walk}
-use Rattle.crash_recover.specs.Turns.{Turns, TurnCall, give_turn, is_whole, turn_call, turn_message}
+use Rattle.link_bench.specs.declared.benches.Reach.{Reach}
+use Rattle.link_bench.specs.declared.benches.Reach.TheVariants as reach
+use Rattle.link_bench.specs.declared.turns.TurnEnd.{TurnEnd}
+use Rattle.link_bench.specs.declared.turns.TurnEnd.TheVariants as turn_end
+use Rattle.link_bench.specs.Benches.{BenchState, call_walk}
+use Rattle.link_bench.specs.Turns.{Turns, TurnCall, give_turn, is_whole, turn_call, turn_message}
 use Rattle.crash_recover.specs.Actors.{ActorsState}
 use Rattle.crash_recover.specs.Drives.{actors_after_end}
 use Rattle.crash_recover.specs.Cores.{CoreState}

@@ -20,7 +20,7 @@ use Rattle.host_driver.specs.Drivers.{Declared, driver_fault}
 use Rattle.host_driver.specs.declared.drivers.DriverFault.{DriverFault}
 use Rattle.host_driver.specs.declared.drivers.DriverFault.TheVariants as driver
 use Rattle.crash_recover.specs.Actors.{ActorsState, new_actors}
-use Rattle.crash_recover.specs.Benches.{BenchState}
+use Rattle.link_bench.specs.Benches.{BenchState}
 use Rattle.crash_recover.specs.declared.core_faults.AddFault.{AddFault}
 use Rattle.crash_recover.specs.declared.core_faults.AddFault.TheVariants as add
 

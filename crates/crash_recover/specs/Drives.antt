@@ -23,13 +23,13 @@ use Rattle.remote_core.specs.declared.workers.Work.{Work}
 use Rattle.remote_core.specs.declared.workers.Work.TheVariants as work
 use Rattle.crash_recover.specs.declared.actors.Actor.{Actor}
 use Rattle.crash_recover.specs.declared.actors.Actor.TheVariants as actor
-use Rattle.crash_recover.specs.declared.benches.Reach.{Reach}
-use Rattle.crash_recover.specs.declared.benches.Reach.TheVariants as reach
+use Rattle.link_bench.specs.declared.benches.Reach.{Reach}
+use Rattle.link_bench.specs.declared.benches.Reach.TheVariants as reach
 use Rattle.crash_recover.specs.declared.core_drives.Driven.{Driven}
 use Rattle.crash_recover.specs.declared.core_drives.Driven.TheVariants as driven
 use Rattle.crash_recover.specs.declared.core_drives.DriveProgress.{DriveProgress}
 use Rattle.crash_recover.specs.declared.core_drives.DriveProgress.TheVariants as progress
-use Rattle.crash_recover.specs.Benches.{BenchState, BenchWalk, is_in_call, begin_fault, advance_walk, counts_of, start_walk, taken_on}
+use Rattle.link_bench.specs.Benches.{BenchState, BenchWalk, is_in_call, begin_fault, advance_walk, counts_of, start_walk, taken_on}
 use Rattle.crash_recover.specs.Actors.{ActorsState, other_actor}
 use Rattle.crash_recover.specs.Cores.{CoreState, LoadState}
 use Rattle.crash_recover.specs.CoreCrashes.{after_report}

@@ -2,13 +2,13 @@ ghost use Rattle.std.specs.Prelude.{◌≡◌, ◌<◌, ◌≤◌, ◌+◌, leng
 ghost use Rattle.std.specs.VecDeque.{deque_len, deque_capacity};
 ghost use Rattle.rp_base.specs.declared.limits.TheConstants.{MESSAGE_MOST};
 ghost use Rattle.crash_recover.specs.Actors.{actors_view};
-ghost use Rattle.crash_recover.specs.Benches.{reach_of};
+ghost use Rattle.link_bench.specs.Benches.{reach_of};
 ghost use Rattle.crash_recover.specs.Drives.{actors_after_end, after_endpoint, after_verdict, driven_by_verdict, driven_on, endpoint_answer, host_begun_as, host_ended, host_reached, is_tried_again, message_of, number_taken, verdict_answer, worker_ended, worker_reached};
 
 use crate::actors::Actors;
-use crate::benches::{Bench, Progress};
 use host_driver::Drivers;
 use lane_model::{CallEnd, Wish};
+use link_bench::{Bench, Progress};
 use rp_base::{CallerNo, End, Endpoint, Message, Name, NoMemory, NsKind, Verdict};
 
 impl Actors {
@@ -44,7 +44,7 @@ impl Actors {
         ensures { actors_view self.new ≡ driven_on (host_ended (actors_view self.old) end.now) (message_of bench.now 0 end.now) end.now }
     {
         self.host_ended(end);
-        self.see_end(bench.message_of(0, end), end);
+        self.see_end(message_of(bench, 0, end), end);
     }
 
     /// Has the host actor see the end of its call.
@@ -77,7 +77,7 @@ impl Actors {
         match bench.end_of(caller) {
             Some(End::Host) => {
                 self.host_calls.reserve(1)?;
-                self.see_end(bench.message_of(caller, end), end);
+                self.see_end(message_of(bench, caller, end), end);
                 Ok(())
             }
             Some(End::Remote) | None => Ok(()),
@@ -90,7 +90,7 @@ impl Actors {
         ensures { actors_view self.new ≡ actors_after_end bench.now caller end.now (actors_view self.old) }
     {
         match bench.end_of(caller) {
-            Some(End::Host) => self.see_end(bench.message_of(caller, end), end),
+            Some(End::Host) => self.see_end(message_of(bench, caller, end), end),
             Some(End::Remote) | None => {}
         }
     }
@@ -128,7 +128,7 @@ impl Actors {
     {
         match progress {
             Progress::At(_) => {}
-            Progress::Ended => self.worker_ended(bench.message_of(1, end), end),
+            Progress::Ended => self.worker_ended(message_of(bench, 1, end), end),
             Progress::Limit => {
                 self.worker_calls.pop_front();
             }
@@ -152,16 +152,14 @@ impl Actors {
     }
 }
 
-impl Bench {
-    /// The message that a caller was handed by a call that ended so, or no byte.
-    pub(crate) fn message_of(&self, caller: CallerNo, end: &CallEnd) -> &[u8]
-        ensures message { result.now ≡ message_of self.now caller end.now }
-        ensures short { length result.now ≤ MESSAGE_MOST }
-    {
-        match number_taken(end) {
-            Some(number) => self.taken_message(caller, number),
-            None => &[],
-        }
+/// The message that a caller of a bench was handed by a call that ended so, or no byte.
+pub(crate) fn message_of<'a>(bench: &'a Bench, caller: CallerNo, end: &CallEnd) -> &'a [u8]
+    ensures message { result.now ≡ message_of bench.now caller end.now }
+    ensures short { length result.now ≤ MESSAGE_MOST }
+{
+    match number_taken(end) {
+        Some(number) => bench.taken_message(caller, number),
+        None => &[],
     }
 }
 

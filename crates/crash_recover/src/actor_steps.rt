@@ -3,14 +3,14 @@ ghost use Rattle.std.specs.VecDeque.{deque_len, deque_capacity};
 ghost use Rattle.lane_model.specs.declared.calls.CallEnd.{CallEnd};
 ghost use Rattle.remote_core.specs.Works.{memory_after, work_of};
 ghost use Rattle.crash_recover.specs.Actors.{actors_view};
-ghost use Rattle.crash_recover.specs.Benches.{begin_fault, is_in_call, reach_of};
+ghost use Rattle.link_bench.specs.Benches.{begin_fault, is_in_call, reach_of};
 ghost use Rattle.crash_recover.specs.Drives.{actors_after_record, begins_with_take, begun_step, driven_by, driven_by_work, driven_of, first_or_take, host_begun, host_reached, is_drained, is_rest, link_step, worker_reached};
 
 use crate::actors::Actors;
-use crate::benches::{Bench, Progress};
 use crate::core_drives::DriveProgress;
 use fw_load::Loaded;
 use lane_model::{CallEnd, Wish};
+use link_bench::{Bench, Progress};
 use remote_core::Task;
 use rp_base::{CallerNo, NoMemory};
 use std::collections::VecDeque;
@@ -21,57 +21,55 @@ const HOST_CALLER: CallerNo = 0;
 /// The caller of the worker.
 const WORKER_CALLER: CallerNo = 1;
 
-impl Bench {
-    /// What a step of an actor does: a call under way goes on by one step, else the first of these calls
-    /// begins, or a take where there is none, and does its first. Where the call ends, `end` says how.
-    /// One that can't begin does nothing.
-    #[inline(always)]
-    fn link_step(
-        &mut self,
-        caller: CallerNo,
-        goes_on: bool,
-        calls: &VecDeque<Wish>,
-        end: &mut CallEnd,
-    ) -> Progress
-        requires caller { caller < 64 }
-        requires calling { goes_on ≡ is_in_call self.old caller }
-        ensures bench { self.new ≡ (link_step self.old caller (first_or_take calls.now.items)).bench }
-        ensures reach { reach_of result end.new ≡ (link_step self.old caller (first_or_take calls.now.items)).reach }
-    {
-        if goes_on {
-            return self.advance(caller, 0, &mut 0, end);
-        }
-        match calls.front() {
-            Some(first) => self.begin_step(caller, first, end),
-            None => self.begin_step(caller, &Wish::Take, end),
-        }
+/// What a step of an actor does: a call under way goes on by one step, else the first of these calls
+/// begins, or a take where there is none, and does its first. Where the call ends, `end` says how.
+/// One that can't begin does nothing.
+#[inline(always)]
+fn link_step(
+    bench: &mut Bench,
+    caller: CallerNo,
+    goes_on: bool,
+    calls: &VecDeque<Wish>,
+    end: &mut CallEnd,
+) -> Progress
+    requires caller { caller < 64 }
+    requires calling { goes_on ≡ is_in_call bench.old caller }
+    ensures bench { bench.new ≡ (link_step bench.old caller (first_or_take calls.now.items)).bench }
+    ensures reach { reach_of result end.new ≡ (link_step bench.old caller (first_or_take calls.now.items)).reach }
+{
+    if goes_on {
+        return bench.advance(caller, 0, &mut 0, end);
     }
-
-    /// Begins a call of a caller that is in none, and does its first step. One that can't begin does
-    /// nothing.
-    #[inline(never)]
-    fn begin_step(&mut self, caller: CallerNo, wished: &Wish, end: &mut CallEnd) -> Progress
-        requires caller { caller < 64 }
-        requires calling { is_in_call self.old caller ≡ false }
-        ensures bench { self.new ≡ (begun_step self.old caller wished.now).bench }
-        ensures reach { reach_of result end.new ≡ (begun_step self.old caller wished.now).reach }
-    {
-        if self.is_refused(caller, wished) {
-            return Progress::Limit;
-        }
-        self.start(caller, wished, &mut 0, end)
+    match calls.front() {
+        Some(first) => begin_step(bench, caller, first, end),
+        None => begin_step(bench, caller, &Wish::Take, end),
     }
+}
 
-    /// Whether a caller that is in no call can't begin this one.
-    fn is_refused(&self, caller: CallerNo, wished: &Wish) -> bool
-        requires caller { caller < 64 }
-        requires calling { is_in_call self.now caller ≡ false }
-        ensures { result ≡ is_some (begin_fault self.now caller wished.now) }
-    {
-        match wished {
-            Wish::Give(number) if !self.is_holding(caller, *number) => true,
-            _ => self.end_of(caller).is_none(),
-        }
+/// Begins a call of a caller that is in none, and does its first step. One that can't begin does
+/// nothing.
+#[inline(never)]
+fn begin_step(bench: &mut Bench, caller: CallerNo, wished: &Wish, end: &mut CallEnd) -> Progress
+    requires caller { caller < 64 }
+    requires calling { is_in_call bench.old caller ≡ false }
+    ensures bench { bench.new ≡ (begun_step bench.old caller wished.now).bench }
+    ensures reach { reach_of result end.new ≡ (begun_step bench.old caller wished.now).reach }
+{
+    if is_refused(bench, caller, wished) {
+        return Progress::Limit;
+    }
+    bench.start(caller, wished, &mut 0, end)
+}
+
+/// Whether a caller that is in no call can't begin this one.
+fn is_refused(bench: &Bench, caller: CallerNo, wished: &Wish) -> bool
+    requires caller { caller < 64 }
+    requires calling { is_in_call bench.now caller ≡ false }
+    ensures { result ≡ is_some (begin_fault bench.now caller wished.now) }
+{
+    match wished {
+        Wish::Give(number) if !bench.is_holding(caller, *number) => true,
+        _ => bench.end_of(caller).is_none(),
     }
 }
 
@@ -92,7 +90,7 @@ pub(crate) fn host_step(
     ensures works { is_rest result ≡ false }
 {
     actors.begin_host(goes_on);
-    let progress = bench.link_step(HOST_CALLER, goes_on, &actors.host_calls, end);
+    let progress = link_step(bench, HOST_CALLER, goes_on, &actors.host_calls, end);
     actors.host_reached(bench, progress, end);
     progress_by(HOST_CALLER, progress)
 }
@@ -113,7 +111,7 @@ pub(crate) fn worker_step(
     ensures driven { driven_of result end.new ≡ driven_by 1 (link_step bench.old 1 (first_or_take (actors_view actors.old).worker_calls)).reach }
     ensures works { is_rest result ≡ false }
 {
-    let progress = bench.link_step(WORKER_CALLER, goes_on, &actors.worker_calls, end);
+    let progress = link_step(bench, WORKER_CALLER, goes_on, &actors.worker_calls, end);
     actors.worker_reached(bench, progress, end);
     progress_by(WORKER_CALLER, progress)
 }

@@ -1,6 +1,6 @@
 ghost use Rattle.std.specs.Prelude.{◌≡◌, ◌≢◌, ◌≤◌, ◌+◌, true, length, Some, None, Ok, Err, OnOk, OnErr, IfOk, IfErr, IfSome, IsErrOf, option_map, option_and_then};
 ghost use Rattle.std.specs.Result.{result_err};
-ghost use Rattle.crash_recover.specs.BenchHolds.{caller_out};
+ghost use Rattle.link_bench.specs.BenchHolds.{caller_out};
 ghost use Rattle.rp_base.specs.declared.limits.TheConstants.{NAME_MOST};
 ghost use Rattle.rp_base.specs.Texts.{text_before_zero};
 ghost use Rattle.rp_io.specs.Causes.{Rose};
@@ -13,12 +13,12 @@ ghost use Rattle.fw_load.specs.Loading.{load_fault};
 ghost use Rattle.crash_recover.specs.CoreBoots.{BootsFrom, IsBootFault, after_boot, after_shutdown, boot_fault, config_of, core_bench, loaded_from, needs_image, shutdown_fault};
 ghost use Rattle.crash_recover.specs.declared.core_faults.CoreFault.TheVariants as fault;
 
-use crate::benches::Bench;
 use crate::core_faults::CoreFault;
 use crate::cores::Core;
 use channel_bus::Side;
 use fw_load::{Loaded, RingPair, load};
 use lane_model::LinkConfig;
+use link_bench::Bench;
 use proc_state::{Left, Power};
 use rp_base::{End, Inc, LifeState, Name, NoMemory};
 use rp_io::FirmwareStore;

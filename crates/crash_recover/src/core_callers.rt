@@ -1,17 +1,15 @@
 ghost use Rattle.std.specs.Prelude.{◌≡◌, ◌<◌, true, None, Some, IfErr, IfOk, OnErr, OnOk, is_some};
 ghost use Rattle.std.specs.VecDeque.{deque_len, deque_capacity};
 ghost use Rattle.crash_recover.specs.Actors.{actors_view};
-ghost use Rattle.crash_recover.specs.Benches.{advance_walk, reach_of_done, step_fault};
-ghost use Rattle.crash_recover.specs.BenchRings.{IsSnapshotFault};
+ghost use Rattle.link_bench.specs.Benches.{advance_walk, reach_of_done, step_fault};
+ghost use Rattle.link_bench.specs.BenchRings.{IsSnapshotFault};
 ghost use Rattle.crash_recover.specs.CoreCallers.{IsStepFault, actors_after_reach, after_core_reclaim, core_begin_fault, core_channels, core_receiver, core_reclaim_answer, core_snapshot, core_step, core_step_fault, core_turn_holder, is_own, new_caller, with_core_call, with_core_caller};
 
 use crate::actor_steps::make_room;
 use crate::actors::Actors;
-use crate::bench_crashes::Reclaim;
-use crate::bench_steps::Done;
-use crate::benches::{Bench, BenchFault};
 use crate::cores::Core;
 use lane_model::Wish;
+use link_bench::{Bench, BenchFault, Done, Reclaim};
 use name_service::Channel;
 use rp_base::{CallerNo, End, NoMemory, ring_capacity};
 use std::alloc::Global;

@@ -8,9 +8,9 @@ use crate::actor_steps::{
     begins_with_take, host_step, is_drained, make_room, run_record, worker_step,
 };
 use crate::actors::{Actor, Actors};
-use crate::benches::Bench;
 use crate::cores::Core;
 use lane_model::CallEnd;
+use link_bench::Bench;
 use remote_code::WorkerFault;
 use rp_base::{CallerNo, CrashKind, NoMemory};
 use std::alloc::Global;

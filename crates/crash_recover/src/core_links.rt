@@ -1,8 +1,8 @@
 ghost use Rattle.std.specs.Prelude.{◌≡◌, ◌≤◌, None, IfSome};
 ghost use Rattle.crash_recover.specs.CoreLinks.{with_link};
 
-use crate::benches::Bench;
 use crate::cores::Core;
+use link_bench::Bench;
 
 impl Core {
     /// Takes the link out of the core, to put it back once it has done something.

@@ -8,14 +8,15 @@ ghost use Rattle.crash_recover.specs.declared.core_faults.CoreFault.TheVariants 
 ghost use Rattle.crash_recover.specs.Actors.{fresh_actors};
 ghost use Rattle.crash_recover.specs.Cores.{IsSoundLoad, load_view};
 ghost use Rattle.crash_recover.specs.CoreBoots.{loaded_from};
-ghost use Rattle.crash_recover.specs.CoreRecoveries.{IsFetchRefusal, IsImageOf, IsRecoveryFault, IsReloadFault, IsReloadable, IsUnopened, RecoversFrom, asked_text, after_recovery, loaded_rings, readied_core, recovery_fault, readied_bench, reopen_fault, reopened_core, link_fault, spent_fault};
-ghost use Rattle.crash_recover.specs.BenchCrashes.{after_reopen};
+ghost use Rattle.link_bench.specs.BenchEnds.{readied_bench};
+ghost use Rattle.crash_recover.specs.CoreRecoveries.{IsFetchRefusal, IsImageOf, IsRecoveryFault, IsReloadFault, IsReloadable, IsUnopened, RecoversFrom, asked_text, after_recovery, loaded_rings, readied_core, recovery_fault, reopen_fault, reopened_core, link_fault, spent_fault};
+ghost use Rattle.link_bench.specs.BenchCrashes.{after_reopen};
 ghost use Rattle.std.specs.Result.{result_err};
 
-use crate::benches::Bench;
 use crate::core_faults::CoreFault;
 use crate::cores::Core;
 use fw_load::{Loaded, RingPair, load};
+use link_bench::Bench;
 use proc_state::LifeFault;
 use rp_base::{Inc, LifeState};
 use rp_io::{FetchFault, FirmwareStore};

@@ -2,10 +2,9 @@ ghost use Rattle.std.specs.Prelude.{◌≡◌, ◌<◌, ◌^◌, IfOk, IfSome, M
 ghost use Rattle.fw_load.specs.Rings.{HasBuffers, IsSoundPair};
 ghost use Rattle.crash_recover.specs.CoreRings.{core_ring, pair_bytes, ring_of_lane};
 
-use crate::bench_rings::lane_base;
-use crate::benches::Bench;
 use crate::cores::Core;
 use fw_load::RingPair;
+use link_bench::{Bench, lane_base};
 use resource_table::Ring;
 use rp_base::{NoMemory, ring_capacity};
 use std::alloc::Global;

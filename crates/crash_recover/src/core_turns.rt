@@ -4,10 +4,9 @@ ghost use Rattle.crash_recover.specs.Actors.{actors_view};
 ghost use Rattle.crash_recover.specs.CoreTurns.{core_turns, one_turn_on, pump_turns_on, take_turn_on};
 
 use crate::actors::Actors;
-use crate::benches::Bench;
 use crate::cores::Core;
-use crate::turns::{TurnEnd, turn_payload};
 use lane_model::CallEnd;
+use link_bench::{Bench, TurnEnd, turn_payload};
 use rp_base::{CallerNo, NoMemory};
 use std::alloc::Global;
 

@@ -6,10 +6,10 @@ ghost use Rattle.crash_recover.specs.Cores.{add_fault, core_memory, core_trace, 
 ghost use Rattle.crash_recover.specs.declared.core_faults.AddFault.TheVariants as add;
 
 use crate::actors::Actors;
-use crate::benches::Bench;
 use crate::core_faults::AddFault;
 use addr_translate::Map;
 use fw_load::Loaded;
+use link_bench::Bench;
 use memory_pool::{Region, Regions};
 use proc_state::Life;
 use rp_base::{Da, DriverKind, LifeState, Name, NoMemory};

@@ -1,12 +1,12 @@
 -- One header more of a table.
 use Rattle.std.proofs.Common.{◌≡◌, ℕ, ◌+◌, ◌-◌, ◌<◌, Bool, cond, suc, List, ◌∷◌, refl, ap, arith, map, Some}
 use Rattle.std.specs.List.{range_with_len, filter, find}
-use Rattle.elf_image.specs.Layout.{elf32}
 use Rattle.elf_image.specs.Segments.{numbered_header, loaded_from, is_loaded}
 use Rattle.elf_image.specs.Sections.{section_header_at, sections_from}
 use Rattle.elf_image.specs.declared.headers.FileHeader.{FileHeader}
 use Rattle.elf_image.specs.declared.headers.NumberedHeader.{NumberedHeader}
 use Rattle.elf_image.specs.declared.headers.SectionHeader.{SectionHeader}
+use Rattle.elf_image.specs.declared.layouts.Layout.{Layout}
 
 -- the numbers from i on, below n, are i and those from i + 1 on
 range_more : (i n : ℕ) → i < n → range_with_len i (n - i) ≡ i ∷ range_with_len (i + 1) (n - (i + 1))
@@ -15,16 +15,16 @@ range_more i n below =
     rw e refl
 
 -- a header that is read is the first of those left, where its segment is loaded, and none of them otherwise
-pub loaded_from_more : (header : FileHeader) (bytes : List ℕ) (i : ℕ) (read : NumberedHeader) (loaded : Bool)
-    → i < header.program_count → read ≡ numbered_header elf32 header bytes i → loaded ≡ is_loaded read
-    → loaded_from elf32 header bytes i
-    ≡ cond loaded (read ∷ loaded_from elf32 header bytes (i + 1)) (loaded_from elf32 header bytes (i + 1))
-loaded_from_more header bytes i read loaded below is test =
-    rw (test, is) (ap (λ range. filter is_loaded (map (numbered_header elf32 header bytes) range)) (range_more i header.program_count below))
+pub loaded_from_more : (layout : Layout) (header : FileHeader) (bytes : List ℕ) (i : ℕ) (read : NumberedHeader) (loaded : Bool)
+    → i < header.program_count → read ≡ numbered_header layout header bytes i → loaded ≡ is_loaded read
+    → loaded_from layout header bytes i
+    ≡ cond loaded (read ∷ loaded_from layout header bytes (i + 1)) (loaded_from layout header bytes (i + 1))
+loaded_from_more layout header bytes i read loaded below is test =
+    rw (test, is) (ap (λ range. filter is_loaded (map (numbered_header layout header bytes) range)) (range_more i header.program_count below))
 
 -- a section header that is read is found, where it passes the test, and the search goes on otherwise
-pub find_more : (test : SectionHeader → Bool) (header : FileHeader) (bytes : List ℕ) (i : ℕ) (read : SectionHeader) (found : Bool)
-    → i < header.section_count → read ≡ section_header_at elf32 header bytes i → found ≡ test read
-    → find test (sections_from elf32 header bytes i) ≡ cond found (Some read) (find test (sections_from elf32 header bytes (i + 1)))
-find_more test header bytes i read found below is passes =
-    rw (passes, is) (ap (λ range. find test (map (section_header_at elf32 header bytes) range)) (range_more i header.section_count below))
+pub find_more : (test : SectionHeader → Bool) (layout : Layout) (header : FileHeader) (bytes : List ℕ) (i : ℕ) (read : SectionHeader) (found : Bool)
+    → i < header.section_count → read ≡ section_header_at layout header bytes i → found ≡ test read
+    → find test (sections_from layout header bytes i) ≡ cond found (Some read) (find test (sections_from layout header bytes (i + 1)))
+find_more test layout header bytes i read found below is passes =
+    rw (passes, is) (ap (λ range. find test (map (section_header_at layout header bytes) range)) (range_more i header.section_count below))

@@ -27,9 +27,12 @@ fault_number (fault.FileOverMemory index) = 9
 fault_number fault.SectionsPastEnd = 10
 fault_number fault.NamesMissing = 11
 fault_number fault.Numbering = 12
+fault_number (fault.WideAddress index) = 13
+fault_number fault.WideEntry = 14
 
 -- the number of the program header that a fault is about (own)
 abbrev pub fault_index : ElfFault → Option ℕ
 fault_index (fault.SegmentPastEnd index) = Some index
 fault_index (fault.FileOverMemory index) = Some index
+fault_index (fault.WideAddress index) = Some index
 fault_index _ = None

@@ -1,16 +1,12 @@
 -- The three headers of an image, read off its bytes.
-use Rattle.std.specs.Prelude.{ℕ, ◌+◌, List}
-use Rattle.rp_base.specs.Fields.{number_at}
-use Rattle.elf_image.specs.Layout.{Field, Layout}
+use Rattle.std.specs.Prelude.{ℕ, List}
+use Rattle.elf_image.specs.Layout.{field}
 use Rattle.elf_image.specs.declared.headers.FileHeader.{FileHeader}
 use Rattle.elf_image.specs.declared.headers.ProgramHeader.{ProgramHeader}
 use Rattle.elf_image.specs.declared.headers.SectionHeader.{SectionHeader}
+use Rattle.elf_image.specs.declared.layouts.Layout.{Layout}
 
--- the value of a field of the header that begins at a place (TIS ELF 1.2, "Data Representation", ELFDATA2LSB)
-abbrev pub field : Field → ℕ → List ℕ → ℕ
-field f start bytes = number_at f.width (start + f.at) bytes
-
--- the ELF header, which begins the image (TIS ELF 1.2, figure 1-3)
+-- the ELF header, which begins the image (System V gABI, "ELF Header")
 unfoldable pub file_header : Layout → List ℕ → FileHeader
 file_header layout bytes = record {
   entry = field layout.e_entry 0 bytes;
@@ -23,7 +19,7 @@ file_header layout bytes = record {
   names_index = field layout.e_shstrndx 0 bytes;
 }
 
--- the program header that begins at a place (TIS ELF 1.2, figure 2-1)
+-- the program header that begins at a place (System V gABI, "Program Header")
 unfoldable pub program_header : Layout → ℕ → List ℕ → ProgramHeader
 program_header layout start bytes = record {
   kind = field layout.p_type start bytes;
@@ -33,7 +29,7 @@ program_header layout start bytes = record {
   memory_len = field layout.p_memsz start bytes;
 }
 
--- the section header that begins at a place (TIS ELF 1.2, figure 1-9)
+-- the section header that begins at a place (System V gABI, "Sections")
 unfoldable pub section_header : Layout → ℕ → List ℕ → SectionHeader
 section_header layout start bytes = record {
   name = field layout.sh_name start bytes;

@@ -1,7 +1,8 @@
 -- The sections of an image, and their names.
 use Rattle.std.specs.Prelude.{ℕ, ◌+◌, ◌-◌, ◌*◌, ◌==◌, nat_lt, Bool, false, not, ◌||◌, List, [], ◌∷◌, map, take, drop, length, find, bytes_eq, Option, Some, None, option_map, if◌then◌else◌}
 use Rattle.std.specs.List.{range_with_len}
-use Rattle.elf_image.specs.Layout.{Layout, layout_of}
+use Rattle.elf_image.specs.Layout.{layout_of}
+use Rattle.elf_image.specs.declared.layouts.Layout.{Layout}
 use Rattle.elf_image.specs.Headers.{file_header, section_header}
 use Rattle.elf_image.specs.Faults.{fault_if, first_fault}
 use Rattle.elf_image.specs.declared.faults.ElfFault.{ElfFault}

@@ -1,7 +1,8 @@
 -- The loaded segments of an image.
-use Rattle.std.specs.Prelude.{ℕ, ◌+◌, ◌-◌, ◌*◌, ◌==◌, nat_lt, Bool, not, ◌&&◌, List, [], ◌∷◌, map, filter, take, drop, Option, Some, None}
+use Rattle.std.specs.Prelude.{ℕ, ◌+◌, ◌-◌, ◌*◌, ◌==◌, nat_lt, Bool, not, ◌&&◌, ◌||◌, List, [], ◌∷◌, map, filter, take, drop, Option, Some, None}
 use Rattle.std.specs.List.{range_with_len}
-use Rattle.elf_image.specs.Layout.{Layout, layout_of}
+use Rattle.elf_image.specs.Layout.{layout_of}
+use Rattle.elf_image.specs.declared.layouts.Layout.{Layout}
 use Rattle.elf_image.specs.Headers.{file_header, program_header}
 use Rattle.elf_image.specs.Faults.{fault_if, first_fault}
 use Rattle.elf_image.specs.declared.faults.ElfFault.{ElfFault}
@@ -50,10 +51,15 @@ segments_by (Some layout) bytes = map (segment_at bytes) (loaded_from layout (fi
 abbrev pub segments_of : List ℕ → List SegmentAt
 segments_of bytes = segments_by (layout_of bytes) bytes
 
--- the tests of one loaded segment in an image of so many bytes: its file bytes fit into its memory, and lie in the image (TIS ELF 1.2, "Program Header", p_filesz)
+-- whether a segment has an address or a length that is none of a device's 32 bits (own)
+abbrev pub is_wide : NumberedHeader → Bool
+is_wide numbered = nat_lt 0xffffffff numbered.header.physical_address || nat_lt 0xffffffff numbered.header.memory_len
+
+-- the tests of one loaded segment in an image of so many bytes: its address and length have 32 bits, its file bytes fit into its memory, and lie in the image (System V gABI, "Program Header", p_filesz; the first is own)
 abbrev pub segment_fault : ℕ → NumberedHeader → Option ElfFault
 segment_fault len numbered = first_fault
-    (fault_if (nat_lt numbered.header.memory_len numbered.header.file_len) (fault.FileOverMemory numbered.index)
+    (fault_if (is_wide numbered) (fault.WideAddress numbered.index)
+    ∷ fault_if (nat_lt numbered.header.memory_len numbered.header.file_len) (fault.FileOverMemory numbered.index)
     ∷ fault_if (nat_lt len (numbered.header.offset + numbered.header.file_len)) (fault.SegmentPastEnd numbered.index)
     ∷ [])
 

@@ -1,8 +1,9 @@
-// Reads firmware images in the format ELF32, little-endian: their loaded segments, sections and entry.
+// Reads firmware images in the formats ELF32 and ELF64, little-endian: their loaded segments, sections and entry.
 #![tactic(auto)]
 
 mod faults;
 mod headers;
+mod layouts;
 mod loaded;
 mod program;
 mod reader;

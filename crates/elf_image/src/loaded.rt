@@ -1,16 +1,18 @@
 ghost use Rattle.std.specs.Prelude.{◌≡◌, ◌+◌, ◌*◌, ◌≤◌, length};
 ghost use Rattle.std.specs.Result.{result_err};
-ghost use Rattle.elf_image.specs.Layout.{elf32};
+ghost use Rattle.elf_image.specs.Layout.{layout_for};
 ghost use Rattle.elf_image.specs.Segments.{loaded_from, segments_fault};
 
 use crate::faults::ElfFault;
 use crate::headers::{FileHeader, NumberedHeader};
+use crate::layouts::Class;
 use std::marker::Model;
 
 /// The program headers of loaded segments, in table order. Contracts see the list of those left.
 #[derive(Drop)]
 pub(crate) struct LoadedHeaders<'a> {
     bytes: &'a [u8],
+    class: Class,
     header: FileHeader,
     next: u16,
 }
@@ -21,22 +23,23 @@ impl<'a> Model for LoadedHeaders<'a> {
 
     ghost Value = { List NumberedHeader };
 
-    ghost use Rattle.elf_image.specs.Layout.{elf32};
+    ghost use Rattle.elf_image.specs.Layout.{layout_for};
     ghost use Rattle.elf_image.specs.Segments.{loaded_from};
 
-    ghost view = { λ l. loaded_from elf32 l.header l.bytes.now l.next };
+    ghost view = { λ l. loaded_from (layout_for l.class) l.header l.bytes.now l.next };
 
-    ghost invariant = { λ l. l.header.program_table + 32 * l.header.program_count ≤ length l.bytes.now };
+    ghost invariant = { λ l. l.header.program_table + (layout_for l.class).program_header_size * l.header.program_count ≤ length l.bytes.now };
 }
 
 impl<'a> LoadedHeaders<'a> {
     /// All of an image whose program headers lie in its bytes.
-    pub(crate) fn of(bytes: &'a [u8], header: FileHeader) -> LoadedHeaders<'a>
-        requires { header.program_table + 32 * header.program_count ≤ length bytes.now }
-        ensures { result ≡ loaded_from elf32 header bytes.now 0 }
+    pub(crate) fn of(bytes: &'a [u8], class: Class, header: FileHeader) -> LoadedHeaders<'a>
+        requires { header.program_table + (layout_for class).program_header_size * header.program_count ≤ length bytes.now }
+        ensures { result ≡ loaded_from (layout_for class) header bytes.now 0 }
     {
         LoadedHeaders {
             bytes,
+            class,
             header,
             next: 0,
         }
@@ -54,7 +57,9 @@ impl Iterator for LoadedHeaders<'_> {
 
     fn next(&mut self) -> Option<NumberedHeader> {
         while self.next < self.header.program_count {
-            let numbered = self.header.program_header(self.bytes, self.next);
+            let numbered = self
+                .header
+                .program_header(self.bytes, self.class, self.next);
             self.next += 1;
             if numbered.is_loaded() {
                 return Some(numbered);
@@ -65,11 +70,11 @@ impl Iterator for LoadedHeaders<'_> {
 }
 
 /// Tests the loaded segments of an image, one after the other.
-pub(crate) fn test_segments(bytes: &[u8], header: FileHeader) -> Result<(), ElfFault>
-    requires { header.program_table + 32 * header.program_count ≤ length bytes.now }
-    ensures { result_err result ≡ segments_fault (length bytes.now) (loaded_from elf32 header bytes.now 0) }
+pub(crate) fn test_segments(bytes: &[u8], class: Class, header: FileHeader) -> Result<(), ElfFault>
+    requires { header.program_table + (layout_for class).program_header_size * header.program_count ≤ length bytes.now }
+    ensures { result_err result ≡ segments_fault (length bytes.now) (loaded_from (layout_for class) header bytes.now 0) }
 {
-    for numbered in LoadedHeaders::of(bytes, header) {
+    for numbered in LoadedHeaders::of(bytes, class, header) {
         numbered.test(bytes.len())?;
     }
     Ok(())

@@ -1,6 +1,7 @@
 ghost use Rattle.std.specs.Prelude.{◌≤◌, length};
 
 use crate::headers::FileHeader;
+use crate::layouts::Class;
 use crate::loaded::LoadedHeaders;
 use rp_base::Da;
 use std::marker::Model;
@@ -39,18 +40,18 @@ impl<'a> Model for Segments<'a> {
 
 impl<'a> Segments<'a> {
     ghost use Rattle.std.specs.Prelude.{◌≡◌, ◌+◌, ◌*◌, ◌≤◌, None, map, length};
-    ghost use Rattle.elf_image.specs.Layout.{elf32};
+    ghost use Rattle.elf_image.specs.Layout.{layout_for};
     ghost use Rattle.elf_image.specs.Segments.{loaded_from, segment_at, segments_fault};
 
     /// All of an image whose segments pass their tests.
-    pub(crate) fn of(bytes: &'a [u8], header: FileHeader) -> Segments<'a>
-        requires table { header.program_table + 32 * header.program_count ≤ length bytes.now }
-        requires good { segments_fault (length bytes.now) (loaded_from elf32 header bytes.now 0) ≡ None }
-        ensures { result ≡ map (segment_at bytes.now) (loaded_from elf32 header bytes.now 0) }
+    pub(crate) fn of(bytes: &'a [u8], class: Class, header: FileHeader) -> Segments<'a>
+        requires table { header.program_table + (layout_for class).program_header_size * header.program_count ≤ length bytes.now }
+        requires good { segments_fault (length bytes.now) (loaded_from (layout_for class) header bytes.now 0) ≡ None }
+        ensures { result ≡ map (segment_at bytes.now) (loaded_from (layout_for class) header bytes.now 0) }
     {
         Segments {
             bytes,
-            loaded: LoadedHeaders::of(bytes, header),
+            loaded: LoadedHeaders::of(bytes, class, header),
         }
     }
 }
@@ -70,8 +71,8 @@ impl<'a> Iterator for Segments<'a> {
         let start = numbered.header.offset as usize;
         Some(Segment {
             index: numbered.index,
-            da: numbered.header.physical_address,
-            memory_len: numbered.header.memory_len,
+            da: numbered.header.physical_address as Da,
+            memory_len: numbered.header.memory_len as u32,
             file: &self.bytes[start..start + numbered.header.file_len as usize],
         })
     }

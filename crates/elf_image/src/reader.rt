@@ -1,16 +1,18 @@
 use crate::faults::ElfFault;
-use crate::headers::{FileHeader, test_identification};
+use crate::headers::{FileHeader, identify};
+use crate::layouts::Class;
 use crate::loaded::test_segments;
 use crate::program::Segments;
 use crate::sections::{Section, find_section, test_sections};
 use rp_base::Da;
 use std::marker::Model;
 
-/// An image that passed all tests: a firmware file of the format ELF32, little-endian. Contracts see
-/// it as the list of its bytes.
+/// An image that passed all tests: a firmware file of the format ELF32 or ELF64, little-endian.
+/// Contracts see it as the list of its bytes.
 #[derive(Drop)]
 pub struct Image<'a> {
     bytes: &'a [u8],
+    class: Class,
     header: FileHeader,
 }
 
@@ -23,7 +25,7 @@ impl<'a> Model for Image<'a> {
 
     ghost view = { λ i. i.bytes.now };
 
-    ghost invariant = { λ i. IsReadImage i.bytes.now i.header };
+    ghost invariant = { λ i. IsReadImage i.bytes.now i.class i.header };
 }
 
 impl<'a> Image<'a> {
@@ -39,12 +41,16 @@ impl<'a> Image<'a> {
         ensures image { IfOk result (λ image. image ≡ bytes.now) }
         ensures good { OnOk result (GoodImage bytes.now) }
     {
-        test_identification(bytes)?;
-        let header = FileHeader::read(bytes);
-        header.test(bytes.len())?;
-        test_segments(bytes, header)?;
-        test_sections(bytes, &header)?;
-        Ok(Image { bytes, header })
+        let class = identify(bytes)?;
+        let header = FileHeader::read(bytes, class);
+        header.test(class, bytes.len())?;
+        test_segments(bytes, class, header)?;
+        test_sections(bytes, class, &header)?;
+        Ok(Image {
+            bytes,
+            class,
+            header,
+        })
     }
 
     /// The loaded segments, in the order of the program headers.
@@ -52,7 +58,7 @@ impl<'a> Image<'a> {
         ensures segments { result ≡ segments_of self.now }
         ensures good { GoodImage self.now }
     {
-        Segments::of(self.bytes, self.header)
+        Segments::of(self.bytes, self.class, self.header)
     }
 
     /// The first section of a name. There is none exactly where no section has the name; a name that
@@ -61,7 +67,7 @@ impl<'a> Image<'a> {
         ensures section { result ≡ section_of self.now name.now }
         ensures good { GoodImage self.now }
     {
-        find_section(self.bytes, &self.header, name.as_bytes())
+        find_section(self.bytes, self.class, &self.header, name.as_bytes())
     }
 
     /// The address of the first instruction, `e_entry`.
@@ -69,6 +75,6 @@ impl<'a> Image<'a> {
         ensures entry { result ≡ entry_of self.now }
         ensures good { GoodImage self.now }
     {
-        self.header.entry
+        self.header.entry as Da
     }
 }

@@ -1,64 +1,71 @@
 ghost use Rattle.std.specs.Prelude.{◌≡◌, None, true};
 ghost use Rattle.std.specs.Result.{result_err};
-ghost use Rattle.elf_image.specs.Layout.{elf32};
+ghost use Rattle.elf_image.specs.Layout.{layout_for};
 ghost use Rattle.elf_image.specs.Sections.{has_sections, names_of, section_in, sections_fault, text_to_zero, name_at, is_name};
 
 use crate::faults::ElfFault;
-use crate::headers::FileHeader;
+use crate::headers::{FileHeader, ends_past};
+use crate::layouts::Class;
 
 /// A section: where its bytes stand in the image, which may be past its end, and where in memory.
 #[derive(Clone, Copy, Debug, PartialEq, Eq)]
 pub struct Section {
-    /// Where it is to stand in memory, `sh_addr`, a device address; 0 where it is not to.
-    pub address: u32,
+    /// Where it is to stand in memory, `sh_addr`; 0 where it is not to.
+    pub address: u64,
     /// Where its bytes begin in the image, `sh_offset`.
-    pub offset: u32,
+    pub offset: u64,
     /// How many bytes it has, `sh_size`.
-    pub size: u32,
+    pub size: u64,
 }
 
 /// Tests the sections of an image, if it has any.
-pub(crate) fn test_sections(bytes: &[u8], header: &FileHeader) -> Result<(), ElfFault>
-    ensures { result_err result ≡ sections_fault elf32 header.now bytes.now }
+pub(crate) fn test_sections(bytes: &[u8], class: Class, header: &FileHeader) -> Result<(), ElfFault>
+    ensures { result_err result ≡ sections_fault (layout_for class) header.now bytes.now }
 {
     if !header.has_sections() {
         return Ok(());
     }
-    if header.section_header_place(header.section_count) > bytes.len() {
+    let table_len = class.layout().section_header_size as u64 * u64::from(header.section_count);
+    if ends_past(header.section_table, table_len, bytes.len()) {
         return Err(ElfFault::SectionsPastEnd);
     }
     if header.names_index >= header.section_count {
         return Err(ElfFault::NamesMissing);
     }
-    let names = header.section_header(bytes, header.names_index);
-    if names.offset as usize + names.size as usize > bytes.len() {
+    let names = header.section_header(bytes, class, header.names_index);
+    if ends_past(names.offset, names.size, bytes.len()) {
         return Err(ElfFault::NamesMissing);
     }
     Ok(())
 }
 
 /// The bytes of the section of names, in an image whose sections pass their tests.
-fn names_section<'a>(bytes: &'a [u8], header: &FileHeader) -> &'a [u8]
+fn names_section<'a>(bytes: &'a [u8], class: Class, header: &FileHeader) -> &'a [u8]
     requires has { has_sections header.now ≡ true }
-    requires good { sections_fault elf32 header.now bytes.now ≡ None }
-    ensures { result.now ≡ names_of elf32 header.now bytes.now }
+    requires good { sections_fault (layout_for class) header.now bytes.now ≡ None }
+    ensures { result.now ≡ names_of (layout_for class) header.now bytes.now }
 {
-    let section = header.section_header(bytes, header.names_index);
+    let section = header.section_header(bytes, class, header.names_index);
     let start = section.offset as usize;
     &bytes[start..start + section.size as usize]
 }
 
 /// The first section of a name, in an image whose sections pass their tests.
-pub(crate) fn find_section(bytes: &[u8], header: &FileHeader, name: &[u8]) -> Option<Section>
-    requires { sections_fault elf32 header.now bytes.now ≡ None }
-    ensures { result ≡ section_in elf32 header.now bytes.now name.now }
+pub(crate) fn find_section(
+    bytes: &[u8],
+    class: Class,
+    header: &FileHeader,
+    name: &[u8],
+) -> Option<Section>
+    requires { sections_fault (layout_for class) header.now bytes.now ≡ None }
+    ensures { result ≡ section_in (layout_for class) header.now bytes.now name.now }
 {
     if !header.has_sections() {
         return None;
     }
-    let names = names_section(bytes, header);
+    let names = names_section(bytes, class, header);
     for index in 0..header.section_count {
-        let section = header.section_header(bytes, index);
+        let section = header.section_header(bytes, class, index);
         if has_name(names, section.name as usize, name) {
             return Some(Section {
                 address: section.address,

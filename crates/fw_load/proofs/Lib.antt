@@ -5,3 +5,4 @@ pub mod Refusals
 pub mod Fitting
 pub mod Meant
 pub mod Buffers
+pub mod Wide

@@ -5,7 +5,7 @@ use Rattle.std.specs.Option.{option_and_then, option_map, option_or}
 use Rattle.std.proofs.lemmas.Bool.{cases_Bool, cond_both, ltb-false}
 use Rattle.std.proofs.lemmas.List.Elements.{All-nil, All-cons, All-head, All-tail, All-map}
 use Rattle.elf_image.specs.Headers.{file_header}
-use Rattle.elf_image.specs.Layout.{Layout, layout_of}
+use Rattle.elf_image.specs.Layout.{layout_of}
 use Rattle.elf_image.specs.Segments.{SegmentAt, is_loaded, loaded_from, numbered_header, segment_at, segments_by, segments_of}
 use Rattle.elf_image.specs.declared.sections.Section.{Section}
 use Rattle.resource_table.specs.declared.entries.Entry.{Entry}
@@ -100,16 +100,18 @@ some_memory kind zero e = absurd (both_not_zero (eqb kind 1) e)
     both_not_zero false e = cc
 some_memory kind (suc len) e = omega arith
 
-have_by : (layout : Option Layout) (image : List ℕ) → AllHaveMemory (segments_by layout image)
-have_by None image = All-nil (λ (segment : SegmentAt). 1 ≤ segment.memory_len)
-have_by (Some layout) image =
-    All-map (λ (segment : SegmentAt). 1 ≤ segment.memory_len) (segment_at image) (loaded_from layout (file_header layout image) image 0)
-    (kept_have is_loaded (λ numbered. 1 ≤ numbered.header.memory_len) (λ numbered e. some_memory numbered.header.kind numbered.header.memory_len e)
-    (map (numbered_header layout (file_header layout image) image) (range_with_len 0 ((file_header layout image).program_count - 0))))
+-- what holds with no layout and with any holds with the one that an image has
+by_layout : {X : Type 0} (layout : Option X) (segments : Option X → List SegmentAt) → AllHaveMemory (segments None) → ((layout : X) → AllHaveMemory (segments (Some layout))) → AllHaveMemory (segments layout)
+by_layout None segments none some = none
+by_layout (Some layout) segments none some = some layout
 
 -- each segment of an image has memory
 pub segments_have : (image : List ℕ) → AllHaveMemory (segments_of image)
-segments_have image = have_by (layout_of image) image
+segments_have image =
+    by_layout (layout_of image) (λ layout. segments_by layout image) (All-nil (λ (segment : SegmentAt). 1 ≤ segment.memory_len))
+    (λ layout. All-map (λ (segment : SegmentAt). 1 ≤ segment.memory_len) (segment_at image) (loaded_from layout (file_header layout image) image 0)
+      (kept_have is_loaded (λ numbered. 1 ≤ numbered.header.memory_len) (λ numbered e. some_memory numbered.header.kind numbered.header.memory_len e)
+      (map (numbered_header layout (file_header layout image) image) (range_with_len 0 ((file_header layout image).program_count - 0)))))
 
 -- a good table fills its section, and has some bytes
 pub table_fills : (image : List ℕ) (section : Option Section) → section_fault image section ≡ None

@@ -3,6 +3,7 @@ ghost use Rattle.std.specs.Result.{result_err};
 ghost use Rattle.elf_image.specs.Segments.{SegmentAt, segments_of};
 ghost use Rattle.elf_image.specs.SegmentsRead.{segment_read};
 ghost use Rattle.addr_translate.specs.Bytes.{with_bytes};
+ghost use Rattle.addr_translate.specs.OrderedMaps.{SoundMap};
 ghost use Rattle.fw_load.specs.Loading.{segments_unmapped, entry_unmapped};
 ghost use Rattle.fw_load.specs.Memory.{bytes_at, place_at, segment_bytes, with_segments, with_table};
 
@@ -87,16 +88,31 @@ fn copy_segment(memory: &mut CoreMemory, at: u32, segment: &Segment<'_>)
     memory.fill(at + len, segment.memory_len - len, 0);
 }
 
+/// Where the memory of a section stands, if one block of memory holds it whole.
+fn section_at(map: &Map, section: &Section) -> Option<u32>
+    requires some { 1 ≤ section.now.size }
+    requires sound { SoundMap map.now.blocks map.now.memory_len }
+    ensures place { result ≡ place_at map.now section.now.address section.now.size }
+    ensures inside { IfSome result (λ at. at + section.now.size ≤ map.now.memory_len) }
+{
+    let last = u64::from(Da::MAX);
+    if section.address > last || section.size > last {
+        return None;
+    }
+    memory_at(map, section.address as Da, section.size as u32)
+}
+
 /// Copies a table to where its section is to stand, if one block of memory holds it whole there.
 pub(crate) fn copy_table(memory: &mut CoreMemory, map: &Map, section: Option<Section>, table: &[u8])
     requires length { length memory.old ≡ map.now.memory_len }
+    requires sound { SoundMap map.now.blocks map.now.memory_len }
     requires some { IfSome section (λ section. 1 ≤ section.size) }
     requires whole { IfSome section (λ section. length table.now ≡ section.size) }
     ensures memory { memory.new ≡ with_table (place_at map.now) section table.now memory.old }
     ensures length { length memory.new ≡ length memory.old }
 {
     if let Some(section) = section {
-        if let Some(at) = memory_at(map, section.address, section.size) {
+        if let Some(at) = section_at(map, &section) {
             memory.write(at, table);
         }
     }

@@ -1,4 +1,4 @@
-ghost use Rattle.std.specs.Prelude.{◌≡◌, ◌≢◌, ◌+◌, ◌≤◌, length, Some, Ok, Err, IfOk, IfErr, option_map};
+ghost use Rattle.std.specs.Prelude.{◌≡◌, ◌≢◌, ◌+◌, length, nat_lt, Some, Ok, Err, IfOk, IfErr, IfSome, is_none, option_map};
 ghost use Rattle.std.specs.Result.{result_err};
 ghost use Rattle.memory_pool.specs.Placements.{placement};
 ghost use Rattle.memory_pool.specs.Soundness.{SoundPlacement};
@@ -29,19 +29,20 @@ fn table_in<'a>(image: &'a [u8], section: &Section) -> Result<Table<'a>, TableFa
     ensures fault { result_err result ≡ section_fault image.now (Some section.now) }
     ensures table { IfOk result (λ table. table ≡ bytes_in image.now section.now) }
 {
-    if section.offset as usize + section.size as usize > image.len() {
-        return Err(TableFault::TableShort);
-    }
-    Table::read(section_bytes(image, section))
+    let bytes = section_bytes(image, section).ok_or(TableFault::TableShort)?;
+    Table::read(bytes)
 }
 
-/// The bytes of a section that lies in its image.
-fn section_bytes<'a>(image: &'a [u8], section: &Section) -> &'a [u8]
-    requires { section.now.offset + section.now.size ≤ length image.now }
-    ensures { result.now ≡ bytes_in image.now section.now }
+/// The bytes of a section, if it lies in its image.
+fn section_bytes<'a>(image: &'a [u8], section: &Section) -> Option<&'a [u8]>
+    ensures some { IfSome result (λ bytes. bytes.now ≡ bytes_in image.now section.now) }
+    ensures inside { is_none result ≡ nat_lt (length image.now) (section.now.offset + section.now.size) }
 {
-    let start = section.offset as usize;
-    &image[start..start + section.size as usize]
+    let end = section.offset.checked_add(section.size)?;
+    if end > image.len() as u64 {
+        return None;
+    }
+    Some(&image[section.offset as usize..end as usize])
 }
 
 /// Places what a table asks for, and nothing without one.

@@ -28,25 +28,27 @@ or_two a b e f = ap (λ x. x || b) e ∙ f
 or_three : (a b c : Bool) → a ≡ false → b ≡ false → c ≡ false → (a || b || c) ≡ false
 or_three a b c e f g = or_two (a || b) c (or_two a b e f) g
 
-four_pass : (a b c d : Bool) (w x y z : ElfFault) → a ≡ false → b ≡ false → c ≡ false → d ≡ false → first_fault (fault_if a w ∷ fault_if b x ∷ fault_if c y ∷ fault_if d z ∷ []) ≡ None
-four_pass a b c d w x y z e f g h =
-    ap (λ t. first_fault (fault_if t w ∷ fault_if b x ∷ fault_if c y ∷ fault_if d z ∷ [])) e ∙ ap (λ t. first_fault (fault_if t x ∷ fault_if c y ∷ fault_if d z ∷ [])) f
-    ∙ ap (λ t. first_fault (fault_if t y ∷ fault_if d z ∷ [])) g ∙ ap (λ t. first_fault (fault_if t z ∷ [])) h
+five_pass : (a b c d e : Bool) (v w x y z : ElfFault) → a ≡ false → b ≡ false → c ≡ false → d ≡ false → e ≡ false → first_fault (fault_if a v ∷ fault_if b w ∷ fault_if c x ∷ fault_if d y ∷ fault_if e z ∷ []) ≡ None
+five_pass a b c d e v w x y z f g h i j =
+    ap (λ t. first_fault (fault_if t v ∷ fault_if b w ∷ fault_if c x ∷ fault_if d y ∷ fault_if e z ∷ [])) f
+    ∙ ap (λ t. first_fault (fault_if t w ∷ fault_if c x ∷ fault_if d y ∷ fault_if e z ∷ [])) g ∙ ap (λ t. first_fault (fault_if t x ∷ fault_if d y ∷ fault_if e z ∷ [])) h
+    ∙ ap (λ t. first_fault (fault_if t y ∷ fault_if e z ∷ [])) i ∙ ap (λ t. first_fault (fault_if t z ∷ [])) j
 
 three_none : (a b c : Option ElfFault) → a ≡ None → b ≡ None → c ≡ None → first_fault (a ∷ b ∷ c ∷ []) ≡ None
 three_none a b c e f g = ap (λ t. first_fault (t ∷ b ∷ c ∷ [])) e ∙ ap (λ t. first_fault (t ∷ c ∷ [])) f ∙ ap (λ t. first_fault (t ∷ [])) g
 
 -- the header passes
-header_pass : (bytes : List ℕ) (entry segments place size sections names total : ℕ) → IsHeader bytes entry segments place size sections names → 0 < segments → segments < 65535 → names < 65535
+header_pass : (bytes : List ℕ) (entry segments place size sections names total : ℕ) → IsHeader bytes entry segments place size sections names → entry < 2 ^ 32 → 0 < segments → segments < 65535 → names < 65535
     → (not (place == 0) && (sections == 0)) ≡ false → (not (place == 0) && not (size == 40)) ≡ false → 52 + 32 * segments ≤ total → header_fault elf32 (file_header_read elf32 bytes) total ≡ None
-header_pass bytes entry segments place size sections names total h some few last some_sections forty inside =
-    four_pass _ _ _ _ fault.Numbering fault.NoSegments fault.EntrySize fault.HeadersPastEnd
+header_pass bytes entry segments place size sections names total h low some few last some_sections forty inside =
+    five_pass _ _ _ _ _ fault.Numbering fault.NoSegments fault.EntrySize fault.HeadersPastEnd fault.WideEntry
     (or_three ((file_header_read elf32 bytes).program_count == 65535) ((file_header_read elf32 bytes).names_index == 65535) _ (ne_eqb (file_header_read elf32 bytes).program_count 65535 (λ e. absurd (omega arith))) (ne_eqb (file_header_read elf32 bytes).names_index 65535 (λ e. absurd (omega arith)))
     (ap (λ p. not (p == 0) && ((file_header_read elf32 bytes).section_count == 0)) h.place_is ∙ ap (λ s. not (place == 0) && (s == 0)) h.sections_are ∙ some_sections))
     (ne_eqb (file_header_read elf32 bytes).program_count 0 (λ e. absurd (omega arith)))
     (or_two (not ((file_header_read elf32 bytes).program_header_size == 32)) _ (ap (λ n. not (n == 32)) h.program_size)
     (ap (λ p. not (p == 0) && not ((file_header_read elf32 bytes).section_header_size == 40)) h.place_is ∙ ap (λ s. not (place == 0) && not (s == 40)) h.section_size ∙ forty))
     (le-ltb total ((file_header_read elf32 bytes).program_table + 32 * (file_header_read elf32 bytes).program_count) (omega arith))
+    (le-ltb 0xffffffff (file_header_read elf32 bytes).entry (omega arith))
 
 -- the identification passes, and says the layout
 pub length_header : (entry segments place size sections names : ℕ) → length (file_header entry segments place size sections names) ≡ 52
@@ -59,7 +61,7 @@ identified entry segments place size sections names rest =
     let bytes = file_header entry segments place size sections names ++ rest in
     let long : nat_lt (length bytes) 52 ≡ false =
     le-ltb (length bytes) 52 (omega (arith, length-append (file_header entry segments place size sections names) rest, length_header entry segments place size sections names)) in
-    ap (λ b. first_fault (fault_if b fault.Short ∷ fault_if false fault.Magic ∷ fault_if false fault.Class ∷ fault_if false fault.Order ∷ [])) long
+    ap (λ b. first_fault (fault_if b fault.Short ∷ fault_if false fault.Magic ∷ fault_if false fault.Class ∷ fault_if false fault.Order ∷ fault_if b fault.Short ∷ [])) long
 
 pub layout_is : (entry segments place size sections names : ℕ) (rest : List ℕ) → layout_of (file_header entry segments place size sections names ++ rest) ≡ Some elf32
 unfolding file_header
@@ -104,11 +106,11 @@ pub record IsRead (lines : List RecipeLine) (bytes : List ℕ) (entry : ℕ) : T
   pub entry_is : entry_of bytes ≡ entry
   pub segments : segments_read bytes ≡ segments_from 0 lines
 
-pub image_read : (lines : List RecipeLine) (entry place size sections names : ℕ) (bytes tail : List ℕ) → IsRecipe lines → HaveRoom lines → 0 < segment_count lines → segment_count lines < 65535
+pub image_read : (lines : List RecipeLine) (entry place size sections names : ℕ) (bytes tail : List ℕ) → IsRecipe lines → HaveRoom lines → entry < 2 ^ 32 → 0 < segment_count lines → segment_count lines < 65535
     → names < 65535 → (not (place == 0) && (sections == 0)) ≡ false → (not (place == 0) && not (size == 40)) ≡ false → length bytes < 2 ^ 32
     → IsHeader bytes entry (segment_count lines) place size sections names → identification_fault bytes ≡ None → layout_of bytes ≡ Some elf32 → HasParts lines bytes tail
     → sections_fault elf32 (file_header_read elf32 bytes) bytes ≡ None → IsRead lines bytes entry
-image_read lines entry place size sections names bytes tail recipe room some few last some_sections forty short header identity layout parts no_fault =
+image_read lines entry place size sections names bytes tail recipe room low some few last some_sections forty short header identity layout parts no_fault =
     let table = (file_header_read elf32 bytes).program_table in
     let at : drop (table + 32 * 0) bytes ≡ program_headers (data_start lines) lines ++ (segment_bytes lines ++ tail) = ap (λ t. drop (t + 32 * 0) bytes) header.table_is ∙ parts.headers in
     let count : (file_header_read elf32 bytes).program_count - 0 ≡ segment_count lines = omega (arith, header.count_is) in
@@ -116,7 +118,7 @@ image_read lines entry place size sections names bytes tail recipe room some few
     let small : data_start lines + data_len lines < 2 ^ 32 = omega (arith, inside, short) in
     let segments_fine = ap (λ n. first_fault (map (segment_fault (length bytes)) (filter is_loaded (map (numbered_header elf32 (file_header_read elf32 bytes) bytes) (range_with_len 0 n))))) count
     ∙ segments_pass lines 0 (data_start lines) (length bytes) bytes (segment_bytes lines ++ tail) recipe room short inside at in
-    let header_fine = header_pass bytes entry (segment_count lines) place size sections names (length bytes) header some few last some_sections forty (omega (arith, inside)) in
+    let header_fine = header_pass bytes entry (segment_count lines) place size sections names (length bytes) header low some few last some_sections forty (omega (arith, inside)) in
     let contents : contents_fault (Some elf32) bytes ≡ None = three_none _ _ _ header_fine segments_fine no_fault in
     record {
       layout = layout;

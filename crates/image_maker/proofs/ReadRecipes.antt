@@ -46,7 +46,7 @@ plain_read lines h short none =
     let same : bytes ≡ front ++ segments_part lines = ap (λ part. front ++ part) (append-nil (segments_part lines)) in
     let header = header_read entry count 0 0 0 0 rest (entry_small lines 0 (lit< tt) h.recipe) (omega (arith, h.few)) (lit< tt) (lit< tt) (lit< tt) (lit< tt) in
     let no_sections = plain_sections bytes entry count header in
-    let read = image_read lines entry 0 0 0 0 bytes [] h.recipe h.room h.some h.few (lit< tt) refl refl (subst (λ image. length image < 2 ^ 32) (sym same) short) header
+    let read = image_read lines entry 0 0 0 0 bytes [] h.recipe h.room (entry_small lines 0 (lit< tt) h.recipe) h.some h.few (lit< tt) refl refl (subst (λ image. length image < 2 ^ 32) (sym same) short) header
     (identified entry count 0 0 0 0 rest) (layout_is entry count 0 0 0 0 rest) (parts_are lines front [] (length_header entry count 0 0 0 0))
     (ap (λ b. cond b (first_fault
     (fault_if (nat_lt (length bytes) ((file_header_read elf32 bytes).section_table + 40 * (file_header_read elf32 bytes).section_count)) fault.SectionsPastEnd
@@ -103,7 +103,7 @@ table_read lines da h short some =
       not_first = omega arith;
     } in
     let placed : (place == 0) ≡ false = ne_eqb place 0 (λ e. absurd (omega arith)) in
-    let read = image_read lines entry place 40 3 2 bytes tail h.recipe h.room h.some h.few (lit< tt) (ap (λ b. not b && false) placed) (ap (λ b. not b && false) placed) small header
+    let read = image_read lines entry place 40 3 2 bytes tail h.recipe h.room (entry_small lines 0 (lit< tt) h.recipe) h.some h.few (lit< tt) (ap (λ b. not b && false) placed) (ap (λ b. not b && false) placed) small header
     (identified entry count place 40 3 2 rest) (layout_is entry count place 40 3 2 rest) parts (sections_pass bytes entry count place da start len header has) in
     subst (IsReadBack lines) same (record {
       good = read.good;

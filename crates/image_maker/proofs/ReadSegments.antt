@@ -1,5 +1,5 @@
 -- The loads of a recipe are the loaded segments of its image.
-use Rattle.std.proofs.Common.{◌≡◌, ℕ, ◌+◌, ◌*◌, ◌<◌, ◌≤◌, ◌^◌, ◌==◌, ◌&&◌, not, Bool, true, false, cond, suc, List, [], ◌∷◌, ◌++◌, length, take, drop, map, Option, None, sym, ◌∙◌, ap, arith, refl, append_assoc, add-zero}
+use Rattle.std.proofs.Common.{◌≡◌, ℕ, ◌+◌, ◌*◌, ◌<◌, ◌≤◌, ◌^◌, ◌==◌, ◌&&◌, ◌||◌, not, Bool, true, false, cond, suc, List, [], ◌∷◌, ◌++◌, length, take, drop, map, Option, None, sym, ◌∙◌, ap, arith, refl, append_assoc, add-zero}
 use lib.Dec.{ltb as nat_lt}
 use Rattle.std.specs.List.{range_with_len, filter}
 use Rattle.std.proofs.lemmas.Bool.{le-ltb, eqb-false}
@@ -38,9 +38,14 @@ segment_is bytes file index place address size room da m a r f = cc
 pub passes : (a b : Bool) (first second : ElfFault) → a ≡ false → b ≡ false → first_fault (fault_if a first ∷ fault_if b second ∷ []) ≡ None
 passes a b first second e f = ap (λ t. first_fault (fault_if t first ∷ fault_if b second ∷ [])) e ∙ ap (λ t. first_fault (fault_if t second ∷ [])) f
 
-sizes_pass : (len offset size room o l m : ℕ) (first second : ElfFault) → offset ≡ o → size ≡ l → room ≡ m → l ≤ m → o + l ≤ len → first_fault (fault_if (nat_lt room size) first ∷ fault_if (nat_lt len (offset + size)) second ∷ []) ≡ None
-sizes_pass len offset size room o l m first second e f g fits inside =
-    passes (nat_lt room size) (nat_lt len (offset + size)) first second (le-ltb room size (omega arith)) (le-ltb len (offset + size) (omega arith))
+narrow : (address room a m : ℕ) → address ≡ a → room ≡ m → a < 2 ^ 32 → m < 2 ^ 32 → (nat_lt 0xffffffff address || nat_lt 0xffffffff room) ≡ false
+narrow address room a m e f low short = ap (λ t. t || nat_lt 0xffffffff room) (le-ltb 0xffffffff address (omega arith)) ∙ le-ltb 0xffffffff room (omega arith)
+
+sizes_pass : (len offset size room address o l m a : ℕ) (wide first second : ElfFault) → offset ≡ o → size ≡ l → room ≡ m → address ≡ a → a < 2 ^ 32 → m < 2 ^ 32 → l ≤ m → o + l ≤ len
+    → first_fault (fault_if (nat_lt 0xffffffff address || nat_lt 0xffffffff room) wide ∷ fault_if (nat_lt room size) first ∷ fault_if (nat_lt len (offset + size)) second ∷ []) ≡ None
+sizes_pass len offset size room address o l m a wide first second e f g h low short fits inside =
+    ap (λ t. first_fault (fault_if t wide ∷ fault_if (nat_lt room size) first ∷ fault_if (nat_lt len (offset + size)) second ∷ [])) (narrow address room a m h g low short)
+    ∙ passes (nat_lt room size) (nat_lt len (offset + size)) first second (le-ltb room size (omega arith)) (le-ltb len (offset + size) (omega arith))
 
 -- one number more
 range_suc : (index count n : ℕ) → count ≡ suc n → range_with_len index count ≡ index ∷ range_with_len (index + 1) n
@@ -134,7 +139,7 @@ segments_pass (recipe.Load da file memory ∷ more) index offset total bytes hea
     ap (λ numbers. first_fault (map (segment_fault total) (filter is_loaded (map (numbered_header elf32 (file_header_read elf32 bytes) bytes) numbers)))) (range_suc index (segment_count (recipe.Load da file memory ∷ more)) (segment_count more) count)
     ∙ unfaulted (segment_fault total) (is_loaded (numbered_header elf32 (file_header_read elf32 bytes) bytes index)) (memory == 0) (numbered_header elf32 (file_header_read elf32 bytes) bytes index) _
     (tested header.kind header.memory_len memory read.0 read.4)
-    (λ some. sizes_pass total header.offset header.file_len header.memory_len offset len memory _ _ read.1 read.3 read.4 (room.0 (positive memory some)) (omega arith))
+    (λ some. sizes_pass total header.offset header.file_len header.memory_len header.physical_address offset len memory da _ _ _ read.1 read.3 read.4 read.2 (omega arith) (omega arith) (room.0 (positive memory some)) (omega arith))
     rest
 segments_pass (recipe.Code da ∷ more) index offset total bytes headers r room small within h =
     let table = (file_header_read elf32 bytes).program_table in
@@ -151,7 +156,7 @@ segments_pass (recipe.Code da ∷ more) index offset total bytes headers r room 
     ap (λ numbers. first_fault (map (segment_fault total) (filter is_loaded (map (numbered_header elf32 (file_header_read elf32 bytes) bytes) numbers)))) (range_suc index (segment_count (recipe.Code da ∷ more)) (segment_count more) count)
     ∙ unfaulted (segment_fault total) (is_loaded (numbered_header elf32 (file_header_read elf32 bytes) bytes index)) (len == 0) (numbered_header elf32 (file_header_read elf32 bytes) bytes index) _
     (tested header.kind header.memory_len len read.0 read.4)
-    (λ some. sizes_pass total header.offset header.file_len header.memory_len offset len len _ _ read.1 read.3 read.4 (omega arith) (omega (arith, fits.1)))
+    (λ some. sizes_pass total header.offset header.file_len header.memory_len header.physical_address offset len len da _ _ _ read.1 read.3 read.4 read.2 (omega arith) (omega (arith, fits.1)) (omega arith) (omega (arith, fits.1)))
     rest
 segments_pass (line ∷ more) index offset total bytes headers r room small within h =
     let data_more : data_len (line ∷ more) ≡ length (data_of line) + data_len more = sum_by-cons (λ line. length (data_of line)) line more in

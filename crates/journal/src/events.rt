@@ -8,152 +8,401 @@ use rp_base::{
 #[derive(Drop)]
 pub enum Event {
     /// There is no link or core of this name that the command could be for.
-    Unknown(Name),
+    Unknown {
+        name: Name,
+    },
     /// The core has no link.
-    NoLink(Name),
+    NoLink {
+        name: Name,
+    },
     /// A link or a core of this name is there already.
-    Exists(Name),
+    Exists {
+        name: Name,
+    },
     /// There are as many links and cores as there may be.
     ObjectsFull,
     /// The link is live in this incarnation.
-    Open(Name, u64),
+    Open {
+        name: Name,
+        inc: u64,
+    },
     /// The link was closed: the incarnation that ended.
-    Closed(Name, u64),
+    Closed {
+        name: Name,
+        inc: u64,
+    },
     /// The link was closed before, or is in another incarnation.
-    Already(Name, Era),
+    Already {
+        name: Name,
+        era: Era,
+    },
     /// The link is live in this incarnation, and must not be.
-    StillOpen(Name, u64),
+    StillOpen {
+        name: Name,
+        inc: u64,
+    },
     /// A caller holds the buffer of this message: caller, number.
-    StillHeld(Name, u64, u64),
+    StillHeld {
+        name: Name,
+        caller: u64,
+        number: u64,
+    },
     /// The link has had its last incarnation.
-    IncarnationsSpent(Name),
+    IncarnationsSpent {
+        name: Name,
+    },
     /// What a caller held is taken back.
-    Reclaimed(Name, u64),
+    Reclaimed {
+        name: Name,
+        caller: u64,
+    },
     /// A turn that is needed is this caller's, or the manager's.
-    BusyTurn(Name, u64),
+    BusyTurn {
+        name: Name,
+        holder: u64,
+    },
     /// A caller was made: its number and its end.
-    Caller(Name, u64, End),
+    Caller {
+        name: Name,
+        caller: u64,
+        end: End,
+    },
     /// As many callers are in use as there may be.
-    CallersFull(Name),
+    CallersFull {
+        name: Name,
+    },
     /// No caller of this number is in use.
-    NoCaller(Name, u64),
+    NoCaller {
+        name: Name,
+        caller: u64,
+    },
     /// The caller has a call under way.
-    InCall(Name, u64),
+    InCall {
+        name: Name,
+        caller: u64,
+    },
     /// The caller has no call under way.
-    NoCall(Name, u64),
+    NoCall {
+        name: Name,
+        caller: u64,
+    },
     /// The caller does not hold the buffer of this message.
-    NotHeld(Name, u64, u64),
+    NotHeld {
+        name: Name,
+        caller: u64,
+        number: u64,
+    },
     /// The payload has too many bytes.
-    TooLong(Name, u64, u64),
+    TooLong {
+        name: Name,
+        caller: u64,
+        len: u64,
+    },
     /// A call was begun.
-    Begun(Name, u64),
+    Begun {
+        name: Name,
+        caller: u64,
+    },
     /// A call goes on: the number of its last step.
-    At(Name, u64, u64),
+    At {
+        name: Name,
+        caller: u64,
+        step: u64,
+    },
     /// A message was accepted: caller, number.
-    Sent(Name, u64, u64),
+    Sent {
+        name: Name,
+        caller: u64,
+        number: u64,
+    },
     /// A buffer came back: caller, number of the message.
-    Gave(Name, u64, u64),
+    Gave {
+        name: Name,
+        caller: u64,
+        number: u64,
+    },
     /// An endpoint was bound.
-    Bound(Name, u64, Endpoint),
+    Bound {
+        name: Name,
+        caller: u64,
+        endpoint: Endpoint,
+    },
     /// An endpoint was unbound.
-    Unbound(Name, u64, Endpoint),
+    Unbound {
+        name: Name,
+        caller: u64,
+        endpoint: Endpoint,
+    },
     /// Another has the turn: caller, holder.
-    Busy(Name, u64, u64),
+    Busy {
+        name: Name,
+        caller: u64,
+        holder: u64,
+    },
     /// The era is another, or closed.
-    Dead(Name, u64, Era),
+    Dead {
+        name: Name,
+        caller: u64,
+        era: Era,
+    },
     /// Each buffer is out: caller, messages accepted, buffers returned.
-    NoBuffer(Name, u64, u64, u64),
+    NoBuffer {
+        name: Name,
+        caller: u64,
+        accepted: u64,
+        returned: u64,
+    },
     /// The book is full: caller, messages accepted.
-    BookFull(Name, u64, u64),
+    BookFull {
+        name: Name,
+        caller: u64,
+        accepted: u64,
+    },
     /// Each message was handed over: caller, messages accepted.
-    Empty(Name, u64, u64),
+    Empty {
+        name: Name,
+        caller: u64,
+        accepted: u64,
+    },
     /// The address is bound already.
-    AddressTaken(Name, u64, u64),
+    AddressTaken {
+        name: Name,
+        caller: u64,
+        address: u64,
+    },
     /// There are as many endpoints as there may be.
-    EndpointsFull(Name, u64),
+    EndpointsFull {
+        name: Name,
+        caller: u64,
+    },
     /// Nothing is bound at the address.
-    NotBound(Name, u64, u64),
+    NotBound {
+        name: Name,
+        caller: u64,
+        address: u64,
+    },
     /// A message went to an endpoint: caller, number, source address, endpoint, payload.
-    TookFromTo(Name, u64, u64, u64, Endpoint, Data),
+    TookFromTo {
+        name: Name,
+        caller: u64,
+        number: u64,
+        source: u64,
+        endpoint: Endpoint,
+        payload: Data,
+    },
     /// A message went nowhere: caller, number, source and destination address, payload.
-    TookFromDropped(Name, u64, u64, u64, u64, Data),
+    TookFromDropped {
+        name: Name,
+        caller: u64,
+        number: u64,
+        source: u64,
+        destination: u64,
+        payload: Data,
+    },
     /// A message without a whole header: caller, number.
-    TookMalformed(Name, u64, u64),
+    TookMalformed {
+        name: Name,
+        caller: u64,
+        number: u64,
+    },
     /// A name service message: caller, number, what it did, the channel's name and address.
-    TookNs(Name, u64, u64, NsKind, Name, u64),
+    TookNs {
+        name: Name,
+        caller: u64,
+        number: u64,
+        kind: NsKind,
+        channel: Name,
+        address: u64,
+    },
     /// A message to the name service that is none of its messages: caller, number.
-    TookNsMalformed(Name, u64, u64),
+    TookNsMalformed {
+        name: Name,
+        caller: u64,
+        number: u64,
+    },
     /// The counts of a lane: its number, messages accepted and handed over, buffers returned.
-    LaneAcceptedHandedReturned(Name, u64, u64, u64, u64),
+    LaneAcceptedHandedReturned {
+        name: Name,
+        lane: u64,
+        accepted: u64,
+        handed: u64,
+        returned: u64,
+    },
     /// A pump ended: the turns whose give was done.
-    Pumped(Name, u64),
+    Pumped {
+        name: Name,
+        turns: u64,
+    },
     /// An image was made: its bytes.
-    Image(Name, u64),
+    Image {
+        name: Name,
+        len: u64,
+    },
     /// An image of this name was made already.
-    ImageExists(Name),
+    ImageExists {
+        name: Name,
+    },
     /// The ring of a lane: the lane, and how many bytes the ring has.
-    Ring(Name, u64, u64),
+    Ring {
+        name: Name,
+        lane: u64,
+        len: u64,
+    },
     /// Up to sixteen bytes of a ring that aren't all zero: where they begin, and the bytes.
-    Dump(Name, u64, Data),
+    Dump {
+        name: Name,
+        offset: u64,
+        bytes: Data,
+    },
     /// A turn of the link is out: its caller.
-    StillTurn(Name, u64),
+    StillTurn {
+        name: Name,
+        caller: u64,
+    },
     /// The receiver of a pump is on the sender's end.
-    WrongSide(Name, u64),
+    WrongSide {
+        name: Name,
+        caller: u64,
+    },
     /// A channel of the name service: its name and address, and the endpoint that was bound for it.
-    Channel(Name, Name, u64, Option<Endpoint>),
+    Channel {
+        name: Name,
+        channel: Name,
+        address: u64,
+        endpoint: Option<Endpoint>,
+    },
     /// The core has no power.
-    Offline(Name),
+    Offline {
+        name: Name,
+    },
     /// The core has power, and must not have.
-    NotOffline(Name),
+    NotOffline {
+        name: Name,
+    },
     /// A region was added: its place among the core's, from 0.
-    Region(Name, u64),
+    Region {
+        name: Name,
+        region: u64,
+    },
     /// A driver was declared: the name of its channels, and what it does.
-    Driver(Name, Name, DriverKind),
+    Driver {
+        name: Name,
+        channel: Name,
+        kind: DriverKind,
+    },
     /// A driver of this name is declared already.
-    DriverTaken(Name, Name),
+    DriverTaken {
+        name: Name,
+        channel: Name,
+    },
     /// There are as many drivers as there may be.
-    DriversFull(Name),
+    DriversFull {
+        name: Name,
+    },
     /// The core runs, in this incarnation.
-    Running(Name, u64),
+    Running {
+        name: Name,
+        inc: u64,
+    },
     /// How many users the core has.
-    Users(Name, u64),
+    Users {
+        name: Name,
+        users: u64,
+    },
     /// There is no image of this name.
-    Missing(Name, Name),
+    Missing {
+        name: Name,
+        image: Name,
+    },
     /// The image of this name is longer than it may be.
-    TooLarge(Name, Name),
+    TooLarge {
+        name: Name,
+        image: Name,
+    },
     /// What was asked for is refused: the number of the fault.
-    Fault(Name, u64),
+    Fault {
+        name: Name,
+        fault: u64,
+    },
     /// What was asked for is refused: the number of the fault, and of the segment, the entry or the
     /// caller that it is about.
-    FaultAt(Name, u64, u64),
+    FaultAt {
+        name: Name,
+        fault: u64,
+        index: u64,
+    },
     /// The core crashed.
-    Crashed(Name, CrashKind),
+    Crashed {
+        name: Name,
+        kind: CrashKind,
+    },
     /// The core had crashed before.
-    AlreadyCrashed(Name),
+    AlreadyCrashed {
+        name: Name,
+    },
     /// Whether a core that crashed may be recovered.
-    Recovery(Name, Switch),
+    Recovery {
+        name: Name,
+        switch: Switch,
+    },
     /// The state of the core, its users and its incarnation.
-    State(Name, LifeState, u64, u64),
+    State {
+        name: Name,
+        state: LifeState,
+        users: u64,
+        inc: u64,
+    },
     /// The worker of the core did what it must not: the number of the fault.
-    WorkerFault(Name, u64),
+    WorkerFault {
+        name: Name,
+        fault: u64,
+    },
     /// A drive ended, since nothing was left to do.
-    Idle(Name),
+    Idle {
+        name: Name,
+    },
     /// A drive ended with its count.
-    Paused(Name),
+    Paused {
+        name: Name,
+    },
     /// A drive ended, since the core crashed.
-    Stopped(Name),
+    Stopped {
+        name: Name,
+    },
     /// The core doesn't run.
-    NotRunning(Name),
+    NotRunning {
+        name: Name,
+    },
     /// No image is loaded.
-    NotLoaded(Name),
+    NotLoaded {
+        name: Name,
+    },
     /// A line about the resource table.
-    Table(Name, TableLine),
+    Table {
+        name: Name,
+        line: TableLine,
+    },
     /// A trace: its place among the traces of the table, from 0, and its text.
-    Trace(Name, u64, Data),
+    Trace {
+        name: Name,
+        trace: u64,
+        text: Data,
+    },
     /// There is no such trace.
-    NoTrace(Name, u64),
+    NoTrace {
+        name: Name,
+        trace: u64,
+    },
     /// Bytes of the core's memory: where they begin, and the bytes.
-    Mem(Name, Da, Data),
+    Mem {
+        name: Name,
+        da: Da,
+        bytes: Data,
+    },
     /// Not all of these bytes are in one memory block: where they begin, and how many.
-    Unmapped(Name, Da, u64),
+    Unmapped {
+        name: Name,
+        da: Da,
+        len: u64,
+    },
 }

@@ -2,6 +2,7 @@
 #![tactic(auto)]
 
 mod events;
+mod form_events;
 mod forms;
 pub mod laws;
 mod lines;

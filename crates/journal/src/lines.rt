@@ -25,100 +25,228 @@ pub fn line(_alloc: Global, event: &Event, out: &mut Vec<u8>) -> Result<(), NoMe
     ensures same { OnErr result (out.new.items ≡ out.old.items) }
 {
     match event {
-        Event::Unknown(x) => word_name(out, "* unknown", x),
-        Event::NoLink(x) => name_word(out, x, "no-link"),
-        Event::Exists(x) => name_word(out, x, "exists"),
+        Event::Unknown { name: x } => word_name(out, "* unknown", x),
+        Event::NoLink { name: x } => name_word(out, x, "no-link"),
+        Event::Exists { name: x } => name_word(out, x, "exists"),
         Event::ObjectsFull => text_line(out, "* objects-full"),
-        Event::Open(x, inc) => name_word_number(out, x, "open", *inc),
-        Event::Closed(x, inc) => name_word_number(out, x, "closed", *inc),
-        Event::Already(x, era) => name_word_era(out, x, "already", *era),
-        Event::StillOpen(x, inc) => name_word_number(out, x, "still-open", *inc),
-        Event::StillHeld(x, c, number) => {
-            name_word_two_numbers(out, x, "still-held", *c, *number)
-        }
-        Event::IncarnationsSpent(x) => name_word(out, x, "incarnations-spent"),
-        Event::Reclaimed(x, c) => name_word_number(out, x, "reclaimed", *c),
-        Event::BusyTurn(x, holder) => name_word_number(out, x, "busy", *holder),
-        Event::Caller(x, c, end) => new_caller(out, x, *c, *end),
-        Event::CallersFull(x) => name_word(out, x, "callers-full"),
-        Event::NoCaller(x, c) => name_word_number(out, x, "no-caller", *c),
-        Event::InCall(x, c) => caller_word(out, x, *c, "in-call"),
-        Event::NoCall(x, c) => caller_word(out, x, *c, "no-call"),
-        Event::NotHeld(x, c, number) => caller_word_number(out, x, *c, "not-held", *number),
-        Event::TooLong(x, c, len) => caller_word_number(out, x, *c, "too-long", *len),
-        Event::Begun(x, c) => caller_word(out, x, *c, "begun"),
-        Event::At(x, c, step) => caller_word_number(out, x, *c, "at", *step),
-        Event::Sent(x, c, number) => caller_word_number(out, x, *c, "sent", *number),
-        Event::Gave(x, c, number) => caller_word_number(out, x, *c, "gave", *number),
-        Event::Bound(x, c, endpoint) => caller_word_endpoint(out, x, *c, "bound", *endpoint),
-        Event::Unbound(x, c, endpoint) => caller_word_endpoint(out, x, *c, "unbound", *endpoint),
-        Event::Busy(x, c, holder) => caller_word_number(out, x, *c, "busy", *holder),
-        Event::Dead(x, c, era) => dead_call(out, x, *c, *era),
-        Event::NoBuffer(x, c, accepted, returned) => {
-            caller_word_two_numbers(out, x, *c, "no-buffer", *accepted, *returned)
-        }
-        Event::BookFull(x, c, accepted) => caller_word_number(out, x, *c, "book-full", *accepted),
-        Event::Empty(x, c, accepted) => caller_word_number(out, x, *c, "empty", *accepted),
-        Event::AddressTaken(x, c, address) => caller_word_number(
-            out,
-            x,
-            *c,
-            "address-taken",
-            *address,
-        ),
-        Event::EndpointsFull(x, c) => caller_word(out, x, *c, "endpoints-full"),
-        Event::NotBound(x, c, address) => caller_word_number(out, x, *c, "not-bound", *address),
-        Event::TookFromTo(x, c, number, source, endpoint, payload) => {
-            take_to(out, x, *c, *number, *source, *endpoint, payload)
-        }
-        Event::TookFromDropped(x, c, number, source, destination, payload) => {
-            take_without_endpoint(out, x, *c, *number, *source, *destination, payload)
-        }
-        Event::TookMalformed(x, c, number) => take_word(out, x, *c, *number, "malformed"),
-        Event::TookNs(x, c, number, what, channel, address) => {
-            take_of_service(out, x, *c, *number, *what, channel, *address)
-        }
-        Event::TookNsMalformed(x, c, number) => take_word(out, x, *c, *number, "ns malformed"),
-        Event::LaneAcceptedHandedReturned(x, lane_no, accepted, handed, returned) => {
-            lane_counts(out, x, *lane_no, *accepted, *handed, *returned)
-        }
-        Event::Pumped(x, turns) => name_word_number(out, x, "pumped", *turns),
-        Event::Image(x, len) => word_name_number(out, "* image", x, *len),
-        Event::ImageExists(x) => word_name(out, "* image-exists", x),
-        Event::Ring(x, lane_no, len) => ring_line(out, x, *lane_no, *len),
-        Event::Dump(x, offset, bytes) => ring_row(out, x, *offset, bytes),
-        Event::StillTurn(x, c) => name_word_number(out, x, "still-turn", *c),
-        Event::WrongSide(x, c) => caller_word(out, x, *c, "wrong-side"),
-        Event::Channel(x, channel, address, endpoint) => {
-            channel_line(out, x, channel, *address, *endpoint)
-        }
-        Event::Offline(x) => name_word(out, x, "offline"),
-        Event::NotOffline(x) => name_word(out, x, "not-offline"),
-        Event::Region(x, index) => name_word_number(out, x, "region", *index),
-        Event::Driver(x, driver, kind) => driver_line(out, x, driver, *kind),
-        Event::DriverTaken(x, driver) => name_word_name(out, x, "driver-taken", driver),
-        Event::DriversFull(x) => name_word(out, x, "drivers-full"),
-        Event::Running(x, inc) => name_word_number(out, x, "running", *inc),
-        Event::Users(x, users) => name_word_number(out, x, "users", *users),
-        Event::Missing(x, image) => name_word_name(out, x, "missing", image),
-        Event::TooLarge(x, image) => name_word_name(out, x, "too-large", image),
-        Event::Fault(x, number) => name_word_number(out, x, "fault", *number),
-        Event::FaultAt(x, number, index) => name_word_two_numbers(out, x, "fault", *number, *index),
-        Event::Crashed(x, kind) => crash_line(out, x, *kind),
-        Event::AlreadyCrashed(x) => name_word(out, x, "already"),
-        Event::Recovery(x, switch) => recovery_line(out, x, *switch),
-        Event::State(x, state, users, inc) => state_line(out, x, *state, *users, *inc),
-        Event::WorkerFault(x, number) => name_word_number(out, x, "worker fault", *number),
-        Event::Idle(x) => name_word(out, x, "idle"),
-        Event::Paused(x) => name_word(out, x, "paused"),
-        Event::Stopped(x) => name_word(out, x, "stopped"),
-        Event::NotRunning(x) => name_word(out, x, "not-running"),
-        Event::NotLoaded(x) => name_word(out, x, "not-loaded"),
-        Event::Table(x, entry) => table_line(out, &[Piece::Name(x)], entry),
-        Event::Trace(x, index, text) => trace_line(out, x, *index, text),
-        Event::NoTrace(x, index) => name_word_number(out, x, "no-trace", *index),
-        Event::Mem(x, da, bytes) => memory_row(out, x, *da, bytes),
-        Event::Unmapped(x, da, len) => memory_hole(out, x, *da, *len),
+        Event::Open { name: x, inc } => name_word_number(out, x, "open", *inc),
+        Event::Closed { name: x, inc } => name_word_number(out, x, "closed", *inc),
+        Event::Already { name: x, era } => name_word_era(out, x, "already", *era),
+        Event::StillOpen { name: x, inc } => name_word_number(out, x, "still-open", *inc),
+        Event::StillHeld {
+            name: x,
+            caller: c,
+            number,
+        } => { name_word_two_numbers(out, x, "still-held", *c, *number) }
+        Event::IncarnationsSpent { name: x } => name_word(out, x, "incarnations-spent"),
+        Event::Reclaimed { name: x, caller: c } => name_word_number(out, x, "reclaimed", *c),
+        Event::BusyTurn { name: x, holder } => name_word_number(out, x, "busy", *holder),
+        Event::Caller {
+            name: x,
+            caller: c,
+            end,
+        } => new_caller(out, x, *c, *end),
+        Event::CallersFull { name: x } => name_word(out, x, "callers-full"),
+        Event::NoCaller { name: x, caller: c } => name_word_number(out, x, "no-caller", *c),
+        Event::InCall { name: x, caller: c } => caller_word(out, x, *c, "in-call"),
+        Event::NoCall { name: x, caller: c } => caller_word(out, x, *c, "no-call"),
+        Event::NotHeld {
+            name: x,
+            caller: c,
+            number,
+        } => caller_word_number(out, x, *c, "not-held", *number),
+        Event::TooLong {
+            name: x,
+            caller: c,
+            len,
+        } => caller_word_number(out, x, *c, "too-long", *len),
+        Event::Begun { name: x, caller: c } => caller_word(out, x, *c, "begun"),
+        Event::At {
+            name: x,
+            caller: c,
+            step,
+        } => caller_word_number(out, x, *c, "at", *step),
+        Event::Sent {
+            name: x,
+            caller: c,
+            number,
+        } => caller_word_number(out, x, *c, "sent", *number),
+        Event::Gave {
+            name: x,
+            caller: c,
+            number,
+        } => caller_word_number(out, x, *c, "gave", *number),
+        Event::Bound {
+            name: x,
+            caller: c,
+            endpoint,
+        } => caller_word_endpoint(out, x, *c, "bound", *endpoint),
+        Event::Unbound {
+            name: x,
+            caller: c,
+            endpoint,
+        } => caller_word_endpoint(out, x, *c, "unbound", *endpoint),
+        Event::Busy {
+            name: x,
+            caller: c,
+            holder,
+        } => caller_word_number(out, x, *c, "busy", *holder),
+        Event::Dead {
+            name: x,
+            caller: c,
+            era,
+        } => dead_call(out, x, *c, *era),
+        Event::NoBuffer {
+            name: x,
+            caller: c,
+            accepted,
+            returned,
+        } => { caller_word_two_numbers(out, x, *c, "no-buffer", *accepted, *returned) }
+        Event::BookFull {
+            name: x,
+            caller: c,
+            accepted,
+        } => caller_word_number(out, x, *c, "book-full", *accepted),
+        Event::Empty {
+            name: x,
+            caller: c,
+            accepted,
+        } => caller_word_number(out, x, *c, "empty", *accepted),
+        Event::AddressTaken {
+            name: x,
+            caller: c,
+            address,
+        } => caller_word_number(out, x, *c, "address-taken", *address),
+        Event::EndpointsFull { name: x, caller: c } => caller_word(out, x, *c, "endpoints-full"),
+        Event::NotBound {
+            name: x,
+            caller: c,
+            address,
+        } => caller_word_number(out, x, *c, "not-bound", *address),
+        Event::TookFromTo {
+            name: x,
+            caller: c,
+            number,
+            source,
+            endpoint,
+            payload,
+        } => { take_to(out, x, *c, *number, *source, *endpoint, payload) }
+        Event::TookFromDropped {
+            name: x,
+            caller: c,
+            number,
+            source,
+            destination,
+            payload,
+        } => { take_without_endpoint(out, x, *c, *number, *source, *destination, payload) }
+        Event::TookMalformed {
+            name: x,
+            caller: c,
+            number,
+        } => take_word(out, x, *c, *number, "malformed"),
+        Event::TookNs {
+            name: x,
+            caller: c,
+            number,
+            kind: what,
+            channel,
+            address,
+        } => { take_of_service(out, x, *c, *number, *what, channel, *address) }
+        Event::TookNsMalformed {
+            name: x,
+            caller: c,
+            number,
+        } => take_word(out, x, *c, *number, "ns malformed"),
+        Event::LaneAcceptedHandedReturned {
+            name: x,
+            lane: lane_no,
+            accepted,
+            handed,
+            returned,
+        } => { lane_counts(out, x, *lane_no, *accepted, *handed, *returned) }
+        Event::Pumped { name: x, turns } => name_word_number(out, x, "pumped", *turns),
+        Event::Image { name: x, len } => word_name_number(out, "* image", x, *len),
+        Event::ImageExists { name: x } => word_name(out, "* image-exists", x),
+        Event::Ring {
+            name: x,
+            lane: lane_no,
+            len,
+        } => ring_line(out, x, *lane_no, *len),
+        Event::Dump {
+            name: x,
+            offset,
+            bytes,
+        } => ring_row(out, x, *offset, bytes),
+        Event::StillTurn { name: x, caller: c } => name_word_number(out, x, "still-turn", *c),
+        Event::WrongSide { name: x, caller: c } => caller_word(out, x, *c, "wrong-side"),
+        Event::Channel {
+            name: x,
+            channel,
+            address,
+            endpoint,
+        } => { channel_line(out, x, channel, *address, *endpoint) }
+        Event::Offline { name: x } => name_word(out, x, "offline"),
+        Event::NotOffline { name: x } => name_word(out, x, "not-offline"),
+        Event::Region {
+            name: x,
+            region: index,
+        } => name_word_number(out, x, "region", *index),
+        Event::Driver {
+            name: x,
+            channel: driver,
+            kind,
+        } => driver_line(out, x, driver, *kind),
+        Event::DriverTaken {
+            name: x,
+            channel: driver,
+        } => name_word_name(out, x, "driver-taken", driver),
+        Event::DriversFull { name: x } => name_word(out, x, "drivers-full"),
+        Event::Running { name: x, inc } => name_word_number(out, x, "running", *inc),
+        Event::Users { name: x, users } => name_word_number(out, x, "users", *users),
+        Event::Missing { name: x, image } => name_word_name(out, x, "missing", image),
+        Event::TooLarge { name: x, image } => name_word_name(out, x, "too-large", image),
+        Event::Fault {
+            name: x,
+            fault: number,
+        } => name_word_number(out, x, "fault", *number),
+        Event::FaultAt {
+            name: x,
+            fault: number,
+            index,
+        } => name_word_two_numbers(out, x, "fault", *number, *index),
+        Event::Crashed { name: x, kind } => crash_line(out, x, *kind),
+        Event::AlreadyCrashed { name: x } => name_word(out, x, "already"),
+        Event::Recovery { name: x, switch } => recovery_line(out, x, *switch),
+        Event::State {
+            name: x,
+            state,
+            users,
+            inc,
+        } => state_line(out, x, *state, *users, *inc),
+        Event::WorkerFault {
+            name: x,
+            fault: number,
+        } => name_word_number(out, x, "worker fault", *number),
+        Event::Idle { name: x } => name_word(out, x, "idle"),
+        Event::Paused { name: x } => name_word(out, x, "paused"),
+        Event::Stopped { name: x } => name_word(out, x, "stopped"),
+        Event::NotRunning { name: x } => name_word(out, x, "not-running"),
+        Event::NotLoaded { name: x } => name_word(out, x, "not-loaded"),
+        Event::Table {
+            name: x,
+            line: entry,
+        } => table_line(out, &[Piece::Name(x)], entry),
+        Event::Trace {
+            name: x,
+            trace: index,
+            text,
+        } => trace_line(out, x, *index, text),
+        Event::NoTrace {
+            name: x,
+            trace: index,
+        } => name_word_number(out, x, "no-trace", *index),
+        Event::Mem { name: x, da, bytes } => memory_row(out, x, *da, bytes),
+        Event::Unmapped { name: x, da, len } => memory_hole(out, x, *da, *len),
     }
 }
 

@@ -1,5 +1,5 @@
 -- A close leaves every caller's next step possible, a reclaim every other caller's, and a reopening every first step.
-use Rattle.std.proofs.Common.{◌≡◌, ◌≢◌, ℕ, ◌-◌, ◌^◌, ◌==◌, if◌then◌else◌, eqb, Bool, true, false, IsTrue, cond, fold, Option, Some, None, is_none, refl, sym, ap, subst, ◌∙◌, List, [], ◌∷◌, nat_lt}
+use Rattle.std.proofs.Common.{◌≡◌, ◌≢◌, ℕ, zero, suc, ◌-◌, ◌^◌, ◌==◌, if◌then◌else◌, eqb, true, false, fold, Option, Some, None, is_none, refl, sym, ap, subst, ◌∙◌, List, [], ◌∷◌, nat_lt, slice_set}
 use Rattle.std.specs.Option.{option_map, option_or}
 use Rattle.std.proofs.lemmas.Bool.{false≢true, ne_eqb, cond_both, eqb-true}
 use Rattle.rp_base.specs.declared.kinds.Era.{Era}
@@ -10,7 +10,6 @@ use Rattle.lane_model.specs.declared.states.LaneState.{LaneState}
 use Rattle.lane_model.specs.declared.stages.Turn.{Turn}
 use Rattle.lane_model.specs.declared.stages.Turn.TheVariants as turn
 use Rattle.lane_model.specs.declared.calls.Wish.{Wish}
-use Rattle.lane_model.specs.declared.calls.Wish.TheVariants as wish
 use Rattle.lane_model.specs.declared.recoveries.ReopenFault.{ReopenFault}
 use Rattle.lane_model.specs.declared.recoveries.ReopenFault.TheVariants as reopen_fault
 use Rattle.lane_model.specs.Desks.{DeskMeaning}
@@ -21,7 +20,6 @@ use Rattle.lane_model.specs.Links.{LinkState, lanes_of, end_of}
 use Rattle.lane_model.specs.Recoveries.{link_after_close, link_after_reclaim, link_after_reopen, unopened_by, without_caller}
 use Rattle.lane_model.specs.Conditions.{IsFitWish, MayEndStep, MayStep}
 use Rattle.lane_model.proofs.Others.{KeepsOther, may_stays}
-use Rattle.lane_model.proofs.CrashLaws.{freed}
 use Rattle.lane_model.proofs.CrashSteps.{others_still_hold}
 
 end_may : {D : Type 0} (link : LinkState D) (era : Era) (found : Option End) (caller : ℕ) (next : Option Wish)
@@ -71,6 +69,14 @@ ends_may desk link (Some side.Remote) (Some side.Remote) caller other next diffe
     may_stays (lanes_of link side.Remote) _ other next (send_keeps link.to_host caller other differ) (receive_keeps link.to_remote caller other differ) may
 ends_may desk link None theirs caller other next differ may = may
 ends_may desk link (Some mine) None caller other next differ may = absurd may
+
+-- a caller stays where another's number is freed
+pub freed : (callers : List (Option End)) (gone caller : ℕ) → gone ≢ caller → end_of (slice_set callers gone None) caller ≡ end_of callers caller
+freed [] gone caller differ = refl
+freed (found ∷ callers) zero zero differ = absurd (differ refl)
+freed (found ∷ callers) zero (suc caller) differ = refl
+freed (found ∷ callers) (suc gone) zero differ = refl
+freed (found ∷ callers) (suc gone) (suc caller) differ = freed callers gone caller (λ same. differ (ap suc same))
 
 -- another is on the end on which it was
 same_end : {D : Type 0} (desk : DeskMeaning D) (link : LinkState D) (mine : Option End) (caller other : ℕ) → caller ≢ other

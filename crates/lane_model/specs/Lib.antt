@@ -14,7 +14,4 @@ pub mod Books
 pub mod ListLanes
 pub mod Recoveries
 pub mod LinkLaws
-pub mod Parts
 pub mod AtOnce
-pub mod Handings
-pub mod Moves

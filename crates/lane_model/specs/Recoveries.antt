@@ -1,10 +1,9 @@
 -- What a close, a reclaim and a reopening of a link leave, and why they are refused (own).
-use Rattle.std.specs.Prelude.{Vec, ◌≡◌, true, [], ℕ, ◌+◌, ◌-◌, ◌^◌, ◌==◌, false, if◌then◌else◌, slice_set, Option, Some, None, option_and_then}
+use Rattle.std.specs.Prelude.{Vec, true, ℕ, ◌+◌, ◌-◌, ◌^◌, ◌==◌, false, if◌then◌else◌, slice_set, Option, Some, None, option_and_then}
 use Rattle.std.specs.declared.alloc.Global.{Global}
 use Rattle.std.specs.Option.{option_map, option_or}
 use Rattle.rp_base.specs.declared.kinds.Era.{Era}
 use Rattle.rp_base.specs.declared.kinds.End.{End}
-use Rattle.lane_model.specs.declared.states.LaneState.{LaneState}
 use Rattle.lane_model.specs.declared.lane_links.LaneLink.{LaneLink}
 use Rattle.lane_model.specs.declared.recoveries.ReclaimRefusal.{ReclaimRefusal}
 use Rattle.lane_model.specs.declared.recoveries.ReclaimRefusal.TheVariants as reclaim_refusal
@@ -13,7 +12,6 @@ use Rattle.lane_model.specs.declared.recoveries.ReclaimByFault.{ReclaimByFault}
 use Rattle.lane_model.specs.declared.recoveries.ReclaimByFault.TheVariants as reclaim_fault
 use Rattle.lane_model.specs.declared.recoveries.ReopenFault.{ReopenFault}
 use Rattle.lane_model.specs.declared.recoveries.ReopenFault.TheVariants as reopen_fault
-use Rattle.lane_model.specs.declared.stages.Turn.TheVariants as turn
 use Rattle.lane_model.specs.Lanes.{is_live_in}
 use Rattle.lane_model.specs.Forms.{FormMeaning}
 use Rattle.lane_model.specs.Crashes.{needed_holder, turn_out, least_held}
@@ -64,17 +62,3 @@ unopened_by link =
 abbrev pub link_after_reopen : {L D : Type 0} → FormMeaning L D → LaneLink L → LaneLink L
 link_after_reopen form link =
     record link { era = record { inc = link.era.inc + 1; is_live = true }; to_host = form.link_after_reopen link.to_host; to_remote = form.link_after_reopen link.to_remote }
-
--- nothing was handed over on either lane
-pub record HandsNone {D : Type 0} (before after : LinkState D) : Type 0 where
-  pub to_host : after.to_host.lane.takers ≡ before.to_host.lane.takers
-  pub to_remote : after.to_remote.lane.takers ≡ before.to_remote.lane.takers
-
--- a lane on which nothing was accepted, handed over or given back, with no call under way
-pub record IsEmptyLane {D : Type 0} (state : LaneState D) : Type 0 where
-  pub accepted : state.lane.accepted ≡ []
-  pub takers : state.lane.takers ≡ []
-  pub held : state.lane.held ≡ []
-  pub returned : state.lane.returned ≡ 0
-  pub sender : state.sender ≡ turn.Free
-  pub receiver : state.receiver ≡ turn.Free

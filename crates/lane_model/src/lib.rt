@@ -7,7 +7,6 @@ mod desks;
 mod helds;
 mod lane_forms;
 mod lane_links;
-pub mod laws;
 mod link_calls;
 mod link_recoveries;
 mod links;

@@ -1,37 +1,15 @@
-// Tests of the libraries' calls: happy paths, texts, and tables of cases, of which no clause speaks.
+// Tests of calls that no worked case reaches: the adapters, texts of faults, a line that is read back, links over lists and through the trait.
 #![tactic(auto)]
 
 #[cfg(test)]
 mod base;
-#[cfg(test)]
-mod demo;
 pub mod desks;
-#[cfg(test)]
-mod drivers;
-#[cfg(test)]
-mod elf;
-#[cfg(test)]
-mod header;
 #[cfg(test)]
 mod lines;
 #[cfg(test)]
 mod links;
 #[cfg(test)]
-mod lives;
-#[cfg(test)]
-mod loading;
-#[cfg(test)]
 mod outside;
 #[cfg(test)]
-mod placement;
-#[cfg(test)]
-mod records;
-#[cfg(test)]
-mod reopens;
-#[cfg(test)]
-mod table;
-#[cfg(test)]
-mod text;
+mod texts;
 pub mod trait_calls;
-#[cfg(test)]
-mod workers;

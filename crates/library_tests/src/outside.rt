@@ -1,16 +1,13 @@
 use rp_base::{IMAGE_MOST, Name};
 use rp_io::{
-    FetchFault, FirmwareStore, FolderStore, MemorySink, MemorySource, MemoryStore, PlainSink,
-    PlainSource, PlainStore, ReadFault, Sink, Source, StdinSource, StdoutSink, read_front,
-    read_image, write_whole,
+    FetchFault, FirmwareStore, FolderStore, PlainSink, PlainSource, PlainStore, ReadFault, Sink,
+    Source, StdinSource, StdoutSink, read_front, write_whole,
 };
 use std::alloc::Global;
 use std::fs;
 use std::io::{self, ErrorKind, Read, Write};
 use std::os::unix::fs::symlink;
 use std::test::Fail;
-
-const TEXT: &[u8] = b"remoteproc";
 
 /// A reader and writer of the bytes of a list, whose first calls fail with these kinds, the last
 /// one first.
@@ -81,13 +78,14 @@ fn is_written<K: Sink>(sink: &mut K, bytes: &[u8]) -> bool {
     write_whole(sink, bytes).is_ok()
 }
 
-/// What an answer is, of a call that is to give the first `length` bytes of the pattern.
-fn answer_word(
+/// What the store answers for an image that is to be the first `length` bytes of the pattern.
+fn fetch<F: FirmwareStore>(
     alloc: Global,
-    answer: Result<Vec<u8>, FetchFault>,
+    store: &mut F,
+    name: &str,
     length: usize,
 ) -> Result<&'static str, Fail> {
-    match answer {
+    match store.fetch(alloc, name) {
         Ok(image) => {
             let is_whole = image.as_slice() == pattern(alloc, length)?.as_slice();
             Ok(if is_whole { "whole" } else { "wrong" })
@@ -106,15 +104,6 @@ fn fault_word(fault: &FetchFault) -> &'static str {
     }
 }
 
-fn fetch<F: FirmwareStore>(
-    alloc: Global,
-    store: &mut F,
-    name: &str,
-    length: usize,
-) -> Result<&'static str, Fail> {
-    answer_word(alloc, store.fetch(alloc, name), length)
-}
-
 /// So many bytes, which repeat themselves nowhere in one image.
 fn pattern(alloc: Global, length: usize) -> Result<Vec<u8>, Fail> {
     let mut bytes = vec![in alloc; 0u8; length]?;
@@ -124,105 +113,19 @@ fn pattern(alloc: Global, length: usize) -> Result<Vec<u8>, Fail> {
     Ok(bytes)
 }
 
-/// A source of the text that gives three bytes a read, and of which one read fails.
-fn source_of_text(alloc: Global, fails: u64) -> Result<MemorySource, Fail> {
-    let fails = vec![in alloc; fails]?;
-    Ok(MemorySource::new(Vec::from_slice(alloc, TEXT)?, 3, fails))
-}
-
-/// Two images of one name, one as long as an image may be, and one that is too large.
-fn images(alloc: Global) -> Result<Vec<(Name, Vec<u8>)>, Fail> {
-    let mut images = Vec::new(alloc);
-    for (name, length) in [
-        ("fw", 5),
-        ("fw", 6),
-        ("most", IMAGE_MOST),
-        ("large", IMAGE_MOST + 1),
-    ] {
-        let name = Name::of(name.as_bytes()).ok_or("no name")?;
-        images.push((name, pattern(alloc, length)?))?;
-    }
-    Ok(images)
-}
-
+// The devices that keep no list of failing calls.
 #[test]
-fn reads_of_a_source(rt: HostRuntime) -> Result<(), Fail> {
-    let mut source = source_of_text(rt.alloc(), 1)?;
-    for count in [Some(3), None, Some(3), Some(3), Some(1), Some(0), Some(0)] {
-        assert_eq!(rt; next_read(&mut source), count);
-    }
-    assert_eq!(rt; source.faults(), 1);
-    Ok(())
-}
-
-#[test]
-fn fronts_of_a_source(rt: HostRuntime) -> Result<(), Fail> {
+fn plain_devices(rt: HostRuntime) -> Result<(), Fail> {
     let alloc = rt.alloc();
-    for (limit, length) in [(0, 1), (4, 5), (8, 9), (9, 10), (10, 10), (5000, 10)] {
-        let bytes = front(alloc, &mut source_of_text(alloc, 100)?, limit)?;
-        assert_eq!(rt; Some(bytes.as_slice()), TEXT.get(..length));
-    }
-    let fault = front(alloc, &mut source_of_text(alloc, 2)?, 100).err();
-    assert_eq!(rt; fault, Some(ReadFault::Failed));
     let bytes = front(alloc, &mut PlainSource::new(pattern(alloc, 10_000)?), 9000)?;
     assert_eq!(rt; bytes.as_slice(), pattern(alloc, 9001)?.as_slice());
-    Ok(())
-}
-
-#[test]
-fn sinks_in_memory(rt: HostRuntime) -> Result<(), Fail> {
-    let alloc = rt.alloc();
-    let mut sink = MemorySink::new(alloc, 8, 3, vec![in alloc; 1]?)?;
-    for (bytes, whole) in [
-        ("abc", true),
-        ("lost", false),
-        ("defg", true),
-        ("hi", false),
-    ] {
-        assert_eq!(rt; is_written(&mut sink, bytes.as_bytes()), whole);
-    }
-    assert_eq!(rt; sink.bytes(), b"abcdefgh".as_slice());
-    assert_eq!(rt; sink.faults(), 2);
     let mut counter = PlainSink::new();
-    assert!(rt; is_written(&mut counter, TEXT));
+    assert!(rt; is_written(&mut counter, b"remoteproc"));
     assert_eq!(rt; counter.count(), 10);
-    Ok(())
-}
-
-#[test]
-fn stores_in_memory(rt: HostRuntime) -> Result<(), Fail> {
-    let alloc = rt.alloc();
-    let mut store = MemoryStore::new(images(alloc)?, vec![in alloc; 1]?);
-    let mut plain = PlainStore::new(images(alloc)?);
+    let name = Name::of(b"fw").ok_or("no name")?;
+    let mut store = PlainStore::new(vec![in alloc; (name, pattern(alloc, 5)?)]?);
     assert_eq!(rt; fetch(alloc, &mut store, "fw", 5)?, "whole");
-    assert_eq!(rt; fetch(alloc, &mut store, "fw", 5)?, "failed");
-    for (name, length, word) in [
-        ("fw", 5, "whole"),
-        ("f", 5, "missing"),
-        ("most", IMAGE_MOST, "whole"),
-        ("large", 0, "too large"),
-    ] {
-        assert_eq!(rt; fetch(alloc, &mut store, name, length)?, word);
-        assert_eq!(rt; fetch(alloc, &mut plain, name, length)?, word);
-    }
-    assert_eq!(rt; store.faults(), 1);
-    Ok(())
-}
-
-#[test]
-fn images_of_a_source(rt: HostRuntime) -> Result<(), Fail> {
-    let alloc = rt.alloc();
-    for (length, word) in [
-        (0, "whole"),
-        (IMAGE_MOST, "whole"),
-        (IMAGE_MOST + 1, "too large"),
-        (IMAGE_MOST + 70_000, "too large"),
-    ] {
-        let image = read_image(alloc, &mut PlainSource::new(pattern(alloc, length)?));
-        assert_eq!(rt; answer_word(alloc, image, length)?, word);
-    }
-    let image = read_image(alloc, &mut source_of_text(alloc, 3)?);
-    assert_eq!(rt; answer_word(alloc, image, 10)?, "failed");
+    assert_eq!(rt; fetch(alloc, &mut store, "f", 5)?, "missing");
     Ok(())
 }
 

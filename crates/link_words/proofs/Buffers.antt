@@ -17,11 +17,11 @@ use Rattle.lane_model.specs.declared.stages.SendStage.TheVariants as stage
 use base.Stored.{Coded}
 use Rattle.lane_model.specs.Desks.{DeskMeaning}
 use Rattle.lane_model.specs.Lanes.{holder, has_call}
-use Rattle.lane_model.proofs.CrashLaws.{host_is_not}
+use Rattle.lane_laws.proofs.CrashLaws.{host_is_not}
 use Rattle.ring_core.specs.declared.states.RingState.{RingState}
 use Rattle.ring_core.specs.Rings.{buffer_at, source_buffer}
 use Rattle.ring_core.specs.RingSteps.{ring_form}
-use Rattle.ring_core.specs.RingLinks.{HasSoundRings}
+use Rattle.lane_laws.specs.SoundRingLinks.{HasSoundRings}
 use Rattle.ring_core.specs.SoundRings.{IsSoundRings}
 use Rattle.ring_core.proofs.OneOwner.{taking_is}
 use Rattle.ring_core.proofs.Owned.{source-below, source-apart, source-early}

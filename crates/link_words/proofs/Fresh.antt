@@ -17,11 +17,11 @@ use Rattle.rp_base.specs.Limits.{ring_capacity}
 use Rattle.lane_model.specs.declared.calls.LinkConfig.{LinkConfig}
 use Rattle.lane_model.specs.Desks.{DeskMeaning}
 use Rattle.lane_model.specs.Conditions.{IsConfig}
-use Rattle.lane_model.proofs.SoundKept.{opened_sound}
+use Rattle.lane_laws.proofs.SoundKept.{opened_sound}
 use Rattle.ring_core.specs.declared.states.RingState.{RingState}
 use Rattle.ring_core.specs.Rings.{sizes_of}
 use Rattle.ring_core.specs.RingLinks.{opened_ring_link}
-use Rattle.ring_core.proofs.Links.{opened_link_sound}
+use Rattle.lane_laws.proofs.RingLinks.{opened_link_sound}
 use Rattle.link_words.specs.declared.rule.Slot.{Slot}
 use Rattle.link_words.specs.declared.rule.Slot.TheVariants.{Buffer, Sender, Receiver}
 use Rattle.link_words.specs.declared.rule.LinkSizes.{LinkSizes}

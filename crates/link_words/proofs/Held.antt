@@ -18,7 +18,7 @@ use Rattle.lane_model.specs.declared.stages.Receiving.{Receiving}
 use base.Stored.{Coded}
 use Rattle.lane_model.specs.Desks.{DeskMeaning}
 use Rattle.lane_model.specs.Lanes.{holder, has_call, message_at}
-use Rattle.lane_model.specs.Parts.{manager_takes, manager_leaves}
+use Rattle.lane_laws.specs.Parts.{manager_takes, manager_leaves}
 use Rattle.lane_model.specs.Links.{end_of}
 use Rattle.lane_model.specs.declared.states.BookEntry.{BookEntry}
 use Rattle.lane_model.specs.Crashes.{held_by_others}

@@ -14,19 +14,19 @@ use Rattle.lane_model.specs.Crashes.{after_send_end, after_receive_end}
 use Rattle.lane_model.specs.Links.{lanes_of, with_lanes, end_of, link_of, on_lanes, lanes_step, send_later, receive_later}
 use Rattle.lane_model.specs.Conditions.{MayEndStep, is_in_call}
 use Rattle.lane_model.specs.Recoveries.{link_after_reopen}
-use Rattle.lane_model.specs.Parts.{part_done, with_manager, manager_takes, manager_leaves}
+use Rattle.lane_laws.specs.Parts.{part_done, with_manager, manager_takes, manager_leaves}
 use Rattle.lane_model.specs.declared.recoveries.LaneTurn.TheVariants as lane_turn
 use Rattle.lane_model.specs.declared.stages.Turn.{Turn}
 use Rattle.lane_model.specs.Soundness.{SoundLink, IsSoundBetween}
 use Rattle.lane_model.proofs.FormSteps.{step_agrees}
-use Rattle.lane_model.proofs.SoundKept.{step_sound, caller_sound}
-use Rattle.lane_model.proofs.CrashLaws.{close_sound, reopen_sound}
-use Rattle.lane_model.proofs.PartSteps.{part_sound, manager_takes_sound}
+use Rattle.lane_laws.proofs.SoundKept.{step_sound, caller_sound}
+use Rattle.lane_laws.proofs.CrashLaws.{close_sound, reopen_sound}
+use Rattle.lane_laws.proofs.PartSteps.{part_sound, manager_takes_sound}
 use Rattle.ring_core.specs.declared.states.RingState.{RingState}
 use Rattle.ring_core.specs.RingSteps.{ring_form}
 use Rattle.ring_core.specs.SoundRings.{IsSoundRings}
-use Rattle.ring_core.specs.RingLinks.{HasSoundRings}
-use Rattle.ring_core.proofs.Links.{link_kept, close_kept, reopen_kept}
+use Rattle.lane_laws.specs.SoundRingLinks.{HasSoundRings}
+use Rattle.lane_laws.proofs.RingLinks.{link_kept, close_kept, reopen_kept}
 use Rattle.ring_core.proofs.Reclaims.{send_ended_sound, receive_ended_sound}
 use Rattle.link_words.specs.Words.{other, lane_to, with_lane}
 use Rattle.link_words.specs.Deeds.{Deed, Steps, Closes, EndsCall, Opens, TakesReceiver, LeavesTurn, Enlists, Frees, Nothing, after_leave_without, after_deed, MayDo, lanes_after_end, IsSoundState}

@@ -19,7 +19,7 @@ use Rattle.lane_model.specs.Recoveries.{link_after_reopen}
 use Rattle.ring_core.specs.declared.states.RingState.{RingState}
 use Rattle.ring_core.specs.RingSteps.{ring_form}
 use Rattle.ring_core.specs.Owners.{sender_is_out, receiver_is_out}
-use Rattle.ring_core.proofs.Links.{reopen_kept}
+use Rattle.lane_laws.proofs.RingLinks.{reopen_kept}
 use Rattle.link_words.specs.declared.rule.Slot.{Slot}
 use Rattle.link_words.specs.declared.rule.Slot.TheVariants.{Sender, Receiver}
 use Rattle.link_words.specs.declared.rule.ReceiverSide.{ReceiverSide}

@@ -9,7 +9,7 @@ use Rattle.lane_model.specs.declared.lane_links.LaneLink.{LaneLink}
 use Rattle.lane_model.specs.Desks.{DeskMeaning}
 use Rattle.ring_core.specs.declared.states.RingState.{RingState}
 use Rattle.ring_core.specs.declared.states.RingSizes.{RingSizes}
-use Rattle.ring_core.specs.RingLinks.{HasSoundRings}
+use Rattle.lane_laws.specs.SoundRingLinks.{HasSoundRings}
 use Rattle.ring_core.specs.SoundRings.{IsSoundRings}
 use Rattle.link_words.specs.declared.rule.Slot.{Slot}
 use Rattle.link_words.specs.declared.rule.LinkSizes.{LinkSizes}

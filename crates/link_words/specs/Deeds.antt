@@ -9,7 +9,7 @@ use Rattle.lane_model.specs.Lanes.{has_call}
 use Rattle.lane_model.specs.Links.{Lanes, lanes_of, with_lanes, end_of, form_step, link_of, with_caller, free_number}
 use Rattle.lane_model.specs.Conditions.{MayStep}
 use Rattle.lane_model.specs.Recoveries.{link_after_close, link_after_reopen}
-use Rattle.lane_model.specs.Parts.{with_manager, turn_left_without, MayPart}
+use Rattle.lane_laws.specs.Parts.{with_manager, turn_left_without, MayPart}
 use Rattle.lane_model.specs.declared.recoveries.LaneTurn.TheVariants as lane_turn
 use Rattle.lane_model.specs.declared.recoveries.ReclaimPart.TheVariants as part
 use Rattle.link_words.specs.Words.{lane_to, with_lane}
@@ -17,7 +17,7 @@ use Rattle.link_words.specs.Turns.{HasFourTurns, turns_of}
 use Rattle.lane_model.specs.Soundness.{SoundLink}
 use Rattle.ring_core.specs.declared.states.RingState.{RingState}
 use Rattle.ring_core.specs.RingSteps.{ring_form}
-use Rattle.ring_core.specs.RingLinks.{HasSoundRings}
+use Rattle.lane_laws.specs.SoundRingLinks.{HasSoundRings}
 
 pub data Deed : Type 0 where
   -- a step of this caller, whose call follows an incarnation

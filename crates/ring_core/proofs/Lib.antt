@@ -1,6 +1,5 @@
 pub mod Hands
 pub mod Inside
-pub mod Links
 pub mod OneOwner
 pub mod Opened
 pub mod Owned

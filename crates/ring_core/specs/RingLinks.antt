@@ -7,7 +7,6 @@ use Rattle.lane_model.specs.Crashes.{opened_lane}
 use Rattle.lane_model.specs.Links.{opened}
 use Rattle.ring_core.specs.declared.states.RingState.{RingState}
 use Rattle.ring_core.specs.Rings.{sizes_of, opened_rings}
-use Rattle.ring_core.specs.SoundRings.{IsSoundRings}
 
 -- a new lane of rings, with empty buffers
 abbrev pub opened_ring_lane : {D : Type 0} → ℕ → Bool → ℕ → D → RingState D
@@ -20,8 +19,3 @@ opened_ring_lane entries device_sends book desk = record {
 abbrev pub opened_ring_link : {D : Type 0} → LinkConfig → D → D → LaneLink (RingState D)
 opened_ring_link config host remote =
     opened config.first (opened_ring_lane config.num0 true config.book host) (opened_ring_lane config.num1 false config.book remote)
-
--- both lanes have sound rings
-pub record HasSoundRings {D : Type 0} (link : LaneLink (RingState D)) : Type 0 where
-  pub to_host : IsSoundRings link.to_host
-  pub to_remote : IsSoundRings link.to_remote

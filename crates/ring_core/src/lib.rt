@@ -1,7 +1,6 @@
 // A link whose lanes are kept as the rings of a split virtqueue, with indexes, ring entries and numbered buffers.
 #![tactic(auto)]
 
-pub mod laws;
 mod ring_lanes;
 mod ring_links;
 mod states;

@@ -126,16 +126,38 @@ pub(crate) fn call_command(
             let source = number_at(words, 3);
             let destination = number_at(words, 4);
             let payload = bytes_at(alloc, words, 5)?;
-            Ok(Command::Send(name, caller, source, destination, payload))
+            Ok(Command::Send {
+                name,
+                caller,
+                source,
+                destination,
+                payload,
+            })
         }
         CallForm::Raw => {
             let message = bytes_at(alloc, words, 3)?;
-            Ok(Command::Raw(name, caller, message))
+            Ok(Command::Raw {
+                name,
+                caller,
+                message,
+            })
         }
-        CallForm::Take => Ok(Command::Take(name, caller)),
-        CallForm::Give => Ok(Command::Give(name, caller, number_at(words, 3))),
-        CallForm::Bind => Ok(Command::Bind(name, caller, address_at(words, 3))),
-        CallForm::Unbind => Ok(Command::Unbind(name, caller, number_at(words, 3))),
+        CallForm::Take => Ok(Command::Take { name, caller }),
+        CallForm::Give => Ok(Command::Give {
+            name,
+            caller,
+            number: number_at(words, 3),
+        }),
+        CallForm::Bind => Ok(Command::Bind {
+            name,
+            caller,
+            address: address_at(words, 3),
+        }),
+        CallForm::Unbind => Ok(Command::Unbind {
+            name,
+            caller,
+            address: number_at(words, 3),
+        }),
     }
 }
 
@@ -154,15 +176,37 @@ pub(crate) fn begin_command(
             let source = number_at(words, 4);
             let destination = number_at(words, 5);
             let payload = bytes_at(alloc, words, 6)?;
-            Ok(Command::BeginSend(name, caller, source, destination, payload))
+            Ok(Command::BeginSend {
+                name,
+                caller,
+                source,
+                destination,
+                payload,
+            })
         }
         CallForm::Raw => {
             let message = bytes_at(alloc, words, 4)?;
-            Ok(Command::BeginRaw(name, caller, message))
+            Ok(Command::BeginRaw {
+                name,
+                caller,
+                message,
+            })
         }
-        CallForm::Take => Ok(Command::BeginTake(name, caller)),
-        CallForm::Give => Ok(Command::BeginGive(name, caller, number_at(words, 4))),
-        CallForm::Bind => Ok(Command::BeginBind(name, caller, address_at(words, 4))),
-        CallForm::Unbind => Ok(Command::BeginUnbind(name, caller, number_at(words, 4))),
+        CallForm::Take => Ok(Command::BeginTake { name, caller }),
+        CallForm::Give => Ok(Command::BeginGive {
+            name,
+            caller,
+            number: number_at(words, 4),
+        }),
+        CallForm::Bind => Ok(Command::BeginBind {
+            name,
+            caller,
+            address: address_at(words, 4),
+        }),
+        CallForm::Unbind => Ok(Command::BeginUnbind {
+            name,
+            caller,
+            address: number_at(words, 4),
+        }),
     }
 }

@@ -22,84 +22,219 @@ pub enum RegionSet {
 pub enum Command {
     /// Makes a link: the entries of the ring to the host and of the ring to the remote, and how many
     /// messages each lane accepts.
-    Link(Name, u64, u64, u64),
+    Link {
+        name: Name,
+        entries_to_host: u64,
+        entries_to_remote: u64,
+        book: u64,
+    },
     /// Makes a link whose host end has the name service, with the same numbers.
-    NsLink(Name, u64, u64, u64),
+    NsLink {
+        name: Name,
+        entries_to_host: u64,
+        entries_to_remote: u64,
+        book: u64,
+    },
     /// Makes a caller at an end.
-    Caller(Name, End),
+    Caller {
+        name: Name,
+        end: End,
+    },
     /// A whole send: caller, source and destination address, payload.
-    Send(Name, u64, u64, u64, Data),
+    Send {
+        name: Name,
+        caller: u64,
+        source: u64,
+        destination: u64,
+        payload: Data,
+    },
     /// A whole send of a message as it stands, its header included: caller, message.
-    Raw(Name, u64, Data),
+    Raw {
+        name: Name,
+        caller: u64,
+        message: Data,
+    },
     /// A whole take: caller.
-    Take(Name, u64),
+    Take {
+        name: Name,
+        caller: u64,
+    },
     /// A whole give: caller, number of the message.
-    Give(Name, u64, u64),
+    Give {
+        name: Name,
+        caller: u64,
+        number: u64,
+    },
     /// A whole bind: caller, address, or 2^32 - 1 for any.
-    Bind(Name, u64, u64),
+    Bind {
+        name: Name,
+        caller: u64,
+        address: u64,
+    },
     /// A whole unbind: caller, address.
-    Unbind(Name, u64, u64),
+    Unbind {
+        name: Name,
+        caller: u64,
+        address: u64,
+    },
     /// Begins a send and takes no step of it: caller, source and destination address, payload.
-    BeginSend(Name, u64, u64, u64, Data),
+    BeginSend {
+        name: Name,
+        caller: u64,
+        source: u64,
+        destination: u64,
+        payload: Data,
+    },
     /// Begins a send of a message as it stands: caller, message.
-    BeginRaw(Name, u64, Data),
+    BeginRaw {
+        name: Name,
+        caller: u64,
+        message: Data,
+    },
     /// Begins a take: caller.
-    BeginTake(Name, u64),
+    BeginTake {
+        name: Name,
+        caller: u64,
+    },
     /// Begins a give: caller, number of the message.
-    BeginGive(Name, u64, u64),
+    BeginGive {
+        name: Name,
+        caller: u64,
+        number: u64,
+    },
     /// Begins a bind: caller, address, or 2^32 - 1 for any.
-    BeginBind(Name, u64, u64),
+    BeginBind {
+        name: Name,
+        caller: u64,
+        address: u64,
+    },
     /// Begins an unbind: caller, address.
-    BeginUnbind(Name, u64, u64),
+    BeginUnbind {
+        name: Name,
+        caller: u64,
+        address: u64,
+    },
     /// Takes so many steps of a caller's call, fewer where it ends before: caller, steps.
-    Step(Name, u64, u64),
+    Step {
+        name: Name,
+        caller: u64,
+        count: u64,
+    },
     /// Takes all the steps of a caller's call that are left: caller.
-    Finish(Name, u64),
+    Finish {
+        name: Name,
+        caller: u64,
+    },
     /// So many times a send, its take and its give: sender, receiver, turns.
-    Pump(Name, u64, u64, u64),
+    Pump {
+        name: Name,
+        sender: u64,
+        receiver: u64,
+        count: u64,
+    },
     /// Tells the counts of both lanes.
-    Books(Name),
+    Books {
+        name: Name,
+    },
     /// The bytes of a lane's ring.
-    Ring(Name, u64),
+    Ring {
+        name: Name,
+        lane: u64,
+    },
     /// Tells the channels that the host's end of the link knows.
-    Channels(Name),
+    Channels {
+        name: Name,
+    },
     /// Closes the link.
-    Close(Name),
+    Close {
+        name: Name,
+    },
     /// Takes from a caller of a closed link its call and what it holds: caller.
-    Reclaim(Name, u64),
+    Reclaim {
+        name: Name,
+        caller: u64,
+    },
     /// Opens a closed link again, in its next incarnation.
-    Reopen(Name),
+    Reopen {
+        name: Name,
+    },
     /// Makes a core: its first regions, and how many messages each lane of its link accepts.
-    Core(Name, RegionSet, u64),
+    Core {
+        name: Name,
+        regions: RegionSet,
+        book: u64,
+    },
     /// Adds a region to a core: what it serves for, device address, physical address, length in
     /// bytes.
-    Region(Name, RegionKind, u64, u64, u64),
+    Region {
+        name: Name,
+        kind: RegionKind,
+        da: u64,
+        pa: u64,
+        len: u64,
+    },
     /// Declares a driver of a core: the name of its channel, what it does.
-    Driver(Name, Name, DriverKind),
+    Driver {
+        name: Name,
+        channel: Name,
+        kind: DriverKind,
+    },
     /// Boots a core with the image of this name, or adds a user.
-    Boot(Name, Name),
+    Boot {
+        name: Name,
+        image: Name,
+    },
     /// Takes a user away from a core, and shuts it down with the last.
-    Shutdown(Name),
+    Shutdown {
+        name: Name,
+    },
     /// The state of a core, its users and its incarnation.
-    State(Name),
+    State {
+        name: Name,
+    },
     /// The resource table of a core as it was loaded.
-    Table(Name),
+    Table {
+        name: Name,
+    },
     /// The text of a trace buffer of a core: which of them, from 0.
-    Trace(Name, u64),
+    Trace {
+        name: Name,
+        trace: u64,
+    },
     /// Bytes of a core's memory: device address, length from 1 to 256.
-    Mem(Name, u64, u64),
+    Mem {
+        name: Name,
+        da: u64,
+        len: u64,
+    },
     /// Reports a crash of a core.
-    Crash(Name, CrashKind),
+    Crash {
+        name: Name,
+        kind: CrashKind,
+    },
     /// Recovers a crashed core.
-    Recover(Name),
+    Recover {
+        name: Name,
+    },
     /// Whether a core that crashed may be recovered.
-    Recovery(Name, Switch),
+    Recovery {
+        name: Name,
+        switch: Switch,
+    },
     /// Takes so many steps of the actors of a core: steps.
-    Drive(Name, u64),
+    Drive {
+        name: Name,
+        count: u64,
+    },
     /// Whether a drive writes no lines of its calls.
-    Quiet(Switch),
+    Quiet {
+        switch: Switch,
+    },
     /// Makes an image of this name by a recipe.
-    Image(Name, Recipe),
+    Image {
+        name: Name,
+        recipe: Recipe,
+    },
 }
 
 /// A script: its commands in order.

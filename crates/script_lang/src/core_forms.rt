@@ -89,22 +89,55 @@ pub(crate) fn core_command(form: CoreForm, words: &[&[u8]]) -> Command
 {
     let name = name_at(words, 1);
     match form {
-        CoreForm::Core => Command::Core(name, region_set_at(words, 2), number_at(words, 3)),
+        CoreForm::Core => Command::Core {
+            name,
+            regions: region_set_at(words, 2),
+            book: number_at(words, 3),
+        },
         CoreForm::Region => {
             let da = number_at(words, 3);
             let pa = number_at(words, 4);
-            Command::Region(name, region_kind_at(words, 2), da, pa, number_at(words, 5))
+            Command::Region {
+                name,
+                kind: region_kind_at(words, 2),
+                da,
+                pa,
+                len: number_at(words, 5),
+            }
         }
-        CoreForm::Boot => Command::Boot(name, name_at(words, 2)),
-        CoreForm::Shutdown => Command::Shutdown(name),
-        CoreForm::State => Command::State(name),
-        CoreForm::Table => Command::Table(name),
-        CoreForm::Trace => Command::Trace(name, number_at(words, 2)),
-        CoreForm::Mem => Command::Mem(name, number_at(words, 2), number_at(words, 3)),
-        CoreForm::Crash => Command::Crash(name, crash_kind_at(words, 2)),
-        CoreForm::Recover => Command::Recover(name),
-        CoreForm::Recovery => Command::Recovery(name, switch_at(words, 2)),
-        CoreForm::Driver => Command::Driver(name, name_at(words, 2), driver_at(words, 3)),
-        CoreForm::Drive => Command::Drive(name, number_at(words, 2)),
+        CoreForm::Boot => Command::Boot {
+            name,
+            image: name_at(words, 2),
+        },
+        CoreForm::Shutdown => Command::Shutdown { name },
+        CoreForm::State => Command::State { name },
+        CoreForm::Table => Command::Table { name },
+        CoreForm::Trace => Command::Trace {
+            name,
+            trace: number_at(words, 2),
+        },
+        CoreForm::Mem => Command::Mem {
+            name,
+            da: number_at(words, 2),
+            len: number_at(words, 3),
+        },
+        CoreForm::Crash => Command::Crash {
+            name,
+            kind: crash_kind_at(words, 2),
+        },
+        CoreForm::Recover => Command::Recover { name },
+        CoreForm::Recovery => Command::Recovery {
+            name,
+            switch: switch_at(words, 2),
+        },
+        CoreForm::Driver => Command::Driver {
+            name,
+            channel: name_at(words, 2),
+            kind: driver_at(words, 3),
+        },
+        CoreForm::Drive => Command::Drive {
+            name,
+            count: number_at(words, 2),
+        },
     }
 }

@@ -137,29 +137,62 @@ pub(crate) fn command_of(alloc: Global, form: Form, words: &[&[u8]]) -> Result<C
             let to_host = number_at(words, 2);
             let to_remote = number_at(words, 3);
             let book = number_at(words, 4);
-            Ok(Command::Link(name, to_host, to_remote, book))
+            Ok(Command::Link {
+                name,
+                entries_to_host: to_host,
+                entries_to_remote: to_remote,
+                book,
+            })
         }
         Form::NsLink => {
             let to_host = number_at(words, 2);
             let to_remote = number_at(words, 3);
             let book = number_at(words, 4);
-            Ok(Command::NsLink(name, to_host, to_remote, book))
+            Ok(Command::NsLink {
+                name,
+                entries_to_host: to_host,
+                entries_to_remote: to_remote,
+                book,
+            })
         }
-        Form::Caller => Ok(Command::Caller(name, end_at(words, 2))),
-        Form::Step => Ok(Command::Step(name, number_at(words, 2), number_at(words, 3))),
-        Form::Finish => Ok(Command::Finish(name, number_at(words, 2))),
+        Form::Caller => Ok(Command::Caller {
+            name,
+            end: end_at(words, 2),
+        }),
+        Form::Step => Ok(Command::Step {
+            name,
+            caller: number_at(words, 2),
+            count: number_at(words, 3),
+        }),
+        Form::Finish => Ok(Command::Finish {
+            name,
+            caller: number_at(words, 2),
+        }),
         Form::Pump => {
             let sender = number_at(words, 2);
             let receiver = number_at(words, 3);
-            Ok(Command::Pump(name, sender, receiver, number_at(words, 4)))
+            Ok(Command::Pump {
+                name,
+                sender,
+                receiver,
+                count: number_at(words, 4),
+            })
         }
-        Form::Books => Ok(Command::Books(name)),
-        Form::Ring => Ok(Command::Ring(name, number_at(words, 2))),
-        Form::Channels => Ok(Command::Channels(name)),
-        Form::Close => Ok(Command::Close(name)),
-        Form::Reclaim => Ok(Command::Reclaim(name, number_at(words, 2))),
-        Form::Reopen => Ok(Command::Reopen(name)),
-        Form::Quiet => Ok(Command::Quiet(switch_at(words, 1))),
+        Form::Books => Ok(Command::Books { name }),
+        Form::Ring => Ok(Command::Ring {
+            name,
+            lane: number_at(words, 2),
+        }),
+        Form::Channels => Ok(Command::Channels { name }),
+        Form::Close => Ok(Command::Close { name }),
+        Form::Reclaim => Ok(Command::Reclaim {
+            name,
+            caller: number_at(words, 2),
+        }),
+        Form::Reopen => Ok(Command::Reopen { name }),
+        Form::Quiet => Ok(Command::Quiet {
+            switch: switch_at(words, 1),
+        }),
     }
 }
 

@@ -121,9 +121,10 @@ fn take_inside(
             return Err(LineFault::Bad(why));
         }
         let lines = mem::replace(&mut progress.lines, Vec::new(alloc));
-        progress
-            .commands
-            .push(Command::Image(name, Recipe { lines }))?;
+        progress.commands.push(Command::Image {
+            name,
+            recipe: Recipe { lines },
+        })?;
         progress.image = None;
         return Ok(());
     }

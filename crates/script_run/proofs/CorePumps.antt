@@ -1,6 +1,6 @@
 -- A pump on the link of a core.
 use Rattle.std.proofs.Common.{◌≡◌, ℕ, List, Some, None, ap, sym, ◌∙◌}
-use Rattle.crash_recover.specs.Benches.{BenchState}
+use Rattle.link_bench.specs.Benches.{BenchState}
 use Rattle.crash_recover.specs.Cores.{CoreState}
 use Rattle.crash_recover.specs.CoreTurns.{core_turns}
 use Rattle.journal.specs.declared.events.Event.{Event}

@@ -15,12 +15,15 @@ use Rattle.script_lang.proofs.Runnable.{are_runnable}
 use Rattle.image_maker.specs.Demo.{core_commands, demo_commands, demo_text, first_sessions, number_at, reply_length, sample_channel, session_commands, session_core, session_image, worker_lines}
 use Rattle.image_maker.proofs.DemoSizes.{demo_is_said}
 use Rattle.script_run.specs.declared.demos.Accepted.{Accepted}
+use Rattle.script_run.specs.declared.demos.DemoFault.{DemoFault}
+use Rattle.script_run.specs.declared.demos.DemoFault.TheVariants as fault
 use Rattle.script_run.specs.declared.statuses.Stop.{Stop}
 use Rattle.script_run.specs.Stores.{answer_for, held, later_told}
 use Rattle.script_run.specs.Logs.{HasRunEffect, LogState}
 use Rattle.script_run.specs.Runs.{ObjectsState, Run, RunState, asked_name, effect_of, new_run, run_from, run_of, run_on}
 use Rattle.script_run.specs.Demos.{accepted_from, accepted_sum, bare_effect, counted_output, demo_output, drive_accepted, none_accepted, said_output}
-use Rattle.script_run.proofs.RunSteps.{run_first}
+use Rattle.script_run.specs.DemoRuns.{IsCounted, IsDemoCount}
+use Rattle.script_run.proofs.RunSteps.{run_first, run_none}
 use Rattle.script_run.proofs.Shelves.{held_run}
 
 -- an empty store has no image
@@ -91,22 +94,24 @@ counts_none commands few = record { ending = refl; counted = none_first (accepte
 
 module _ (commands : List Command) (state : RunState) (accepted : Accepted) where
   -- nothing is left
-  pub counts_all : CountsSoFar commands state accepted [] → accepted ≡ accepted_from new_run commands
-  counts_all so_far = sym (so_far.counted ∙ ap (accepted_sum accepted) (accepted_none state) ∙ none_last accepted)
+  pub counts_all : CountsSoFar commands state accepted [] → ((run_of (held []) commands).ending ≡ None) × (accepted ≡ accepted_from new_run commands)
+  counts_all so_far = (
+    so_far.ending ∙ ap (λ (run : Run). run.ending) (run_none (held []) state),
+    sym (so_far.counted ∙ ap (accepted_sum accepted) (accepted_none state) ∙ none_last accepted),
+  )
 
-  module _ (first : Command) (more : List Command) (so_far : CountsSoFar commands state accepted (first ∷ more)) (ends : (run_of (held []) commands).ending ≡ None) where
-    -- a run that goes to its end doesn't stop with the first command that is left
-    first_goes_on : (ending : Option Stop) → (bare_effect state first).ending ≡ ending → ending ≡ None
-    first_goes_on None is = refl
-    first_goes_on (Some why) is = absurd (true≢false (ap is_some (sym (stops state first more why is) ∙ sym so_far.ending ∙ ends)))
+  module _ (first : Command) (more : List Command) (so_far : CountsSoFar commands state accepted (first ∷ more)) where
+    -- the run stops with the first command that is left
+    stops_first : (why : Stop) → (bare_effect state first).ending ≡ Some why → (run_of (held []) commands).ending ≡ Some why
+    stops_first why is = so_far.ending ∙ stops state first more why is
 
-    -- it goes on after it
-    counts_first : IsOfBooks (drive_accepted (bare_effect state first).run.objects first)
+    -- the run goes on after it
+    counts_first : (bare_effect state first).ending ≡ None → IsOfBooks (drive_accepted (bare_effect state first).run.objects first)
         → CountsSoFar commands (bare_effect state first).run (accepted_sum accepted (drive_accepted (bare_effect state first).run.objects first)) more
-    counts_first few =
+    counts_first goes few =
         let driven = drive_accepted (bare_effect state first).run.objects first in
         record {
-          ending = so_far.ending ∙ goes_on state first more (first_goes_on (bare_effect state first).ending refl);
+          ending = so_far.ending ∙ goes_on state first more goes;
           counted = so_far.counted ∙ ap (accepted_sum accepted) (accepted_first state first more) ∙ sum_assoc accepted driven (accepted_from (bare_effect state first).run more);
           to_host = omega (arith, so_far.to_host, few.to_host);
           to_remote = omega (arith, so_far.to_remote, few.to_remote);
@@ -122,25 +127,24 @@ module _ (commands : List Command) (objects after_objects : ObjectsState) (befor
   first_so_far : CountsSoFar commands (record { objects = objects; steps = before.steps }) accepted (first ∷ more)
   first_so_far = subst (CountsSoFar commands (record { objects = objects; steps = before.steps }) accepted) is so_far
 
-  -- a run that goes to its end doesn't stop with the command
-  pub counts_goes_on : (run_of (held []) commands).ending ≡ None → answer ≡ None
-  counts_goes_on ends =
-      first_goes_on commands (record { objects = objects; steps = before.steps }) accepted first more first_so_far ends answer (sym first_did.ending)
+  pub counts_until : (why : Stop) → answer ≡ Some why → (run_of (held []) commands).ending ≡ Some why
+  counts_until why stopped =
+      stops_first commands (record { objects = objects; steps = before.steps }) accepted first more first_so_far why (sym first_did.ending ∙ stopped)
 
   -- a number of 64 bits holds so many and those of one drive
   pub sum_fits : (driven : Accepted) → IsOfBooks driven → (accepted.to_host + driven.to_host ≤ 2 ^ 64 - 1) × (accepted.to_remote + driven.to_remote ≤ 2 ^ 64 - 1)
   sum_fits driven few = (omega (arith, first_so_far.to_host, few.to_host), omega (arith, first_so_far.to_remote, few.to_remote))
 
-  pub counts_after : (run_of (held []) commands).ending ≡ None → (steps : ℕ) → steps ≡ after.steps → IsOfBooks (drive_accepted after_objects first)
+  pub counts_after : answer ≡ None → (steps : ℕ) → steps ≡ after.steps → IsOfBooks (drive_accepted after_objects first)
       → CountsSoFar commands (record { objects = after_objects; steps = steps }) (accepted_sum accepted (drive_accepted after_objects first)) more
-  counts_after ends steps same few =
+  counts_after goes steps same few =
       let state : RunState = record { objects = objects; steps = before.steps } in
       let effect = bare_effect state first in
       let reached : effect.run ≡ record { objects = after_objects; steps = steps } =
       ap (λ (l : ObjectsState). record { objects = l; steps = effect.run.steps }) (sym first_did.objects)
       ∙ ap (λ (s : ℕ). record { objects = after_objects; steps = s }) (sym first_did.steps ∙ sym same) in
       subst (λ (run : RunState). CountsSoFar commands run (accepted_sum accepted (drive_accepted run.objects first)) more) reached
-      (counts_first commands state accepted first more first_so_far ends
+      (counts_first commands state accepted first more first_so_far (sym first_did.ending ∙ goes)
       (subst (λ (run : RunState). IsOfBooks (drive_accepted run.objects first)) (sym reached) few))
 
 -- the output of a demo, by the commands that its script says
@@ -148,6 +152,13 @@ pub demo_is : (sessions : ℕ) (commands : List Command) → script_of (demo_tex
     → demo_output sessions ≡ counted_output sessions (accepted_from new_run commands) (run_of (held []) commands).ending
 unfolding demo_output
 demo_is sessions commands says = ap (said_output sessions) says
+
+-- what code counted of it, by the commands that its script says
+pub counted : (sessions : ℕ) (commands : List Command) (result : Result Accepted DemoFault) → script_of (demo_text sessions) ≡ Ok commands → IsCounted commands result → IsDemoCount sessions result
+counted sessions commands (Ok accepted) says is =
+    demo_is sessions commands says ∙ ap (counted_output sessions (accepted_from new_run commands)) is.0 ∙ ap (λ (a : Accepted). counted_output sessions a None) (sym is.1)
+counted sessions commands (Err (fault.Stopped why)) says is = demo_is sessions commands says ∙ ap (counted_output sessions (accepted_from new_run commands)) is
+counted sessions commands (Err fault.NoMemory) says is = tt
 
 -- the commands that the script of a demo says are those of a demo
 pub said_commands : (sessions : ℕ) (text : List ℕ) (commands : List Command) → sessions ≤ 500 → text ≡ demo_text sessions → script_of text ≡ Ok commands → commands ≡ demo_commands sessions

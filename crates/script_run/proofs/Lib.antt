@@ -1,25 +1,16 @@
-mod Handed
-mod Ends
-mod RunSteps
-mod Driving
-mod FaultLines
-mod AskedNames
-mod Shelves
-mod SoFar
-mod Placing
-mod FetchedReports
-mod RingRows
-mod CoreRecovered
-mod Matches
-mod Accepted
+pub mod Handed
+pub mod Ends
+pub mod RunSteps
+pub mod Driving
+pub mod FaultLines
+pub mod AskedNames
+pub mod Shelves
+pub mod SoFar
+pub mod Placing
+pub mod FetchedReports
+pub mod RingRows
+pub mod CoreRecovered
+pub mod Matches
+pub mod Accepted
 pub mod CorePumps
-mod LinksReached
-mod CoresReached
-mod RunsReached
-mod DemoSums
-pub mod CoresKept
-pub mod CoresReady
-pub mod DemoEnds
-pub mod DemoPrograms
-pub mod DemoLoads
-pub mod DemoBoots
+pub mod DemoSums

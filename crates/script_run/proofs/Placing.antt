@@ -18,7 +18,7 @@ use Rattle.script_run.specs.CoreCommands.{core_effect}
 use Rattle.script_run.specs.declared.statuses.Stop.{Stop}
 use Rattle.rp_base.specs.declared.kinds.Switch.{Switch}
 use Rattle.lane_model.specs.declared.calls.LinkConfig.{LinkConfig}
-use Rattle.crash_recover.specs.Benches.{BenchState, new_bench_of}
+use Rattle.link_bench.specs.Benches.{BenchState, new_bench_of}
 use Rattle.script_run.specs.Logs.{LogState, HasCoreEffect, HasEffect, HasRunEffect}
 use Rattle.script_run.specs.Runs.{ObjectsState, RunState, RunEffect, command_name, core_located_effect, core_made_effect, core_place, effect_of, family_effect, found_core_effect, found_effect, has_image, image_effect, image_wanted, is_full, located_effect, made_effect, named_effect, new_end, place_of, quiet_effect, quiet_wanted, placed_core_effect, placed_effect, regions_of, run_tells, unnamed_effect, with_cores, with_image, with_links, without_link_effect}
 

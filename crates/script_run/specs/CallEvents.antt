@@ -10,12 +10,12 @@ use Rattle.lane_model.specs.declared.calls.CallEnd.TheVariants as end
 use Rattle.lane_model.specs.Links.{LinkState, end_of}
 use Rattle.journal.specs.declared.events.Event.{Event}
 use Rattle.journal.specs.declared.events.Event.TheVariants as event
-use Rattle.crash_recover.specs.declared.benches.Reach.{Reach}
-use Rattle.crash_recover.specs.declared.benches.Reach.TheVariants as reach
-use Rattle.crash_recover.specs.declared.benches.BenchFault.{BenchFault}
-use Rattle.crash_recover.specs.declared.benches.BenchFault.TheVariants as fault
+use Rattle.link_bench.specs.declared.benches.Reach.{Reach}
+use Rattle.link_bench.specs.declared.benches.Reach.TheVariants as reach
+use Rattle.link_bench.specs.declared.benches.BenchFault.{BenchFault}
+use Rattle.link_bench.specs.declared.benches.BenchFault.TheVariants as fault
 use Rattle.channel_bus.specs.Sides.{EndState}
-use Rattle.crash_recover.specs.Benches.{taken_on}
+use Rattle.link_bench.specs.Benches.{taken_on}
 
 -- the end of a take, by the verdict; the addresses and the payload are the fields of the message
 abbrev pub took_event : List ℕ → ℕ → ℕ → List ℕ → Verdict → Event

@@ -4,7 +4,7 @@ use Rattle.lane_model.specs.Lanes.{holder}
 use Rattle.name_service.specs.declared.channels.Channel.{Channel}
 use Rattle.journal.specs.declared.events.Event.{Event}
 use Rattle.journal.specs.declared.events.Event.TheVariants as event
-use Rattle.crash_recover.specs.Benches.{BenchState}
+use Rattle.link_bench.specs.Benches.{BenchState}
 use Rattle.script_run.specs.Effects.{Effect, tells}
 
 -- a channel, with the endpoint that was bound for it

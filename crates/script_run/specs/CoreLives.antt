@@ -14,7 +14,7 @@ use Rattle.journal.specs.declared.events.Event.{Event}
 use Rattle.journal.specs.declared.events.Event.TheVariants as event
 use Rattle.crash_recover.specs.declared.core_faults.CoreFault.{CoreFault}
 use Rattle.crash_recover.specs.declared.core_faults.CoreFault.TheVariants as fault
-use Rattle.crash_recover.specs.Benches.{BenchState}
+use Rattle.link_bench.specs.Benches.{BenchState}
 use Rattle.crash_recover.specs.Cores.{CoreState}
 use Rattle.crash_recover.specs.CoreBoots.{after_boot, after_shutdown, boot_fault, needs_image, shutdown_fault}
 use Rattle.crash_recover.specs.CoreCrashes.{after_report}

@@ -7,7 +7,7 @@ use Rattle.script_lang.specs.Grammar.{Refusal, script_of}
 use Rattle.image_maker.specs.Demo.{demo_text}
 use Rattle.journal.specs.declared.notices.Notice.TheVariants as notice
 use Rattle.journal.specs.Notices.{report_text}
-use Rattle.crash_recover.specs.Benches.{BenchState}
+use Rattle.link_bench.specs.Benches.{BenchState}
 use Rattle.script_run.specs.declared.demos.Accepted.{Accepted}
 use Rattle.script_run.specs.declared.statuses.Status.TheVariants as status
 use Rattle.script_run.specs.declared.statuses.Stop.{Stop}

@@ -12,11 +12,11 @@ use Rattle.journal.specs.declared.events.Event.{Event}
 use Rattle.journal.specs.declared.events.Event.TheVariants as event
 use Rattle.script_run.specs.declared.statuses.Stop.{Stop}
 use Rattle.script_run.specs.declared.statuses.Stop.TheVariants as stop
-use Rattle.crash_recover.specs.declared.benches.BenchFault.{BenchFault}
-use Rattle.crash_recover.specs.declared.benches.Reach.{Reach}
-use Rattle.crash_recover.specs.declared.benches.Reach.TheVariants as reach
+use Rattle.link_bench.specs.declared.benches.BenchFault.{BenchFault}
+use Rattle.link_bench.specs.declared.benches.Reach.{Reach}
+use Rattle.link_bench.specs.declared.benches.Reach.TheVariants as reach
 use Rattle.channel_bus.specs.Sides.{EndState}
-use Rattle.crash_recover.specs.Benches.{BenchState, BenchWalk, is_in_call, advance_walk, call_walk, with_new_caller, with_begun, ready_fault, advance_fault}
+use Rattle.link_bench.specs.Benches.{BenchState, BenchWalk, is_in_call, advance_walk, call_walk, with_new_caller, with_begun, ready_fault, advance_fault}
 use Rattle.script_run.specs.CallEvents.{reach_events, fault_event}
 
 -- what a command leaves of its bench, the steps of the run until then, what it tells, and why the run stops in its midst, if it does

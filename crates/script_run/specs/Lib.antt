@@ -22,10 +22,9 @@ pub mod Reports
 pub mod Asked
 pub mod Outputs
 pub mod Demos
+pub mod DemoRuns
 pub mod Endings
 pub mod ImageReports
 pub mod Logs
 pub mod Fetches
 pub mod Told
-pub mod Reached
-pub mod Kept

@@ -4,7 +4,7 @@ use Rattle.std.specs.Io.KnownBytes.{Appends}
 use Rattle.journal.specs.declared.events.Event.{Event}
 use Rattle.journal.specs.Lines.{transcript}
 use Rattle.script_run.specs.declared.statuses.Stop.{Stop}
-use Rattle.crash_recover.specs.Benches.{BenchState}
+use Rattle.link_bench.specs.Benches.{BenchState}
 use Rattle.crash_recover.specs.Cores.{CoreState}
 use Rattle.script_run.specs.Effects.{Effect}
 use Rattle.script_run.specs.CoreEffects.{CoreEffect}

@@ -1,6 +1,6 @@
 -- A link of a run, under its name (own).
 use Rattle.std.specs.Prelude.{ℕ, List}
-use Rattle.crash_recover.specs.Benches.{BenchState}
+use Rattle.link_bench.specs.Benches.{BenchState}
 
 -- a link with its calls, under its name
 pub record NamedLink : Type 0 where

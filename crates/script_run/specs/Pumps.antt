@@ -4,11 +4,11 @@ use Rattle.rp_base.specs.declared.kinds.End.{End}
 use Rattle.rp_base.specs.declared.kinds.End.TheVariants as side
 use Rattle.lane_model.specs.Links.{LinkState, end_of}
 use Rattle.channel_bus.specs.Sides.{EndState}
-use Rattle.crash_recover.specs.declared.benches.Reach.TheVariants as reach
-use Rattle.crash_recover.specs.declared.turns.TurnEnd.{TurnEnd}
-use Rattle.crash_recover.specs.declared.turns.TurnEnd.TheVariants as turn_end
-use Rattle.crash_recover.specs.Benches.{BenchState, is_in_call, used_fault, calling_fault}
-use Rattle.crash_recover.specs.Turns.{Pumped, pump_turns}
+use Rattle.link_bench.specs.declared.benches.Reach.TheVariants as reach
+use Rattle.link_bench.specs.declared.turns.TurnEnd.{TurnEnd}
+use Rattle.link_bench.specs.declared.turns.TurnEnd.TheVariants as turn_end
+use Rattle.link_bench.specs.Benches.{BenchState, is_in_call, used_fault, calling_fault}
+use Rattle.link_bench.specs.Turns.{Pumped, pump_turns}
 use Rattle.journal.specs.declared.events.Event.{Event}
 use Rattle.journal.specs.declared.events.Event.TheVariants as event
 use Rattle.script_run.specs.declared.statuses.Stop.{Stop}

@@ -9,11 +9,11 @@ use Rattle.lane_model.specs.Recoveries.{unclosed_by, unopened_by, unreclaimed_by
 use Rattle.journal.specs.declared.events.Event.{Event}
 use Rattle.journal.specs.declared.events.Event.TheVariants as event
 use Rattle.script_run.specs.declared.statuses.Stop.TheVariants as stop
-use Rattle.crash_recover.specs.declared.benches.BenchFault.{BenchFault}
-use Rattle.crash_recover.specs.declared.bench_crashes.Reclaim.{Reclaim}
-use Rattle.crash_recover.specs.declared.bench_crashes.Reclaim.TheVariants as reclaim
-use Rattle.crash_recover.specs.Benches.{BenchState}
-use Rattle.crash_recover.specs.BenchCrashes.{after_close, after_reopen, reclaim_answer, reclaim_leaves}
+use Rattle.link_bench.specs.declared.benches.BenchFault.{BenchFault}
+use Rattle.link_bench.specs.declared.bench_crashes.Reclaim.{Reclaim}
+use Rattle.link_bench.specs.declared.bench_crashes.Reclaim.TheVariants as reclaim
+use Rattle.link_bench.specs.Benches.{BenchState}
+use Rattle.link_bench.specs.BenchCrashes.{after_close, after_reopen, reclaim_answer, reclaim_leaves}
 use Rattle.script_run.specs.CallEvents.{fault_event}
 use Rattle.script_run.specs.Effects.{Effect, tells}
 

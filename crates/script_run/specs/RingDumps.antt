@@ -3,8 +3,8 @@ use Rattle.std.specs.Prelude.{ℕ, zero, suc, ◌+◌, ◌/◌, ◌==◌, List, 
 use Rattle.std.specs.List.{list_all}
 use Rattle.journal.specs.declared.events.Event.{Event}
 use Rattle.journal.specs.declared.events.Event.TheVariants as event
-use Rattle.crash_recover.specs.Benches.{BenchState}
-use Rattle.crash_recover.specs.BenchRings.{lane_bytes, turn_holder}
+use Rattle.link_bench.specs.Benches.{BenchState}
+use Rattle.link_bench.specs.BenchRings.{lane_bytes, turn_holder}
 use Rattle.script_run.specs.Effects.{Effect, tells}
 
 -- sixteen bytes, or what is left of the last, unless all are zero

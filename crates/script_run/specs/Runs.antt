@@ -28,7 +28,7 @@ use Rattle.crash_recover.specs.CoreBoots.{needs_image}
 use Rattle.crash_recover.specs.CoreRecoveries.{recovery_fault}
 use Rattle.endpoint_map.specs.Bindings.{no_bindings}
 use Rattle.channel_bus.specs.Sides.{EndState}
-use Rattle.crash_recover.specs.Benches.{new_bench_of}
+use Rattle.link_bench.specs.Benches.{new_bench_of}
 use Rattle.script_run.specs.Effects.{Effect}
 use Rattle.script_run.specs.LinkCommands.{link_effect}
 

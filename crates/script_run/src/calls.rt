@@ -3,7 +3,7 @@ ghost use Rattle.rp_base.specs.declared.limits.TheConstants.{MESSAGE_MOST, PAYLO
 ghost use Rattle.lane_model.specs.declared.calls.Wish.TheVariants as wish;
 ghost use Rattle.rpmsg_header.specs.Headers.{header_bytes};
 ghost use Rattle.script_run.specs.Logs.{HasEffect};
-ghost use Rattle.crash_recover.specs.Benches.{begin_fault, reach_of, ready_fault, wish_fault};
+ghost use Rattle.link_bench.specs.Benches.{begin_fault, reach_of, ready_fault, wish_fault};
 ghost use Rattle.script_run.specs.CallEvents.{end_event, fault_event, refused_event, took_event};
 ghost use Rattle.script_run.specs.Effects.{begun_effect, call_effect, give_effect, plain_effect, send_effect, step_effect, tells, walk_effect};
 
@@ -39,7 +39,11 @@ impl NamedBench {
         let len = payload.bytes().len();
         if len > PAYLOAD_MOST {
             return self.tell(
-                &Event::TooLong(self.name, u64::from(caller), len as u64),
+                &Event::TooLong {
+                    name: self.name,
+                    caller: u64::from(caller),
+                    len: len as u64,
+                },
                 log,
             );
         }
@@ -101,7 +105,14 @@ impl NamedBench {
             return self.refuse(caller, fault, log);
         }
         if !self.bench.is_holding(caller, number) {
-            return self.tell(&Event::NotHeld(self.name, u64::from(caller), number), log);
+            return self.tell(
+                &Event::NotHeld {
+                    name: self.name,
+                    caller: u64::from(caller),
+                    number,
+                },
+                log,
+            );
         }
         self.call(caller, &Wish::Give(number), log)
     }
@@ -164,7 +175,11 @@ impl NamedBench {
         let len = payload.bytes().len();
         if len > PAYLOAD_MOST {
             return self.tell(
-                &Event::TooLong(self.name, u64::from(caller), len as u64),
+                &Event::TooLong {
+                    name: self.name,
+                    caller: u64::from(caller),
+                    len: len as u64,
+                },
                 log,
             );
         }
@@ -206,7 +221,14 @@ impl NamedBench {
             return self.refuse(caller, fault, log);
         }
         if !self.bench.is_holding(caller, number) {
-            return self.tell(&Event::NotHeld(self.name, u64::from(caller), number), log);
+            return self.tell(
+                &Event::NotHeld {
+                    name: self.name,
+                    caller: u64::from(caller),
+                    number,
+                },
+                log,
+            );
         }
         self.begin(caller, Wish::Give(number), log)
     }
@@ -225,7 +247,13 @@ impl NamedBench {
         ensures effect { IfOk result (λ ending. HasEffect (begun_effect self.old.name self.old.bench log.old.steps caller wished) self.new.bench log.old log.new ending) }
     {
         self.bench.put_begun(caller, wished);
-        self.tell(&Event::Begun(self.name, u64::from(caller)), log)
+        self.tell(
+            &Event::Begun {
+                name: self.name,
+                caller: u64::from(caller),
+            },
+            log,
+        )
     }
 
     /// One step of the call that a caller is in, and `more` further ones.
@@ -281,7 +309,11 @@ impl NamedBench {
         match progress {
             Progress::At(step) => {
                 self.tell(
-                    &Event::At(self.name, u64::from(caller), u64::from(step)),
+                    &Event::At {
+                        name: self.name,
+                        caller: u64::from(caller),
+                        step: u64::from(step),
+                    },
                     log,
                 )
             }
@@ -300,10 +332,23 @@ pub(crate) fn fault_event(name: Name, caller: CallerNo, fault: BenchFault) -> Ev
 {
     let number = u64::from(caller);
     match fault {
-        BenchFault::NoCaller => Event::NoCaller(name, number),
-        BenchFault::InCall => Event::InCall(name, number),
-        BenchFault::NoCall => Event::NoCall(name, number),
-        BenchFault::NotHeld(message) => Event::NotHeld(name, number, message),
+        BenchFault::NoCaller => Event::NoCaller {
+            name,
+            caller: number,
+        },
+        BenchFault::InCall => Event::InCall {
+            name,
+            caller: number,
+        },
+        BenchFault::NoCall => Event::NoCall {
+            name,
+            caller: number,
+        },
+        BenchFault::NotHeld(message) => Event::NotHeld {
+            name,
+            caller: number,
+            number: message,
+        },
     }
 }
 
@@ -319,19 +364,56 @@ pub(crate) fn end_event(
 {
     let number = u64::from(caller);
     Ok(match end {
-        CallEnd::Sent(message) => Event::Sent(name, number, message),
+        CallEnd::Sent(message) => Event::Sent {
+            name,
+            caller: number,
+            number: message,
+        },
         CallEnd::Took(message, verdict) => {
             let bytes = bench.taken_message(caller, message);
             return took_event(alloc, name, number, message, bytes, verdict);
         }
-        CallEnd::Gave(message) => Event::Gave(name, number, message),
-        CallEnd::Bound(endpoint) => Event::Bound(name, number, endpoint),
-        CallEnd::Unbound(endpoint) => Event::Unbound(name, number, endpoint),
-        CallEnd::Busy(holder) => Event::Busy(name, number, u64::from(holder)),
-        CallEnd::Dead(era) => Event::Dead(name, number, era),
-        CallEnd::NoBuffer(accepted, returned) => Event::NoBuffer(name, number, accepted, returned),
-        CallEnd::BookFull(accepted) => Event::BookFull(name, number, accepted),
-        CallEnd::Empty(accepted) => Event::Empty(name, number, accepted),
+        CallEnd::Gave(message) => Event::Gave {
+            name,
+            caller: number,
+            number: message,
+        },
+        CallEnd::Bound(endpoint) => Event::Bound {
+            name,
+            caller: number,
+            endpoint,
+        },
+        CallEnd::Unbound(endpoint) => Event::Unbound {
+            name,
+            caller: number,
+            endpoint,
+        },
+        CallEnd::Busy(holder) => Event::Busy {
+            name,
+            caller: number,
+            holder: u64::from(holder),
+        },
+        CallEnd::Dead(era) => Event::Dead {
+            name,
+            caller: number,
+            era,
+        },
+        CallEnd::NoBuffer(accepted, returned) => Event::NoBuffer {
+            name,
+            caller: number,
+            accepted,
+            returned,
+        },
+        CallEnd::BookFull(accepted) => Event::BookFull {
+            name,
+            caller: number,
+            accepted,
+        },
+        CallEnd::Empty(accepted) => Event::Empty {
+            name,
+            caller: number,
+            accepted,
+        },
         CallEnd::Refused(fault) => refused_event(name, number, fault),
     })
 }
@@ -373,19 +455,48 @@ fn took_event(
             let header = rpmsg_header::fields(message);
             let payload = Data::copy_of(alloc, header.payload)?;
             let src = u64::from(header.src);
-            Event::TookFromTo(name, caller, number, src, endpoint, payload)
+            Event::TookFromTo {
+                name,
+                caller,
+                number,
+                source: src,
+                endpoint,
+                payload,
+            }
         }
         Verdict::Dropped(dst) => {
             let header = rpmsg_header::fields(message);
             let payload = Data::copy_of(alloc, header.payload)?;
             let src = u64::from(header.src);
-            Event::TookFromDropped(name, caller, number, src, u64::from(dst), payload)
+            Event::TookFromDropped {
+                name,
+                caller,
+                number,
+                source: src,
+                destination: u64::from(dst),
+                payload,
+            }
         }
-        Verdict::Malformed => Event::TookMalformed(name, caller, number),
+        Verdict::Malformed => Event::TookMalformed {
+            name,
+            caller,
+            number,
+        },
         Verdict::Service(what, channel, address, _) => {
-            Event::TookNs(name, caller, number, what, channel, u64::from(address))
+            Event::TookNs {
+                name,
+                caller,
+                number,
+                kind: what,
+                channel,
+                address: u64::from(address),
+            }
         }
-        Verdict::ServiceMalformed => Event::TookNsMalformed(name, caller, number),
+        Verdict::ServiceMalformed => Event::TookNsMalformed {
+            name,
+            caller,
+            number,
+        },
     })
 }
 
@@ -394,9 +505,17 @@ fn refused_event(name: Name, caller: u64, fault: BindFault) -> Event
 {
     match fault {
         BindFault::AddressTaken(address) => {
-            Event::AddressTaken(name, caller, u64::from(address))
+            Event::AddressTaken {
+                name,
+                caller,
+                address: u64::from(address),
+            }
         }
-        BindFault::EndpointsFull => Event::EndpointsFull(name, caller),
-        BindFault::NotBound(address) => Event::NotBound(name, caller, u64::from(address)),
+        BindFault::EndpointsFull => Event::EndpointsFull { name, caller },
+        BindFault::NotBound(address) => Event::NotBound {
+            name,
+            caller,
+            address: u64::from(address),
+        },
     }
 }

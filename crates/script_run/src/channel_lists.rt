@@ -24,7 +24,13 @@ impl NamedBench {
                 Ok(None)
             }
             Err(SnapshotFault::StillTurn(holder)) => {
-                self.tell(&Event::StillTurn(self.name, u64::from(holder)), log)
+                self.tell(
+                    &Event::StillTurn {
+                        name: self.name,
+                        caller: u64::from(holder),
+                    },
+                    log,
+                )
             }
             Err(SnapshotFault::NoMemory) => Err(NoMemory),
         }
@@ -37,7 +43,12 @@ fn tell_list(name: Name, channels: &[Channel], log: &mut RunLog) -> Result<(), N
 {
     for channel in channels {
         let address = u64::from(channel.address);
-        log.tell(&Event::Channel(name, channel.name, address, channel.endpoint))?;
+        log.tell(&Event::Channel {
+            name,
+            channel: channel.name,
+            address,
+            endpoint: channel.endpoint,
+        })?;
     }
     Ok(())
 }

@@ -1,6 +1,6 @@
 ghost use Rattle.std.specs.Prelude.{◌≡◌, ◌<◌, ◌≤◌, ◌∷◌, [], IfOk, None};
 ghost use Rattle.rp_base.specs.declared.limits.TheConstants.{STEPS_MOST};
-ghost use Rattle.crash_recover.specs.Benches.{reach_of};
+ghost use Rattle.link_bench.specs.Benches.{reach_of};
 ghost use Rattle.crash_recover.specs.CoreTurns.{core_turns};
 ghost use Rattle.journal.specs.declared.events.Event.TheVariants as event;
 ghost use Rattle.script_run.specs.Logs.{HasCoreEffect};
@@ -30,7 +30,7 @@ impl NamedCore {
     {
         let name = self.name;
         let Some(link) = self.core.link() else {
-            return self.tell(&Event::NoLink(name), log);
+            return self.tell(&Event::NoLink { name }, log);
         };
         if let Some(fault) = link.begin_fault(caller, wished) {
             return self.tell(&fault_event(name, caller, fault), log);
@@ -59,7 +59,7 @@ impl NamedCore {
     {
         let name = self.name;
         let Some(link) = self.core.link() else {
-            return self.tell(&Event::NoLink(name), log);
+            return self.tell(&Event::NoLink { name }, log);
         };
         if let Some(fault) = link.step_fault(caller) {
             return self.tell(&fault_event(name, caller, fault), log);
@@ -87,7 +87,11 @@ impl NamedCore {
     {
         match progress {
             Progress::At(step) => {
-                let event = Event::At(self.name, u64::from(caller), u64::from(step));
+                let event = Event::At {
+                    name: self.name,
+                    caller: u64::from(caller),
+                    step: u64::from(step),
+                };
                 self.tell(&event, log)
             }
             Progress::Ended => {
@@ -118,7 +122,7 @@ impl NamedCore {
     {
         let name = self.name;
         let Some(link) = self.core.link() else {
-            return self.tell(&Event::NoLink(name), log);
+            return self.tell(&Event::NoLink { name }, log);
         };
         if let Some(event) = pump_refusal(name, link, sender, receiver) {
             return self.tell(&event, log);
@@ -163,12 +167,16 @@ impl NamedCore {
     {
         let name = self.name;
         match ended {
-            TurnEnd::Whole => self.tell(&Event::Pumped(name, done), log),
+            TurnEnd::Whole => self.tell(&Event::Pumped { name, turns: done }, log),
             TurnEnd::Fault(caller, fault) => {
                 self.tell_pumped(&fault_event(name, *caller, *fault), done, log)
             }
             TurnEnd::Reached(caller, Reach::At(step)) => {
-                let event = Event::At(name, u64::from(*caller), u64::from(*step));
+                let event = Event::At {
+                    name,
+                    caller: u64::from(*caller),
+                    step: u64::from(*step),
+                };
                 self.tell_pumped(&event, done, log)
             }
             TurnEnd::Reached(caller, Reach::Ended(end)) => {
@@ -194,7 +202,13 @@ impl NamedCore {
             (record { core = self.old.core; steps = log.old.steps; events = last.now ∷ event.Pumped self.old.name done ∷ []; ending = None }) self.new.core log.old log.new ending) }
     {
         log.tell(last)?;
-        self.tell(&Event::Pumped(self.name, done), log)
+        self.tell(
+            &Event::Pumped {
+                name: self.name,
+                turns: done,
+            },
+            log,
+        )
     }
 }
 
@@ -218,7 +232,10 @@ fn pump_refusal(name: Name, bench: &Bench, sender: CallerNo, receiver: CallerNo)
         return Some(fault_event(name, receiver, BenchFault::InCall));
     }
     if is_same_end(bench.end_of(sender), bench.end_of(receiver)) {
-        return Some(Event::WrongSide(name, u64::from(receiver)));
+        return Some(Event::WrongSide {
+            name,
+            caller: u64::from(receiver),
+        });
     }
     None
 }

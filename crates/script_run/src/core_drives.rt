@@ -33,7 +33,7 @@ impl NamedCore {
         match self.core.life().state() {
             LifeState::Running => self.drive_running(count, is_quiet, log),
             LifeState::Offline | LifeState::Crashed => {
-                self.tell(&Event::NotRunning(self.name), log)
+                self.tell(&Event::NotRunning { name: self.name }, log)
             }
         }
     }
@@ -94,7 +94,7 @@ impl NamedCore {
     {
         match self.rest_event() {
             Some(event) => event,
-            None => Event::Paused(self.name),
+            None => Event::Paused { name: self.name },
         }
     }
 
@@ -103,10 +103,10 @@ impl NamedCore {
         ensures { result ≡ rest_event self.now.name self.now.core }
     {
         if self.core.life().state() == LifeState::Crashed {
-            return Some(Event::Stopped(self.name));
+            return Some(Event::Stopped { name: self.name });
         }
         if self.core.is_idle() {
-            Some(Event::Idle(self.name))
+            Some(Event::Idle { name: self.name })
         } else {
             None
         }
@@ -156,7 +156,10 @@ impl NamedCore {
     fn tell_fault(&self, fault: WorkerFault, log: &mut RunLog) -> Result<(), NoMemory>
         ensures { IfOk result (λ _. Keeps log.old log.new (event.WorkerFault self.now.name (fault_number fault) ∷ crash_events self.now.name kind.Fatal self.now.core.bench)) }
     {
-        log.tell(&Event::WorkerFault(self.name, u64::from(fault.number())))?;
+        log.tell(&Event::WorkerFault {
+            name: self.name,
+            fault: u64::from(fault.number()),
+        })?;
         self.tell_crash(CrashKind::Fatal, log)
     }
 
@@ -182,8 +185,14 @@ impl NamedCore {
         ensures { IfOk result (λ _. Keeps log.old log.new (crash_events self.now.name kind self.now.core.bench)) }
     {
         if let Some(bench) = self.core.link() {
-            log.tell(&Event::Closed(self.name, u64::from(bench.era().inc)))?;
+            log.tell(&Event::Closed {
+                name: self.name,
+                inc: u64::from(bench.era().inc),
+            })?;
         }
-        log.tell(&Event::Crashed(self.name, kind))
+        log.tell(&Event::Crashed {
+            name: self.name,
+            kind,
+        })
     }
 }

@@ -32,10 +32,10 @@ impl NamedCore {
     {
         let name = self.name;
         let Some(link) = self.core.link() else {
-            return self.tell(&Event::NoLink(name), log);
+            return self.tell(&Event::NoLink { name }, log);
         };
         if let Some(caller) = own_caller_in(link, command) {
-            return self.tell(&Event::NoCaller(name, caller), log);
+            return self.tell(&Event::NoCaller { name, caller }, log);
         }
         self.run_command(command, log)
     }
@@ -49,17 +49,22 @@ impl NamedCore {
         ensures effect { IfOk result (λ ending. HasCoreEffect (core_command_effect self.old.name self.old.core log.old.steps command.now) self.new.core log.old log.new ending) }
     {
         match command {
-            Command::Take(_, caller) => self.call(*caller as CallerNo, &Wish::Take, log),
-            Command::Unbind(_, caller, address) => {
-                self.call(*caller as CallerNo, &Wish::Unbind(*address as u32), log)
-            }
-            Command::Step(_, caller, count) => {
+            Command::Take { caller, .. } => self.call(*caller as CallerNo, &Wish::Take, log),
+            Command::Unbind {
+                caller,
+                address,
+                ..
+            } => { self.call(*caller as CallerNo, &Wish::Unbind(*address as u32), log) }
+            Command::Step { caller, count, .. } => {
                 self.advance(*caller as CallerNo, *count - 1, log)
             }
-            Command::Finish(_, caller) => self.advance(*caller as CallerNo, 6, log),
-            Command::Pump(_, sender, receiver, count) => {
-                self.pump(*sender as CallerNo, *receiver as CallerNo, *count, log)
-            }
+            Command::Finish { caller, .. } => self.advance(*caller as CallerNo, 6, log),
+            Command::Pump {
+                sender,
+                receiver,
+                count,
+                ..
+            } => { self.pump(*sender as CallerNo, *receiver as CallerNo, *count, log) }
             _ => self.run_on_bench(command, log),
         }
     }
@@ -77,7 +82,7 @@ impl NamedCore {
     {
         let name = self.name;
         if self.core.link().is_none() {
-            return self.tell(&Event::NoLink(name), log);
+            return self.tell(&Event::NoLink { name }, log);
         }
         let Some(bench) = self.core.take_link() else {
             unreachable!()
@@ -98,10 +103,16 @@ impl NamedCore {
     {
         let name = self.name;
         if let Some(holder) = turn_holder(&self.core) {
-            return self.tell(&Event::StillTurn(name, u64::from(holder)), log);
+            return self.tell(
+                &Event::StillTurn {
+                    name,
+                    caller: u64::from(holder),
+                },
+                log,
+            );
         }
         let Some(bytes) = self.core.ring_bytes(log.alloc(), lane)? else {
-            return self.tell(&Event::NoLink(name), log);
+            return self.tell(&Event::NoLink { name }, log);
         };
         tell_bytes(name, lane, &bytes, log)?;
         Ok(None)
@@ -143,22 +154,26 @@ fn own_caller_in(link: &Bench, command: &Command) -> Option<u64>
     ensures { result ≡ own_caller_in link.now command.now }
 {
     match command {
-        Command::Send(_, caller, _, _, _)
-        | Command::Raw(_, caller, _)
-        | Command::Take(_, caller)
-        | Command::Give(_, caller, _)
-        | Command::Bind(_, caller, _)
-        | Command::Unbind(_, caller, _)
-        | Command::BeginSend(_, caller, _, _, _)
-        | Command::BeginRaw(_, caller, _)
-        | Command::BeginTake(_, caller)
-        | Command::BeginGive(_, caller, _)
-        | Command::BeginBind(_, caller, _)
-        | Command::BeginUnbind(_, caller, _)
-        | Command::Step(_, caller, _)
-        | Command::Finish(_, caller)
-        | Command::Reclaim(_, caller) => own_caller(*caller),
-        Command::Pump(_, sender, receiver, _) => match own_caller(*sender) {
+        Command::Send { caller, .. }
+        | Command::Raw { caller, .. }
+        | Command::Take { caller, .. }
+        | Command::Give { caller, .. }
+        | Command::Bind { caller, .. }
+        | Command::Unbind { caller, .. }
+        | Command::BeginSend { caller, .. }
+        | Command::BeginRaw { caller, .. }
+        | Command::BeginTake { caller, .. }
+        | Command::BeginGive { caller, .. }
+        | Command::BeginBind { caller, .. }
+        | Command::BeginUnbind { caller, .. }
+        | Command::Step { caller, .. }
+        | Command::Finish { caller, .. }
+        | Command::Reclaim { caller, .. } => own_caller(*caller),
+        Command::Pump {
+            sender,
+            receiver,
+            ..
+        } => match own_caller(*sender) {
             None if link.end_of(*sender as CallerNo).is_some() => own_caller(*receiver),
             own => own,
         },

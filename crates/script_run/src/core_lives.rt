@@ -68,8 +68,14 @@ impl NamedCore {
     {
         let life = self.core.life();
         match life.users() {
-            1 => Event::Running(self.name, u64::from(life.incarnation())),
-            users => Event::Users(self.name, u64::from(users)),
+            1 => Event::Running {
+                name: self.name,
+                inc: u64::from(life.incarnation()),
+            },
+            users => Event::Users {
+                name: self.name,
+                users: u64::from(users),
+            },
         }
     }
 
@@ -85,22 +91,36 @@ impl NamedCore {
     {
         let name = self.name;
         let event = match fault {
-            CoreFault::Fetch(FetchFault::Missing) => Event::Missing(name, image),
-            CoreFault::Fetch(FetchFault::TooLarge(_)) => Event::TooLarge(name, image),
+            CoreFault::Fetch(FetchFault::Missing) => Event::Missing { name, image },
+            CoreFault::Fetch(FetchFault::TooLarge(_)) => Event::TooLarge { name, image },
             CoreFault::Load(fault) => load_fault_event(name, *fault),
             CoreFault::Life(fault) => life_fault_event(name, *fault),
-            CoreFault::RingsChanged => Event::Fault(name, 42),
-            CoreFault::CallerOut(caller) => Event::FaultAt(name, 54, u64::from(*caller)),
+            CoreFault::RingsChanged => Event::Fault { name, fault: 42 },
+            CoreFault::CallerOut(caller) => Event::FaultAt {
+                name,
+                fault: 54,
+                index: u64::from(*caller),
+            },
             CoreFault::Reopen(ReopenFault::StillOpen(era)) => {
-                Event::StillOpen(name, u64::from(era.inc))
+                Event::StillOpen {
+                    name,
+                    inc: u64::from(era.inc),
+                }
             }
             CoreFault::Reopen(ReopenFault::StillTurn(caller)) => {
-                Event::StillTurn(name, u64::from(*caller))
+                Event::StillTurn {
+                    name,
+                    caller: u64::from(*caller),
+                }
             }
             CoreFault::Reopen(ReopenFault::StillHeld(caller, number)) => {
-                Event::StillHeld(name, u64::from(*caller), *number)
+                Event::StillHeld {
+                    name,
+                    caller: u64::from(*caller),
+                    number: *number,
+                }
             }
-            CoreFault::Reopen(ReopenFault::IncarnationsSpent) => Event::IncarnationsSpent(name),
+            CoreFault::Reopen(ReopenFault::IncarnationsSpent) => Event::IncarnationsSpent { name },
             CoreFault::Reopen(ReopenFault::NoMemory)
             | CoreFault::Fetch(FetchFault::Failed)
             | CoreFault::Fetch(FetchFault::NoMemory)
@@ -125,7 +145,13 @@ impl NamedCore {
         }
         self.count_down();
         let users = u64::from(self.core.life().users());
-        self.tell(&Event::Users(self.name, users), log)
+        self.tell(
+            &Event::Users {
+                name: self.name,
+                users,
+            },
+            log,
+        )
     }
 
     /// Shuts the core down for its last user. This is the incarnation of its link, where it is live.
@@ -145,10 +171,13 @@ impl NamedCore {
                 return Ok(Some(Stop::StepLimit));
             }
             log.set_steps(steps + 1);
-            log.tell(&Event::Closed(self.name, u64::from(inc)))?;
+            log.tell(&Event::Closed {
+                name: self.name,
+                inc: u64::from(inc),
+            })?;
         }
         self.count_down();
-        self.tell(&Event::Offline(self.name), log)
+        self.tell(&Event::Offline { name: self.name }, log)
     }
 
     /// Takes a user away from a core where nothing refuses it.
@@ -173,9 +202,15 @@ impl NamedCore {
         ensures effect { IfOk result (λ ending. HasCoreEffect (crash_effect self.old.name self.old.core log.old.steps kind) self.new.core log.old log.new ending) }
     {
         match self.core.life().state() {
-            LifeState::Offline => self.tell(&Event::Fault(self.name, 50), log),
+            LifeState::Offline => self.tell(
+                &Event::Fault {
+                    name: self.name,
+                    fault: 50,
+                },
+                log,
+            ),
             LifeState::Running => self.crash_first(kind, log),
-            LifeState::Crashed => self.tell(&Event::AlreadyCrashed(self.name), log),
+            LifeState::Crashed => self.tell(&Event::AlreadyCrashed { name: self.name }, log),
         }
     }
 
@@ -192,10 +227,19 @@ impl NamedCore {
                 return Ok(Some(Stop::StepLimit));
             }
             log.set_steps(steps + 1);
-            log.tell(&Event::Closed(self.name, u64::from(inc)))?;
+            log.tell(&Event::Closed {
+                name: self.name,
+                inc: u64::from(inc),
+            })?;
         }
         let _ = self.core.report(kind);
-        self.tell(&Event::Crashed(self.name, kind), log)
+        self.tell(
+            &Event::Crashed {
+                name: self.name,
+                kind,
+            },
+            log,
+        )
     }
 }
 
@@ -232,8 +276,11 @@ pub(crate) fn life_fault_event(name: Name, fault: LifeFault) -> Event
     ensures { result ≡ life_fault_event name fault }
 {
     match fault {
-        LifeFault::IncarnationsSpent => Event::IncarnationsSpent(name),
-        _ => Event::Fault(name, u64::from(fault.number())),
+        LifeFault::IncarnationsSpent => Event::IncarnationsSpent { name },
+        _ => Event::Fault {
+            name,
+            fault: u64::from(fault.number()),
+        },
     }
 }
 
@@ -243,8 +290,15 @@ fn load_fault_event(name: Name, fault: LoadFault) -> Event
 {
     let number = u64::from(fault.number().unwrap_or(0));
     match fault.index() {
-        Some(index) => Event::FaultAt(name, number, u64::from(index)),
-        None => Event::Fault(name, number),
+        Some(index) => Event::FaultAt {
+            name,
+            fault: number,
+            index: u64::from(index),
+        },
+        None => Event::Fault {
+            name,
+            fault: number,
+        },
     }
 }
 

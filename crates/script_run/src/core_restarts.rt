@@ -71,7 +71,13 @@ impl NamedCore {
         ensures effect { IfOk result (λ ending. HasCoreEffect (core_tells self.old.core log.old.steps (event.Running self.old.name self.old.core.life.incarnation)) self.new.core log.old log.new ending) }
     {
         let inc = u64::from(self.core.life().incarnation());
-        self.tell(&Event::Running(self.name, inc), log)
+        self.tell(
+            &Event::Running {
+                name: self.name,
+                inc,
+            },
+            log,
+        )
     }
 }
 

@@ -22,7 +22,7 @@ impl NamedCore {
     {
         let name = self.name;
         let Some(loaded) = self.core.loaded() else {
-            return self.tell(&Event::NotLoaded(name), log);
+            return self.tell(&Event::NotLoaded { name }, log);
         };
         let rows = table_rows(
             log.alloc(),
@@ -47,9 +47,13 @@ impl NamedCore {
         let event = match trace_bytes(&self.core, index) {
             Some(bytes) => {
                 let text = Data::copy_of(log.alloc(), text_before_zero(bytes))?;
-                Event::Trace(name, index, text)
+                Event::Trace {
+                    name,
+                    trace: index,
+                    text,
+                }
             }
-            None => Event::NoTrace(name, index),
+            None => Event::NoTrace { name, trace: index },
         };
         self.tell(&event, log)
     }
@@ -68,8 +72,16 @@ impl NamedCore {
     {
         let name = self.name;
         let event = match self.core.memory(da, len) {
-            Some(bytes) => Event::Mem(name, da, Data::copy_of(log.alloc(), bytes)?),
-            None => Event::Unmapped(name, da, u64::from(len)),
+            Some(bytes) => Event::Mem {
+                name,
+                da,
+                bytes: Data::copy_of(log.alloc(), bytes)?,
+            },
+            None => Event::Unmapped {
+                name,
+                da,
+                len: u64::from(len),
+            },
         };
         self.tell(&event, log)
     }
@@ -80,7 +92,7 @@ fn tell_rows(name: Name, rows: &[TableLine], log: &mut RunLog) -> Result<(), NoM
     ensures { OnOk result (log.new ≡ record log.old { lines = log.old.lines ++ transcript (map (table_event name) rows.now) }) }
 {
     for row in rows {
-        log.tell(&Event::Table(name, *row))?;
+        log.tell(&Event::Table { name, line: *row })?;
     }
     Ok(())
 }

@@ -51,9 +51,17 @@ impl NamedCore {
         ensures effect { IfOk result (λ ending. HasCoreEffect (core_effect images.now (answer_of fetched.now) is_quiet self.old log.old.steps command.now) self.new.core log.old log.new ending) }
     {
         match command {
-            Command::Link(_, _, _, _) | Command::NsLink(_, _, _, _) | Command::Core(_, _, _) =>
-                self.tell(&Event::Exists(self.name), log),
-            Command::Region(_, kind, da, pa, len) => {
+            Command::Link { .. } | Command::NsLink { .. } | Command::Core { .. } => self.tell(
+                &Event::Exists { name: self.name },
+                log,
+            ),
+            Command::Region {
+                kind,
+                da,
+                pa,
+                len,
+                ..
+            } => {
                 let region = Region {
                     kind: *kind,
                     da: *da as u32,
@@ -62,19 +70,22 @@ impl NamedCore {
                 };
                 self.add_region(region, log)
             }
-            Command::Driver(_, channel, kind) => self.add_driver(*channel, *kind, log),
-            Command::Drive(_, count) => self.drive(*count, is_quiet, log),
-            Command::State(_) => self.tell_state(log),
-            Command::Boot(_, image) => self.boot(*image, images, fetched, log),
-            Command::Shutdown(_) => self.shutdown(log),
-            Command::Crash(_, kind) => self.crash(*kind, log),
-            Command::Recover(_) => self.recover(images, fetched, log),
-            Command::Table(_) => self.tell_table(log),
-            Command::Trace(_, index) => self.tell_trace(*index, log),
-            Command::Mem(_, da, len) => self.tell_memory(*da as u32, *len as u32, log),
-            Command::Recovery(_, switch) => self.set_recovery(*switch, log),
-            Command::Close(_) | Command::Reopen(_) => self.tell(&Event::Unknown(self.name), log),
-            Command::Ring(_, lane) => self.tell_ring(*lane, log),
+            Command::Driver { channel, kind, .. } => self.add_driver(*channel, *kind, log),
+            Command::Drive { count, .. } => self.drive(*count, is_quiet, log),
+            Command::State { .. } => self.tell_state(log),
+            Command::Boot { image, .. } => self.boot(*image, images, fetched, log),
+            Command::Shutdown { .. } => self.shutdown(log),
+            Command::Crash { kind, .. } => self.crash(*kind, log),
+            Command::Recover { .. } => self.recover(images, fetched, log),
+            Command::Table { .. } => self.tell_table(log),
+            Command::Trace { trace: index, .. } => self.tell_trace(*index, log),
+            Command::Mem { da, len, .. } => self.tell_memory(*da as u32, *len as u32, log),
+            Command::Recovery { switch, .. } => self.set_recovery(*switch, log),
+            Command::Close { .. } | Command::Reopen { .. } => self.tell(
+                &Event::Unknown { name: self.name },
+                log,
+            ),
+            Command::Ring { lane, .. } => self.tell_ring(*lane, log),
             _ => self.run_on_link(command, log),
         }
     }
@@ -96,10 +107,16 @@ impl NamedCore {
     {
         let name = self.name;
         let event = match self.core.add_region(log.alloc(), region) {
-            Ok(index) => Event::Region(name, u64::from(index)),
-            Err(AddFault::NotOffline) => Event::NotOffline(name),
+            Ok(index) => Event::Region {
+                name,
+                region: u64::from(index),
+            },
+            Err(AddFault::NotOffline) => Event::NotOffline { name },
             Err(AddFault::Region(fault)) => {
-                Event::Fault(name, u64::from(fault.number().unwrap_or(0)))
+                Event::Fault {
+                    name,
+                    fault: u64::from(fault.number().unwrap_or(0)),
+                }
             }
             Err(AddFault::DriverTaken | AddFault::DriversFull) => unreachable!(),
             Err(AddFault::NoMemory) => return Err(NoMemory),
@@ -120,10 +137,14 @@ impl NamedCore {
     {
         let name = self.name;
         let event = match self.core.add_driver(log.alloc(), channel, kind) {
-            Ok(()) => Event::Driver(name, channel, kind),
-            Err(AddFault::NotOffline) => Event::NotOffline(name),
-            Err(AddFault::DriverTaken) => Event::DriverTaken(name, channel),
-            Err(AddFault::DriversFull) => Event::DriversFull(name),
+            Ok(()) => Event::Driver {
+                name,
+                channel,
+                kind,
+            },
+            Err(AddFault::NotOffline) => Event::NotOffline { name },
+            Err(AddFault::DriverTaken) => Event::DriverTaken { name, channel },
+            Err(AddFault::DriversFull) => Event::DriversFull { name },
             Err(AddFault::Region(_)) => unreachable!(),
             Err(AddFault::NoMemory) => return Err(NoMemory),
         };
@@ -138,7 +159,12 @@ impl NamedCore {
         let life = self.core.life();
         let users = u64::from(life.users());
         let inc = u64::from(life.incarnation());
-        let event = Event::State(self.name, life.state(), users, inc);
+        let event = Event::State {
+            name: self.name,
+            state: life.state(),
+            users,
+            inc,
+        };
         self.tell(&event, log)
     }
 
@@ -148,7 +174,13 @@ impl NamedCore {
         ensures effect { IfOk result (λ ending. HasCoreEffect (recovery_effect self.old.name self.old.core log.old.steps switch) self.new.core log.old log.new ending) }
     {
         self.core.set_recovery(is_on(switch));
-        self.tell(&Event::Recovery(self.name, switch), log)
+        self.tell(
+            &Event::Recovery {
+                name: self.name,
+                switch,
+            },
+            log,
+        )
     }
 }
 

@@ -1,16 +1,16 @@
-ghost use Rattle.std.specs.Prelude.{◌≡◌, ◌+◌, ◌-◌, ◌^◌, ◌≤◌, [], None, IfOk, length};
+ghost use Rattle.std.specs.Prelude.{◌≡◌, ◌+◌, ◌-◌, ◌^◌, ◌≤◌, length};
 ghost use Rattle.rp_base.specs.declared.limits.TheConstants.{BOOK_MOST, SCRIPT_LINES_MOST};
 ghost use Rattle.script_lang.specs.Runnable.{AreRunnable};
-ghost use Rattle.script_run.specs.Demos.{accepted_from, accepted_sum, counted_output, demo_output, drive_accepted, link_accepted, none_accepted};
+ghost use Rattle.script_run.specs.declared.demos.DemoFault.TheVariants as fault;
+ghost use Rattle.script_run.specs.Demos.{accepted_sum, demo_output, drive_accepted, link_accepted, none_accepted};
+ghost use Rattle.script_run.specs.DemoRuns.{IsCounted, IsDemoCount};
 ghost use Rattle.script_run.specs.Endings.{Writes};
-ghost use Rattle.script_run.specs.Runs.{new_run, run_of};
-ghost use Rattle.script_run.specs.Stores.{held};
 
 use crate::endings::end_with;
 use crate::fetches::Fetched;
 use crate::logs::RunLog;
 use crate::objects::Objects;
-use crate::statuses::Status;
+use crate::statuses::{Status, Stop};
 use crash_recover::Core;
 use image_maker::{SESSIONS_MOST, demo_script};
 use journal::Notice;
@@ -50,6 +50,23 @@ impl Accepted {
     }
 }
 
+/// Why the messages of a demo were not counted.
+#[derive(Clone, Copy)]
+pub enum DemoFault {
+    /// The run stopped in its midst.
+    Stopped(Stop),
+    /// Memory ran out.
+    NoMemory,
+}
+
+impl From<NoMemory> for DemoFault {
+    ghost from_gives = { λ _ e. e ≡ fault.NoMemory };
+
+    fn from(_error: NoMemory) -> DemoFault {
+        DemoFault::NoMemory
+    }
+}
+
 /// Runs the script of a demo over an empty store, and writes how many messages its links accepted.
 pub(crate) fn demo<K: Sink>(alloc: Global, sessions: u32, out: &mut K) -> Status
     requires some { 1 ≤ sessions }
@@ -61,39 +78,41 @@ pub(crate) fn demo<K: Sink>(alloc: Global, sessions: u32, out: &mut K) -> Status
             let counts = Notice::Demo(sessions, accepted.to_host, accepted.to_remote);
             end_with(alloc, &[counts], Status::Done, out)
         }
-        Err(NoMemory) => Status::NoMemory,
+        Err(DemoFault::Stopped(Stop::StepLimit)) => {
+            end_with(alloc, &[Notice::StepLimit], Status::StepLimit, out)
+        }
+        Err(DemoFault::NoMemory) => Status::NoMemory,
     }
 }
 
 /// Runs the script of a demo over an empty store, and counts the messages that its links accepted.
-fn count_demo(alloc: Global, sessions: u32) -> Result<Accepted, NoMemory>
+fn count_demo(alloc: Global, sessions: u32) -> Result<Accepted, DemoFault>
     requires some { 1 ≤ sessions }
     requires most { sessions ≤ SESSIONS_MOST }
-    ensures { IfOk result (λ accepted. demo_output sessions ≡ counted_output sessions accepted None) }
+    ensures { IsDemoCount sessions result }
 {
     let text = demo_script(alloc, sessions)?;
     match parse(alloc, text.as_slice()) {
         Ok(script) => count_accepted(alloc, script.commands.as_slice()),
         Err(ParseFault::Refused(_, _)) => unreachable!(),
-        Err(ParseFault::NoMemory) => Err(NoMemory),
+        Err(ParseFault::NoMemory) => Err(DemoFault::NoMemory),
     }
 }
 
-/// Runs commands whose run goes to its end, in order from nothing over an empty store, and sums up
-/// the messages that the links of their cores accepted, each at the end of a drive.
-fn count_accepted(alloc: Global, commands: &[Command]) -> Result<Accepted, NoMemory>
+/// Runs commands in order from nothing over an empty store, and sums up the messages that the links
+/// of their cores accepted, each at the end of a drive.
+fn count_accepted(alloc: Global, commands: &[Command]) -> Result<Accepted, DemoFault>
     requires runnable { AreRunnable commands.now }
     requires few { length commands.now ≤ SCRIPT_LINES_MOST }
-    requires ends { (run_of (held []) commands.now).ending ≡ None }
-    ensures { IfOk result (λ accepted. accepted ≡ accepted_from new_run commands.now) }
+    ensures { IsCounted commands.now result }
 {
     let mut objects = Objects::new(alloc);
     let mut log = RunLog::new(alloc);
     let mut accepted = Accepted::none();
     for command in commands {
         let stop = objects.run(command, &Fetched::Missing, &mut log)?;
-        if stop.is_some() {
-            unreachable!()
+        if let Some(stop) = stop {
+            return Err(DemoFault::Stopped(stop));
         }
         log.clear();
         accepted = accepted.and(drive_accepted(&objects, command));
@@ -107,7 +126,7 @@ fn drive_accepted(objects: &Objects, command: &Command) -> Accepted
     ensures to_host { result.to_host ≤ BOOK_MOST }
     ensures to_remote { result.to_remote ≤ BOOK_MOST }
 {
-    let Command::Drive(name, _) = command else {
+    let Command::Drive { name, .. } = command else {
         return Accepted::none();
     };
     match objects.core_named(name.bytes()) {

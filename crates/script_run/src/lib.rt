@@ -13,7 +13,6 @@ mod cores;
 mod demos;
 mod endings;
 mod fetches;
-pub mod laws;
 mod links;
 mod logs;
 mod objects;

@@ -46,66 +46,93 @@ impl NamedBench {
         ensures effect { IfOk result (λ ending. HasEffect (link_effect self.old log.old.steps command.now) self.new.bench log.old log.new ending) }
     {
         match command {
-            Command::Link(_, _, _, _) | Command::NsLink(_, _, _, _) | Command::Core(_, _, _) =>
-                self.tell(&Event::Exists(self.name), log),
-            Command::Caller(_, end) => self.make_caller(*end, log),
-            Command::Send(_, caller, src, dst, payload) => {
-                self.send(*caller as CallerNo, *src as u32, *dst as u32, payload, log)
-            }
-            Command::Raw(_, caller, message) => self.raw(*caller as CallerNo, message, log),
-            Command::Take(_, caller) => self.call_plain(*caller as CallerNo, &Wish::Take, log),
-            Command::Give(_, caller, number) => self.give(*caller as CallerNo, *number, log),
-            Command::Bind(_, caller, address) => {
-                self.call_plain(*caller as CallerNo, &Wish::Bind(*address as u32), log)
-            }
-            Command::Unbind(_, caller, address) => {
-                self.call_plain(*caller as CallerNo, &Wish::Unbind(*address as u32), log)
-            }
-            Command::BeginSend(_, caller, src, dst, payload) => {
-                self.begin_send(*caller as CallerNo, *src as u32, *dst as u32, payload, log)
-            }
-            Command::BeginRaw(_, caller, message) => {
-                self.begin_plain(*caller as CallerNo, Wish::Send(message_of(message)), log)
-            }
-            Command::BeginTake(_, caller) => {
+            Command::Link { .. } | Command::NsLink { .. } | Command::Core { .. } => self.tell(
+                &Event::Exists { name: self.name },
+                log,
+            ),
+            Command::Caller { end, .. } => self.make_caller(*end, log),
+            Command::Send {
+                caller,
+                source: src,
+                destination: dst,
+                payload,
+                ..
+            } => { self.send(*caller as CallerNo, *src as u32, *dst as u32, payload, log) }
+            Command::Raw {
+                caller,
+                message,
+                ..
+            } => self.raw(*caller as CallerNo, message, log),
+            Command::Take { caller, .. } => self.call_plain(*caller as CallerNo, &Wish::Take, log),
+            Command::Give { caller, number, .. } => self.give(*caller as CallerNo, *number, log),
+            Command::Bind {
+                caller,
+                address,
+                ..
+            } => { self.call_plain(*caller as CallerNo, &Wish::Bind(*address as u32), log) }
+            Command::Unbind {
+                caller,
+                address,
+                ..
+            } => { self.call_plain(*caller as CallerNo, &Wish::Unbind(*address as u32), log) }
+            Command::BeginSend {
+                caller,
+                source: src,
+                destination: dst,
+                payload,
+                ..
+            } => { self.begin_send(*caller as CallerNo, *src as u32, *dst as u32, payload, log) }
+            Command::BeginRaw {
+                caller,
+                message,
+                ..
+            } => { self.begin_plain(*caller as CallerNo, Wish::Send(message_of(message)), log) }
+            Command::BeginTake { caller, .. } => {
                 self.begin_plain(*caller as CallerNo, Wish::Take, log)
             }
-            Command::BeginGive(_, caller, number) => {
+            Command::BeginGive { caller, number, .. } => {
                 self.begin_give(*caller as CallerNo, *number, log)
             }
-            Command::BeginBind(_, caller, address) => {
-                self.begin_plain(*caller as CallerNo, Wish::Bind(*address as u32), log)
-            }
-            Command::BeginUnbind(_, caller, address) => {
-                self.begin_plain(*caller as CallerNo, Wish::Unbind(*address as u32), log)
-            }
-            Command::Step(_, caller, count) => {
+            Command::BeginBind {
+                caller,
+                address,
+                ..
+            } => { self.begin_plain(*caller as CallerNo, Wish::Bind(*address as u32), log) }
+            Command::BeginUnbind {
+                caller,
+                address,
+                ..
+            } => { self.begin_plain(*caller as CallerNo, Wish::Unbind(*address as u32), log) }
+            Command::Step { caller, count, .. } => {
                 self.advance(*caller as CallerNo, *count - 1, log)
             }
-            Command::Finish(_, caller) => self.advance(*caller as CallerNo, 6, log),
-            Command::Pump(_, sender, receiver, count) => {
-                self.pump(*sender as CallerNo, *receiver as CallerNo, *count, log)
-            }
-            Command::Ring(_, lane) => self.tell_ring(*lane, log),
-            Command::Image(_, _) => unreachable!(),
-            Command::Books(_) => self.tell_books(log),
-            Command::Channels(_) => self.tell_channels(log),
-            Command::Close(_) => self.close(log),
-            Command::Reclaim(_, caller) => self.reclaim(*caller as CallerNo, log),
-            Command::Reopen(_) => self.reopen(log),
-            Command::Region(_, _, _, _, _)
-            | Command::Driver(_, _, _)
-            | Command::Drive(_, _)
-            | Command::Quiet(_)
-            | Command::Boot(_, _)
-            | Command::Shutdown(_)
-            | Command::State(_)
-            | Command::Table(_)
-            | Command::Trace(_, _)
-            | Command::Mem(_, _, _)
-            | Command::Crash(_, _)
-            | Command::Recover(_)
-            | Command::Recovery(_, _) => self.tell(&Event::Unknown(self.name), log),
+            Command::Finish { caller, .. } => self.advance(*caller as CallerNo, 6, log),
+            Command::Pump {
+                sender,
+                receiver,
+                count,
+                ..
+            } => { self.pump(*sender as CallerNo, *receiver as CallerNo, *count, log) }
+            Command::Ring { lane, .. } => self.tell_ring(*lane, log),
+            Command::Image { .. } => unreachable!(),
+            Command::Books { .. } => self.tell_books(log),
+            Command::Channels { .. } => self.tell_channels(log),
+            Command::Close { .. } => self.close(log),
+            Command::Reclaim { caller, .. } => self.reclaim(*caller as CallerNo, log),
+            Command::Reopen { .. } => self.reopen(log),
+            Command::Region { .. }
+            | Command::Driver { .. }
+            | Command::Drive { .. }
+            | Command::Quiet { .. }
+            | Command::Boot { .. }
+            | Command::Shutdown { .. }
+            | Command::State { .. }
+            | Command::Table { .. }
+            | Command::Trace { .. }
+            | Command::Mem { .. }
+            | Command::Crash { .. }
+            | Command::Recover { .. }
+            | Command::Recovery { .. } => self.tell(&Event::Unknown { name: self.name }, log),
         }
     }
 
@@ -125,8 +152,15 @@ impl NamedBench {
         ensures effect { IfOk result (λ ending. HasEffect (caller_effect self.old.name self.old.bench log.old.steps end) self.new.bench log.old log.new ending) }
     {
         match self.bench.caller(end) {
-            None => self.tell(&Event::CallersFull(self.name), log),
-            Some(number) => self.tell(&Event::Caller(self.name, u64::from(number), end), log),
+            None => self.tell(&Event::CallersFull { name: self.name }, log),
+            Some(number) => self.tell(
+                &Event::Caller {
+                    name: self.name,
+                    caller: u64::from(number),
+                    end,
+                },
+                log,
+            ),
         }
     }
 
@@ -147,5 +181,11 @@ impl NamedBench {
 fn lane_event(name: Name, lane: u64, counts: (u64, u64, u64)) -> Event
     ensures { result ≡ event.LaneAcceptedHandedReturned name lane counts.0 counts.1 counts.2 }
 {
-    Event::LaneAcceptedHandedReturned(name, lane, counts.0, counts.1, counts.2)
+    Event::LaneAcceptedHandedReturned {
+        name,
+        lane,
+        accepted: counts.0,
+        handed: counts.1,
+        returned: counts.2,
+    }
 }

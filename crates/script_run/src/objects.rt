@@ -66,8 +66,8 @@ impl Objects {
         ensures { IfOk result (λ ending. HasRunEffect (effect_of (answer_of fetched.now) (record { objects = self.old; steps = log.old.steps }) command.now) self.new log.old log.new ending) }
     {
         match command {
-            Command::Image(name, recipe) => self.make_image(*name, recipe, log),
-            Command::Quiet(switch) => {
+            Command::Image { name, recipe } => self.make_image(*name, recipe, log),
+            Command::Quiet { switch } => {
                 self.is_quiet = is_on(*switch);
                 Ok(None)
             }
@@ -81,7 +81,7 @@ impl Objects {
         ensures { option_copied result ≡ asked_name self.now command.now }
     {
         match command {
-            Command::Boot(name, image) => {
+            Command::Boot { name, image } => {
                 let named = self.core_named(name.bytes())?;
                 if named.core.needs_image() {
                     outside_image(self.images.as_slice(), image.bytes())
@@ -89,7 +89,7 @@ impl Objects {
                     None
                 }
             }
-            Command::Recover(name) => {
+            Command::Recover { name } => {
                 let named = self.core_named(name.bytes())?;
                 match named.core.recovery_fault() {
                     Some(_) => None,
@@ -157,19 +157,33 @@ impl Objects {
         ensures { IfOk result (λ ending. HasRunEffect (unnamed_effect (record { objects = self.old; steps = log.old.steps }) command.now) self.new log.old log.new ending) }
     {
         match command {
-            Command::Link(name, to_host, to_remote, book) => {
+            Command::Link {
+                name,
+                entries_to_host: to_host,
+                entries_to_remote: to_remote,
+                book,
+            } => {
                 let config = config_of(*to_host as u32, *to_remote as u32, *book as u32);
                 self.make_link(*name, config, false, log)
             }
-            Command::NsLink(name, to_host, to_remote, book) => {
+            Command::NsLink {
+                name,
+                entries_to_host: to_host,
+                entries_to_remote: to_remote,
+                book,
+            } => {
                 let config = config_of(*to_host as u32, *to_remote as u32, *book as u32);
                 self.make_link(*name, config, true, log)
             }
-            Command::Core(name, regions, book) => {
-                self.make_core(*name, *regions, *book as u32, log)
-            }
+            Command::Core {
+                name,
+                regions,
+                book,
+            } => { self.make_core(*name, *regions, *book as u32, log) }
             _ => {
-                log.tell(&Event::Unknown(*command_name(command)))?;
+                log.tell(&Event::Unknown {
+                    name: *command_name(command),
+                })?;
                 Ok(None)
             }
         }
@@ -196,7 +210,7 @@ impl Objects {
         let remote = Side::new(self.alloc, false, Vec::new(self.alloc))?;
         let bench = Bench::new(self.alloc, config, host, remote)?;
         self.links.push(NamedBench { name, bench })?;
-        log.tell(&Event::Open(name, 1))?;
+        log.tell(&Event::Open { name, inc: 1 })?;
         Ok(None)
     }
 
@@ -219,7 +233,7 @@ impl Objects {
         let regions = regions_of(self.alloc, regions)?;
         let core = Core::new(self.alloc, regions, Vec::new(self.alloc), book)?;
         self.cores.push(NamedCore { name, core })?;
-        log.tell(&Event::Offline(name))?;
+        log.tell(&Event::Offline { name })?;
         Ok(None)
     }
 
@@ -241,13 +255,13 @@ impl Objects {
         ensures { IfOk result (λ ending. HasRunEffect (image_effect (record { objects = self.old; steps = log.old.steps }) name recipe.now) self.new log.old log.new ending) }
     {
         if has_image(self.images.as_slice(), name.bytes()) {
-            log.tell(&Event::ImageExists(name))?;
+            log.tell(&Event::ImageExists { name })?;
             return Ok(None);
         }
         let bytes = image_maker::build(self.alloc, recipe)?;
         let len = bytes.len() as u64;
         self.images.push(ScriptImage { name, bytes })?;
-        log.tell(&Event::Image(name, len))?;
+        log.tell(&Event::Image { name, len })?;
         Ok(None)
     }
 }
@@ -339,45 +353,45 @@ fn command_name(command: &Command) -> &Name
     ensures { result.now ≡ command_name command.now }
 {
     match command {
-        Command::Link(name, _, _, _)
-        | Command::NsLink(name, _, _, _)
-        | Command::Caller(name, _)
-        | Command::Send(name, _, _, _, _)
-        | Command::Raw(name, _, _)
-        | Command::Take(name, _)
-        | Command::Give(name, _, _)
-        | Command::Bind(name, _, _)
-        | Command::Unbind(name, _, _)
-        | Command::BeginSend(name, _, _, _, _)
-        | Command::BeginRaw(name, _, _)
-        | Command::BeginTake(name, _)
-        | Command::BeginGive(name, _, _)
-        | Command::BeginBind(name, _, _)
-        | Command::BeginUnbind(name, _, _)
-        | Command::Step(name, _, _)
-        | Command::Finish(name, _)
-        | Command::Pump(name, _, _, _)
-        | Command::Image(name, _)
-        | Command::Ring(name, _)
-        | Command::Books(name)
-        | Command::Channels(name)
-        | Command::Close(name)
-        | Command::Reclaim(name, _)
-        | Command::Reopen(name)
-        | Command::Core(name, _, _)
-        | Command::Region(name, _, _, _, _)
-        | Command::Boot(name, _)
-        | Command::Shutdown(name)
-        | Command::State(name)
-        | Command::Table(name)
-        | Command::Trace(name, _)
-        | Command::Mem(name, _, _)
-        | Command::Crash(name, _)
-        | Command::Recover(name)
-        | Command::Recovery(name, _)
-        | Command::Driver(name, _, _)
-        | Command::Drive(name, _) => name,
-        Command::Quiet(_) => unreachable!(),
+        Command::Link { name, .. }
+        | Command::NsLink { name, .. }
+        | Command::Caller { name, .. }
+        | Command::Send { name, .. }
+        | Command::Raw { name, .. }
+        | Command::Take { name, .. }
+        | Command::Give { name, .. }
+        | Command::Bind { name, .. }
+        | Command::Unbind { name, .. }
+        | Command::BeginSend { name, .. }
+        | Command::BeginRaw { name, .. }
+        | Command::BeginTake { name, .. }
+        | Command::BeginGive { name, .. }
+        | Command::BeginBind { name, .. }
+        | Command::BeginUnbind { name, .. }
+        | Command::Step { name, .. }
+        | Command::Finish { name, .. }
+        | Command::Pump { name, .. }
+        | Command::Image { name, .. }
+        | Command::Ring { name, .. }
+        | Command::Books { name }
+        | Command::Channels { name }
+        | Command::Close { name }
+        | Command::Reclaim { name, .. }
+        | Command::Reopen { name }
+        | Command::Core { name, .. }
+        | Command::Region { name, .. }
+        | Command::Boot { name, .. }
+        | Command::Shutdown { name }
+        | Command::State { name }
+        | Command::Table { name }
+        | Command::Trace { name, .. }
+        | Command::Mem { name, .. }
+        | Command::Crash { name, .. }
+        | Command::Recover { name }
+        | Command::Recovery { name, .. }
+        | Command::Driver { name, .. }
+        | Command::Drive { name, .. } => name,
+        Command::Quiet { .. } => unreachable!(),
     }
 }
 

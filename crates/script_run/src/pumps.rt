@@ -70,7 +70,13 @@ impl NamedBench {
         ensures effect { IfOk result (λ ending. HasEffect (sided_effect self.old.name self.old.bench log.old.steps sender receiver count) self.new.bench log.old log.new ending) }
     {
         if is_same_end(self.bench.end_of(sender), self.bench.end_of(receiver)) {
-            return self.tell(&Event::WrongSide(self.name, u64::from(receiver)), log);
+            return self.tell(
+                &Event::WrongSide {
+                    name: self.name,
+                    caller: u64::from(receiver),
+                },
+                log,
+            );
         }
         let (mut steps, mut ended) = (log.steps(), TurnEnd::Whole);
         let done = self
@@ -93,12 +99,22 @@ impl NamedBench {
             (pumped_effect self.old.name (record { turns = record { bench = self.old.bench; steps = log.old.steps; ended = ended }; done = done })) self.new.bench log.old log.new ending) }
     {
         match ended {
-            TurnEnd::Whole => self.tell(&Event::Pumped(self.name, done), log),
+            TurnEnd::Whole => self.tell(
+                &Event::Pumped {
+                    name: self.name,
+                    turns: done,
+                },
+                log,
+            ),
             TurnEnd::Fault(caller, fault) => {
                 self.tell_pumped(&fault_event(self.name, caller, fault), done, log)
             }
             TurnEnd::Reached(caller, Reach::At(step)) => {
-                let event = Event::At(self.name, u64::from(caller), u64::from(step));
+                let event = Event::At {
+                    name: self.name,
+                    caller: u64::from(caller),
+                    step: u64::from(step),
+                };
                 self.tell_pumped(&event, done, log)
             }
             TurnEnd::Reached(caller, Reach::Ended(end)) => {
@@ -121,6 +137,12 @@ impl NamedBench {
             (record { bench = self.old.bench; steps = log.old.steps; events = last.now ∷ event.Pumped self.old.name done ∷ []; ending = None }) self.new.bench log.old log.new ending) }
     {
         log.tell(last)?;
-        self.tell(&Event::Pumped(self.name, done), log)
+        self.tell(
+            &Event::Pumped {
+                name: self.name,
+                turns: done,
+            },
+            log,
+        )
     }
 }

@@ -24,8 +24,20 @@ impl NamedBench {
         log.set_steps(steps + 1);
         let inc = u64::from(self.bench.era().inc);
         match self.bench.close() {
-            Ok(()) => self.tell(&Event::Closed(self.name, inc), log),
-            Err(Already(era)) => self.tell(&Event::Already(self.name, era), log),
+            Ok(()) => self.tell(
+                &Event::Closed {
+                    name: self.name,
+                    inc,
+                },
+                log,
+            ),
+            Err(Already(era)) => self.tell(
+                &Event::Already {
+                    name: self.name,
+                    era,
+                },
+                log,
+            ),
         }
     }
 
@@ -41,12 +53,32 @@ impl NamedBench {
         ensures effect { IfOk result (λ ending. HasEffect (reclaim_effect self.old.name self.old.bench log.old.steps caller) self.new.bench log.old log.new ending) }
     {
         match self.bench.reclaim(caller) {
-            Ok(Reclaim::Done) => { self.tell(&Event::Reclaimed(self.name, u64::from(caller)), log) }
+            Ok(Reclaim::Done) => {
+                self.tell(
+                    &Event::Reclaimed {
+                        name: self.name,
+                        caller: u64::from(caller),
+                    },
+                    log,
+                )
+            }
             Ok(Reclaim::StillOpen(era)) => {
-                self.tell(&Event::StillOpen(self.name, u64::from(era.inc)), log)
+                self.tell(
+                    &Event::StillOpen {
+                        name: self.name,
+                        inc: u64::from(era.inc),
+                    },
+                    log,
+                )
             }
             Ok(Reclaim::Busy(holder)) => {
-                self.tell(&Event::BusyTurn(self.name, u64::from(holder)), log)
+                self.tell(
+                    &Event::BusyTurn {
+                        name: self.name,
+                        holder: u64::from(holder),
+                    },
+                    log,
+                )
             }
             Err(fault) => self.refuse(caller, fault, log),
         }
@@ -60,13 +92,26 @@ impl NamedBench {
     {
         let name = self.name;
         let event = match self.bench.reopen(log.alloc()) {
-            Ok(books) => Event::Open(name, u64::from(books.inc) + 1),
-            Err(ReopenFault::StillOpen(era)) => Event::StillOpen(name, u64::from(era.inc)),
-            Err(ReopenFault::StillTurn(caller)) => Event::StillTurn(name, u64::from(caller)),
+            Ok(books) => Event::Open {
+                name,
+                inc: u64::from(books.inc) + 1,
+            },
+            Err(ReopenFault::StillOpen(era)) => Event::StillOpen {
+                name,
+                inc: u64::from(era.inc),
+            },
+            Err(ReopenFault::StillTurn(caller)) => Event::StillTurn {
+                name,
+                caller: u64::from(caller),
+            },
             Err(ReopenFault::StillHeld(caller, number)) => {
-                Event::StillHeld(name, u64::from(caller), number)
+                Event::StillHeld {
+                    name,
+                    caller: u64::from(caller),
+                    number,
+                }
             }
-            Err(ReopenFault::IncarnationsSpent) => Event::IncarnationsSpent(name),
+            Err(ReopenFault::IncarnationsSpent) => Event::IncarnationsSpent { name },
             Err(ReopenFault::NoMemory) => return Err(NoMemory),
         };
         self.tell(&event, log)

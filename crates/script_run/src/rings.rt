@@ -26,7 +26,13 @@ impl NamedBench {
         ensures effect { IfOk result (λ ending. HasEffect (ring_effect self.old.name self.old.bench log.old.steps lane) self.new.bench log.old log.new ending) }
     {
         if let Some(holder) = self.bench.turn_holder() {
-            return self.tell(&Event::StillTurn(self.name, u64::from(holder)), log);
+            return self.tell(
+                &Event::StillTurn {
+                    name: self.name,
+                    caller: u64::from(holder),
+                },
+                log,
+            );
         }
         let bytes = self.bench.ring_bytes(log.alloc(), lane)?;
         tell_bytes(self.name, lane, &bytes, log)?;
@@ -44,7 +50,11 @@ pub(crate) fn tell_bytes(
     requires { lane ≤ 1 }
     ensures { OnOk result (log.new ≡ record log.old { lines = log.old.lines ++ transcript (ring_events name lane bytes.now) }) }
 {
-    log.tell(&Event::Ring(name, lane, bytes.len() as u64))?;
+    log.tell(&Event::Ring {
+        name,
+        lane,
+        len: bytes.len() as u64,
+    })?;
     tell_rows(name, bytes, log)
 }
 
@@ -68,7 +78,11 @@ fn tell_row(name: Name, offset: u64, row: &[u8], log: &mut RunLog) -> Result<(),
     if is_zeros(row) {
         return Ok(());
     }
-    log.tell(&Event::Dump(name, offset, Data::copy_of(log.alloc(), row)?))
+    log.tell(&Event::Dump {
+        name,
+        offset,
+        bytes: Data::copy_of(log.alloc(), row)?,
+    })
 }
 
 fn is_zeros(bytes: &[u8]) -> bool

@@ -19,6 +19,9 @@ patched_table-requires c =
 pub copy_segments-requires-clause-some : goal.copy_segments-requires-clause-some
 copy_segments-requires-clause-some c = segments_have c.args.image.now
 
+pub copy_table-requires-clause-sound : goal.copy_table-requires-clause-sound
+copy_table-requires-clause-sound c = rw (← c.map.view_is) c.map.invariant
+
 pub copy_table-requires-clause-some : goal.copy_table-requires-clause-some
 copy_table-requires-clause-some c = (table_fills c.args.image.now c.args.section c.requires.good).0
 

@@ -1,11 +1,10 @@
-use Rattle.std.proofs.Common.{◌+◌, drop, is_some, sym, ap, subst, ◌∙◌}
-use Rattle.std.proofs.lemmas.Bool.{true≢false}
+use Rattle.std.proofs.Common.{◌+◌, drop, sym, ap, subst, ◌∙◌}
 use Rattle.script_run.specs.declared.demos.Accepted.{Accepted}
 use Rattle.script_run.specs.Logs.{LogState}
 use Rattle.script_run.specs.Runs.{ObjectsState, new_run}
 use Rattle.script_run.specs.Demos.{accepted_sum}
 use Rattle.script_run.proofs.RunSteps.{left_at, runnable_first}
-use Rattle.script_run.proofs.DemoSums.{CountsSoFar, counts_after, counts_all, counts_goes_on, counts_none, IsOfBooks, sum_fits}
+use Rattle.script_run.proofs.DemoSums.{CountsSoFar, counts_after, counts_all, counts_none, counts_until, IsOfBooks, sum_fits}
 use Rattle.std.proofs.Math.ListN.{drop_of_length-le}
 use Rattle.script_run.proofs.demos.count_accepted.Goals as goal
 
@@ -19,13 +18,13 @@ loop-command-init c =
       runnable = c.requires.runnable;
     }
 
-pub unreachable-requires : goal.unreachable-requires
-unreachable-requires c =
+pub returns-in-Some : goal.returns-in-Some
+returns-in-Some c =
     let commands = c.args.commands.now in
     let i = c.loop-command.command-index in
     let first = c.command-item.result in
-    true≢false (sym c.if-is_some.true ∙ c.is_some.ensures ∙ ap is_some (counts_goes_on commands c.loop-command.objects c.run.new.self c.loop-command.log c.run.new.log c.loop-command.accepted (drop i commands) first (drop (i + 1) commands) c.in_ok-stop.stop
-    (left_at commands i first c.loop-command-test.true c.command-item.is) c.loop-command.invariant.so_far c.in_ok-stop.ensures c.requires.ends))
+    counts_until commands c.loop-command.objects c.run.new.self c.loop-command.log c.run.new.log c.loop-command.accepted (drop i commands) first (drop (i + 1) commands) c.in_ok-stop.stop
+    (left_at commands i first c.loop-command-test.true c.command-item.is) c.loop-command.invariant.so_far c.in_ok-stop.ensures c.in-Some.stop c.in-Some.is
 
 pub and-accepted-requires : goal.and-accepted-requires
 and-accepted-requires c =
@@ -47,7 +46,7 @@ loop-command-preserved c =
       so_far = subst (λ (accepted : Accepted). CountsSoFar commands (record { objects = c.run.new.self; steps = c.clear.new.self.steps }) accepted (drop (i + 1) commands))
           (sym (c.and-accepted.ensures ∙ ap (accepted_sum c.loop-command.accepted) c.drive_accepted.ensures.accepted))
           (counts_after commands c.loop-command.objects c.run.new.self c.loop-command.log c.run.new.log c.loop-command.accepted (drop i commands) first (drop (i + 1) commands) c.in_ok-stop.stop
-          is c.loop-command.invariant.so_far c.in_ok-stop.ensures c.requires.ends c.clear.new.self.steps (ap (λ (log : LogState). log.steps) c.clear.ensures)
+          is c.loop-command.invariant.so_far c.in_ok-stop.ensures c.in_default.is c.clear.new.self.steps (ap (λ (log : LogState). log.steps) c.clear.ensures)
           (subst (λ (driven : Accepted). IsOfBooks driven) c.drive_accepted.ensures.accepted (record { to_host = c.drive_accepted.ensures.to_host; to_remote = c.drive_accepted.ensures.to_remote })));
       runnable = (runnable_first first (drop (i + 1) commands) (drop i commands) is c.loop-command.invariant.runnable).1;
     }

@@ -1,13 +1,11 @@
-use Rattle.std.proofs.Common.{List, [], Err, length, ◌≤◌, sym, ap, subst, ◌∙◌}
+use Rattle.std.proofs.Common.{List, Err, length, ◌≤◌, sym, ap, subst, ◌∙◌}
 use Rattle.rp_base.specs.declared.limits.TheConstants.{SCRIPT_LINES_MOST}
 use Rattle.script_lang.specs.declared.commands.Command.{Command}
 use Rattle.script_lang.specs.declared.commands.ParseFault.{ParseFault}
 use Rattle.script_lang.specs.Grammar.{IsParsed, bad_line, script_of}
 use Rattle.script_lang.specs.Runnable.{AreRunnable}
-use Rattle.script_run.specs.Stores.{held}
-use Rattle.script_run.specs.Runs.{run_of}
-use Rattle.script_run.proofs.DemoBoots.{demo_counted, demo_goes_on}
-use Rattle.script_run.proofs.DemoSums.{demo_count, not_refused, said_commands, script_runnable}
+use Rattle.script_run.specs.DemoRuns.{IsCounted}
+use Rattle.script_run.proofs.DemoSums.{counted, demo_count, not_refused, said_commands, script_runnable}
 use Rattle.script_run.proofs.demos.count_demo.Goals as goal
 
 pub count_accepted-requires : goal.count_accepted-requires
@@ -18,14 +16,13 @@ count_accepted-requires c =
       runnable = subst (λ (commands : List Command). AreRunnable commands) (sym c.as_slice-in-Ok.ensures.value)
           (script_runnable c.as_slice.result.now c.in-Ok.script.commands.items c.in-Ok.ensures);
       few = subst (λ (commands : List Command). length commands ≤ SCRIPT_LINES_MOST) (sym (c.as_slice-in-Ok.ensures.value ∙ same)) (demo_count sessions c.requires.most);
-      ends = ap (λ (commands : List Command). (run_of (held []) commands).ending) (c.as_slice-in-Ok.ensures.value ∙ same) ∙ demo_goes_on sessions c.requires.most;
     }
 
 pub returns-in-Ok : goal.returns-in-Ok
 returns-in-Ok c =
-    let sessions = c.args.sessions in
-    let same = said_commands sessions c.as_slice.result.now c.in-Ok.script.commands.items c.requires.most (c.as_slice.ensures.value ∙ c.in_ok-text.ensures) c.in-Ok.ensures in
-    demo_counted sessions c.as_slice-in-Ok.result.now c.count_accepted.result c.requires.most (c.as_slice-in-Ok.ensures.value ∙ same) c.count_accepted.ensures
+    counted c.args.sessions c.in-Ok.script.commands.items c.count_accepted.result
+    (ap script_of (sym (c.as_slice.ensures.value ∙ c.in_ok-text.ensures)) ∙ c.in-Ok.ensures)
+    (subst (λ (commands : List Command). IsCounted commands c.count_accepted.result) c.as_slice-in-Ok.ensures.value c.count_accepted.ensures)
 
 pub unreachable-requires : goal.unreachable-requires
 unreachable-requires c =

@@ -1,5 +1,5 @@
 use Rattle.std.proofs.Common.{◌≡◌, ◌+◌, ◌*◌, ◌-◌, ◌≤◌, length}
-use Rattle.elf_image.specs.Layout.{elf32}
+use Rattle.elf_image.specs.Layout.{layout_for}
 use Rattle.elf_image.specs.Segments.{loaded_from}
 use Rattle.elf_image.proofs.loaded.LoadedHeadersIterator.next.Given as goal
 
@@ -8,8 +8,8 @@ invariant-loop-self l =
     let now = l.self-inside in
     let initial = l.initial.self-inside in
     record {
-      table : now.header.program_table + 32 * now.header.program_count ≤ length now.bytes.now;
-      left : loaded_from elf32 now.header now.bytes.now now.next ≡ loaded_from elf32 initial.header initial.bytes.now initial.next;
+      table : now.header.program_table + (layout_for now.class).program_header_size * now.header.program_count ≤ length now.bytes.now;
+      left : loaded_from (layout_for now.class) now.header now.bytes.now now.next ≡ loaded_from (layout_for initial.class) initial.header initial.bytes.now initial.next;
     }
 
 abbrev pub decreases-loop-self : goal.decreases-loop-self

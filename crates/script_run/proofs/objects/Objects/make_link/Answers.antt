@@ -1,6 +1,6 @@
 use Rattle.std.proofs.Common.{◌≡◌, ℕ, List, [], ◌∷◌, ◌++◌, false, refl, sym, ap, ◌∙◌}
 use Rattle.script_run.specs.NamedLinks.{NamedLink}
-use Rattle.crash_recover.specs.Benches.{BenchState, new_bench_of}
+use Rattle.link_bench.specs.Benches.{BenchState, new_bench_of}
 use Rattle.channel_bus.specs.Sides.{EndState}
 use Rattle.script_run.specs.Runs.{ObjectsState, new_end}
 use Rattle.script_run.proofs.Placing.{made_run}

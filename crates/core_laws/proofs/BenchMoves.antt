@@ -1,0 +1,231 @@
+-- What the calls of a bench leave of its link is reached where it was.
+use Rattle.std.proofs.Common.{◌≡◌, arith, length, ℕ, zero, suc, ◌+◌, eqb, cond, Bool, true, false, ◌||◌, Option, Some, None, Result, Ok, Err, is_some, option_and_then, slice_get, refl, sym, ap}
+use Rattle.std.specs.Option.{option_map_or}
+use Rattle.std.proofs.lemmas.Bool.{cond_both, true≢false}
+use Rattle.rp_base.specs.declared.kinds.End.{End}
+use Rattle.rp_base.specs.declared.limits.TheConstants.{STEPS_MOST}
+use Rattle.lane_model.specs.declared.calls.Wish.{Wish}
+use Rattle.lane_model.specs.declared.calls.Wish.TheVariants as wish
+use Rattle.lane_model.specs.declared.calls.LinkConfig.{LinkConfig}
+use Rattle.lane_model.specs.declared.recoveries.ReclaimRefusal.{ReclaimRefusal}
+use Rattle.lane_model.specs.Desks.{IsFreshDesk}
+use Rattle.lane_model.specs.Forms.{list_form}
+use Rattle.lane_model.specs.Links.{LinkState, end_of, free_number, lanes_of, opened_link}
+use Rattle.lane_model.specs.Conditions.{MayStep, MayEndStep, is_calling, is_in_call as is_in_call_on}
+use Rattle.lane_model.specs.Recoveries.{unopened_by, unreclaimed_by, link_after_reopen}
+use Rattle.lane_laws.specs.Moves.{Enlist, Close, Reclaim}
+use Rattle.lane_model.proofs.Others.{caller_may}
+use Rattle.lane_laws.proofs.LinkRuns.{opened_new, reopened_new}
+use Rattle.channel_bus.specs.Sides.{EndState, side_meaning}
+use Rattle.channel_bus.specs.Laws.{side_laws}
+use Rattle.link_bench.specs.declared.benches.BegunCall.{BegunCall}
+use Rattle.link_bench.specs.declared.benches.BenchFault.{BenchFault}
+use Rattle.link_bench.specs.declared.benches.Reach.TheVariants as reach
+use Rattle.link_bench.specs.declared.turns.TurnEnd.{TurnEnd}
+use Rattle.link_bench.specs.declared.turns.TurnEnd.TheVariants as turn_end
+use Rattle.link_bench.specs.Benches.{BenchState, BenchWalk, IsSendable, RingsState, advance_steps, advance_walk, begin_fault, begun_of, bench_walk, call_rings, call_steps, call_walk, is_in_call, later_steps, new_bench_of, ready_fault, start_walk, wish_fault, with_begun, with_new_caller}
+use Rattle.link_bench.specs.BenchCrashes.{after_close, after_reclaim, after_reopen, left_by_reclaim, reclaim_leaves}
+use Rattle.link_bench.specs.Turns.{Pumped, TurnCall, Turns, give_turn, is_whole, one_turn, pump_turns, take_turn, tested_call, then_more, turn_call, turn_message}
+use Rattle.core_laws.specs.BenchMoves.{IsReachedBench}
+use Rattle.link_bench.proofs.Begun.{begin_may, fit_after, fit_cleared, fit_put, neither_fault, none_begun, none_in_none}
+use Rattle.link_bench.proofs.BenchMay.{fit_closed, fit_reclaimed, fit_reopened}
+use Rattle.core_laws.proofs.LinkMoves.{comes_move, comes_none, reached_by}
+use Rattle.core_laws.proofs.ShortMoves.{short_lane}
+use Rattle.core_laws.proofs.CallMoves.{Leaves, call_leaves, later_leaves}
+
+-- a new bench
+pub new_reached : (config : LinkConfig) (host remote : EndState) → IsFreshDesk side_meaning host → IsFreshDesk side_meaning remote
+    → IsReachedBench (new_bench_of config host remote)
+new_reached config host remote fresh_host fresh_remote =
+    let new = opened_new side_meaning config host remote fresh_host fresh_remote in
+    record {
+      link = record { start = opened_link config host remote; new = new; came = comes_none side_meaning (opened_link config host remote); short = record { to_host = short_lane _ _ _; to_remote = short_lane _ _ _ } };
+      fit = λ caller call is. absurd (none_in_none 64 caller call is);
+    }
+
+-- a new caller
+pub enlisted : (bench : BenchState) (end : End) → IsReachedBench bench → IsReachedBench (with_new_caller bench end (free_number bench.link.callers))
+enlisted bench end reached = record {
+  link = reached_by bench.link _ reached.link (comes_move side_meaning bench.link (Enlist end) tt);
+  fit = λ caller call is. caller_may bench.link end caller (Some call.wish) (reached.fit caller call is);
+}
+
+-- a call is begun
+pub begun_reached : (bench : BenchState) (caller : ℕ) (call : BegunCall) → IsReachedBench bench → begin_fault bench caller call.wish ≡ None
+    → IsSendable call.wish → IsReachedBench (with_begun bench caller (Some call))
+begun_reached bench caller call reached ready sendable = record {
+  link = reached.link;
+  fit = fit_put bench.begun caller bench.link call reached.fit (begin_may bench caller call.wish sendable ready);
+}
+
+-- the call that is in a place
+pub begun_at : (place : Option (Option BegunCall)) (call : BegunCall) → option_and_then (λ found. found) place ≡ Some call → place ≡ Some (Some call)
+begun_at None call is = absurd (true≢false (sym (ap is_some is)))
+begun_at (Some found) call is = ap Some is
+
+no_call : (found : Option BegunCall) → is_some found ≡ false → found ≡ None
+no_call None none = refl
+no_call (Some call) none = absurd (true≢false none)
+
+-- who has a call under way may do its next step
+calling_at : (link : LinkState EndState) (found : Option End) (caller : ℕ)
+    → option_map_or (λ end. is_in_call_on (lanes_of link end) caller) found false ≡ true → MayEndStep link found caller None
+calling_at link None caller is = absurd (true≢false (sym is))
+calling_at link (Some end) caller is = is
+
+pub calling_may : (link : LinkState EndState) (caller : ℕ) → is_calling link caller ≡ true → MayStep link caller None
+calling_may link caller is = record { may = calling_at link (end_of link.callers caller) caller is }
+
+-- a link that steps of a caller left who has begun no call
+left_reached : (bench : BenchState) (after : LinkState EndState) (rings : RingsState) (caller : ℕ) → IsReachedBench bench → begun_of bench caller ≡ None
+    → Leaves bench.link after caller → IsReachedBench (record bench { link = after; rings = rings })
+left_reached bench after rings caller reached none leaves = record {
+  link = reached_by bench.link after reached.link leaves.came;
+  fit = fit_after bench.begun caller bench.link after none reached.fit leaves.others;
+}
+
+pub begun_or : (found : Option BegunCall) (under_way : Bool) → found ≡ None → is_some found || under_way ≡ true → under_way ≡ true
+begun_or None under_way none is = is
+begun_or (Some call) under_way none is = absurd (true≢false (ap is_some none))
+
+-- steps of the call that a caller is in
+advance_at : (bench : BenchState) (more steps caller : ℕ) (found : Option BegunCall) → begun_of bench caller ≡ found → is_in_call bench caller ≡ true
+    → IsReachedBench bench → IsReachedBench (advance_steps bench more steps caller found).bench
+advance_at bench more steps caller (Some call) is in_call reached =
+    let may = reached.fit caller call (begun_at (slice_get bench.begun caller) call is) in
+    let leaves = call_leaves more steps bench.link caller call.follows call.wish may in
+    cond_both (eqb steps STEPS_MOST) (record { bench = bench; steps = steps; reach = reach.Limit })
+    (bench_walk (with_begun bench caller None) (call_steps more steps bench.link caller call.follows call.wish) (call_rings more steps bench.rings caller call.follows call.wish))
+    (λ (walk : BenchWalk). IsReachedBench walk.bench) (λ _. reached)
+    (λ _. record {
+      link = reached_by bench.link (call_steps more steps bench.link caller call.follows call.wish).link reached.link leaves.came;
+      fit = fit_cleared bench.begun caller (call_steps more steps bench.link caller call.follows call.wish).link
+          (λ other one differ at. leaves.others other (Some one.wish) differ (reached.fit other one at));
+    })
+advance_at bench more steps caller None none in_call reached =
+    let may = calling_may bench.link caller (begun_or (begun_of bench caller) (is_calling bench.link caller) none in_call) in
+    left_reached bench (later_steps (more + 1) 0 steps bench.link caller).link _ caller reached none (later_leaves (more + 1) 0 steps bench.link caller may)
+
+pub advanced : (bench : BenchState) (more steps caller : ℕ) → IsReachedBench bench → is_in_call bench caller ≡ true
+    → IsReachedBench (advance_walk bench more steps caller).bench
+advanced bench more steps caller reached in_call = advance_at bench more steps caller (begun_of bench caller) refl in_call reached
+
+-- who may begin a call has begun none
+ready_none : (bench : BenchState) (caller : ℕ) (wanted : Wish) → begin_fault bench caller wanted ≡ None → begun_of bench caller ≡ None
+ready_none bench caller wanted ready =
+    let both = neither_fault (ready_fault bench caller) (wish_fault bench caller wanted) ready in
+    no_call (begun_of bench caller) (none_begun (end_of bench.link.callers caller) (is_some (begun_of bench caller)) (is_calling bench.link caller) both.0)
+
+-- a call from its first step on
+called_to : (bench : BenchState) (more steps caller : ℕ) (wanted : Wish) (rings : RingsState) → IsReachedBench bench → begin_fault bench caller wanted ≡ None
+    → IsSendable wanted → IsReachedBench (record bench { link = (call_steps more steps bench.link caller bench.link.era.inc wanted).link; rings = rings })
+called_to bench more steps caller wanted rings reached ready sendable =
+    left_reached bench _ rings caller reached (ready_none bench caller wanted ready)
+    (call_leaves more steps bench.link caller bench.link.era.inc wanted (begin_may bench caller wanted sendable ready))
+
+-- a whole call
+pub called : (bench : BenchState) (steps caller : ℕ) (wanted : Wish) → IsReachedBench bench → begin_fault bench caller wanted ≡ None
+    → IsSendable wanted → IsReachedBench (call_walk bench steps caller wanted).bench
+called bench steps caller wanted reached ready sendable = called_to bench 6 steps caller wanted _ reached ready sendable
+
+-- the first step of a call
+pub started : (bench : BenchState) (steps caller : ℕ) (wanted : Wish) → IsReachedBench bench → begin_fault bench caller wanted ≡ None
+    → IsSendable wanted → IsReachedBench (start_walk bench steps caller wanted).bench
+started bench steps caller wanted reached ready sendable = called_to bench 0 steps caller wanted _ reached ready sendable
+
+-- a close
+pub closed : (bench : BenchState) → IsReachedBench bench → IsReachedBench (after_close bench)
+closed bench reached = record {
+  link = reached_by bench.link _ reached.link (comes_move side_meaning bench.link (Close bench.link.era.inc) tt);
+  fit = fit_closed bench.link bench.begun bench.link.era.inc reached.fit;
+}
+
+-- a reclaim in a closed era
+pub reclaimed : (bench : BenchState) (caller : ℕ) → bench.link.era.is_live ≡ false → IsReachedBench bench → IsReachedBench (after_reclaim bench caller)
+reclaimed bench caller shut reached = record {
+  link = reached_by bench.link _ reached.link (comes_move side_meaning bench.link (Reclaim caller) shut);
+  fit = fit_reclaimed bench.link bench.begun caller reached.fit;
+}
+
+-- where nothing refuses a reclaim the era is closed
+shut_at : (live : Bool) (why : ReclaimRefusal) (other : Option ReclaimRefusal) → cond live (Some why) other ≡ None → live ≡ false
+shut_at true why other none = absurd (true≢false (ap is_some none))
+shut_at false why other none = refl
+
+pub unreclaimed_shut : (link : LinkState EndState) (caller : ℕ) → unreclaimed_by link caller ≡ None → link.era.is_live ≡ false
+unreclaimed_shut link caller none = shut_at link.era.is_live _ _ none
+
+reclaim_at : (bench : BenchState) (caller : ℕ) (end : Option End) (why : Option ReclaimRefusal) → unreclaimed_by bench.link caller ≡ why
+    → IsReachedBench bench → IsReachedBench (left_by_reclaim bench caller end why)
+reclaim_at bench caller (Some end) None none reached = reclaimed bench caller (unreclaimed_shut bench.link caller none) reached
+reclaim_at bench caller (Some end) (Some why) none reached = reached
+reclaim_at bench caller None why none reached = reached
+
+pub reclaim_tried : (bench : BenchState) (caller : ℕ) → IsReachedBench bench → IsReachedBench (reclaim_leaves bench caller (unreclaimed_by bench.link caller))
+reclaim_tried bench caller reached = reclaim_at bench caller (end_of bench.link.callers caller) (unreclaimed_by bench.link caller) refl reached
+
+-- a reopening is a new start
+pub reopened : (bench : BenchState) → IsReachedBench bench → unopened_by bench.link ≡ None → IsReachedBench (after_reopen bench)
+reopened bench reached clear = record {
+  link = record {
+    start = link_after_reopen (list_form side_meaning) bench.link;
+    new = reopened_new side_meaning side_laws bench.link;
+    came = comes_none side_meaning (link_after_reopen (list_form side_meaning) bench.link);
+    short = record { to_host = short_lane _ _ _; to_remote = short_lane _ _ _ };
+  };
+  fit = fit_reopened bench.link bench.begun clear reached.fit;
+}
+
+-- a call of a turn
+tested_reached : (bench : BenchState) (steps caller : ℕ) (wanted : Wish) (why : Option BenchFault) → begin_fault bench caller wanted ≡ why
+    → IsReachedBench bench → IsSendable wanted → IsReachedBench (tested_call bench steps caller wanted why).bench
+tested_reached bench steps caller wanted (Some why) is reached sendable = reached
+tested_reached bench steps caller wanted None is reached sendable = called bench steps caller wanted reached is sendable
+
+pub turn_called : (bench : BenchState) (steps caller : ℕ) (wanted : Wish) → IsReachedBench bench → IsSendable wanted
+    → IsReachedBench (turn_call bench steps caller wanted).bench
+unfolding turn_call
+turn_called bench steps caller wanted reached sendable = tested_reached bench steps caller wanted (begin_fault bench caller wanted) refl reached sendable
+
+then_reached : (call : TurnCall) (number : Result ℕ TurnEnd) (more : ℕ → Turns) → IsReachedBench call.bench
+    → ((number : ℕ) → IsReachedBench (more number).bench) → IsReachedBench (then_more call number more).bench
+then_reached call (Ok number) more reached rest = rest number
+then_reached call (Err ended) more reached rest = reached
+
+pub give_reached : (receiver : ℕ) (bench : BenchState) (steps number : ℕ) → IsReachedBench bench → IsReachedBench (give_turn receiver bench steps number).bench
+unfolding give_turn
+give_reached receiver bench steps number reached =
+    let given = turn_call bench steps receiver (wish.Give number) in
+    let left = turn_called bench steps receiver (wish.Give number) reached tt in
+    then_reached given given.number (λ _. record { bench = given.bench; steps = given.steps; ended = turn_end.Whole }) left (λ _. left)
+
+take_reached : (receiver : ℕ) (bench : BenchState) (steps : ℕ) → IsReachedBench bench → IsReachedBench (take_turn receiver bench steps).bench
+unfolding take_turn
+take_reached receiver bench steps reached =
+    let taken = turn_call bench steps receiver wish.Take in
+    let left = turn_called bench steps receiver wish.Take reached tt in
+    then_reached taken taken.number (give_turn receiver taken.bench taken.steps) left (λ number. give_reached receiver taken.bench taken.steps number left)
+
+pub turn_sendable : (number : ℕ) → IsSendable (wish.Send (turn_message number))
+turn_sendable number =
+    let short : length (turn_message number) ≡ 20 = refl in
+    omega (arith, short)
+
+turn_reached : (sender receiver number : ℕ) (bench : BenchState) (steps : ℕ) → IsReachedBench bench → IsReachedBench (one_turn sender receiver number bench steps).bench
+unfolding one_turn
+turn_reached sender receiver number bench steps reached =
+    let sent = turn_call bench steps sender (wish.Send (turn_message number)) in
+    let left = turn_called bench steps sender (wish.Send (turn_message number)) reached (turn_sendable number) in
+    then_reached sent sent.number (λ _. take_turn receiver sent.bench sent.steps) left (λ _. take_reached receiver sent.bench sent.steps left)
+
+-- turns
+pub turns_reached : (count done sender receiver : ℕ) (bench : BenchState) (steps : ℕ) → IsReachedBench bench
+    → IsReachedBench (pump_turns count done sender receiver bench steps).turns.bench
+unfolding pump_turns
+turns_reached zero done sender receiver bench steps reached = reached
+turns_reached (suc more) done sender receiver bench steps reached =
+    let turn = one_turn sender receiver done bench steps in
+    let left = turn_reached sender receiver done bench steps reached in
+    cond_both (is_whole turn.ended) (pump_turns more (done + 1) sender receiver turn.bench turn.steps) (record { turns = turn; done = done })
+    (λ (pumped : Pumped). IsReachedBench pumped.turns.bench)
+    (λ _. turns_reached more (done + 1) sender receiver turn.bench turn.steps left) (λ _. left)

@@ -1,0 +1,309 @@
+-- What the calls of a core leave of its link is reached where it was.
+use Rattle.std.proofs.Common.{◌≡◌, ℕ, zero, suc, ◌+◌, eqb, cond, Bool, true, false, ◌&&◌, List, [], ◌∷◌, All, Option, Some, None, IfSome, is_some, option_map, refl, ap, subst, inl, inr, arith, length, ◌≤◌}
+use Rattle.std.specs.Option.{option_or}
+use Rattle.std.proofs.lemmas.Bool.{cond_both, true≢false}
+use Rattle.std.proofs.lemmas.Bool.Decides.{eqb_tells}
+use Rattle.rp_base.specs.declared.kinds.End.{End}
+use Rattle.rp_base.specs.declared.kinds.End.TheVariants as side
+use Rattle.rp_base.specs.declared.kinds.LifeState.{LifeState}
+use Rattle.rp_base.specs.declared.kinds.LifeState.TheVariants.{Offline, Running, Crashed}
+use Rattle.lane_model.specs.declared.calls.CallEnd.{CallEnd}
+use Rattle.lane_model.specs.declared.calls.Wish.{Wish}
+use Rattle.lane_model.specs.declared.recoveries.ReclaimRefusal.{ReclaimRefusal}
+use Rattle.lane_model.specs.declared.recoveries.ReopenFault.{ReopenFault}
+use Rattle.lane_model.specs.Lanes.{holder, is_live_in}
+use Rattle.lane_model.specs.Forms.{list_form}
+use Rattle.lane_model.specs.Links.{LinkState, end_of}
+use Rattle.lane_model.specs.Recoveries.{link_after_close, unopened_by, unreclaimed_by, without_caller}
+use Rattle.channel_bus.specs.Sides.{EndState, side_meaning}
+use Rattle.fw_load.specs.declared.rings.RingPair.{RingPair}
+use Rattle.crash_recover.specs.declared.actors.Actor.{Actor}
+use Rattle.crash_recover.specs.declared.actors.Actor.TheVariants as actor
+use Rattle.link_bench.specs.declared.benches.BenchFault.{BenchFault}
+use Rattle.link_bench.specs.declared.benches.Reach.TheVariants as reach
+use Rattle.crash_recover.specs.declared.core_drives.Driven.{Driven}
+use Rattle.crash_recover.specs.declared.core_drives.Driven.TheVariants as driven
+use Rattle.crash_recover.specs.declared.core_faults.CoreFault.{CoreFault}
+use Rattle.crash_recover.specs.declared.core_faults.CoreFault.TheVariants as fault
+use Rattle.link_bench.specs.declared.benches.Reach.{Reach}
+use Rattle.std.proofs.lemmas.List.Elements.{All-append, All-drop}
+use Rattle.rp_base.specs.declared.limits.TheConstants.{MESSAGE_MOST}
+use Rattle.remote_core.specs.Works.{work_of}
+use Rattle.memory_pool.specs.declared.regions.Region.{Region}
+use Rattle.host_driver.specs.Drivers.{Declared}
+use Rattle.crash_recover.specs.Actors.{ActorsState, driver_names}
+use Rattle.link_bench.specs.Benches.{BenchState, BenchWalk, IsSendable, advance_walk, begin_fault, is_in_call, start_walk}
+use Rattle.link_bench.specs.BenchCrashes.{after_close, after_reclaim, after_reopen}
+use Rattle.crash_recover.specs.CoreBoots.{after_boot, after_shutdown, config_of, core_bench, fresh_end, first_start, loaded_from, needs_image}
+use Rattle.link_bench.specs.BenchEnds.{crashed_bench, is_first, is_remote, with_fresh_caller, without_one, without_other, without_others, without_remote, readied_bench, renewed_unless, reopen_refusal_of, unopened_unless}
+use Rattle.crash_recover.specs.CoreCrashes.{after_report, crashed_core}
+use Rattle.crash_recover.specs.CoreRecoveries.{after_recovery, fault_with, link_fault, readied_core, reopen_fault, reopened_core, spent_fault}
+use Rattle.crash_recover.specs.Cores.{CoreState, LoadState, new_core}
+use Rattle.crash_recover.specs.Drives.{DriveStep, acting, actor_step, actors_at_end, after_call_end, asked_by, drive_step, driven_on, end_answer, first_or_take, gives_of, has_calls, host_begun, host_begun_as, host_ended, host_reached, host_step, is_idle, left_of, link_step, message_of, number_taken, placed_map, record_run, record_step, reported_by, seen_by, sends_of, with_turn_after, worker_call, worker_reached, worker_step}
+use Rattle.core_laws.specs.BenchMoves.{AreSendable, IsReachedBench, IsReachedCore, IsShortLink}
+use Rattle.core_laws.proofs.Sendable.{end_short, gives_sendable, left_sendable, message_short, none_sendable, sends_sendable, work_sendable}
+use Rattle.core_laws.proofs.BenchMoves.{advanced, closed, enlisted, new_reached, reclaimed, reopened, started, unreclaimed_shut}
+
+-- the link of a core
+pub made_reached : (names : List (List ℕ)) (book first : ℕ) (rings : RingPair) → IsReachedBench (core_bench names book first rings)
+unfolding core_bench
+made_reached names book first rings =
+    enlisted _ side.Remote (enlisted _ side.Host
+    (new_reached (config_of rings book first) (fresh_end rings.service names) (fresh_end false []) (record { endpoints = refl; bindings = refl }) (record { endpoints = refl; bindings = refl })))
+
+-- ---- a crash
+
+-- a reached bench in a closed era
+record Shut (bench : BenchState) : Type 0 where
+  pub reached : IsReachedBench bench
+  pub shut : bench.link.era.is_live ≡ false
+
+-- an era that is closed as to its own incarnation is closed
+own_era : (inc : ℕ) (live : Bool) → eqb inc inc && live ≡ false → live ≡ false
+own_era inc live none = elim (eqb_tells inc inc) [ inl same ↦ subst (λ (is : Bool). is && live ≡ false) same.0 none | inr other ↦ absurd (other.1 refl) ]
+
+close_shut : (link : LinkState EndState) → (link_after_close link link.era.inc).era.is_live ≡ false
+close_shut link =
+    cond_both (is_live_in link.era link.era.inc) (record link { era = record { inc = link.era.inc; is_live = false } }) link
+    (λ (left : LinkState EndState). left.era.is_live ≡ false) (λ _. refl) (λ none. own_era link.era.inc link.era.is_live none)
+
+-- a reclaim leaves the era
+same_era : (link : LinkState EndState) (found : Option End) (caller : ℕ) → link.era.is_live ≡ false
+    → (without_caller (list_form side_meaning) link found caller).era.is_live ≡ false
+same_era link None caller shut = shut
+same_era link (Some side.Host) caller shut = shut
+same_era link (Some side.Remote) caller shut = shut
+
+gone_shut : (bench : BenchState) (caller : ℕ) → Shut bench → Shut (after_reclaim bench caller)
+gone_shut bench caller is = record {
+  reached = reclaimed bench caller is.shut is.reached;
+  shut = same_era bench.link (end_of bench.link.callers caller) caller is.shut;
+}
+
+fresh_shut : (bench : BenchState) (end : End) → Shut bench → Shut (with_fresh_caller bench end)
+fresh_shut bench end is = record { reached = enlisted bench end is.reached; shut = is.shut }
+
+remote_shut : (bench : BenchState) (caller : ℕ) → Shut bench → Shut (without_remote bench caller)
+remote_shut bench caller is =
+    let gone = gone_shut bench caller is in
+    cond_both (is_remote (end_of bench.link.callers caller))
+    (cond (eqb caller 1) (with_fresh_caller (after_reclaim bench caller) side.Remote) (after_reclaim bench caller)) bench Shut
+    (λ _. cond_both (eqb caller 1) (with_fresh_caller (after_reclaim bench caller) side.Remote) (after_reclaim bench caller) Shut
+    (λ _. fresh_shut (after_reclaim bench caller) side.Remote gone) (λ _. gone)) (λ _. is)
+
+one_shut : (bench : BenchState) (found : Option ℕ) → Shut bench → Shut (without_one bench found)
+one_shut bench None is = is
+one_shut bench (Some caller) is = remote_shut bench caller is
+
+other_shut : (first : Option ℕ) (bench : BenchState) (caller : ℕ) → Shut bench → Shut (without_other first bench caller)
+other_shut first bench caller is = cond_both (is_first first caller) bench (without_remote bench caller) Shut (λ _. is) (λ _. remote_shut bench caller is)
+
+others_shut : (first : Option ℕ) (bench : BenchState) (at count : ℕ) → Shut bench → Shut (without_others first bench at count)
+unfolding without_others
+others_shut first bench at zero is = is
+others_shut first bench at (suc left) is = others_shut first (without_other first bench at) (at + 1) left (other_shut first bench at is)
+
+pub crashed : (bench : BenchState) → IsReachedBench bench → IsReachedBench (crashed_bench bench)
+crashed bench reached =
+    let shut : Shut (after_close bench) = record { reached = closed bench reached; shut = close_shut bench.link } in
+    let first = holder (after_close bench).link.to_remote.receiver in
+    (others_shut first (without_one (after_close bench) first) 0 64 (one_shut (after_close bench) first shut)).reached
+
+-- a core that may have no link
+map_reached : (found : Option BenchState) (f : BenchState → BenchState) → ((bench : BenchState) → IsReachedBench bench → IsReachedBench (f bench))
+    → IfSome found IsReachedBench → IfSome (option_map f found) IsReachedBench
+map_reached None f each is = is
+map_reached (Some bench) f each is = each bench is
+
+crashed_in : (state : LifeState) (core : CoreState) → IsReachedCore core → IsReachedCore (crashed_core state core)
+crashed_in Offline core is = is
+crashed_in Running core is = record { bench = map_reached core.bench crashed_bench crashed is.bench; calls = is.calls }
+crashed_in Crashed core is = is
+
+pub core_reported : (core : CoreState) → IsReachedCore core → IsReachedCore (after_report core)
+core_reported core is = crashed_in core.life.state core is
+
+-- ---- a recovery
+
+ready_at : (bench : BenchState) (why : Option ReclaimRefusal) → unreclaimed_by bench.link 0 ≡ why → IsReachedBench bench → IsReachedBench (renewed_unless bench why)
+ready_at bench None none reached = enlisted (after_reclaim bench 0) side.Host (reclaimed bench 0 (unreclaimed_shut bench.link 0 none) reached)
+ready_at bench (Some why) is reached = reached
+
+pub readied : (bench : BenchState) → IsReachedBench bench → IsReachedBench (readied_bench bench)
+readied bench reached = ready_at bench (unreclaimed_by bench.link 0) refl reached
+
+pub core_readied : (core : CoreState) → IsReachedCore core → IsReachedCore (readied_core core)
+core_readied core is = record { bench = map_reached core.bench readied_bench readied is.bench; calls = is.calls }
+
+clear_at : (bench : BenchState) (why : Option ReclaimRefusal) → unopened_unless bench why ≡ None → unopened_by (renewed_unless bench why).link ≡ None
+clear_at bench None clear = clear
+clear_at bench (Some why) clear = absurd (true≢false (ap is_some clear))
+
+first_none : (refusal : Option ReopenFault) (later : Option CoreFault) → option_or (option_map fault.Reopen refusal) later ≡ None → refusal ≡ None
+first_none None later none = refl
+first_none (Some why) later none = absurd (true≢false (ap is_some none))
+
+bench_reopened : (bench : BenchState) (is_spent : Bool) → link_fault bench is_spent ≡ None → IsReachedBench bench → IsReachedBench (after_reopen (readied_bench bench))
+bench_reopened bench is_spent none reached =
+    reopened (readied_bench bench) (readied bench reached)
+    (clear_at bench (unreclaimed_by bench.link 0) (first_none (reopen_refusal_of bench) (spent_fault is_spent) none))
+
+found_reopened : (found : Option BenchState) (is_spent : Bool) → fault_with found is_spent ≡ None → IfSome found IsReachedBench
+    → IfSome (option_map (λ bench. after_reopen (readied_bench bench)) found) IsReachedBench
+found_reopened None is_spent none is = is
+found_reopened (Some bench) is_spent none is = bench_reopened bench is_spent none is
+
+pub core_reopened : (core : CoreState) → IsReachedCore core → reopen_fault core ≡ None → IsReachedCore (reopened_core core)
+core_reopened core is none = record { bench = found_reopened core.bench _ none is.bench; calls = is.calls }
+
+pub core_recovered : (core : CoreState) (image : List ℕ) → IsReachedCore core → reopen_fault core ≡ None → IsReachedCore (after_recovery core image)
+core_recovered core image is none = record { bench = found_reopened core.bench _ none is.bench; calls = record { host = none_sendable; worker = none_sendable } }
+
+-- ---- a boot and a shutdown
+
+rings_reached : (names : List (List ℕ)) (book first : ℕ) (rings : Option RingPair) → IfSome (option_map (core_bench names book first) rings) IsReachedBench
+rings_reached names book first None = tt
+rings_reached names book first (Some rings) = made_reached names book first rings
+
+pub core_booted : (core : CoreState) (name image : List ℕ) → IsReachedCore core → IsReachedCore (after_boot core name image)
+core_booted core name image is =
+    cond_both (needs_image core) (first_start core name (loaded_from image core.regions)) _ IsReachedCore
+    (λ _. record {
+      bench = rings_reached (driver_names core.actors) core.book (core.life.incarnation + 1) (loaded_from image core.regions).rings;
+      calls = record { host = none_sendable; worker = none_sendable };
+    }) (λ _. record { bench = is.bench; calls = is.calls })
+
+-- a core that was never booted
+pub new_core_reached : (regions : List Region) (kinds : List Declared) (book : ℕ) → IsReachedCore (new_core regions kinds book)
+new_core_reached regions kinds book = record { bench = tt; calls = record { host = none_sendable; worker = none_sendable } }
+
+pub core_shut : (core : CoreState) → IsReachedCore core → IsReachedCore (after_shutdown core)
+core_shut core is =
+    cond_both (eqb core.life.users 1) _ _ IsReachedCore (λ _. record { bench = tt; calls = is.calls }) (λ _. record { bench = is.bench; calls = is.calls })
+
+-- ---- steps of the actors
+
+no_fault : (found : Option BenchFault) → is_some found ≡ false → found ≡ None
+no_fault None none = refl
+no_fault (Some why) none = absurd (true≢false none)
+
+step_reached : (bench : BenchState) (caller : ℕ) (wanted : Wish) → IsReachedBench bench → IsSendable wanted → IsReachedBench (link_step bench caller wanted).bench
+step_reached bench caller wanted reached sendable =
+    let none : BenchWalk = record { bench = bench; steps = 0; reach = reach.Limit } in
+    cond_both (is_in_call bench caller) (advance_walk bench 0 0 caller)
+    (cond (is_some (begin_fault bench caller wanted)) none (start_walk bench 0 caller wanted)) (λ (walk : BenchWalk). IsReachedBench walk.bench)
+    (λ in_call. advanced bench 0 0 caller reached in_call)
+    (λ _. cond_both (is_some (begin_fault bench caller wanted)) none (start_walk bench 0 caller wanted) (λ (walk : BenchWalk). IsReachedBench walk.bench)
+    (λ _. reached) (λ ready. started bench 0 caller wanted reached (no_fault (begin_fault bench caller wanted) ready) sendable))
+
+pub first_sendable : (calls : List Wish) → All IsSendable calls → IsSendable (first_or_take calls)
+first_sendable [] are = tt
+first_sendable (first ∷ later) are = are 0 first (omega arith)
+
+-- the actors of a core, as its drivers see the end of a call of a host caller
+driven_sendable : (actors : ActorsState) (message : List ℕ) (end : CallEnd) → length message ≤ MESSAGE_MOST → AreSendable actors → AreSendable (driven_on actors message end)
+driven_sendable actors message end short are = record {
+  host = All-append IsSendable actors.host_calls (sends_of (end_answer actors.drivers message end)) are.host
+      (sends_sendable (end_answer actors.drivers message end) (end_short actors.drivers message end short));
+  worker = are.worker;
+}
+
+host_end_sendable : (actors : ActorsState) (end : CallEnd) → AreSendable actors → AreSendable (host_ended actors end)
+host_end_sendable actors end are = record {
+  host = All-append IsSendable (cond actors.is_taking actors.host_calls (left_of end actors.host_calls)) (gives_of (number_taken end))
+      (cond_both actors.is_taking actors.host_calls (left_of end actors.host_calls) (λ (calls : List Wish). All IsSendable calls)
+      (λ _. are.host) (λ _. left_sendable end actors.host_calls are.host))
+      (gives_sendable (number_taken end));
+  worker = are.worker;
+}
+
+host_sendable : (actors : ActorsState) (bench : BenchState) (came : Reach) → IsShortLink bench.link → AreSendable actors → AreSendable (host_reached actors bench came)
+host_sendable actors bench (reach.At step) short are = are
+host_sendable actors bench (reach.Ended end) short are =
+    driven_sendable (host_ended actors end) (message_of bench 0 end) end (message_short bench 0 end short) (host_end_sendable actors end are)
+host_sendable actors bench reach.Limit short are = record { host = All-drop IsSendable 1 actors.host_calls are.host; worker = are.worker }
+
+host_begun_sendable : (in_call : Bool) (actors : ActorsState) → AreSendable actors → AreSendable (host_begun_as in_call actors)
+host_begun_sendable true actors are = are
+host_begun_sendable false actors are = record { host = are.host; worker = are.worker }
+
+host_step_reached : (core : CoreState) (found : Option BenchState) → IsReachedCore core → IfSome found IsReachedBench → IsReachedCore (host_step core found).core
+host_step_reached core None is reached = is
+host_step_reached core (Some bench) is reached =
+    let walk = link_step bench 0 (first_or_take core.actors.host_calls) in
+    let left = step_reached bench 0 (first_or_take core.actors.host_calls) reached (first_sendable core.actors.host_calls is.calls.host) in
+    record {
+      bench = left;
+      calls = host_sendable (host_begun bench core.actors) walk.bench walk.reach left.link.short (host_begun_sendable (is_in_call bench 0) core.actors is.calls);
+    }
+
+worker_sendable : (actors : ActorsState) (bench : BenchState) (came : Reach) → AreSendable actors → AreSendable (worker_reached actors bench came)
+worker_sendable actors bench (reach.At step) are = are
+worker_sendable actors bench (reach.Ended end) are = record {
+  host = are.host;
+  worker = All-append IsSendable (gives_of (number_taken end)) (left_of end actors.worker_calls) (gives_sendable (number_taken end))
+      (left_sendable end actors.worker_calls are.worker);
+}
+worker_sendable actors bench reach.Limit are = record { host = are.host; worker = All-drop IsSendable 1 actors.worker_calls are.worker }
+
+call_reached : (core : CoreState) (found : Option BenchState) → IsReachedCore core → IfSome found IsReachedBench → IsReachedCore (worker_call core found).core
+call_reached core None is reached = is
+call_reached core (Some bench) is reached =
+    let walk = link_step bench 1 (first_or_take core.actors.worker_calls) in
+    record {
+      bench = step_reached bench 1 (first_or_take core.actors.worker_calls) reached (first_sendable core.actors.worker_calls is.calls.worker);
+      calls = worker_sendable core.actors walk.bench walk.reach is.calls;
+    }
+
+reported_reached : (event : Driven) (core : CoreState) → IsReachedCore core → IsReachedCore (reported_by event core)
+reported_reached driven.Idle core is = is
+reported_reached driven.Stepped core is = is
+reported_reached (driven.Ended caller end) core is = is
+reported_reached (driven.Worker fault) core is = core_reported core is
+reported_reached (driven.Crashed kind) core is = core_reported core is
+
+run_reached : (core : CoreState) (loaded : Option LoadState) → IsReachedCore core → IsReachedCore (record_run core loaded).core
+run_reached core None is = is
+run_reached core (Some load) is =
+    let map = placed_map core.regions load in
+    record {
+      bench = is.bench;
+      calls = record {
+        host = is.calls.host;
+        worker = All-append IsSendable core.actors.worker_calls (asked_by (work_of load.memory map (is_some core.bench) core.actors.worker)) is.calls.worker
+            (work_sendable load.memory map (is_some core.bench) core.actors.worker);
+      };
+    }
+
+worker_step_reached : (core : CoreState) → IsReachedCore core → IsReachedCore (worker_step core).core
+worker_step_reached core is =
+    cond_both (has_calls core.bench core.actors) (worker_call core core.bench) (record_step core) (λ (step : DriveStep). IsReachedCore step.core)
+    (λ _. call_reached core core.bench is is.bench)
+    (λ _. reported_reached (record_run core core.loaded).driven (record_run core core.loaded).core (run_reached core core.loaded is))
+
+actor_reached : (who : Actor) (core : CoreState) → IsReachedCore core → IsReachedCore (actor_step who core).core
+actor_reached actor.Host core is = host_step_reached core core.bench is is.bench
+actor_reached actor.Worker core is = worker_step_reached core is
+
+pub core_driven : (core : CoreState) → IsReachedCore core → IsReachedCore (drive_step core).core
+core_driven core is =
+    cond_both (is_idle core) _ _ (λ (step : DriveStep). IsReachedCore step.core) (λ _. is)
+    (λ _. actor_reached (acting core) (with_turn_after (acting core) core)
+    (record { bench = is.bench; calls = record { host = is.calls.host; worker = is.calls.worker } }))
+
+-- ---- calls of others
+
+pub seen_calls : (actors : ActorsState) (bench : BenchState) (caller : ℕ) (end : CallEnd) (found : Option End) → IsShortLink bench.link → AreSendable actors
+    → AreSendable (actors_at_end found (message_of bench caller end) end actors)
+seen_calls actors bench caller end None short is = is
+seen_calls actors bench caller end (Some side.Host) short is = driven_sendable actors (message_of bench caller end) end (message_short bench caller end short) is
+seen_calls actors bench caller end (Some side.Remote) short is = is
+
+seen_link : (core : CoreState) (caller : ℕ) (end : CallEnd) (found : Option BenchState) → IfSome found IsReachedBench → IsReachedCore core
+    → IsReachedCore (seen_by core caller end found)
+seen_link core caller end None reached is = is
+seen_link core caller end (Some bench) reached is =
+    record { bench = is.bench; calls = seen_calls core.actors bench caller end (end_of bench.link.callers caller) reached.link.short is.calls }
+
+pub call_ended : (core : CoreState) (caller : ℕ) (end : CallEnd) → IsReachedCore core → IsReachedCore (after_call_end core caller end)
+call_ended core caller end is = seen_link core caller end core.bench is.bench is

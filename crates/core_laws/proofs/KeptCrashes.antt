@@ -1,0 +1,323 @@
+-- A crash and a renewal of the host's caller keep what a core's link keeps, and no reclaim of a crash is refused.
+use Rattle.std.proofs.Common.{◌≡◌, ◌≢◌, ℕ, zero, suc, ◌+◌, eqb, cond, Bool, true, false, ◌&&◌, List, [], ◌∷◌, Option, Some, None, is_some, option_map, option_and_then, length, slice_set, unwrap_or, refl, sym, ap, subst, ◌∙◌, inl, inr, arith}
+use Rattle.std.proofs.lemmas.Bool.{cond_both, eq-eqb, lt-ltb, false≢true, true≢false}
+use Rattle.std.proofs.lemmas.Bool.Decides.{eqb_tells}
+use Rattle.rp_base.specs.declared.kinds.End.{End}
+use Rattle.rp_base.specs.declared.kinds.End.TheVariants as side
+use Rattle.proc_state.specs.Lives.{CoreLife}
+use Rattle.lane_model.specs.declared.recoveries.ReclaimRefusal.TheVariants as refusal
+use Rattle.lane_model.specs.declared.states.LaneState.{LaneState}
+use Rattle.lane_model.specs.declared.stages.Receiving.{Receiving}
+use Rattle.lane_model.specs.declared.stages.Turn.{Turn}
+use Rattle.lane_model.specs.declared.stages.Turn.TheVariants as turn
+use Rattle.lane_model.specs.Crashes.{ended_turn, has_held, needed_holder, other_holder}
+use Rattle.lane_model.specs.Forms.{list_form}
+use Rattle.lane_model.specs.Lanes.{has_call, holder, is_live_in}
+use Rattle.lane_model.specs.Links.{LinkState, end_of, free_number, lanes_of, with_caller}
+use Rattle.lane_laws.specs.Moves.{no_handings}
+use Rattle.lane_model.specs.Recoveries.{link_after_close, unreclaimed_by, without_caller}
+use Rattle.lane_model.specs.Soundness.{IsSoundTurn, SoundLink}
+use Rattle.lane_laws.proofs.CrashLaws.{close_sound}
+use Rattle.lane_model.proofs.CrashMay.{freed}
+use Rattle.lane_laws.proofs.LinkRuns.{moves_sound}
+use Rattle.channel_bus.specs.Sides.{EndState, side_meaning}
+use Rattle.link_bench.specs.BenchCrashes.{after_close, after_reclaim}
+use Rattle.core_laws.specs.BenchMoves.{IsReached}
+use Rattle.link_bench.specs.Benches.{BenchState}
+use Rattle.link_bench.specs.BenchEnds.{crashed_bench, is_first, is_remote, with_fresh_caller, without_one, without_other, without_others, without_remote}
+use Rattle.core_laws.specs.KeptCores.{AreOwnUsed, IsKeptBench, IsKeptLink, IsUnmanaged, IsUnmanagedTurn, crash_reaches, is_running}
+
+-- ---- numbers of callers
+
+pub no_end : {A : Type 0} (end : End) → None ≡ Some end → A
+no_end end is = absurd (true≢false (sym (ap is_some is)))
+
+-- a number is free where those below it are in use
+free_first : (callers : List (Option End)) → free_number (None ∷ callers) ≡ Some 0
+free_first callers = ap (λ (within : Bool). cond within (Some 0) None) (lt-ltb 0 (suc (length callers)) (omega arith))
+
+free_second : (end : End) (callers : List (Option End)) → free_number (Some end ∷ None ∷ callers) ≡ Some 1
+free_second end callers = ap (λ (within : Bool). cond within (Some 1) None) (lt-ltb 1 (suc (suc (length callers))) (omega arith))
+
+-- where a core's own number is freed, it is the least free one, so a new caller gets it
+pub host_again : (callers : List (Option End)) → AreOwnUsed callers
+    → with_caller (slice_set callers 0 None) side.Host (free_number (slice_set callers 0 None)) ≡ callers
+host_again [] own = no_end side.Host own.host
+host_again (None ∷ callers) own = no_end side.Host own.host
+host_again (Some end ∷ callers) own =
+    ap (with_caller (None ∷ callers) side.Host) (free_first callers) ∙ ap (λ (found : Option End). found ∷ callers) (sym own.host)
+
+pub remote_again : (callers : List (Option End)) → AreOwnUsed callers
+    → with_caller (slice_set callers 1 None) side.Remote (free_number (slice_set callers 1 None)) ≡ callers
+remote_again [] own = no_end side.Host own.host
+remote_again (None ∷ callers) own = no_end side.Host own.host
+remote_again (Some end ∷ []) own = no_end side.Remote own.remote
+remote_again (Some end ∷ None ∷ callers) own = no_end side.Remote own.remote
+remote_again (Some end ∷ Some other ∷ callers) own =
+    ap (with_caller (Some end ∷ None ∷ callers) side.Remote) (free_second end callers) ∙ ap (λ (found : Option End). Some end ∷ found ∷ callers) (sym own.remote)
+
+-- a number that is freed is not in use
+pub cleared : (callers : List (Option End)) (caller : ℕ) → end_of (slice_set callers caller None) caller ≡ None
+cleared [] caller = refl
+cleared (found ∷ callers) zero = refl
+cleared (found ∷ callers) (suc caller) = cleared callers caller
+
+pub is_remote_end : (found : Option End) → is_remote found ≡ true → found ≡ Some side.Remote
+is_remote_end None is = absurd (false≢true is)
+is_remote_end (Some side.Host) is = absurd (false≢true is)
+is_remote_end (Some side.Remote) is = refl
+
+pub host_is_no_remote : (callers : List (Option End)) (caller : ℕ) → AreOwnUsed callers → is_remote (end_of callers caller) ≡ true → caller ≢ 0
+host_is_no_remote callers caller own is = λ same.
+    let other : is_remote (end_of callers 0) ≡ false = ap is_remote own.host in
+    absurd (false≢true (sym other ∙ ap (λ n. is_remote (end_of callers n)) (sym same) ∙ is))
+
+-- ---- a reclaim
+
+ended_unmanaged : {C : Type 0} (now : Turn C) (caller : ℕ) → IsUnmanagedTurn now → IsUnmanagedTurn (ended_turn now caller)
+ended_unmanaged {C} now caller is = cond_both (has_call now caller) turn.Free now (λ (left : Turn C). IsUnmanagedTurn left) (λ _. tt) (λ _. is)
+
+gone_unmanaged : (link : LinkState EndState) (found : Option End) (caller : ℕ) → IsUnmanaged link
+    → IsUnmanaged (without_caller (list_form side_meaning) link found caller)
+gone_unmanaged link (Some side.Host) caller is = record {
+  to_host = record { sender = is.to_host.sender; receiver = ended_unmanaged link.to_host.receiver caller is.to_host.receiver };
+  to_remote = record { sender = ended_unmanaged link.to_remote.sender caller is.to_remote.sender; receiver = is.to_remote.receiver };
+}
+gone_unmanaged link (Some side.Remote) caller is = record {
+  to_host = record { sender = ended_unmanaged link.to_host.sender caller is.to_host.sender; receiver = is.to_host.receiver };
+  to_remote = record { sender = is.to_remote.sender; receiver = ended_unmanaged link.to_remote.receiver caller is.to_remote.receiver };
+}
+gone_unmanaged link None caller is = is
+
+module _ (life : CoreLife) where
+  gone_at : (link : LinkState EndState) (found : Option End) (caller : ℕ) → caller ≢ 0 → caller ≢ 1 → IsKeptLink life link
+      → IsKeptLink life (without_caller (list_form side_meaning) link found caller)
+  gone_at link (Some side.Host) caller no_host no_remote is = record {
+    unmanaged = gone_unmanaged link (Some side.Host) caller is.unmanaged;
+    own = record { host = freed link.callers caller 0 no_host ∙ is.own.host; remote = freed link.callers caller 1 no_remote ∙ is.own.remote };
+    inc = is.inc;
+    live = is.live;
+  }
+  gone_at link (Some side.Remote) caller no_host no_remote is = record {
+    unmanaged = gone_unmanaged link (Some side.Remote) caller is.unmanaged;
+    own = record { host = freed link.callers caller 0 no_host ∙ is.own.host; remote = freed link.callers caller 1 no_remote ∙ is.own.remote };
+    inc = is.inc;
+    live = is.live;
+  }
+  gone_at link None caller no_host no_remote is = is
+
+  -- a caller of another than the core itself is gone
+  pub gone_kept : (bench : BenchState) (caller : ℕ) → caller ≢ 0 → caller ≢ 1 → IsKeptBench life bench → IsKeptBench life (after_reclaim bench caller)
+  gone_kept bench caller no_host no_remote is = gone_at bench.link (end_of bench.link.callers caller) caller no_host no_remote is
+
+  host_at : (link : LinkState EndState) (found : Option End) → found ≡ Some side.Host → IsKeptLink life link
+      → let left = without_caller (list_form side_meaning) link found 0 in
+      IsKeptLink life (record left { callers = with_caller left.callers side.Host (free_number left.callers) })
+  host_at link (Some side.Host) found is = record {
+    unmanaged = let left = gone_unmanaged link (Some side.Host) 0 is.unmanaged in record { to_host = left.to_host; to_remote = left.to_remote };
+    own = subst AreOwnUsed (sym (host_again link.callers is.own)) is.own;
+    inc = is.inc;
+    live = is.live;
+  }
+  host_at link (Some side.Remote) found is = absurd (true≢false (ap is_remote found))
+  host_at link None found is = no_end side.Host found
+
+  remote_at : (link : LinkState EndState) (found : Option End) → found ≡ Some side.Remote → IsKeptLink life link
+      → let left = without_caller (list_form side_meaning) link found 1 in
+      IsKeptLink life (record left { callers = with_caller left.callers side.Remote (free_number left.callers) })
+  remote_at link (Some side.Remote) found is = record {
+    unmanaged = let left = gone_unmanaged link (Some side.Remote) 1 is.unmanaged in record { to_host = left.to_host; to_remote = left.to_remote };
+    own = subst AreOwnUsed (sym (remote_again link.callers is.own)) is.own;
+    inc = is.inc;
+    live = is.live;
+  }
+  remote_at link (Some side.Host) found is = absurd (false≢true (ap is_remote found))
+  remote_at link None found is = no_end side.Remote found
+
+  -- a core's own caller is gone, and made anew
+  pub host_renewed : (bench : BenchState) → IsKeptBench life bench → IsKeptBench life (with_fresh_caller (after_reclaim bench 0) side.Host)
+  host_renewed bench is = host_at bench.link (end_of bench.link.callers 0) is.own.host is
+
+  remote_renewed : (bench : BenchState) → IsKeptBench life bench → IsKeptBench life (with_fresh_caller (after_reclaim bench 1) side.Remote)
+  remote_renewed bench is = remote_at bench.link (end_of bench.link.callers 1) is.own.remote is
+
+  -- ---- a crash
+
+  remote_kept : (bench : BenchState) (caller : ℕ) → IsKeptBench life bench → IsKeptBench life (without_remote bench caller)
+  remote_kept bench caller is =
+      cond_both (is_remote (end_of bench.link.callers caller))
+      (cond (eqb caller 1) (with_fresh_caller (after_reclaim bench caller) side.Remote) (after_reclaim bench caller)) bench (IsKeptBench life)
+      (λ remote. elim (eqb_tells caller 1) [
+        | inl one ↦ subst (λ (is_one : Bool). IsKeptBench life (cond is_one (with_fresh_caller (after_reclaim bench caller) side.Remote) (after_reclaim bench caller))) (sym one.0)
+            (subst (λ n. IsKeptBench life (with_fresh_caller (after_reclaim bench n) side.Remote)) (sym one.1) (remote_renewed bench is))
+        | inr other ↦ subst (λ (is_one : Bool). IsKeptBench life (cond is_one (with_fresh_caller (after_reclaim bench caller) side.Remote) (after_reclaim bench caller))) (sym other.0)
+            (gone_kept bench caller (host_is_no_remote bench.link.callers caller is.own remote) other.1 is)
+      ]) (λ _. is)
+
+  one_kept : (bench : BenchState) (found : Option ℕ) → IsKeptBench life bench → IsKeptBench life (without_one bench found)
+  one_kept bench None is = is
+  one_kept bench (Some caller) is = remote_kept bench caller is
+
+  others_kept : (first : Option ℕ) (bench : BenchState) (at count : ℕ) → IsKeptBench life bench → IsKeptBench life (without_others first bench at count)
+  unfolding without_others
+  others_kept first bench at zero is = is
+  others_kept first bench at (suc left) is =
+      others_kept first (without_other first bench at) (at + 1) left
+      (cond_both (is_first first at) bench (without_remote bench at) (IsKeptBench life) (λ _. is) (λ _. remote_kept bench at is))
+
+  pub remotes_kept : (bench : BenchState) (first : Option ℕ) → IsKeptBench life bench → IsKeptBench life (without_others first (without_one bench first) 0 64)
+  remotes_kept bench first is = others_kept first (without_one bench first) 0 64 (one_kept bench first is)
+
+-- ---- whose reclaim is refused
+
+-- a link that is closed, and whose receiver's turn of the remote end nobody has
+record IsQuiet (link : LinkState EndState) : Type 0 where
+  pub shut : link.era.is_live ≡ false
+  pub free : holder link.to_remote.receiver ≡ None
+
+-- a turn that nobody else has isn't needed of another
+unneeded : (state : LaneState EndState) (caller : ℕ) → other_holder state.receiver caller ≡ None → needed_holder state caller ≡ None
+unneeded state caller none = cond_both (has_held state.lane.held caller) (other_holder state.receiver caller) None (λ (found : Option ℕ). found ≡ None) (λ _. none) (λ _. refl)
+
+free_other : (now : Turn Receiving) (caller : ℕ) → holder now ≡ None → other_holder now caller ≡ None
+free_other now caller none = cond_both (has_call now caller) None (holder now) (λ (found : Option ℕ). found ≡ None) (λ _. refl) (λ _. none)
+
+unrefused_at : (link : LinkState EndState) (live : Bool) (found : Option End) (caller : ℕ) → live ≡ false → found ≡ Some side.Remote → needed_holder link.to_remote caller ≡ None
+    → cond live (Some (refusal.StillOpen link.era)) (option_map refusal.Busy (option_and_then (λ end. needed_holder (lanes_of link end).incoming caller) found)) ≡ None
+unrefused_at link true found caller shut remote none = absurd (true≢false shut)
+unrefused_at link false (Some side.Remote) caller shut remote none = ap (option_map refusal.Busy) none
+unrefused_at link false (Some side.Host) caller shut remote none = absurd (false≢true (ap is_remote remote))
+unrefused_at link false None caller shut remote none = no_end side.Remote remote
+
+unrefused : (link : LinkState EndState) (caller : ℕ) → link.era.is_live ≡ false → end_of link.callers caller ≡ Some side.Remote → other_holder link.to_remote.receiver caller ≡ None
+    → unreclaimed_by link caller ≡ None
+unrefused link caller shut remote none = unrefused_at link link.era.is_live (end_of link.callers caller) caller shut remote (unneeded link.to_remote caller none)
+
+ended_free : (now : Turn Receiving) (caller : ℕ) → holder now ≡ None → holder (ended_turn now caller) ≡ None
+ended_free now caller none = cond_both (has_call now caller) turn.Free now (λ (left : Turn Receiving). holder left ≡ None) (λ _. refl) (λ _. none)
+
+gone_quiet : (link : LinkState EndState) (found : Option End) (caller : ℕ) → IsQuiet link → IsQuiet (without_caller (list_form side_meaning) link found caller)
+gone_quiet link None caller is = is
+gone_quiet link (Some side.Host) caller is = record { shut = is.shut; free = is.free }
+gone_quiet link (Some side.Remote) caller is = record { shut = is.shut; free = ended_free link.to_remote.receiver caller is.free }
+
+remote_quiet : (bench : BenchState) (caller : ℕ) → IsQuiet bench.link → IsQuiet (without_remote bench caller).link
+remote_quiet bench caller is =
+    let gone = gone_quiet bench.link (end_of bench.link.callers caller) caller is in
+    cond_both (is_remote (end_of bench.link.callers caller))
+    (cond (eqb caller 1) (with_fresh_caller (after_reclaim bench caller) side.Remote) (after_reclaim bench caller)) bench (λ (left : BenchState). IsQuiet left.link)
+    (λ _. cond_both (eqb caller 1) (with_fresh_caller (after_reclaim bench caller) side.Remote) (after_reclaim bench caller) (λ (left : BenchState). IsQuiet left.link)
+    (λ _. record { shut = gone.shut; free = gone.free }) (λ _. gone)) (λ _. is)
+
+others_quiet : (first : Option ℕ) (bench : BenchState) (at count : ℕ) → IsQuiet bench.link → IsQuiet (without_others first bench at count).link
+unfolding without_others
+others_quiet first bench at zero is = is
+others_quiet first bench at (suc left) is =
+    others_quiet first (without_other first bench at) (at + 1) left
+    (cond_both (is_first first at) bench (without_remote bench at) (λ (left : BenchState). IsQuiet left.link) (λ _. is) (λ _. remote_quiet bench at is))
+
+-- who has the turn is of the remote end, and its reclaim frees the turn
+own_turn : (now : Turn Receiving) (caller : ℕ) → has_call now caller ≡ true → holder (ended_turn now caller) ≡ None
+own_turn now caller has = cond_both (has_call now caller) turn.Free now (λ (left : Turn Receiving). holder left ≡ None) (λ _. refl) (λ other. absurd (true≢false (sym has ∙ other)))
+
+mine_gone : (bench : BenchState) (found : Option End) (caller : ℕ) → found ≡ Some side.Remote → bench.link.era.is_live ≡ false → has_call bench.link.to_remote.receiver caller ≡ true
+    → IsQuiet (without_caller (list_form side_meaning) bench.link found caller)
+mine_gone bench (Some side.Remote) caller remote shut has = record { shut = shut; free = own_turn bench.link.to_remote.receiver caller has }
+mine_gone bench (Some side.Host) caller remote shut has = absurd (false≢true (ap is_remote remote))
+mine_gone bench None caller remote shut has = no_end side.Remote remote
+
+mine_quiet : (bench : BenchState) (caller : ℕ) → bench.link.era.is_live ≡ false → end_of bench.link.callers caller ≡ Some side.Remote → has_call bench.link.to_remote.receiver caller ≡ true
+    → IsQuiet (without_remote bench caller).link
+mine_quiet bench caller shut remote has =
+    let gone = mine_gone bench (end_of bench.link.callers caller) caller remote shut has in
+    cond_both (is_remote (end_of bench.link.callers caller))
+    (cond (eqb caller 1) (with_fresh_caller (after_reclaim bench caller) side.Remote) (after_reclaim bench caller)) bench (λ (left : BenchState). IsQuiet left.link)
+    (λ _. cond_both (eqb caller 1) (with_fresh_caller (after_reclaim bench caller) side.Remote) (after_reclaim bench caller) (λ (left : BenchState). IsQuiet left.link)
+    (λ _. record { shut = gone.shut; free = gone.free }) (λ _. gone))
+    (λ other. absurd (true≢false (sym (ap is_remote remote) ∙ other)))
+
+-- who has the receiver's turn of the remote end
+record HasTurn (link : LinkState EndState) (caller : ℕ) : Type 0 where
+  pub user : end_of link.callers caller ≡ Some side.Remote
+  pub has : has_call link.to_remote.receiver caller ≡ true
+
+some_same : {A : Type 0} (one other : A) → Some one ≡ Some other → one ≡ other
+some_same one other same = ap (λ found. unwrap_or found one) same
+
+turn_has : (link : LinkState EndState) (now : Turn Receiving) (caller : ℕ) → now ≡ link.to_remote.receiver → IsUnmanagedTurn now → IsSoundTurn link.callers side.Remote now
+    → holder now ≡ Some caller → HasTurn link caller
+turn_has link turn.Free caller is unmanaged sound held = absurd (true≢false (sym (ap is_some held)))
+turn_has link (turn.Taken other call) caller is unmanaged sound held =
+    let same = some_same other caller held in
+    record { user = subst (λ n. end_of link.callers n ≡ Some side.Remote) same sound; has = subst (λ (now : Turn Receiving). has_call now caller ≡ true) is (eq-eqb other caller same) }
+turn_has link (turn.Leaving other ended) caller is unmanaged sound held =
+    let same = some_same other caller held in
+    record { user = subst (λ n. end_of link.callers n ≡ Some side.Remote) same sound; has = subst (λ (now : Turn Receiving). has_call now caller ≡ true) is (eq-eqb other caller same) }
+turn_has link turn.Manager caller is unmanaged sound held = absurd unmanaged
+
+-- a reached link is sound
+pub reached_sound : (link : LinkState EndState) → IsReached link → SoundLink link
+reached_sound link reached =
+    subst (λ (left : LinkState EndState). SoundLink left) reached.came.left (moves_sound side_meaning (no_handings reached.start) reached.came.moves reached.new.sound reached.came.may)
+
+-- ---- the close of a crash
+
+-- an era that is closed as to its own incarnation is closed
+own_era : (inc : ℕ) (live : Bool) → eqb inc inc && live ≡ false → live ≡ false
+own_era inc live none = elim (eqb_tells inc inc) [ inl same ↦ subst (λ (is : Bool). is && live ≡ false) same.0 none | inr other ↦ absurd (other.1 refl) ]
+
+pub close_shut : (link : LinkState EndState) → (link_after_close link link.era.inc).era.is_live ≡ false
+close_shut link =
+    cond_both (is_live_in link.era link.era.inc) (record link { era = record { inc = link.era.inc; is_live = false } }) link
+    (λ (left : LinkState EndState). left.era.is_live ≡ false) (λ _. refl) (λ none. own_era link.era.inc link.era.is_live none)
+
+-- a close leaves the incarnation, the callers and the lanes
+pub record IsClosed (before after : LinkState EndState) : Type 0 where
+  pub inc : after.era.inc ≡ before.era.inc
+  pub callers : after.callers ≡ before.callers
+  pub unmanaged : IsUnmanaged before → IsUnmanaged after
+
+pub close_is : (link : LinkState EndState) → IsClosed link (link_after_close link link.era.inc)
+close_is link =
+    cond_both (is_live_in link.era link.era.inc) (record link { era = record { inc = link.era.inc; is_live = false } }) link (IsClosed link)
+    (λ _. record { inc = refl; callers = refl; unmanaged = λ is. record { to_host = is.to_host; to_remote = is.to_remote } })
+    (λ _. record { inc = refl; callers = refl; unmanaged = λ is. is })
+
+-- the link of a core that crashed
+pub crash_kept : (before after : CoreLife) (bench : BenchState) → after.incarnation ≡ before.incarnation → is_running after.state ≡ false
+    → IsKeptBench before bench → IsKeptBench after (crashed_bench bench)
+crash_kept before after bench same stopped is =
+    let closed = close_is bench.link in
+    remotes_kept after (after_close bench) (holder (after_close bench).link.to_remote.receiver) (record {
+      unmanaged = closed.unmanaged is.unmanaged;
+      own = subst AreOwnUsed (sym closed.callers) is.own;
+      inc = closed.inc ∙ is.inc ∙ sym same;
+      live = close_shut bench.link ∙ sym stopped;
+    })
+
+-- ---- no reclaim of a crash is refused
+
+module _ (bench : BenchState) (reached : IsReached bench.link) (unmanaged : IsUnmanaged bench.link) where
+  closed_turn : (caller : ℕ) → holder (after_close bench).link.to_remote.receiver ≡ Some caller → HasTurn (after_close bench).link caller
+  closed_turn caller held =
+      turn_has (after_close bench).link (after_close bench).link.to_remote.receiver caller refl ((close_is bench.link).unmanaged unmanaged).to_remote.receiver
+      (close_sound bench.link bench.link.era.inc (reached_sound bench.link reached)).to_remote.receiver held
+
+  own_other : (now : Turn Receiving) (caller : ℕ) → has_call now caller ≡ true → other_holder now caller ≡ None
+  own_other now caller has = cond_both (has_call now caller) None (holder now) (λ (found : Option ℕ). found ≡ None) (λ _. refl) (λ other. absurd (true≢false (sym has ∙ other)))
+
+  pub first_unrefused : (caller : ℕ) → holder (after_close bench).link.to_remote.receiver ≡ Some caller
+      → (end_of (after_close bench).link.callers caller ≡ Some side.Remote) × (unreclaimed_by (after_close bench).link caller ≡ None)
+  first_unrefused caller held =
+      let turn_of = closed_turn caller held in
+      (turn_of.user, unrefused (after_close bench).link caller (close_shut bench.link) turn_of.user (own_other (after_close bench).link.to_remote.receiver caller turn_of.has))
+
+  first_quiet : (first : Option ℕ) → holder (after_close bench).link.to_remote.receiver ≡ first → IsQuiet (without_one (after_close bench) first).link
+  first_quiet None none = record { shut = close_shut bench.link; free = none }
+  first_quiet (Some caller) held = let turn_of = closed_turn caller held in mine_quiet (after_close bench) caller (close_shut bench.link) turn_of.user turn_of.has
+
+  pub other_unrefused : (caller : ℕ) → end_of (crash_reaches bench caller).link.callers caller ≡ Some side.Remote → unreclaimed_by (crash_reaches bench caller).link caller ≡ None
+  other_unrefused caller remote =
+      let first = holder (after_close bench).link.to_remote.receiver in
+      let quiet = others_quiet first (without_one (after_close bench) first) 0 caller (first_quiet first refl) in
+      unrefused (crash_reaches bench caller).link caller quiet.shut remote (free_other (crash_reaches bench caller).link.to_remote.receiver caller quiet.free)

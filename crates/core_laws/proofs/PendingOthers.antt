@@ -1,0 +1,307 @@
+-- What others do on the link of a core, and what the core itself goes through, leave calls of its actors that may begin.
+use Rattle.std.proofs.Common.{◌≡◌, ◌≢◌, ◌<◌, ℕ, zero, suc, ◌+◌, eqb, Bool, true, false, not, List, [], ◌∷◌, ◌++◌, drop, Option, Some, None, IfSome, is_some, option_map, option_and_then, slice_get, slice_set, refl, sym, ap, subst, ◌∙◌, arith}
+use Rattle.std.proofs.lemmas.Bool.{cond_both, false≢true, ne_eqb, true≢false}
+use Rattle.rp_base.specs.declared.kinds.End.{End}
+use Rattle.rp_base.specs.declared.kinds.End.TheVariants as side
+use Rattle.rp_base.specs.declared.kinds.LifeState.{LifeState}
+use Rattle.rp_base.specs.declared.kinds.LifeState.TheVariants.{Offline, Running, Crashed}
+use Rattle.rp_base.specs.declared.limits.TheConstants.{STEPS_MOST}
+use Rattle.fw_load.specs.declared.rings.RingPair.{RingPair}
+use Rattle.proc_state.specs.Lives.{CoreLife, life_after_boot}
+use Rattle.lane_model.specs.declared.calls.CallEnd.{CallEnd}
+use Rattle.lane_model.specs.declared.calls.CallEnd.TheVariants as end
+use Rattle.lane_model.specs.declared.calls.Wish.{Wish}
+use Rattle.lane_model.specs.declared.recoveries.ReclaimRefusal.{ReclaimRefusal}
+use Rattle.lane_model.specs.declared.stages.Receiving.{Receiving}
+use Rattle.lane_model.specs.declared.stages.Turn.{Turn}
+use Rattle.lane_model.specs.declared.stages.Turn.TheVariants as turn
+use Rattle.lane_model.specs.declared.stages.Work.{Work}
+use Rattle.lane_model.specs.declared.stages.Work.TheVariants as work
+use Rattle.lane_model.specs.declared.states.Holding.{Holding}
+use Rattle.lane_model.specs.declared.states.LaneState.{LaneState}
+use Rattle.lane_model.specs.Crashes.{after_receive_end, after_send_end}
+use Rattle.lane_model.specs.Forms.{list_form}
+use Rattle.lane_model.specs.Lanes.{has_call}
+use Rattle.lane_model.specs.Links.{LinkState, Lanes, end_of, free_number, lanes_of}
+use Rattle.lane_model.specs.Recoveries.{unreclaimed_by, without_caller}
+use Rattle.lane_model.proofs.CrashSteps.{others_still_hold}
+use Rattle.lane_model.proofs.Steps.{no_other}
+use Rattle.channel_bus.specs.Sides.{EndState, side_meaning}
+use Rattle.link_bench.specs.declared.benches.BegunCall.{BegunCall}
+use Rattle.link_bench.specs.declared.benches.Reach.TheVariants as reach
+use Rattle.crash_recover.specs.Actors.{ActorsState, driver_names}
+use Rattle.link_bench.specs.BenchCrashes.{after_reopen, left_by_reclaim, reclaim_leaves}
+use Rattle.core_laws.specs.BenchMoves.{IsReachedBench}
+use Rattle.link_bench.specs.Benches.{BenchState, BenchWalk, IsSendable, advance_steps, advance_walk, begin_fault, begun_of, bench_walk, call_rings, call_steps, call_walk, is_in_call, start_walk, with_begun, with_new_caller}
+use Rattle.crash_recover.specs.CoreBoots.{after_boot, after_shutdown, core_bench, first_start, loaded_from, needs_image}
+use Rattle.link_bench.specs.BenchEnds.{readied_bench, renewed_unless}
+use Rattle.crash_recover.specs.CoreRecoveries.{after_recovery, readied_core, recovery_fault, unrecovered_in}
+use Rattle.crash_recover.specs.Cores.{CoreState}
+use Rattle.crash_recover.specs.Drives.{actors_at_end, after_call_end, end_answer, message_of, seen_by, sends_of}
+use Rattle.core_laws.specs.KeptCores.{is_running}
+use Rattle.core_laws.specs.PendingCalls.{AreFitLanes, AreGivable, HasNoneBegun, IsNamed, IsOwnTurn, IsReadyBench, IsReadyCore, IsSendsTurn, given_after, given_by}
+use Rattle.core_laws.proofs.BenchMoves.{begun_at, begun_or, calling_may}
+use Rattle.link_bench.proofs.Begun.{begin_may}
+use Rattle.core_laws.proofs.KeptCores.{counted, left_life}
+use Rattle.core_laws.proofs.PendingCores.{given_both, none_behind, sends_nothing}
+use Rattle.core_laws.proofs.PendingDrives.{cleared_begun, map_begun, reclaim_begun}
+use Rattle.core_laws.proofs.PendingLanes.{KeepsOwn}
+use Rattle.core_laws.proofs.PendingSteps.{fit_lanes, other_call, other_later}
+
+-- ---- a reclaim of another
+
+gone_receives : (state : LaneState EndState) (gone caller : ℕ) → gone ≢ caller → KeepsOwn caller state (after_receive_end state gone)
+gone_receives state gone caller differ = record {
+  has = cond_both (has_call state.receiver gone) turn.Free state.receiver (λ (now : Turn Receiving). has_call now caller ≡ has_call state.receiver caller)
+      (λ is. sym (no_other state.receiver gone caller is differ)) (λ _. refl);
+  turn_stays = λ mine. cond_both (has_call state.receiver gone) turn.Free state.receiver (λ (now : Turn Receiving). now ≡ state.receiver)
+      (λ is. absurd (false≢true (sym (no_other state.receiver gone caller is differ) ∙ mine))) (λ _. refl);
+  held = λ number has. others_still_hold state.lane.held gone number caller (ne_eqb caller gone (λ same. differ (sym same))) has;
+  sends = λ is. is;
+}
+
+gone_sends : (state : LaneState EndState) (gone caller : ℕ) → KeepsOwn caller state (after_send_end state gone)
+gone_sends state gone caller = record {
+  has = refl;
+  turn_stays = λ _. refl;
+  held = λ number has. has;
+  sends = λ is. cond_both (has_call state.sender gone) turn.Free state.sender IsSendsTurn (λ _. tt) (λ _. is);
+}
+
+gone_fit : (link : LinkState EndState) (found : Option End) (gone caller : ℕ) (mine : End) (is_first : Bool) (calls : List Wish) → gone ≢ caller
+    → AreFitLanes (lanes_of link mine) caller is_first calls → AreFitLanes (lanes_of (without_caller (list_form side_meaning) link found gone) mine) caller is_first calls
+gone_fit link None gone caller mine is_first calls differ are = are
+gone_fit link (Some side.Host) gone caller side.Host is_first calls differ are =
+    fit_lanes caller is_first calls (lanes_of link side.Host) _ (gone_sends link.to_remote gone caller) (gone_receives link.to_host gone caller differ) are
+gone_fit link (Some side.Host) gone caller side.Remote is_first calls differ are =
+    fit_lanes caller is_first calls (lanes_of link side.Remote) _ (gone_receives link.to_host gone caller differ) (gone_sends link.to_remote gone caller) are
+gone_fit link (Some side.Remote) gone caller side.Host is_first calls differ are =
+    fit_lanes caller is_first calls (lanes_of link side.Host) _ (gone_receives link.to_remote gone caller differ) (gone_sends link.to_host gone caller) are
+gone_fit link (Some side.Remote) gone caller side.Remote is_first calls differ are =
+    fit_lanes caller is_first calls (lanes_of link side.Remote) _ (gone_sends link.to_host gone caller) (gone_receives link.to_remote gone caller differ) are
+
+-- ---- what others do
+
+pub put_other : (begun : List (Option BegunCall)) (other caller : ℕ) (found : Option BegunCall) → other ≢ caller → option_and_then (λ found. found) (slice_get begun caller) ≡ None
+    → option_and_then (λ found. found) (slice_get (slice_set begun other found) caller) ≡ None
+put_other [] other caller found differ none = none
+put_other (first ∷ begun) zero zero found differ none = absurd (differ refl)
+put_other (first ∷ begun) zero (suc caller) found differ none = none
+put_other (first ∷ begun) (suc other) zero found differ none = none
+put_other (first ∷ begun) (suc other) (suc caller) found differ none = put_other begun other caller found (λ same. differ (ap suc same)) none
+
+module _ (actors : ActorsState) (bench : BenchState) (caller : ℕ) (other : 1 < caller) (begun : HasNoneBegun bench) (ready : IsReadyBench actors bench) where
+  no_host : caller ≢ 0
+  no_host same = absurd (omega (arith, other, same))
+
+  no_worker : caller ≢ 1
+  no_worker same = absurd (omega (arith, other, same))
+
+  pub begun_ready : (call : BegunCall) → HasNoneBegun (with_begun bench caller (Some call)) × IsReadyBench actors (with_begun bench caller (Some call))
+  begun_ready call = (
+    record { host = put_other bench.begun caller 0 (Some call) no_host begun.host; worker = put_other bench.begun caller 1 (Some call) no_worker begun.worker },
+    record { host = ready.host; worker = ready.worker },
+  )
+
+  pub call_ready : (steps : ℕ) (wanted : Wish) → begin_fault bench caller wanted ≡ None → IsSendable wanted
+      → HasNoneBegun (call_walk bench steps caller wanted).bench × IsReadyBench actors (call_walk bench steps caller wanted).bench
+  call_ready steps wanted clear sendable =
+      let may = begin_may bench caller wanted sendable clear in (
+        record { host = begun.host; worker = begun.worker },
+        record {
+          host = other_call caller 0 side.Host (not actors.is_taking) actors.host_calls no_host 6 steps bench.link bench.link.era.inc wanted may ready.host;
+          worker = other_call caller 1 side.Remote true actors.worker_calls no_worker 6 steps bench.link bench.link.era.inc wanted may ready.worker;
+        },
+      )
+
+  pub start_ready : (steps : ℕ) (wanted : Wish) → begin_fault bench caller wanted ≡ None → IsSendable wanted
+      → HasNoneBegun (start_walk bench steps caller wanted).bench × IsReadyBench actors (start_walk bench steps caller wanted).bench
+  start_ready steps wanted clear sendable =
+      let may = begin_may bench caller wanted sendable clear in (
+        record { host = begun.host; worker = begun.worker },
+        record {
+          host = other_call caller 0 side.Host (not actors.is_taking) actors.host_calls no_host 0 steps bench.link bench.link.era.inc wanted may ready.host;
+          worker = other_call caller 1 side.Remote true actors.worker_calls no_worker 0 steps bench.link bench.link.era.inc wanted may ready.worker;
+        },
+      )
+
+  advance_at : (more steps : ℕ) (found : Option BegunCall) → begun_of bench caller ≡ found → IsReachedBench bench → is_in_call bench caller ≡ true
+      → HasNoneBegun (advance_steps bench more steps caller found).bench × IsReadyBench actors (advance_steps bench more steps caller found).bench
+  advance_at more steps (Some call) is reached in_call =
+      let may = reached.fit caller call (begun_at (slice_get bench.begun caller) call is) in
+      cond_both (eqb steps STEPS_MOST) (record { bench = bench; steps = steps; reach = reach.Limit })
+      (bench_walk (with_begun bench caller None) (call_steps more steps bench.link caller call.follows call.wish) (call_rings more steps bench.rings caller call.follows call.wish))
+      (λ (walk : BenchWalk). HasNoneBegun walk.bench × IsReadyBench actors walk.bench) (λ _. (begun, ready))
+      (λ _. (
+        record { host = cleared_begun bench.begun caller 0 begun.host; worker = cleared_begun bench.begun caller 1 begun.worker },
+        record {
+          host = other_call caller 0 side.Host (not actors.is_taking) actors.host_calls no_host more steps bench.link call.follows call.wish may ready.host;
+          worker = other_call caller 1 side.Remote true actors.worker_calls no_worker more steps bench.link call.follows call.wish may ready.worker;
+        },
+      ))
+  advance_at more steps None none reached in_call =
+      let may = calling_may bench.link caller (begun_or (begun_of bench caller) _ none in_call) in (
+        record { host = begun.host; worker = begun.worker },
+        record {
+          host = other_later caller 0 side.Host (not actors.is_taking) actors.host_calls no_host (more + 1) 0 steps bench.link may ready.host;
+          worker = other_later caller 1 side.Remote true actors.worker_calls no_worker (more + 1) 0 steps bench.link may ready.worker;
+        },
+      )
+
+  pub advance_ready : (more steps : ℕ) → IsReachedBench bench → is_in_call bench caller ≡ true
+      → HasNoneBegun (advance_walk bench more steps caller).bench × IsReadyBench actors (advance_walk bench more steps caller).bench
+  advance_ready more steps reached in_call = advance_at more steps (begun_of bench caller) refl reached in_call
+
+  reclaim_at : (found : Option End) (why : Option ReclaimRefusal)
+      → HasNoneBegun (left_by_reclaim bench caller found why) × IsReadyBench actors (left_by_reclaim bench caller found why)
+  reclaim_at (Some end) None = (
+    reclaim_begun bench caller begun,
+    record {
+      host = gone_fit bench.link (end_of bench.link.callers caller) caller 0 side.Host (not actors.is_taking) actors.host_calls no_host ready.host;
+      worker = gone_fit bench.link (end_of bench.link.callers caller) caller 1 side.Remote true actors.worker_calls no_worker ready.worker;
+    },
+  )
+  reclaim_at (Some end) (Some why) = (begun, ready)
+  reclaim_at None why = (begun, ready)
+
+  pub reclaim_ready : HasNoneBegun (reclaim_leaves bench caller (unreclaimed_by bench.link caller)) × IsReadyBench actors (reclaim_leaves bench caller (unreclaimed_by bench.link caller))
+  reclaim_ready = reclaim_at (end_of bench.link.callers caller) (unreclaimed_by bench.link caller)
+
+-- a new caller
+pub caller_ready : (actors : ActorsState) (bench : BenchState) (end : End) → HasNoneBegun bench → IsReadyBench actors bench
+    → HasNoneBegun (with_new_caller bench end (free_number bench.link.callers)) × IsReadyBench actors (with_new_caller bench end (free_number bench.link.callers))
+caller_ready actors bench end begun ready = (record { host = begun.host; worker = begun.worker }, record { host = ready.host; worker = ready.worker })
+
+-- ---- what the drivers send
+
+sends_same : (calls : List Wish) (message : Option (List ℕ)) → given_by (calls ++ sends_of message) ≡ given_by calls
+sends_same calls message = given_both calls (sends_of message) ∙ ap (λ (numbers : List ℕ). given_by calls ++ numbers) (sends_nothing message) ∙ none_behind (given_by calls)
+
+sends_drop : (calls : List Wish) (message : Option (List ℕ)) → given_by (drop 1 (calls ++ sends_of message)) ≡ given_by (drop 1 calls)
+sends_drop [] None = refl
+sends_drop [] (Some message) = refl
+sends_drop (first ∷ later) message = sends_same later message
+
+sends_after : (ended : CallEnd) (calls : List Wish) (message : Option (List ℕ)) → given_after ended (calls ++ sends_of message) ≡ given_after ended calls
+sends_after (end.Took number judged) calls message = ap (λ (numbers : List ℕ). number ∷ numbers) (sends_same calls message)
+sends_after (end.Gave number) calls message = sends_drop calls message
+sends_after (end.Sent number) calls message = sends_same calls message
+sends_after (end.Bound endpoint) calls message = sends_same calls message
+sends_after (end.Unbound endpoint) calls message = sends_same calls message
+sends_after (end.Busy other) calls message = sends_same calls message
+sends_after (end.Dead era) calls message = sends_same calls message
+sends_after (end.NoBuffer accepted returned) calls message = sends_same calls message
+sends_after (end.BookFull accepted) calls message = sends_same calls message
+sends_after (end.Empty accepted) calls message = sends_same calls message
+sends_after (end.Refused why) calls message = sends_same calls message
+
+module _ (calls : List Wish) (message : Option (List ℕ)) (caller : ℕ) (is_first : Bool) where
+  named_still : (now : Work) → IsNamed now is_first calls → IsNamed now is_first (calls ++ sends_of message)
+  named_still (work.Take stage) is = tt
+  named_still (work.Give number stage) is = (is.0, ap (λ (numbers : List ℕ). number ∷ numbers) (sends_drop calls message) ∙ is.1 ∙ sym (sends_same calls message))
+  named_still (work.Bind address) is = tt
+  named_still (work.Unbind address) is = tt
+
+  turn_still : (now : Turn Receiving) (held : List Holding) → IsOwnTurn now held caller is_first calls → IsOwnTurn now held caller is_first (calls ++ sends_of message)
+  turn_still turn.Free held is = tt
+  turn_still (turn.Taken other call) held is = (subst (AreGivable held caller) (sym (sends_same calls message)) is.0, named_still call.work is.1)
+  turn_still (turn.Leaving other ended) held is = (subst (AreGivable held caller) (sym (sends_after ended calls message)) is.0, is.1)
+  turn_still turn.Manager held is = tt
+
+  sends_fit : (lanes : Lanes (LaneState EndState)) → AreFitLanes lanes caller is_first calls → AreFitLanes lanes caller is_first (calls ++ sends_of message)
+  sends_fit lanes are = record {
+    sends = are.sends;
+    receives = record {
+      own = λ has. turn_still lanes.incoming.receiver lanes.incoming.lane.held (are.receives.own has);
+      other = λ none. subst (AreGivable lanes.incoming.lane.held caller) (sym (sends_same calls message)) (are.receives.other none);
+    };
+  }
+
+pub seen_ready : (actors : ActorsState) (bench : BenchState) (message : List ℕ) (ended : CallEnd) (found : Option End) → IsReadyBench actors bench
+    → IsReadyBench (actors_at_end found message ended actors) bench
+seen_ready actors bench message ended None ready = ready
+seen_ready actors bench message ended (Some side.Remote) ready = ready
+seen_ready actors bench message ended (Some side.Host) ready = record {
+  host = sends_fit actors.host_calls (end_answer actors.drivers message ended) 0 (not actors.is_taking) (lanes_of bench.link side.Host) ready.host;
+  worker = ready.worker;
+}
+
+ended_at : (core : CoreState) (caller : ℕ) (ended : CallEnd) (found : Option BenchState) → core.bench ≡ found → IsReadyCore core → IsReadyCore (seen_by core caller ended found)
+ended_at core caller ended None is ready = ready
+ended_at core caller ended (Some bench) is ready = record {
+  begun = ready.begun;
+  calls = λ running.
+      let message = message_of bench caller ended in
+      let left = actors_at_end (end_of bench.link.callers caller) message ended core.actors in
+      subst (λ (found : Option BenchState). IfSome found (IsReadyBench left)) (sym is)
+      (seen_ready core.actors bench message ended (end_of bench.link.callers caller) (subst (λ (found : Option BenchState). IfSome found (IsReadyBench core.actors)) is (ready.calls running)));
+}
+
+pub call_end_ready : (core : CoreState) (caller : ℕ) (ended : CallEnd) → IsReadyCore core → IsReadyCore (after_call_end core caller ended)
+call_end_ready core caller ended ready = ended_at core caller ended core.bench refl ready
+
+-- ---- boots, shutdowns and recoveries
+
+made_begun : (names : List (List ℕ)) (book first : ℕ) (rings : RingPair) → HasNoneBegun (core_bench names book first rings)
+unfolding core_bench
+made_begun names book first rings = record { host = refl; worker = refl }
+
+made_ready : (actors : ActorsState) (names : List (List ℕ)) (book first : ℕ) (rings : RingPair) → actors.host_calls ≡ [] → actors.worker_calls ≡ [] → IsReadyBench actors (core_bench names book first rings)
+unfolding core_bench
+made_ready actors names book first rings none_host none_worker = record {
+  host = record { sends = tt; receives = record { own = λ _. tt; other = λ _. subst (λ (calls : List Wish). AreGivable [] 0 (given_by calls)) (sym none_host) tt } };
+  worker = record { sends = tt; receives = record { own = λ _. tt; other = λ _. subst (λ (calls : List Wish). AreGivable [] 1 (given_by calls)) (sym none_worker) tt } };
+}
+
+rings_begun : (names : List (List ℕ)) (book first : ℕ) (rings : Option RingPair) → IfSome (option_map (core_bench names book first) rings) HasNoneBegun
+rings_begun names book first None = tt
+rings_begun names book first (Some rings) = made_begun names book first rings
+
+rings_ready : (actors : ActorsState) (names : List (List ℕ)) (book first : ℕ) (rings : Option RingPair) → actors.host_calls ≡ [] → actors.worker_calls ≡ []
+    → IfSome (option_map (core_bench names book first) rings) (IsReadyBench actors)
+rings_ready actors names book first None none_host none_worker = tt
+rings_ready actors names book first (Some rings) none_host none_worker = made_ready actors names book first rings none_host none_worker
+
+pub boot_ready : (core : CoreState) (name image : List ℕ) → IsReadyCore core → IsReadyCore (after_boot core name image)
+boot_ready core name image is =
+    cond_both (needs_image core) (first_start core name (loaded_from image core.regions)) (record core { life = (life_after_boot core.life).life }) IsReadyCore
+    (λ _. record {
+      begun = rings_begun (driver_names core.actors) core.book (core.life.incarnation + 1) (loaded_from image core.regions).rings;
+      calls = λ _. rings_ready (first_start core name (loaded_from image core.regions)).actors (driver_names core.actors) core.book (core.life.incarnation + 1) (loaded_from image core.regions).rings refl refl;
+    })
+    (λ needs. record { begun = is.begun; calls = λ running. is.calls (ap is_running (sym (counted core.life needs).state) ∙ running) })
+
+pub shutdown_ready : (core : CoreState) → IsReadyCore core → IsReadyCore (after_shutdown core)
+shutdown_ready core is =
+    cond_both (eqb core.life.users 1) _ _ IsReadyCore (λ _. record { begun = tt; calls = λ _. tt })
+    (λ more. record { begun = is.begun; calls = λ running. is.calls (ap is_running (sym (left_life core.life.state core.life more).state) ∙ running) })
+
+renewed_begun : (bench : BenchState) (why : Option ReclaimRefusal) → HasNoneBegun bench → HasNoneBegun (renewed_unless bench why)
+renewed_begun bench None is = let gone = reclaim_begun bench 0 is in record { host = gone.host; worker = gone.worker }
+renewed_begun bench (Some why) is = is
+
+stopped : (state : LifeState) (life : CoreLife) → unrecovered_in state life ≡ None → is_running state ≡ false
+stopped Offline life may = refl
+stopped Running life may = absurd (true≢false (ap is_some may))
+stopped Crashed life may = refl
+
+pub readied_ready : (core : CoreState) → recovery_fault core.life ≡ None → IsReadyCore core → IsReadyCore (readied_core core)
+readied_ready core may is = record {
+  begun = map_begun core.bench readied_bench (λ bench one. renewed_begun bench (unreclaimed_by bench.link 0) one) is.begun;
+  calls = λ running. absurd (false≢true (sym (stopped core.life.state core.life may) ∙ running));
+}
+
+reopened_calls : (actors : ActorsState) (found : Option BenchState) → actors.host_calls ≡ [] → actors.worker_calls ≡ []
+    → IfSome (option_map (λ bench. after_reopen (readied_bench bench)) found) (IsReadyBench actors)
+reopened_calls actors None none_host none_worker = tt
+reopened_calls actors (Some bench) none_host none_worker = record {
+  host = record { sends = tt; receives = record { own = λ _. tt; other = λ _. subst (λ (calls : List Wish). AreGivable [] 0 (given_by calls)) (sym none_host) tt } };
+  worker = record { sends = tt; receives = record { own = λ _. tt; other = λ _. subst (λ (calls : List Wish). AreGivable [] 1 (given_by calls)) (sym none_worker) tt } };
+}
+
+pub recovery_ready : (core : CoreState) (image : List ℕ) → IsReadyCore core → IsReadyCore (after_recovery core image)
+recovery_ready core image is = record {
+  begun = map_begun core.bench (λ bench. after_reopen (readied_bench bench))
+      (λ bench one. let renewed = renewed_begun bench (unreclaimed_by bench.link 0) one in record { host = renewed.host; worker = renewed.worker }) is.begun;
+  calls = λ _. reopened_calls (after_recovery core image).actors core.bench refl refl;
+}

@@ -1,0 +1,5 @@
+use Rattle.core_laws.proofs.Handed.{handed_once}
+use Rattle.core_laws.proofs.laws.handed_once.Goals as goal
+
+pub returns : goal.returns
+returns c = handed_once

@@ -1,0 +1,13 @@
+use Rattle.core_laws.proofs.KeptCores.{caller_kept, reclaim_kept}
+use Rattle.core_laws.proofs.KeptLinks.{advance_kept, start_kept, whole_kept}
+use Rattle.core_laws.proofs.laws.link_kept.Goals as goal
+
+pub returns : goal.returns
+returns c = record {
+  caller = caller_kept;
+  begun = λ life bench caller call is. is;
+  advance = advance_kept;
+  call = whole_kept;
+  start = start_kept;
+  reclaim = reclaim_kept;
+}

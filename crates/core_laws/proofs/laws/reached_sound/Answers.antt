@@ -1,0 +1,5 @@
+use Rattle.core_laws.proofs.KeptCrashes.{reached_sound}
+use Rattle.core_laws.proofs.laws.reached_sound.Goals as goal
+
+pub returns : goal.returns
+returns c = reached_sound

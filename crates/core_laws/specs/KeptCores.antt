@@ -1,0 +1,77 @@
+-- What the link of a core keeps: the core's own two callers, turns of callers alone, and the incarnation of its life (own).
+use Rattle.std.specs.Prelude.{◌≡◌, ℕ, ◌+◌, ◌==◌, Bool, true, false, List, Option, Some, None, IfSome, if◌then◌else◌}
+use Rattle.rp_base.specs.declared.kinds.End.{End}
+use Rattle.rp_base.specs.declared.kinds.End.TheVariants as side
+use Rattle.rp_base.specs.declared.kinds.LifeState.{LifeState}
+use Rattle.rp_base.specs.declared.kinds.LifeState.TheVariants.{Offline, Running, Crashed}
+use Rattle.proc_state.specs.Lives.{CoreLife}
+use Rattle.lane_model.specs.declared.states.LaneState.{LaneState}
+use Rattle.lane_model.specs.declared.stages.Turn.{Turn}
+use Rattle.lane_model.specs.declared.stages.Turn.TheVariants as turn
+use Rattle.lane_model.specs.Lanes.{holder}
+use Rattle.lane_model.specs.Links.{LinkState, end_of}
+use Rattle.channel_bus.specs.Sides.{EndState}
+use Rattle.link_bench.specs.Benches.{BenchState}
+use Rattle.link_bench.specs.BenchCrashes.{after_close}
+use Rattle.link_bench.specs.BenchEnds.{is_remote, without_one, without_others}
+use Rattle.crash_recover.specs.Cores.{CoreState}
+
+-- a turn that is free or a caller's, and not the manager's
+abbrev pub IsUnmanagedTurn : {C : Type 0} → Turn C → Type 0
+IsUnmanagedTurn turn.Free = Unit {0}
+IsUnmanagedTurn (turn.Taken caller call) = Unit {0}
+IsUnmanagedTurn (turn.Leaving caller end) = Unit {0}
+IsUnmanagedTurn turn.Manager = ⊥
+
+-- the same of both turns of a lane
+pub record IsUnmanagedLane (state : LaneState EndState) : Type 0 where
+  pub sender : IsUnmanagedTurn state.sender
+  pub receiver : IsUnmanagedTurn state.receiver
+
+-- no turn of a link is the manager's
+pub record IsUnmanaged (link : LinkState EndState) : Type 0 where
+  pub to_host : IsUnmanagedLane link.to_host
+  pub to_remote : IsUnmanagedLane link.to_remote
+
+-- the callers that are the core's own are in use: 0 at the host, 1 at the remote
+pub record AreOwnUsed (callers : List (Option End)) : Type 0 where
+  pub host : end_of callers 0 ≡ Some side.Host
+  pub remote : end_of callers 1 ≡ Some side.Remote
+
+-- whether a core runs
+abbrev pub is_running : LifeState → Bool
+is_running Offline = false
+is_running Running = true
+is_running Crashed = false
+
+-- the link of a core in this life: it is in the life's incarnation, and live exactly while the core runs
+pub record IsKeptLink (life : CoreLife) (link : LinkState EndState) : Type 0 where
+  pub unmanaged : IsUnmanaged link
+  pub own : AreOwnUsed link.callers
+  pub inc : link.era.inc ≡ life.incarnation
+  pub live : link.era.is_live ≡ is_running life.state
+
+abbrev pub IsKeptBench : CoreLife → BenchState → Type 0
+IsKeptBench life bench = IsKeptLink life bench.link
+
+-- the same of a core, which may have no link
+abbrev pub IsKeptCore : CoreState → Type 0
+IsKeptCore core = IfSome core.bench (IsKeptBench core.life)
+
+-- the next incarnation of a life, which runs
+abbrev pub next_life : CoreLife → CoreLife
+next_life life = record life { state = Running; incarnation = life.incarnation + 1 }
+
+-- the core in the next incarnation of its life
+abbrev pub with_next_life : CoreState → CoreState
+with_next_life core = record core { life = next_life core.life }
+
+-- on which end a number of a core's link is in use behind a crash, by where it was: a host caller stays, and of the remote callers 1 alone
+abbrev pub end_after_crash : ℕ → Option End → Option End
+end_after_crash caller found = if is_remote found then (if caller == 1 then Some side.Remote else None) else found
+
+-- the link of a core in a crash, as the remote callers from this number on are yet to be ended: it is closed, who had the receiver's turn of the remote end was ended first, and then the others of lower numbers
+abbrev pub crash_reaches : BenchState → ℕ → BenchState
+crash_reaches bench caller =
+    let first = holder (after_close bench).link.to_remote.receiver in
+    without_others first (without_one (after_close bench) first) 0 caller

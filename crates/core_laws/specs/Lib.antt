@@ -1,0 +1,3 @@
+pub mod BenchMoves
+pub mod KeptCores
+pub mod PendingCalls

@@ -1,0 +1,201 @@
+//! Laws of the links of benches and of cores. Each is the contract of an empty function, and speaks of definitions alone.
+
+ghost use Rattle.std.specs.Prelude.{◌≡◌, ◌<◌, ℕ, false, true, List, None, Some};
+ghost use Rattle.rp_base.specs.declared.kinds.End.{End};
+ghost use Rattle.lane_model.specs.declared.calls.LinkConfig.{LinkConfig};
+ghost use Rattle.lane_model.specs.declared.calls.Wish.{Wish};
+ghost use Rattle.lane_model.specs.Desks.{IsFreshDesk};
+ghost use Rattle.lane_model.specs.Lanes.{holder};
+ghost use Rattle.lane_model.specs.Links.{LinkState, end_of, free_number};
+ghost use Rattle.lane_model.specs.Recoveries.{unopened_by, unreclaimed_by};
+ghost use Rattle.lane_model.specs.Soundness.{SoundLink};
+ghost use Rattle.channel_bus.specs.Sides.{EndState, side_meaning};
+ghost use Rattle.link_bench.specs.declared.benches.BegunCall.{BegunCall};
+ghost use Rattle.crash_recover.specs.Actors.{ActorsState};
+ghost use Rattle.link_bench.specs.Benches.{BenchState, IsSendable, advance_walk, begin_fault, call_walk, is_in_call, new_bench_of, start_walk, with_begun, with_new_caller};
+ghost use Rattle.link_bench.specs.BenchCrashes.{after_close, after_reclaim, after_reopen, reclaim_leaves};
+ghost use Rattle.link_bench.specs.Turns.{pump_turns};
+ghost use Rattle.crash_recover.specs.CoreBoots.{after_boot, after_shutdown, core_bench};
+ghost use Rattle.link_bench.specs.BenchEnds.{crashed_bench, readied_bench};
+ghost use Rattle.crash_recover.specs.CoreCrashes.{after_report};
+ghost use Rattle.crash_recover.specs.CoreRecoveries.{after_recovery, readied_core, recovery_fault, reopen_fault, reopened_core};
+ghost use Rattle.crash_recover.specs.Cores.{CoreState, new_core};
+ghost use Rattle.crash_recover.specs.CoreTurns.{core_turns};
+ghost use Rattle.crash_recover.specs.Drives.{after_call_end, drive_step, first_or_take};
+ghost use Rattle.core_laws.specs.BenchMoves.{ComesBy, IsReached, IsReachedBench, IsReachedCore, WasBoundOnTheWay, history_of};
+ghost use Rattle.core_laws.specs.KeptCores.{AreOwnUsed, IsKeptBench, IsKeptCore, IsUnmanaged, crash_reaches, end_after_crash, with_next_life};
+ghost use Rattle.core_laws.specs.PendingCalls.{HasNoneBegun, IsReadyBench, IsReadyCore};
+ghost use Rattle.proc_state.specs.Lives.{CoreLife};
+ghost use Rattle.rp_base.specs.declared.kinds.End.TheVariants as side;
+ghost use Rattle.host_driver.specs.Drivers.{Declared};
+ghost use Rattle.lane_model.specs.declared.calls.CallEnd.{CallEnd};
+ghost use Rattle.memory_pool.specs.declared.regions.Region.{Region};
+ghost use Rattle.fw_load.specs.declared.rings.RingPair.{RingPair};
+ghost use Rattle.lane_model.specs.Desks.{IsBound};
+ghost use Rattle.lane_laws.specs.Handings.{IsPrefix, due, got, handed_front, messages_of, with_numbers};
+ghost use Rattle.lane_laws.specs.Moves.{handings_to, lane_to};
+ghost use Rattle.rp_base.specs.declared.kinds.BoundEndpoint.{BoundEndpoint};
+
+/// No move is a way from a link to itself, and moves go on where others have led.
+pub fn moves_on()
+    ensures none { (link : LinkState EndState) → ComesBy side_meaning link link }
+    ensures more { (before middle after : LinkState EndState) → ComesBy side_meaning before middle → ComesBy side_meaning middle after
+        → ComesBy side_meaning before after }
+{}
+
+/// The link of a bench comes by moves from the start of its incarnation: so it is at first, and so it stays over all that a bench does. A
+/// reopening is a new start.
+pub fn bench_reached()
+    ensures new { (config : LinkConfig) (host remote : EndState) → IsFreshDesk side_meaning host → IsFreshDesk side_meaning remote
+        → IsReachedBench (new_bench_of config host remote) }
+    ensures caller { (bench : BenchState) (end : End) → IsReachedBench bench
+        → IsReachedBench (with_new_caller bench end (free_number bench.link.callers)) }
+    ensures begun { (bench : BenchState) (caller : ℕ) (call : BegunCall) → IsReachedBench bench → begin_fault bench caller call.wish ≡ None
+        → IsSendable call.wish → IsReachedBench (with_begun bench caller (Some call)) }
+    ensures advance { (bench : BenchState) (more steps caller : ℕ) → IsReachedBench bench → is_in_call bench caller ≡ true
+        → IsReachedBench (advance_walk bench more steps caller).bench }
+    ensures call { (bench : BenchState) (steps caller : ℕ) (wanted : Wish) → IsReachedBench bench → begin_fault bench caller wanted ≡ None
+        → IsSendable wanted → IsReachedBench (call_walk bench steps caller wanted).bench }
+    ensures start { (bench : BenchState) (steps caller : ℕ) (wanted : Wish) → IsReachedBench bench → begin_fault bench caller wanted ≡ None
+        → IsSendable wanted → IsReachedBench (start_walk bench steps caller wanted).bench }
+    ensures turns { (count done sender receiver : ℕ) (bench : BenchState) (steps : ℕ) → IsReachedBench bench
+        → IsReachedBench (pump_turns count done sender receiver bench steps).turns.bench }
+    ensures close { (bench : BenchState) → IsReachedBench bench → IsReachedBench (after_close bench) }
+    ensures reclaim { (bench : BenchState) (caller : ℕ) → IsReachedBench bench
+        → IsReachedBench (reclaim_leaves bench caller (unreclaimed_by bench.link caller)) }
+    ensures end_caller { (bench : BenchState) (caller : ℕ) → IsReachedBench bench → bench.link.era.is_live ≡ false
+        → IsReachedBench (after_reclaim bench caller) }
+    ensures reopen { (bench : BenchState) → IsReachedBench bench → unopened_by bench.link ≡ None → IsReachedBench (after_reopen bench) }
+{}
+
+/// The link of a core comes so too, from its boot to its last shutdown, over crashes and recoveries, over each step of its actors, whose
+/// messages all fit buffers, and over turns of other callers.
+pub fn core_reached()
+    ensures new { (regions : List Region) (kinds : List Declared) (book : ℕ) → IsReachedCore (new_core regions kinds book) }
+    ensures link { (names : List (List ℕ)) (book first : ℕ) (rings : RingPair) → IsReachedBench (core_bench names book first rings) }
+    ensures crash { (bench : BenchState) → IsReachedBench bench → IsReachedBench (crashed_bench bench) }
+    ensures ready { (bench : BenchState) → IsReachedBench bench → IsReachedBench (readied_bench bench) }
+    ensures boot { (core : CoreState) (name image : List ℕ) → IsReachedCore core → IsReachedCore (after_boot core name image) }
+    ensures shutdown { (core : CoreState) → IsReachedCore core → IsReachedCore (after_shutdown core) }
+    ensures report { (core : CoreState) → IsReachedCore core → IsReachedCore (after_report core) }
+    ensures readied { (core : CoreState) → IsReachedCore core → IsReachedCore (readied_core core) }
+    ensures reopened { (core : CoreState) → IsReachedCore core → reopen_fault core ≡ None → IsReachedCore (reopened_core core) }
+    ensures recovery { (core : CoreState) (image : List ℕ) → IsReachedCore core → reopen_fault core ≡ None → IsReachedCore (after_recovery core image) }
+    ensures drive { (core : CoreState) → IsReachedCore core → IsReachedCore (drive_step core).core }
+    ensures call_end { (core : CoreState) (caller : ℕ) (end : CallEnd) → IsReachedCore core → IsReachedCore (after_call_end core caller end) }
+    ensures turns { (count sender receiver : ℕ) (core : CoreState) (steps : ℕ) → IsReachedCore core
+        → IsReachedCore (core_turns count sender receiver core steps).core }
+{}
+
+/// A link that comes so is sound.
+pub fn reached_sound()
+    ensures { (link : LinkState EndState) → IsReached link → SoundLink link }
+{}
+
+/// What a link has handed over to an end in its incarnation is, in order, the first messages of the book of that lane: each number once, with
+/// its sender and its bytes, and as many as were handed over.
+pub fn handed_once()
+    ensures { (link : LinkState EndState) (reached : IsReached link) (end : End)
+        → messages_of (handings_to (history_of link reached) end) ≡ with_numbers 0 (handed_front (lane_to link end).lane) }
+{}
+
+/// What an endpoint that was once bound got from a sender in the incarnation is a prefix of what is due to it. While it is bound, that is
+/// all that is due to it of the messages that were handed over.
+pub fn handed_due()
+    ensures front { (link : LinkState EndState) (reached : IsReached link) (end : End) (bound : BoundEndpoint) (sender : ℕ)
+        → WasBoundOnTheWay link reached end bound
+        → let lane = lane_to link end in
+        IsPrefix (got bound.endpoint sender (handings_to (history_of link reached) end)) (due side_meaning lane.desk bound sender lane.lane.accepted) }
+    ensures while_bound { (link : LinkState EndState) (reached : IsReached link) (end : End) (bound : BoundEndpoint) (sender : ℕ)
+        → let lane = lane_to link end in
+        IsBound side_meaning lane.desk bound
+        → got bound.endpoint sender (handings_to (history_of link reached) end) ≡ due side_meaning lane.desk bound sender (handed_front lane.lane) }
+{}
+
+/// The link of a core always has the core's own callers in use, 0 at the host and 1 at the remote, no turn of it is ever the manager's, and it is in
+/// the incarnation of the core's life, live exactly while the core runs. A link that is reopened is so for the next incarnation of the life.
+pub fn core_kept()
+    ensures new { (regions : List Region) (kinds : List Declared) (book : ℕ) → IsKeptCore (new_core regions kinds book) }
+    ensures boot { (core : CoreState) (name image : List ℕ) → IsKeptCore core → IsKeptCore (after_boot core name image) }
+    ensures shutdown { (core : CoreState) → IsKeptCore core → IsKeptCore (after_shutdown core) }
+    ensures report { (core : CoreState) → IsKeptCore core → IsKeptCore (after_report core) }
+    ensures readied { (core : CoreState) → IsKeptCore core → IsKeptCore (readied_core core) }
+    ensures reopened { (core : CoreState) → IsKeptCore core → IsKeptCore (with_next_life (reopened_core core)) }
+    ensures recovery { (core : CoreState) (image : List ℕ) → IsKeptCore core → recovery_fault core.life ≡ None → reopen_fault core ≡ None
+        → IsKeptCore (after_recovery core image) }
+    ensures drive { (core : CoreState) → IsKeptCore core → IsKeptCore (drive_step core).core }
+    ensures call_end { (core : CoreState) (caller : ℕ) (end : CallEnd) → IsKeptCore core → IsKeptCore (after_call_end core caller end) }
+    ensures turns { (count sender receiver : ℕ) (core : CoreState) (steps : ℕ) → IsKeptCore core → IsKeptCore (core_turns count sender receiver core steps).core }
+{}
+
+/// What callers do on the link of a core keeps that, in whatever life the core is: the making of a caller, each call and step, and a reclaim of
+/// any caller but the core's own.
+pub fn link_kept()
+    ensures caller { (life : CoreLife) (bench : BenchState) (end : End) → IsKeptBench life bench
+        → IsKeptBench life (with_new_caller bench end (free_number bench.link.callers)) }
+    ensures begun { (life : CoreLife) (bench : BenchState) (caller : ℕ) (call : BegunCall) → IsKeptBench life bench
+        → IsKeptBench life (with_begun bench caller (Some call)) }
+    ensures advance { (life : CoreLife) (bench : BenchState) (more steps caller : ℕ) → IsKeptBench life bench
+        → IsKeptBench life (advance_walk bench more steps caller).bench }
+    ensures call { (life : CoreLife) (bench : BenchState) (steps caller : ℕ) (wanted : Wish) → IsKeptBench life bench
+        → IsKeptBench life (call_walk bench steps caller wanted).bench }
+    ensures start { (life : CoreLife) (bench : BenchState) (steps caller : ℕ) (wanted : Wish) → IsKeptBench life bench
+        → IsKeptBench life (start_walk bench steps caller wanted).bench }
+    ensures reclaim { (life : CoreLife) (bench : BenchState) (caller : ℕ) → 1 < caller → IsKeptBench life bench
+        → IsKeptBench life (reclaim_leaves bench caller (unreclaimed_by bench.link caller)) }
+{}
+
+/// Nothing refuses a reclaim that a crash report makes: not that of who has the receiver's turn of the remote end, who is a remote caller, nor
+/// that of any remote caller that is ended after it. Behind them all host callers are where they were, and of the remote callers 1 alone is in use.
+pub fn crash_reclaims()
+    ensures first { (bench : BenchState) (caller : ℕ) → IsReached bench.link → IsUnmanaged bench.link
+        → holder (after_close bench).link.to_remote.receiver ≡ Some caller
+        → (end_of (after_close bench).link.callers caller ≡ Some side.Remote) × (unreclaimed_by (after_close bench).link caller ≡ None) }
+    ensures others { (bench : BenchState) (caller : ℕ) → IsReached bench.link → IsUnmanaged bench.link
+        → end_of (crash_reaches bench caller).link.callers caller ≡ Some side.Remote → unreclaimed_by (crash_reaches bench caller).link caller ≡ None }
+    ensures all { (bench : BenchState) → crashed_bench bench ≡ crash_reaches bench 64 }
+    ensures callers { (bench : BenchState) (caller : ℕ) → AreOwnUsed bench.link.callers → caller < 64
+        → end_of (crashed_bench bench).link.callers caller ≡ end_after_crash caller (end_of bench.link.callers caller) }
+{}
+
+/// While a core runs, the next call of each of its actors may always begin, where the actor is in none: what a call gives back is held.
+pub fn actors_begin()
+    ensures host { (actors : ActorsState) (bench : BenchState) → AreOwnUsed bench.link.callers → IsReadyBench actors bench → is_in_call bench 0 ≡ false
+        → begin_fault bench 0 (first_or_take actors.host_calls) ≡ None }
+    ensures worker { (actors : ActorsState) (bench : BenchState) → AreOwnUsed bench.link.callers → IsReadyBench actors bench → is_in_call bench 1 ≡ false
+        → begin_fault bench 1 (first_or_take actors.worker_calls) ≡ None }
+{}
+
+/// A core comes to no other state: its actors hold, while it runs, what their calls give back, each number once, and have begun no call without a
+/// step of it. So it is of a new core, and so it stays over all that the core goes through, and over turns of other callers.
+pub fn core_ready()
+    ensures new { (regions : List Region) (kinds : List Declared) (book : ℕ) → IsReadyCore (new_core regions kinds book) }
+    ensures boot { (core : CoreState) (name image : List ℕ) → IsReadyCore core → IsReadyCore (after_boot core name image) }
+    ensures shutdown { (core : CoreState) → IsReadyCore core → IsReadyCore (after_shutdown core) }
+    ensures report { (core : CoreState) → IsReadyCore core → IsReadyCore (after_report core) }
+    ensures readied { (core : CoreState) → recovery_fault core.life ≡ None → IsReadyCore core → IsReadyCore (readied_core core) }
+    ensures recovery { (core : CoreState) (image : List ℕ) → IsReadyCore core → IsReadyCore (after_recovery core image) }
+    ensures drive { (core : CoreState) → IsReachedCore core → IsKeptCore core → IsReadyCore core → IsReadyCore (drive_step core).core }
+    ensures call_end { (core : CoreState) (caller : ℕ) (end : CallEnd) → IsReadyCore core → IsReadyCore (after_call_end core caller end) }
+    ensures turns { (count sender receiver : ℕ) (core : CoreState) (steps : ℕ) → 1 < sender → 1 < receiver → IsReadyCore core
+        → IsReadyCore (core_turns count sender receiver core steps).core }
+{}
+
+/// So it stays over what other callers than the core's own do on its link.
+pub fn link_ready()
+    ensures caller { (actors : ActorsState) (bench : BenchState) (end : End) → HasNoneBegun bench → IsReadyBench actors bench
+        → let after = with_new_caller bench end (free_number bench.link.callers) in HasNoneBegun after × IsReadyBench actors after }
+    ensures begun { (actors : ActorsState) (bench : BenchState) (caller : ℕ) (call : BegunCall) → 1 < caller → HasNoneBegun bench → IsReadyBench actors bench
+        → let after = with_begun bench caller (Some call) in HasNoneBegun after × IsReadyBench actors after }
+    ensures advance { (actors : ActorsState) (bench : BenchState) (more steps caller : ℕ) → 1 < caller → HasNoneBegun bench → IsReadyBench actors bench
+        → IsReachedBench bench → is_in_call bench caller ≡ true
+        → let after = (advance_walk bench more steps caller).bench in HasNoneBegun after × IsReadyBench actors after }
+    ensures call { (actors : ActorsState) (bench : BenchState) (steps caller : ℕ) (wanted : Wish) → 1 < caller → HasNoneBegun bench → IsReadyBench actors bench
+        → begin_fault bench caller wanted ≡ None → IsSendable wanted
+        → let after = (call_walk bench steps caller wanted).bench in HasNoneBegun after × IsReadyBench actors after }
+    ensures start { (actors : ActorsState) (bench : BenchState) (steps caller : ℕ) (wanted : Wish) → 1 < caller → HasNoneBegun bench → IsReadyBench actors bench
+        → begin_fault bench caller wanted ≡ None → IsSendable wanted
+        → let after = (start_walk bench steps caller wanted).bench in HasNoneBegun after × IsReadyBench actors after }
+    ensures reclaim { (actors : ActorsState) (bench : BenchState) (caller : ℕ) → 1 < caller → HasNoneBegun bench → IsReadyBench actors bench
+        → let after = reclaim_leaves bench caller (unreclaimed_by bench.link caller) in HasNoneBegun after × IsReadyBench actors after }
+{}

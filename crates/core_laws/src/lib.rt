@@ -1,0 +1,9 @@
+// Laws of the links of benches and of cores: where they come from, and what stays whatever is done with them.
+#![tactic(auto)]
+
+mod laws;
+
+pub use laws::{
+    actors_begin, bench_reached, core_kept, core_reached, core_ready, crash_reclaims, handed_due,
+    handed_once, link_kept, link_ready, moves_on, reached_sound,
+};

@@ -1,5 +1,0 @@
-use Rattle.std.proofs.Common.{◌≡◌, replicate, None}
-use Rattle.crash_recover.proofs.benches.nothing_begun.Given as goal
-
-abbrev pub invariant-loop : goal.invariant-loop
-invariant-loop l = l.begun.items ≡ replicate l.counter None

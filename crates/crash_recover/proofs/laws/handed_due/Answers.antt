@@ -1,5 +1,0 @@
-use Rattle.crash_recover.proofs.Handed.{got_front, got_whole}
-use Rattle.crash_recover.proofs.laws.handed_due.Goals as goal
-
-pub returns : goal.returns
-returns c = record { front = λ link reached end bound sender was. got_front link reached end bound was sender; while_bound = got_whole }

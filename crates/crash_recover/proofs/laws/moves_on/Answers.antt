@@ -1,6 +1,0 @@
-use Rattle.channel_bus.specs.Sides.{side_meaning}
-use Rattle.crash_recover.proofs.LinkMoves.{comes_none, comes_then}
-use Rattle.crash_recover.proofs.laws.moves_on.Goals as goal
-
-pub returns : goal.returns
-returns c = record { none = λ link. comes_none side_meaning link; more = λ before middle after first second. comes_then side_meaning before middle after first second }

@@ -1,0 +1,10 @@
+pub mod OwnCalls
+pub mod ActorCalls
+pub mod CallCosts
+pub mod ActorBounds
+pub mod DriveBounds
+pub mod BootBounds
+pub mod DemoEnds
+pub mod DemoPrograms
+pub mod DemoLoads
+pub mod DemoBoots

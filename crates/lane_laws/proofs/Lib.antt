@@ -1,0 +1,15 @@
+pub mod SoundKept
+pub mod CrashLaws
+pub mod PartSteps
+pub mod Numbering
+pub mod LaneMoves
+pub mod LaneFacts
+pub mod Judgement
+pub mod Traces
+pub mod LinkRuns
+pub mod RingLinks
+pub mod LaneTells
+pub mod Told
+pub mod WayFacts
+pub mod FormMoves
+pub mod RingMoves

@@ -1,5 +1,0 @@
-use Rattle.lane_model.proofs.LinkRuns.{moves_grow}
-use Rattle.lane_model.proofs.laws.book_grows.Goals as goal
-
-pub returns : goal.returns
-returns g c = λ start moves end sound may. moves_grow g.D.Desk.meaning g.met.D.Desk.laws start moves end sound may

@@ -1,8 +1,0 @@
-use Rattle.std.proofs.Common.{refl}
-use Rattle.lane_model.proofs.laws.fresh.Goals as goal
-
-pub returns : goal.returns
-returns g c = λ link. (
-  record { accepted = refl; takers = refl; held = refl; returned = refl; sender = refl; receiver = refl },
-  record { accepted = refl; takers = refl; held = refl; returned = refl; sender = refl; receiver = refl },
-)

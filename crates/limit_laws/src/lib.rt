@@ -1,0 +1,54 @@
+// The limits and fixed numbers of the program, each with its value: definitions cite the constants of the code, and this says what those are.
+#![tactic(auto)]
+
+ghost use Rattle.std.specs.Prelude.{◌≡◌};
+ghost use Rattle.rp_base.specs.declared.limits.TheConstants.{BOOK_MOST, CALLERS_MOST, CAPACITY_MOST, CHANNELS_MOST, ENDPOINTS_MOST, IMAGE_MOST, MESSAGE_MOST, NAME_MOST, OBJECTS_MOST, PAYLOAD_MOST, RING_MOST, SCRIPT_LINES_MOST, SCRIPT_MOST, STANDARD_MEMORY, STEPS_MOST};
+ghost use Rattle.host_driver.specs.declared.drivers.TheConstants.{DRIVERS_MOST};
+ghost use Rattle.image_maker.specs.declared.demo.TheConstants.{SESSIONS_MOST};
+ghost use Rattle.memory_pool.specs.declared.TheConstants.{MEMORY_MOST, REGIONS_MOST};
+ghost use Rattle.resource_table.specs.declared.TheConstants.{ENTRIES_MOST};
+ghost use Rattle.endpoint_map.specs.declared.endpoints.TheConstants.{ANY_ADDRESS, FIRST_DYNAMIC};
+ghost use Rattle.channel_bus.specs.declared.sides.TheConstants.{NAME_SERVICE};
+ghost use Rattle.lane_model.specs.declared.TheConstants.{MANAGER};
+
+/// The limits of links and messages: bytes of a message and of its payload, entries of a ring, buffers of a lane, messages of a book,
+/// callers, and the manager's number.
+pub fn link_limits()
+    ensures message { MESSAGE_MOST ≡ 512 }
+    ensures payload { PAYLOAD_MOST ≡ 496 }
+    ensures ring { RING_MOST ≡ 32768 }
+    ensures capacity { CAPACITY_MOST ≡ 256 }
+    ensures book { BOOK_MOST ≡ 262144 }
+    ensures callers { CALLERS_MOST ≡ 64 }
+    ensures manager { MANAGER ≡ 64 }
+{}
+
+/// The limits of the ends of a link: endpoints and channels, the address of the name service, the address that asks for any, and the first
+/// that is given then.
+pub fn end_limits()
+    ensures endpoints { ENDPOINTS_MOST ≡ 256 }
+    ensures channels { CHANNELS_MOST ≡ 64 }
+    ensures name_service { NAME_SERVICE ≡ 53 }
+    ensures any_address { ANY_ADDRESS ≡ 0xffffffff }
+    ensures first_dynamic { FIRST_DYNAMIC ≡ 1024 }
+{}
+
+/// The limits of cores: bytes of an image, entries of a resource table, regions, bytes of memory, bytes of the standard memory, drivers.
+pub fn core_limits()
+    ensures image { IMAGE_MOST ≡ 4194304 }
+    ensures entries { ENTRIES_MOST ≡ 256 }
+    ensures regions { REGIONS_MOST ≡ 16 }
+    ensures memory { MEMORY_MOST ≡ 16777216 }
+    ensures standard_memory { STANDARD_MEMORY ≡ 65536 }
+    ensures drivers { DRIVERS_MOST ≡ 16 }
+{}
+
+/// The limits of scripts: bytes, lines, links and cores together, steps of a run, bytes of a name, sessions of a demo.
+pub fn script_limits()
+    ensures bytes { SCRIPT_MOST ≡ 1048576 }
+    ensures lines { SCRIPT_LINES_MOST ≡ 10000 }
+    ensures objects { OBJECTS_MOST ≡ 8 }
+    ensures steps { STEPS_MOST ≡ 4000000 }
+    ensures name { NAME_MOST ≡ 31 }
+    ensures sessions { SESSIONS_MOST ≡ 500 }
+{}

@@ -1,0 +1,9 @@
+pub mod Walks
+pub mod Begun
+pub mod AtOnce
+pub mod RingWalks
+pub mod TurnWalks
+pub mod Outs
+pub mod RemoteEnds
+pub mod BenchMay
+pub mod BenchSteps

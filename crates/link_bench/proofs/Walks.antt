@@ -1,0 +1,99 @@
+-- Calls, step by step.
+use Rattle.std.proofs.Common.{◌≡◌, ◌≢◌, ◌<◌, ℕ, suc, ◌+◌, eqb, true, false, cond, Option, Some, None, refl, sym, ap, subst, ◌∙◌, inl, inr}
+use Rattle.std.proofs.lemmas.Bool.Decides.{eqb_tells}
+use Rattle.rp_base.specs.declared.limits.TheConstants.{STEPS_MOST}
+use Rattle.lane_model.specs.declared.calls.Outcome.{Outcome}
+use Rattle.lane_model.specs.declared.calls.Outcome.TheVariants as outcome
+use Rattle.lane_model.specs.declared.calls.Wish.{Wish}
+use Rattle.lane_model.specs.Links.{LinkState, caller_step}
+use Rattle.lane_model.specs.Conditions.{MayStep}
+use Rattle.lane_model.specs.WholeCalls.{WhereOn, left_of}
+use Rattle.lane_model.proofs.GoesOn.{goes_on}
+use Rattle.lane_model.proofs.Others.{others_may}
+use Rattle.link_bench.specs.declared.benches.Reach.TheVariants as reach
+use Rattle.channel_bus.specs.Sides.{EndState}
+use Rattle.channel_bus.specs.Sides.{side_meaning}
+use Rattle.link_bench.specs.Benches.{Walk, walk_on, later_steps, call_steps}
+
+-- what a step does to the later ones
+abbrev pub later_after : ℕ → ℕ → LinkState EndState → ℕ → Outcome → Walk
+later_after more steps link caller done = walk_on link steps done (λ step. later_steps more step steps link caller)
+
+-- no step more
+pub later_none : (last steps : ℕ) (link : LinkState EndState) (caller : ℕ)
+    → later_steps 0 last steps link caller ≡ record { link = link; steps = steps; reach = reach.At last }
+unfolding later_steps
+later_none last steps link caller = refl
+
+-- a step more
+later_one : (more last steps : ℕ) (link : LinkState EndState) (caller : ℕ)
+    → later_steps (suc more) last steps link caller
+    ≡ cond (eqb steps STEPS_MOST) (record { link = link; steps = steps; reach = reach.Limit })
+    (later_after more (steps + 1) (caller_step side_meaning link caller 0 None).state caller (caller_step side_meaning link caller 0 None).outcome)
+unfolding later_steps
+later_one more last steps link caller = refl
+
+module _ (count more last steps : ℕ) (link : LinkState EndState) (caller : ℕ) (one : count ≡ suc more) where
+  -- where the run has no step left
+  pub later_limit : eqb steps STEPS_MOST ≡ true → later_steps count last steps link caller ≡ record { link = link; steps = steps; reach = reach.Limit }
+  later_limit limit =
+      ap (λ n. later_steps n last steps link caller) one ∙ later_one more last steps link caller
+      ∙ ap (λ b. cond b (record { link = link; steps = steps; reach = reach.Limit })
+      (later_after more (steps + 1) (caller_step side_meaning link caller 0 None).state caller (caller_step side_meaning link caller 0 None).outcome)) limit
+
+  -- a step that is done
+  pub later_done : eqb steps STEPS_MOST ≡ false → (after : LinkState EndState) (done : Outcome)
+      → after ≡ (caller_step side_meaning link caller 0 None).state → done ≡ (caller_step side_meaning link caller 0 None).outcome
+      → later_steps count last steps link caller ≡ later_after more (steps + 1) after caller done
+  later_done free after done left does =
+      ap (λ n. later_steps n last steps link caller) one ∙ later_one more last steps link caller
+      ∙ ap (λ b. cond b (record { link = link; steps = steps; reach = reach.Limit })
+      (later_after more (steps + 1) (caller_step side_meaning link caller 0 None).state caller (caller_step side_meaning link caller 0 None).outcome)) free
+      ∙ ap (λ (state : LinkState EndState). later_after more (steps + 1) state caller (caller_step side_meaning link caller 0 None).outcome) (sym left)
+      ∙ ap (later_after more (steps + 1) after caller) (sym does)
+
+-- the first step of a call
+call_one : (more steps : ℕ) (link : LinkState EndState) (caller follows : ℕ) (wanted : Wish)
+    → call_steps more steps link caller follows wanted
+    ≡ cond (eqb steps STEPS_MOST) (record { link = link; steps = steps; reach = reach.Limit })
+    (later_after more (steps + 1) (caller_step side_meaning link caller follows (Some wanted)).state caller (caller_step side_meaning link caller follows (Some wanted)).outcome)
+unfolding call_steps
+call_one more steps link caller follows wanted = refl
+
+module _ (more steps : ℕ) (link : LinkState EndState) (caller follows : ℕ) (wanted : Wish) where
+  -- where the run has no step left
+  pub call_limit : eqb steps STEPS_MOST ≡ true → call_steps more steps link caller follows wanted ≡ record { link = link; steps = steps; reach = reach.Limit }
+  call_limit limit =
+      call_one more steps link caller follows wanted
+      ∙ ap (λ b. cond b (record { link = link; steps = steps; reach = reach.Limit })
+      (later_after more (steps + 1) (caller_step side_meaning link caller follows (Some wanted)).state caller (caller_step side_meaning link caller follows (Some wanted)).outcome)) limit
+
+  -- a first step that is done
+  pub call_done : eqb steps STEPS_MOST ≡ false → (after : LinkState EndState) (done : Outcome)
+      → after ≡ (caller_step side_meaning link caller follows (Some wanted)).state → done ≡ (caller_step side_meaning link caller follows (Some wanted)).outcome
+      → call_steps more steps link caller follows wanted ≡ later_after more (steps + 1) after caller done
+  call_done free after done left does =
+      call_one more steps link caller follows wanted
+      ∙ ap (λ b. cond b (record { link = link; steps = steps; reach = reach.Limit })
+      (later_after more (steps + 1) (caller_step side_meaning link caller follows (Some wanted)).state caller (caller_step side_meaning link caller follows (Some wanted)).outcome)) free
+      ∙ ap (λ (state : LinkState EndState). later_after more (steps + 1) state caller (caller_step side_meaning link caller follows (Some wanted)).outcome) (sym left)
+      ∙ ap (later_after more (steps + 1) after caller) (sym does)
+
+-- two numbers that aren't the same
+pub not_equal : (a b : ℕ) → a ≢ b → eqb a b ≡ false
+not_equal a b differ = elim (eqb_tells a b) [ inl same ↦ absurd (differ same.1) | inr other ↦ other.0 ]
+
+module _ (link after : LinkState EndState) (caller follows : ℕ) (wanted : Option Wish) (may : MayStep link caller wanted)
+    (left : after ≡ (caller_step side_meaning link caller follows wanted).state) where
+  -- a call that goes on may do its next step
+  pub goes_on_at : (step : ℕ) → outcome.At step ≡ (caller_step side_meaning link caller follows wanted).outcome → MayStep after caller None
+  goes_on_at step does =
+      let on = subst (λ (done : Outcome). WhereOn done (MayStep (caller_step side_meaning link caller follows wanted).state caller None
+      × (left_of (caller_step side_meaning link caller follows wanted).state caller None < left_of link caller wanted)))
+      (sym does) (goes_on side_meaning link caller follows wanted may) in
+      subst (λ (state : LinkState EndState). MayStep state caller None) (sym left) on.0
+
+  -- every other caller may do its next step where it might before
+  pub others_after : (other : ℕ) (next : Option Wish) → caller ≢ other → MayStep link other next → MayStep after other next
+  others_after other next differ might =
+      subst (λ (state : LinkState EndState). MayStep state other next) (sym left) (others_may side_meaning link caller other follows wanted next differ may might)

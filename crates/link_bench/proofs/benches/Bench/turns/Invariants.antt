@@ -1,0 +1,11 @@
+use Rattle.std.proofs.Common.{◌≡◌, ◌-◌, ◌≤◌}
+use Rattle.rp_base.specs.declared.limits.TheConstants.{STEPS_MOST}
+use Rattle.link_bench.specs.Turns.{pump_turns}
+use Rattle.link_bench.proofs.benches.Bench.turns.Given as goal
+
+-- the turns that are left lead where all of them do
+abbrev pub invariant-loop-done : goal.invariant-loop-done
+invariant-loop-done l = record {
+  turns : pump_turns (l.fn.count - l.done) l.done l.fn.sender l.fn.receiver l.self l.steps ≡ pump_turns l.fn.count 0 l.fn.sender l.fn.receiver l.fn.self l.fn.steps;
+  within : l.steps ≤ STEPS_MOST;
+}

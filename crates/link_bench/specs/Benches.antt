@@ -1,0 +1,248 @@
+-- A bench: a link with the calls that are begun and have done no step, and what its calls do (own).
+use Rattle.std.specs.Prelude.{◌≡◌, ◌≢◌, ◌≤◌, ℕ, zero, suc, ◌+◌, ◌==◌, ◌||◌, Bool, List, [], length, slice_get, slice_set, replicate, Option, Some, None, option_and_then, is_some, if◌then◌else◌}
+use Rattle.rp_base.specs.declared.kinds.End.{End}
+use Rattle.rp_base.specs.declared.kinds.End.TheVariants as side
+use Rattle.rp_base.specs.declared.limits.TheConstants.{STEPS_MOST, MESSAGE_MOST}
+use Rattle.lane_model.specs.declared.states.LaneState.{LaneState}
+use Rattle.lane_model.specs.declared.calls.Wish.{Wish}
+use Rattle.lane_model.specs.declared.calls.Wish.TheVariants as wish
+use Rattle.lane_model.specs.declared.calls.CallEnd.{CallEnd}
+use Rattle.lane_model.specs.declared.calls.Outcome.{Outcome}
+use Rattle.lane_model.specs.declared.calls.Outcome.TheVariants as outcome
+use Rattle.lane_model.specs.declared.calls.LinkConfig.{LinkConfig}
+use Rattle.lane_model.specs.declared.lane_links.LaneLink.{LaneLink}
+use Rattle.lane_model.specs.Lanes.{message_at}
+use Rattle.lane_model.specs.Links.{LinkState, caller_step, end_of, form_step, link_of, opened_link, with_caller}
+use Rattle.lane_model.specs.Conditions.{MayStep, is_calling, is_holding}
+use Rattle.ring_core.specs.declared.states.RingState.{RingState}
+use Rattle.ring_core.specs.RingLinks.{opened_ring_link}
+use Rattle.ring_core.specs.RingSteps.{ring_form}
+use Rattle.link_bench.specs.declared.benches.BegunCall.{BegunCall}
+use Rattle.link_bench.specs.declared.benches.Progress.{Progress}
+use Rattle.link_bench.specs.declared.benches.Progress.TheVariants as progress
+use Rattle.link_bench.specs.declared.benches.Reach.{Reach}
+use Rattle.link_bench.specs.declared.benches.Reach.TheVariants as reach
+use Rattle.link_bench.specs.declared.bench_steps.Done.{Done}
+use Rattle.link_bench.specs.declared.bench_steps.Done.TheVariants as step_done
+use Rattle.link_bench.specs.declared.benches.BenchFault.{BenchFault}
+use Rattle.link_bench.specs.declared.benches.BenchFault.TheVariants as fault
+use Rattle.channel_bus.specs.Sides.{EndState}
+use Rattle.channel_bus.specs.Sides.{side_meaning}
+
+-- how far a call came, by what its steps answer and by its end beside it
+abbrev pub reach_of : Progress → CallEnd → Reach
+reach_of (progress.At step) end = reach.At step
+reach_of progress.Ended end = reach.Ended end
+reach_of progress.Limit end = reach.Limit
+
+-- how far a call came by one step that was done
+abbrev pub reach_of_done : Done → Reach
+reach_of_done (step_done.At step) = reach.At step
+reach_of_done (step_done.Ended end) = reach.Ended end
+
+-- a link over rings, with all its words
+abbrev pub RingsState : Type 0
+RingsState = LaneLink (RingState EndState)
+
+-- a link, and for each number of a caller the call that it has begun and of which no step is done
+pub record BenchState : Type 0 where
+  pub link : LinkState EndState
+  -- the rings under the lists, of which the lists say all but the words
+  pub rings : RingsState
+  pub begun : List (Option BegunCall)
+
+-- the lists and counts that a link over rings stands for
+abbrev pub lists_of : RingsState → LinkState EndState
+lists_of link = link_of (ring_form side_meaning) link
+
+-- nothing is begun
+abbrev pub no_begun : List (Option BegunCall)
+no_begun = replicate 64 None
+
+-- a bench over a new link
+abbrev pub new_bench_of : LinkConfig → EndState → EndState → BenchState
+new_bench_of config host remote = record {
+  link = opened_link config host remote;
+  rings = opened_ring_link config host remote;
+  begun = no_begun;
+}
+
+-- the call that a caller has begun and of which no step is done
+abbrev pub begun_of : BenchState → ℕ → Option BegunCall
+begun_of bench caller = option_and_then (λ found. found) (slice_get bench.begun caller)
+
+-- a caller is in a call from its beginning on
+abbrev pub is_in_call : BenchState → ℕ → Bool
+is_in_call bench caller = is_some (begun_of bench caller) || is_calling bench.link caller
+
+-- how far a call came: the link that it leaves, the steps of the run until then, and what it reached
+pub record Walk : Type 0 where
+  pub link : LinkState EndState
+  pub steps : ℕ
+  pub reach : Reach
+
+-- what a step does to the call: it ends it, or the later steps say
+abbrev pub walk_on : LinkState EndState → ℕ → Outcome → (ℕ → Walk) → Walk
+walk_on link steps (outcome.At step) later = later step
+walk_on link steps (outcome.Ended ended) later = record { link = link; steps = steps; reach = reach.Ended ended }
+
+-- the later steps of a call, at most so many: up to its end, or to the most steps of a run; `last` is the step that was done last
+unfoldable pub later_steps : ℕ → ℕ → ℕ → LinkState EndState → ℕ → Walk
+later_steps zero last steps link caller = record { link = link; steps = steps; reach = reach.At last }
+later_steps (suc more) last steps link caller =
+    if steps == STEPS_MOST then record { link = link; steps = steps; reach = reach.Limit }
+    else (let step = caller_step side_meaning link caller 0 None in
+    walk_on step.state (steps + 1) step.outcome (λ done. later_steps more done (steps + 1) step.state caller))
+
+-- a call from its first step on, with at most so many steps behind it
+unfoldable pub call_steps : ℕ → ℕ → LinkState EndState → ℕ → ℕ → Wish → Walk
+call_steps more steps link caller follows wish =
+    if steps == STEPS_MOST then record { link = link; steps = steps; reach = reach.Limit }
+    else (let step = caller_step side_meaning link caller follows (Some wish) in
+    walk_on step.state (steps + 1) step.outcome (λ done. later_steps more done (steps + 1) step.state caller))
+
+-- what a step leaves of the rings: the call ends with it, or later steps follow
+abbrev pub rings_on : RingsState → Outcome → RingsState → RingsState
+rings_on left (outcome.At step) later = later
+rings_on left (outcome.Ended ended) later = left
+
+-- the rings after a step, which does to its call what it does on the lists
+abbrev pub rings_after : RingsState → ℕ → ℕ → Option Wish → RingsState
+rings_after rings caller follows wished = (form_step (ring_form side_meaning) side_meaning rings caller follows wished).state
+
+abbrev pub rings_outcome : RingsState → ℕ → ℕ → Option Wish → Outcome
+rings_outcome rings caller follows wished = (caller_step side_meaning (lists_of rings) caller follows wished).outcome
+
+-- the rings after the later steps of a call, at most so many: up to its end, or to the most steps of a run
+unfoldable pub later_rings : ℕ → ℕ → RingsState → ℕ → RingsState
+later_rings zero steps rings caller = rings
+later_rings (suc more) steps rings caller =
+    if steps == STEPS_MOST then rings
+    else rings_on (rings_after rings caller 0 None) (rings_outcome rings caller 0 None) (later_rings more (steps + 1) (rings_after rings caller 0 None) caller)
+
+-- the rings after a call from its first step on, with at most so many steps behind it
+unfoldable pub call_rings : ℕ → ℕ → RingsState → ℕ → ℕ → Wish → RingsState
+call_rings more steps rings caller follows wish =
+    if steps == STEPS_MOST then rings
+    else rings_on (rings_after rings caller follows (Some wish)) (rings_outcome rings caller follows (Some wish))
+    (later_rings more (steps + 1) (rings_after rings caller follows (Some wish)) caller)
+
+-- a whole call, which follows the incarnation that the link is in: it ends within seven steps
+abbrev pub whole_call : ℕ → LinkState EndState → ℕ → Wish → Walk
+whole_call steps link caller wish = call_steps 6 steps link caller link.era.inc wish
+
+-- the bench with a new caller at an end, under this number if there is one
+abbrev pub with_new_caller : BenchState → End → Option ℕ → BenchState
+with_new_caller bench end number = record bench {
+  link = record bench.link { callers = with_caller bench.link.callers end number };
+  rings = record bench.rings { callers = with_caller bench.rings.callers end number };
+}
+
+-- the bench in which a caller has begun this call, or none
+abbrev pub with_begun : BenchState → ℕ → Option BegunCall → BenchState
+with_begun bench caller call = record bench { begun = slice_set bench.begun caller call }
+
+-- how far a call of a bench came
+pub record BenchWalk : Type 0 where
+  pub bench : BenchState
+  pub steps : ℕ
+  pub reach : Reach
+
+-- the bench over the link and the rings that a call leaves
+abbrev pub bench_walk : BenchState → Walk → RingsState → BenchWalk
+bench_walk bench walk rings = record { bench = record bench { link = walk.link; rings = rings }; steps = walk.steps; reach = walk.reach }
+
+-- one step of the call that a caller is in and at most so many more, from its first step or from where it stands; a call is begun no more once a step of it is done
+abbrev pub advance_steps : BenchState → ℕ → ℕ → ℕ → Option BegunCall → BenchWalk
+advance_steps bench more steps caller (Some call) =
+    if steps == STEPS_MOST then record { bench = bench; steps = steps; reach = reach.Limit }
+    else bench_walk (with_begun bench caller None) (call_steps more steps bench.link caller call.follows call.wish) (call_rings more steps bench.rings caller call.follows call.wish)
+advance_steps bench more steps caller None = bench_walk bench (later_steps (more + 1) 0 steps bench.link caller) (later_rings (more + 1) steps bench.rings caller)
+
+-- so many steps of the call that a caller is in
+abbrev pub advance_walk : BenchState → ℕ → ℕ → ℕ → BenchWalk
+advance_walk bench more steps caller = advance_steps bench more steps caller (begun_of bench caller)
+
+-- a whole call of a caller that is in none
+abbrev pub call_walk : BenchState → ℕ → ℕ → Wish → BenchWalk
+call_walk bench steps caller wanted = bench_walk bench (whole_call steps bench.link caller wanted) (call_rings 6 steps bench.rings caller bench.link.era.inc wanted)
+
+-- the first step of a call of a caller that is in none
+abbrev pub start_walk : BenchState → ℕ → ℕ → Wish → BenchWalk
+start_walk bench steps caller wanted =
+    bench_walk bench (call_steps 0 steps bench.link caller bench.link.era.inc wanted) (call_rings 0 steps bench.rings caller bench.link.era.inc wanted)
+
+-- the next step of each call that is begun may be done
+abbrev pub AreFitCalls : LinkState EndState → List (Option BegunCall) → Type 0
+AreFitCalls link begun =
+    (caller : ℕ) (call : BegunCall) → slice_get begun caller ≡ Some (Some call) → MayStep link caller (Some call.wish)
+
+-- a caller that isn't in use
+abbrev pub used_fault : Option End → Option BenchFault
+used_fault None = Some fault.NoCaller
+used_fault (Some end) = None
+
+-- a caller that is in a call
+abbrev pub calling_fault : Bool → Option BenchFault
+calling_fault in_call = if in_call then Some fault.InCall else None
+
+-- a caller that isn't in use, or one that is in a call
+abbrev pub caller_fault : Option End → Bool → Option BenchFault
+caller_fault None in_call = Some fault.NoCaller
+caller_fault (Some end) in_call = calling_fault in_call
+
+-- why a caller can't begin a call
+abbrev pub ready_fault : BenchState → ℕ → Option BenchFault
+ready_fault bench caller = caller_fault (end_of bench.link.callers caller) (is_in_call bench caller)
+
+-- a give names what its caller holds
+abbrev pub wish_fault : BenchState → ℕ → Wish → Option BenchFault
+wish_fault bench caller (wish.Send message) = None
+wish_fault bench caller wish.Take = None
+wish_fault bench caller (wish.Give number) = if is_holding bench.link caller number then None else Some (fault.NotHeld number)
+wish_fault bench caller (wish.Bind address) = None
+wish_fault bench caller (wish.Unbind address) = None
+
+-- the first of two faults
+abbrev pub first_fault : Option BenchFault → Option BenchFault → Option BenchFault
+first_fault (Some why) later = Some why
+first_fault None later = later
+
+-- why this call can't begin: the caller before what it wants
+abbrev pub begin_fault : BenchState → ℕ → Wish → Option BenchFault
+begin_fault bench caller wanted = first_fault (ready_fault bench caller) (wish_fault bench caller wanted)
+
+-- why no step of a call can be done: a caller that isn't in use, or one in no call
+abbrev pub advance_fault : Option End → Bool → Option BenchFault
+advance_fault None in_call = Some fault.NoCaller
+advance_fault (Some end) in_call = if in_call then None else Some fault.NoCall
+
+-- the same of a caller of a bench
+abbrev pub step_fault : BenchState → ℕ → Option BenchFault
+step_fault bench caller = advance_fault (end_of bench.link.callers caller) (is_in_call bench caller)
+
+-- the next step of every other caller may be done where it might before
+abbrev pub OthersMay : LinkState EndState → LinkState EndState → ℕ → Type 0
+OthersMay before after caller = (other : ℕ) (wanted : Option Wish) → caller ≢ other → MayStep before other wanted → MayStep after other wanted
+
+-- how many messages were accepted, handed over and given back on a lane
+abbrev pub lane_counts : LaneState EndState → ℕ × ℕ × ℕ
+lane_counts state = (length state.lane.accepted, length state.lane.takers, state.lane.returned)
+
+-- the counts of lane 0, to the host, or of lane 1
+abbrev pub counts_of : BenchState → ℕ → ℕ × ℕ × ℕ
+counts_of bench lane = if lane == 0 then lane_counts bench.link.to_host else lane_counts bench.link.to_remote
+
+-- a message fits a buffer
+abbrev pub IsSendable : Wish → Type 0
+IsSendable (wish.Send message) = length message ≤ MESSAGE_MOST
+IsSendable wish.Take = Unit {0}
+IsSendable (wish.Give number) = Unit {0}
+IsSendable (wish.Bind address) = Unit {0}
+IsSendable (wish.Unbind address) = Unit {0}
+
+-- the message of a number on the lane that an end takes from, or no byte
+abbrev pub taken_on : LinkState EndState → Option End → ℕ → List ℕ
+taken_on link (Some side.Host) number = message_at link.to_host.lane.accepted number
+taken_on link (Some side.Remote) number = message_at link.to_remote.lane.accepted number
+taken_on link None number = []

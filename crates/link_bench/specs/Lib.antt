@@ -1,0 +1,6 @@
+pub mod Benches
+pub mod BenchRings
+pub mod Turns
+pub mod BenchHolds
+pub mod BenchCrashes
+pub mod BenchEnds

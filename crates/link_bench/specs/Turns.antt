@@ -1,0 +1,95 @@
+-- Turns of a send, its take and its give (own).
+use Rattle.std.specs.Prelude.{ℕ, zero, suc, ◌+◌, Bool, true, false, List, Option, Some, None, Result, Ok, Err, if◌then◌else◌}
+use Rattle.byteorder.specs.Endian.{little_bytes}
+use Rattle.rpmsg_header.specs.Headers.{header_bytes}
+use Rattle.lane_model.specs.declared.calls.Wish.{Wish}
+use Rattle.lane_model.specs.declared.calls.Wish.TheVariants as wish
+use Rattle.lane_model.specs.declared.calls.CallEnd.TheVariants as end
+use Rattle.link_bench.specs.declared.benches.BenchFault.{BenchFault}
+use Rattle.link_bench.specs.declared.benches.Reach.{Reach}
+use Rattle.link_bench.specs.declared.benches.Reach.TheVariants as reach
+use Rattle.link_bench.specs.declared.turns.TurnEnd.{TurnEnd}
+use Rattle.link_bench.specs.declared.turns.TurnEnd.TheVariants as turn_end
+use Rattle.link_bench.specs.Benches.{BenchState, call_walk, begin_fault}
+
+-- what a call of a turn leaves: the bench, the steps of the run until then, and the number of its message, or how the turn ends with it
+pub record TurnCall : Type 0 where
+  pub bench : BenchState
+  pub steps : ℕ
+  pub number : Result ℕ TurnEnd
+
+-- a call that ended well has a number: of the message that was accepted, handed over or given back
+abbrev pub reach_number : ℕ → Reach → Result ℕ TurnEnd
+reach_number caller (reach.Ended (end.Sent number)) = Ok number
+reach_number caller (reach.Ended (end.Took number judged)) = Ok number
+reach_number caller (reach.Ended (end.Gave number)) = Ok number
+reach_number caller (reach.Ended ended) = Err (turn_end.Reached caller (reach.Ended ended))
+reach_number caller (reach.At step) = Err (turn_end.Reached caller (reach.At step))
+reach_number caller reach.Limit = Err (turn_end.Reached caller reach.Limit)
+
+-- a call of a turn, with the tests that each call has
+abbrev pub tested_call : BenchState → ℕ → ℕ → Wish → Option BenchFault → TurnCall
+tested_call bench steps caller wanted (Some why) = record { bench = bench; steps = steps; number = Err (turn_end.Fault caller why) }
+tested_call bench steps caller wanted None =
+    let walk = call_walk bench steps caller wanted in
+    record { bench = walk.bench; steps = walk.steps; number = reach_number caller walk.reach }
+
+unfoldable pub turn_call : BenchState → ℕ → ℕ → Wish → TurnCall
+turn_call bench steps caller wanted = tested_call bench steps caller wanted (begin_fault bench caller wanted)
+
+-- what turns leave: the bench, the steps of the run until then, and how the last one ended
+pub record Turns : Type 0 where
+  pub bench : BenchState
+  pub steps : ℕ
+  pub ended : TurnEnd
+
+-- what follows a call of a turn
+abbrev pub then_more : TurnCall → Result ℕ TurnEnd → (ℕ → Turns) → Turns
+then_more call (Ok number) more = more number
+then_more call (Err ended) more = record { bench = call.bench; steps = call.steps; ended = ended }
+
+-- the give of the message of this number ends the turn
+unfoldable pub give_turn : ℕ → BenchState → ℕ → ℕ → Turns
+give_turn receiver bench steps number =
+    let given = turn_call bench steps receiver (wish.Give number) in
+    then_more given given.number (λ _. record { bench = given.bench; steps = given.steps; ended = turn_end.Whole })
+
+-- the take, and the give of what it took
+unfoldable pub take_turn : ℕ → BenchState → ℕ → Turns
+take_turn receiver bench steps =
+    let taken = turn_call bench steps receiver wish.Take in
+    then_more taken taken.number (give_turn receiver taken.bench taken.steps)
+
+-- the message of a turn: its number in four bytes, from address 0 to 1024
+abbrev pub turn_message : ℕ → List ℕ
+turn_message number = header_bytes 0 1024 (little_bytes 4 number)
+
+-- a turn: the send of its number, then the take and the give
+unfoldable pub one_turn : ℕ → ℕ → ℕ → BenchState → ℕ → Turns
+one_turn sender receiver number bench steps =
+    let sent = turn_call bench steps sender (wish.Send (turn_message number)) in
+    then_more sent sent.number (λ _. take_turn receiver sent.bench sent.steps)
+
+-- how far the turns came: how many were done, and what they leave
+pub record Pumped : Type 0 where
+  pub turns : Turns
+  pub done : ℕ
+
+-- a turn that is whole
+abbrev pub is_whole : TurnEnd → Bool
+is_whole turn_end.Whole = true
+is_whole (turn_end.Fault caller why) = false
+is_whole (turn_end.Reached caller reached) = false
+
+-- so many turns, from the one of number `done` on: they go on after a whole one
+unfoldable pub pump_turns : ℕ → ℕ → ℕ → ℕ → BenchState → ℕ → Pumped
+pump_turns zero done sender receiver bench steps = record { turns = record { bench = bench; steps = steps; ended = turn_end.Whole }; done = done }
+pump_turns (suc more) done sender receiver bench steps =
+    let turn = one_turn sender receiver done bench steps in
+    if is_whole turn.ended then pump_turns more (done + 1) sender receiver turn.bench turn.steps
+    else record { turns = turn; done = done }
+
+-- how a call of a turn ended, as code has it: a number, or the end of the turn beside it
+abbrev pub number_of : Option ℕ → TurnEnd → Result ℕ TurnEnd
+number_of (Some number) ended = Ok number
+number_of None ended = Err ended

@@ -1,0 +1,101 @@
+ghost use Rattle.std.specs.Prelude.{◌≡◌, ◌⊎◌, ◌<◌, IfOk, IfErr, None, Some, length};
+ghost use Rattle.lane_model.specs.declared.recoveries.ReopenFault.TheVariants as reopen_fault;
+ghost use Rattle.lane_model.specs.Recoveries.{unclosed_by, unopened_by, unreclaimed_by};
+ghost use Rattle.lane_model.specs.Links.{end_of};
+ghost use Rattle.link_bench.specs.BenchCrashes.{after_close, after_reclaim, after_reopen, reclaim_answer, reclaim_leaves};
+
+use crate::benches::{Bench, BenchFault};
+use lane_model::{Already, Books, ReclaimRefusal, ReopenFault};
+use rp_base::{CallerNo, Era};
+use std::alloc::Global;
+
+/// How a reclaim of a caller in use ended.
+#[derive(Clone, Copy)]
+pub enum Reclaim {
+    /// The caller is gone: its call is ended, what it held is back, and its number is free.
+    Done,
+    /// The link is live, so nothing is reclaimed.
+    StillOpen(Era),
+    /// This other caller has the receiver's turn, which is needed for what the caller holds.
+    Busy(CallerNo),
+}
+
+impl Bench {
+    /// The life that the link is in.
+    pub fn era(&self) -> Era
+        ensures { result ≡ self.now.link.era }
+    {
+        self.link.era
+    }
+
+    /// Closes the incarnation that the link is in.
+    ///
+    /// # Errors
+    ///
+    /// [`Already`] exactly where it is closed. Nothing changes then.
+    pub fn close(&mut self) -> Result<(), Already>
+        ensures left { self.new ≡ after_close self.old }
+        ensures done { IfOk result (λ _. unclosed_by self.old.link.era self.old.link.era.inc ≡ None) }
+        ensures refused { IfErr result (λ already. unclosed_by self.old.link.era self.old.link.era.inc ≡ Some already.0) }
+    {
+        let inc = self.link.era.inc;
+        self.link.close(inc)
+    }
+
+    /// Reclaims a caller: its call is gone, a begun one too, its turn is free, what it held is back, and
+    /// its number is free.
+    ///
+    /// # Errors
+    ///
+    /// [`BenchFault::NoCaller`] exactly where the caller isn't in use.
+    pub fn reclaim(&mut self, caller: CallerNo) -> Result<Reclaim, BenchFault>
+        ensures answer { result ≡ reclaim_answer (end_of self.old.link.callers caller) (unreclaimed_by self.old.link caller) }
+        ensures left { self.new ≡ reclaim_leaves self.old caller (unreclaimed_by self.old.link caller) }
+    {
+        let Some(_) = self.end_of(caller) else {
+            return Err(BenchFault::NoCaller);
+        };
+        match self.link.reclaim_refusal(caller) {
+            Some(ReclaimRefusal::StillOpen(era)) => Ok(Reclaim::StillOpen(era)),
+            Some(ReclaimRefusal::Busy(holder)) => Ok(Reclaim::Busy(holder)),
+            None => {
+                self.end_caller(caller);
+                Ok(Reclaim::Done)
+            }
+        }
+    }
+
+    /// Ends a caller that nothing keeps from being reclaimed.
+    pub fn end_caller(&mut self, caller: CallerNo)
+        requires { caller < 64 }
+        ensures { self.new ≡ after_reclaim self.old caller }
+    {
+        self.link.end_caller(caller);
+        self.begun[usize::from(caller)] = None;
+    }
+
+    /// Begins the next incarnation, with empty lanes and ends without endpoints and channels. A call that
+    /// was begun keeps the incarnation that it follows. Answers the books of the incarnation before: of
+    /// each lane the messages accepted, who took each that was handed over, and how many those are.
+    ///
+    /// # Errors
+    ///
+    /// [`ReopenFault::StillOpen`] where the link is live, then [`ReopenFault::StillTurn`],
+    /// [`ReopenFault::StillHeld`] and [`ReopenFault::IncarnationsSpent`], or want of memory. Nothing
+    /// changes then.
+    pub fn reopen(&mut self, alloc: Global) -> Result<Books, ReopenFault>
+        ensures refused { IfErr result (λ fault. (self.new ≡ self.old) × ((unopened_by self.old.link ≡ Some fault)
+            ⊎ ((fault ≡ reopen_fault.NoMemory) × (unopened_by self.old.link ≡ None)))) }
+        ensures open { IfOk result (λ _. unopened_by self.old.link ≡ None) }
+        ensures left { IfOk result (λ _. self.new ≡ after_reopen self.old) }
+        ensures inc { IfOk result (λ books. books.inc ≡ self.old.link.era.inc) }
+        ensures to_host { IfOk result (λ books. (books.to_host.entries ≡ self.old.link.to_host.lane.accepted)
+            × (books.to_host_takers.items ≡ self.old.link.to_host.lane.takers)
+            × (books.to_host_handed ≡ length self.old.link.to_host.lane.takers)) }
+        ensures to_remote { IfOk result (λ books. (books.to_remote.entries ≡ self.old.link.to_remote.lane.accepted)
+            × (books.to_remote_takers.items ≡ self.old.link.to_remote.lane.takers)
+            × (books.to_remote_handed ≡ length self.old.link.to_remote.lane.takers)) }
+    {
+        self.link.reopen(alloc)
+    }
+}

@@ -1,0 +1,64 @@
+ghost use Rattle.std.specs.Prelude.{◌≡◌, ◌<◌, None, IfErr, IfNone, IfOk, OnErr, OnOk};
+ghost use Rattle.link_bench.specs.Benches.{advance_walk, reach_of_done, step_fault};
+
+use crate::benches::{Bench, BenchFault, Progress};
+use lane_model::CallEnd;
+use rp_base::CallerNo;
+
+/// How far a call came by a step.
+#[derive(Clone, Copy)]
+pub enum Done {
+    /// Its step of this number is done, and it goes on.
+    At(u8),
+    /// It has ended.
+    Ended(CallEnd),
+}
+
+impl Bench {
+    /// Why no step of a call of this caller can be done, if none can: it isn't in use, or it is in no
+    /// call.
+    pub fn step_fault(&self, caller: CallerNo) -> Option<BenchFault>
+        ensures fault { result ≡ step_fault self.now caller }
+        ensures within { IfNone result (caller < 64) }
+    {
+        match self.end_of(caller) {
+            None => Some(BenchFault::NoCaller),
+            Some(_) if self.is_in_call(caller) => None,
+            Some(_) => Some(BenchFault::NoCall),
+        }
+    }
+
+    /// Does one step of the call that a caller is in. A call that was begun does its first.
+    ///
+    /// # Errors
+    ///
+    /// [`BenchFault::NoCaller`] where the caller isn't in use, then [`BenchFault::NoCall`] where it is
+    /// in no call. The bench is as it was then.
+    pub fn step(&mut self, caller: CallerNo) -> Result<Done, BenchFault>
+        ensures may { OnOk result (step_fault self.old caller ≡ None) }
+        ensures left { OnOk result (self.new ≡ (advance_walk self.old 0 0 caller).bench) }
+        ensures done { IfOk result (λ done. reach_of_done done ≡ (advance_walk self.old 0 0 caller).reach) }
+        ensures refused { IfErr result (λ why. step_fault self.old caller ≡ Some why) }
+        ensures unchanged { OnErr result (self.new ≡ self.old) }
+    {
+        match self.step_fault(caller) {
+            Some(fault) => Err(fault),
+            None => Ok(self.next_step(caller)),
+        }
+    }
+
+    /// Does one step of the call that a caller is in.
+    pub fn next_step(&mut self, caller: CallerNo) -> Done
+        requires caller { caller < 64 }
+        requires may { step_fault self.old caller ≡ None }
+        ensures left { self.new ≡ (advance_walk self.old 0 0 caller).bench }
+        ensures done { reach_of_done result ≡ (advance_walk self.old 0 0 caller).reach }
+    {
+        let mut end = CallEnd::Gave(0);
+        match self.advance(caller, 0, &mut 0, &mut end) {
+            Progress::At(step) => Done::At(step),
+            Progress::Ended => Done::Ended(end),
+            Progress::Limit => unreachable!(),
+        }
+    }
+}

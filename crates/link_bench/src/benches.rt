@@ -1,0 +1,354 @@
+ghost use Rattle.std.specs.Prelude.{◌≡◌, ◌<◌, ◌≤◌, ◌++◌, ◌+◌, length, true, IfOk, IfErr, IfNone, IfSome, Some, None};
+ghost use Rattle.rp_base.specs.declared.limits.TheConstants.{BOOK_MOST, MESSAGE_MOST, STEPS_MOST};
+ghost use Rattle.lane_model.specs.declared.calls.Wish.TheVariants as wish;
+ghost use Rattle.lane_model.specs.Links.{end_of, free_number};
+ghost use Rattle.channel_bus.specs.Sides.{side_meaning};
+ghost use Rattle.lane_model.specs.Desks.{IsFreshDesk};
+ghost use Rattle.lane_model.specs.Conditions.{IsConfig, is_holding};
+ghost use Rattle.link_bench.specs.Benches.{IsSendable, advance_walk, begin_fault, call_walk, counts_of, is_in_call, new_bench_of, no_begun, reach_of, ready_fault, start_walk, taken_on, with_begun, with_new_caller};
+
+use crate::steps::{BenchLink, call_steps, later_steps};
+use crate::whole_steps::{whole_send, whole_steps};
+use channel_bus::Side;
+use lane_model::{CallEnd, LaneForm, LinkConfig, Wish};
+use ring_core::ring_link;
+use rp_base::{CALLERS_MOST, CallerNo, End, Inc, NoMemory, STEPS_MOST};
+use std::alloc::Global;
+use std::marker::Model;
+
+/// A call that a caller has begun and of which no step is done: the incarnation that it follows, and
+/// what it wants.
+#[derive(Drop)]
+pub struct BegunCall {
+    pub follows: Inc,
+    pub wish: Wish,
+}
+
+/// How far the steps of a call came, which write its end beside it.
+#[derive(Clone, Copy)]
+pub enum Progress {
+    /// Its step of this number is done, and it goes on.
+    At(u8),
+    /// It has ended.
+    Ended,
+    /// The run has no step left.
+    Limit,
+}
+
+/// How far a call came.
+#[derive(Clone, Copy)]
+pub enum Reach {
+    /// Its step of this number is done, and it goes on.
+    At(u8),
+    /// It has ended.
+    Ended(CallEnd),
+    /// The run has no step left.
+    Limit,
+}
+
+/// Why a bench does nothing for a caller.
+#[derive(Clone, Copy)]
+pub enum BenchFault {
+    /// The caller isn't in use.
+    NoCaller,
+    /// The caller is in a call.
+    InCall,
+    /// The caller is in no call.
+    NoCall,
+    /// The caller doesn't hold the buffer of the message of this number.
+    NotHeld(u64),
+}
+
+/// A link with the calls that its callers have begun. What a caller holds is known by the number of
+/// its message, and kept by the link.
+#[derive(Drop)]
+pub struct Bench {
+    pub(crate) link: BenchLink,
+    pub(crate) begun: Vec<Option<BegunCall>>,
+}
+
+impl Model for Bench {
+    ghost use Rattle.link_bench.specs.Benches.{BenchState};
+
+    ghost Value = { BenchState };
+
+    ghost use Rattle.std.specs.Prelude.{◌≡◌, length};
+    ghost use Rattle.link_bench.specs.Benches.{AreFitCalls, lists_of};
+
+    ghost view = { λ b. record { link = lists_of b.link; rings = b.link; begun = b.begun.items } };
+
+    ghost invariant = { λ b. (length b.begun.items ≡ 64) × AreFitCalls (lists_of b.link) b.begun.items };
+}
+
+impl Bench {
+    /// A bench over a new link with an end each for the host and the remote, and with no caller. It
+    /// takes the room of the link at once.
+    pub fn new(
+        alloc: Global,
+        config: LinkConfig,
+        host: Side,
+        remote: Side,
+    ) -> Result<Bench, NoMemory>
+        requires config { IsConfig config }
+        requires host { IsFreshDesk side_meaning host }
+        requires remote { IsFreshDesk side_meaning remote }
+        ensures { IfOk result (λ bench. bench ≡ new_bench_of config host remote) }
+    {
+        Ok(Bench {
+            link: ring_link(alloc, config, host, remote)?,
+            begun: nothing_begun(alloc)?,
+        })
+    }
+
+    /// A new caller at this end, under the least number that is not in use. There is none exactly
+    /// where all 64 are.
+    pub fn caller(&mut self, end: End) -> Option<CallerNo>
+        ensures number { result ≡ free_number self.old.link.callers }
+        ensures left { self.new ≡ with_new_caller self.old end (free_number self.old.link.callers) }
+    {
+        self.link.caller(end)
+    }
+
+    /// The end of the caller of this number, where it is in use.
+    pub fn end_of(&self, caller: CallerNo) -> Option<End>
+        ensures end { result ≡ end_of self.now.link.callers caller }
+        ensures within { IfSome result (λ _. caller < 64) }
+    {
+        self.link.end_of(u64::from(caller))
+    }
+
+    /// Whether a caller has begun a call that has not ended.
+    #[inline(always)]
+    pub fn is_in_call(&self, caller: CallerNo) -> bool
+        ensures { result ≡ is_in_call self.now caller }
+    {
+        matches!(self.begun.get(usize::from(caller)), Some(Some(_))) || self.link.is_calling(caller)
+    }
+
+    /// The same of a number that is known to be below 64.
+    #[inline(always)]
+    pub fn is_caller_busy(&self, caller: CallerNo) -> bool
+        requires { caller < 64 }
+        ensures { result ≡ is_in_call self.now caller }
+    {
+        self.begun[usize::from(caller)].is_some() || self.link.is_calling(caller)
+    }
+
+    /// Whether a caller holds the buffer of the message of this number.
+    pub fn is_holding(&self, caller: CallerNo, number: u64) -> bool
+        ensures { result ≡ is_holding self.now.link caller number }
+    {
+        self.link.is_holding(caller, number)
+    }
+
+    /// Why this caller can't begin a call, if it can't: it isn't in use, or it is in a call.
+    pub fn ready_fault(&self, caller: CallerNo) -> Option<BenchFault>
+        ensures fault { result ≡ ready_fault self.now caller }
+        ensures within { IfNone result (caller < 64) }
+    {
+        match self.end_of(caller) {
+            None => Some(BenchFault::NoCaller),
+            Some(_) if self.is_in_call(caller) => Some(BenchFault::InCall),
+            Some(_) => None,
+        }
+    }
+
+    /// Why this caller can't begin this call, if it can't: it isn't in use, it is in a call, or it
+    /// doesn't hold the buffer that it is to give back.
+    pub fn begin_fault(&self, caller: CallerNo, wished: &Wish) -> Option<BenchFault>
+        ensures fault { result ≡ begin_fault self.now caller wished.now }
+        ensures within { IfNone result (caller < 64) }
+    {
+        if let Some(fault) = self.ready_fault(caller) {
+            return Some(fault);
+        }
+        match wished {
+            Wish::Give(number) if !self.is_holding(caller, *number) => {
+                Some(BenchFault::NotHeld(*number))
+            }
+            _ => None,
+        }
+    }
+
+    /// Begins a call, which follows the incarnation that the link is in, and does no step of it.
+    ///
+    /// # Errors
+    ///
+    /// [`BenchFault::NoCaller`], then [`BenchFault::InCall`], then [`BenchFault::NotHeld`] of a give
+    /// of what the caller doesn't hold. The bench is as it was then.
+    pub fn begin(&mut self, caller: CallerNo, wished: Wish) -> Result<(), BenchFault>
+        ensures fault { IfErr result (λ why. begin_fault self.old caller wished ≡ Some why) }
+        ensures refused { IfErr result (λ _. self.new ≡ self.old) }
+        ensures none { IfOk result (λ _. begin_fault self.old caller wished ≡ None) }
+        ensures begun { IfOk result (λ _. self.new
+            ≡ with_begun self.old caller (Some (record { follows = self.old.link.era.inc; wish = wished }))) }
+    {
+        if let Some(fault) = self.begin_fault(caller, &wished) {
+            return Err(fault);
+        }
+        self.put_begun(caller, wished);
+        Ok(())
+    }
+
+    /// Begins a call of a caller that may begin it.
+    pub fn put_begun(&mut self, caller: CallerNo, wished: Wish)
+        requires caller { caller < 64 }
+        requires ready { begin_fault self.old caller wished ≡ None }
+        ensures { self.new ≡ with_begun self.old caller (Some (record { follows = self.old.link.era.inc; wish = wished })) }
+    {
+        show_sendable(&wished);
+        self.begun[usize::from(caller)] = Some(BegunCall {
+            follows: self.link.era.inc,
+            wish: wished,
+        });
+    }
+
+    /// Does one step of the call that a caller is in, and `more` further ones, but no more than the
+    /// call has and the run may still take; `steps` counts them. Where the call ends, `end` says how.
+    #[inline(always)]
+    pub fn advance(
+        &mut self,
+        caller: CallerNo,
+        more: u64,
+        steps: &mut u64,
+        end: &mut CallEnd,
+    ) -> Progress
+        requires caller { caller < 64 }
+        requires calling { is_in_call self.old caller ≡ true }
+        requires more { more < STEPS_MOST }
+        requires steps { steps.old ≤ STEPS_MOST }
+        ensures bench { self.new ≡ (advance_walk self.old more steps.old caller).bench }
+        ensures steps { steps.new ≡ (advance_walk self.old more steps.old caller).steps }
+        ensures reach { reach_of result end.new ≡ (advance_walk self.old more steps.old caller).reach }
+        ensures within { steps.new ≤ STEPS_MOST }
+    {
+        let place = usize::from(caller);
+        if let Some(call) = &self.begun[place] {
+            if *steps == STEPS_MOST {
+                return Progress::Limit;
+            }
+            let progress = call_steps(
+                &mut self.link,
+                caller,
+                call.follows,
+                &call.wish,
+                more,
+                steps,
+                end,
+            );
+            self.begun[place] = None;
+            return progress;
+        }
+        later_steps(&mut self.link, caller, more + 1, 0, steps, end)
+    }
+
+    /// Makes a whole call of a caller that may begin it; `steps` counts its steps.
+    pub fn call(
+        &mut self,
+        caller: CallerNo,
+        wished: &Wish,
+        steps: &mut u64,
+        end: &mut CallEnd,
+    ) -> Progress
+        requires ready { begin_fault self.old caller wished.now ≡ None }
+        requires steps { steps.old ≤ STEPS_MOST }
+        ensures bench { self.new ≡ (call_walk self.old steps.old caller wished.now).bench }
+        ensures steps { steps.new ≡ (call_walk self.old steps.old caller wished.now).steps }
+        ensures reach { reach_of result end.new ≡ (call_walk self.old steps.old caller wished.now).reach }
+        ensures within { steps.new ≤ STEPS_MOST }
+    {
+        show_sendable(wished);
+        let follows = self.link.era.inc;
+        whole_steps(&mut self.link, caller, follows, wished, steps, end)
+    }
+
+    /// Does the first step of a call of a caller that may begin it; `steps` counts it.
+    pub fn start(
+        &mut self,
+        caller: CallerNo,
+        wished: &Wish,
+        steps: &mut u64,
+        end: &mut CallEnd,
+    ) -> Progress
+        requires ready { begin_fault self.old caller wished.now ≡ None }
+        requires steps { steps.old ≤ STEPS_MOST }
+        ensures bench { self.new ≡ (start_walk self.old steps.old caller wished.now).bench }
+        ensures steps { steps.new ≡ (start_walk self.old steps.old caller wished.now).steps }
+        ensures reach { reach_of result end.new ≡ (start_walk self.old steps.old caller wished.now).reach }
+        ensures within { steps.new ≤ STEPS_MOST }
+    {
+        show_sendable(wished);
+        let follows = self.link.era.inc;
+        call_steps(&mut self.link, caller, follows, wished, 0, steps, end)
+    }
+
+    /// Makes a whole send of the message that has the bytes of `head` and then those of `body`;
+    /// `steps` counts its steps.
+    pub fn send(
+        &mut self,
+        caller: CallerNo,
+        head: &[u8],
+        body: &[u8],
+        steps: &mut u64,
+        end: &mut CallEnd,
+    ) -> Progress
+        requires ready { ready_fault self.old caller ≡ None }
+        requires fits { length head.now + length body.now ≤ MESSAGE_MOST }
+        requires steps { steps.old ≤ STEPS_MOST }
+        ensures bench { self.new ≡ (call_walk self.old steps.old caller (wish.Send (head.now ++ body.now))).bench }
+        ensures steps { steps.new ≡ (call_walk self.old steps.old caller (wish.Send (head.now ++ body.now))).steps }
+        ensures reach { reach_of result end.new ≡ (call_walk self.old steps.old caller (wish.Send (head.now ++ body.now))).reach }
+        ensures within { steps.new ≤ STEPS_MOST }
+    {
+        let follows = self.link.era.inc;
+        whole_send(&mut self.link, caller, follows, head, body, steps, end)
+    }
+
+    /// The message of a number on the lane that a caller takes from, or no byte where there is none.
+    pub fn taken_message(&self, caller: CallerNo, number: u64) -> &[u8]
+        ensures message { result.now ≡ taken_on self.now.link (end_of self.now.link.callers caller) number }
+        ensures short { length result.now ≤ MESSAGE_MOST }
+    {
+        let message = match self.end_of(caller) {
+            Some(End::Host) => self.link.to_host.message(number),
+            Some(End::Remote) => self.link.to_remote.message(number),
+            None => None,
+        };
+        message.unwrap_or(&[])
+    }
+
+    /// How many messages were accepted, handed over and given back on a lane: 0 to the host, 1 to the
+    /// remote. No more are accepted than the largest book has room for.
+    pub fn counts(&self, lane: u8) -> (u64, u64, u64)
+        requires { lane < 2 }
+        ensures counts { result ≡ counts_of self.now lane }
+        ensures few { result.0 ≤ BOOK_MOST }
+    {
+        let counted = if lane == 0 {
+            &self.link.to_host
+        } else {
+            &self.link.to_remote
+        };
+        (counted.accepted(), counted.handed(), counted.returned())
+    }
+}
+
+/// No call for each number of a caller.
+fn nothing_begun(alloc: Global) -> Result<Vec<Option<BegunCall>>, NoMemory>
+    ensures { IfOk result (λ begun. begun.items ≡ no_begun) }
+{
+    let mut begun = Vec::with_capacity(alloc, CALLERS_MOST)?;
+    for _ in 0..CALLERS_MOST {
+        begun.push(None)?;
+    }
+    Ok(begun)
+}
+
+/// A message fits a buffer, as its type says.
+fn show_sendable(wished: &Wish)
+    ensures { IsSendable wished.now }
+{
+    if let Wish::Send(message) = wished {
+        let _bytes = message.bytes();
+    }
+}

@@ -1,0 +1,18 @@
+// A link with its callers and the calls that they are in: its calls whole and by steps, its close, reclaims and reopening.
+#![tactic(auto)]
+
+mod bench_crashes;
+mod bench_ends;
+mod bench_holds;
+mod bench_rings;
+mod bench_steps;
+mod benches;
+mod steps;
+mod turns;
+mod whole_steps;
+
+pub use bench_crashes::Reclaim;
+pub use bench_rings::lane_base;
+pub use bench_steps::Done;
+pub use benches::{BegunCall, Bench, BenchFault, Progress, Reach};
+pub use turns::{TurnEnd, turn_payload};

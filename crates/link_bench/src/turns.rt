@@ -1,0 +1,241 @@
+ghost use Rattle.std.specs.Prelude.{◌≡◌, ◌<◌, ◌≤◌, None, IfSome, length};
+ghost use Rattle.rp_base.specs.declared.limits.TheConstants.{PAYLOAD_MOST, STEPS_MOST};
+ghost use Rattle.lane_model.specs.declared.calls.Wish.TheVariants as wish;
+ghost use Rattle.byteorder.specs.Endian.{little_bytes};
+ghost use Rattle.rpmsg_header.specs.Headers.{header_bytes};
+ghost use Rattle.link_bench.specs.Benches.{call_walk, reach_of};
+ghost use Rattle.link_bench.specs.declared.benches.Reach.TheVariants as reach;
+ghost use Rattle.link_bench.specs.Turns.{give_turn, is_whole, number_of, one_turn, pump_turns, reach_number, take_turn, turn_call};
+
+use crate::benches::{Bench, BenchFault, Progress, Reach};
+use lane_model::{CallEnd, Wish};
+use rp_base::CallerNo;
+
+/// How a turn of a pump ended: a send, its take and its give.
+#[derive(Clone, Copy)]
+pub enum TurnEnd {
+    /// The message was sent, taken and given back.
+    Whole,
+    /// A call of this caller could not begin.
+    Fault(CallerNo, BenchFault),
+    /// A call of this caller came so far, which is not the end that the turn needs.
+    Reached(CallerNo, Reach),
+}
+
+impl TurnEnd {
+    pub fn is_whole(&self) -> bool
+        ensures { result ≡ is_whole self.now }
+    {
+        matches!(self, TurnEnd::Whole)
+    }
+}
+
+impl Bench {
+    /// At most so many turns, up to the first that is not whole: how many were whole. `ended` says how
+    /// the last one ended, and `steps` counts the steps.
+    pub fn turns(
+        &mut self,
+        sender: CallerNo,
+        receiver: CallerNo,
+        count: u64,
+        steps: &mut u64,
+        ended: &mut TurnEnd,
+    ) -> u64
+        requires sender { sender < 64 }
+        requires receiver { receiver < 64 }
+        requires count { count ≤ STEPS_MOST }
+        requires steps { steps.old ≤ STEPS_MOST }
+        ensures bench { self.new ≡ (pump_turns count 0 sender receiver self.old steps.old).turns.bench }
+        ensures steps { steps.new ≡ (pump_turns count 0 sender receiver self.old steps.old).turns.steps }
+        ensures ended { ended.new ≡ (pump_turns count 0 sender receiver self.old steps.old).turns.ended }
+        ensures done { result ≡ (pump_turns count 0 sender receiver self.old steps.old).done }
+        ensures within { steps.new ≤ STEPS_MOST }
+    {
+        for done in 0..count {
+            self.turn(sender, receiver, done, steps, ended);
+            if !ended.is_whole() {
+                return done;
+            }
+        }
+        *ended = TurnEnd::Whole;
+        count
+    }
+
+    /// A turn: a send of its number, a take, and the give of what was taken. `ended` says how
+    /// it ended.
+    #[tactic(auto, unfolding(crate::specs::Turns::one_turn))]
+    fn turn(
+        &mut self,
+        sender: CallerNo,
+        receiver: CallerNo,
+        number: u64,
+        steps: &mut u64,
+        ended: &mut TurnEnd,
+    )
+        requires sender { sender < 64 }
+        requires receiver { receiver < 64 }
+        requires number { number ≤ STEPS_MOST }
+        requires steps { steps.old ≤ STEPS_MOST }
+        ensures bench { self.new ≡ (one_turn sender receiver number self.old steps.old).bench }
+        ensures steps { steps.new ≡ (one_turn sender receiver number self.old steps.old).steps }
+        ensures ended { ended.new ≡ (one_turn sender receiver number self.old steps.old).ended }
+        ensures within { steps.new ≤ STEPS_MOST }
+    {
+        match self.turn_send(sender, &turn_payload(number), steps, ended) {
+            Some(_) => self.take_turn(receiver, steps, ended),
+            None => {}
+        }
+    }
+
+    /// The take of a turn, and the give of what was taken.
+    #[tactic(auto, unfolding(crate::specs::Turns::take_turn))]
+    fn take_turn(&mut self, receiver: CallerNo, steps: &mut u64, ended: &mut TurnEnd)
+        requires receiver { receiver < 64 }
+        requires steps { steps.old ≤ STEPS_MOST }
+        ensures bench { self.new ≡ (take_turn receiver self.old steps.old).bench }
+        ensures steps { steps.new ≡ (take_turn receiver self.old steps.old).steps }
+        ensures ended { ended.new ≡ (take_turn receiver self.old steps.old).ended }
+        ensures within { steps.new ≤ STEPS_MOST }
+    {
+        match self.turn_call(receiver, &Wish::Take, steps, ended) {
+            Some(number) => self.give_turn(receiver, number, steps, ended),
+            None => {}
+        }
+    }
+
+    /// The give of a turn.
+    #[tactic(auto, unfolding(crate::specs::Turns::give_turn))]
+    pub fn give_turn(
+        &mut self,
+        receiver: CallerNo,
+        number: u64,
+        steps: &mut u64,
+        ended: &mut TurnEnd,
+    )
+        requires receiver { receiver < 64 }
+        requires steps { steps.old ≤ STEPS_MOST }
+        ensures bench { self.new ≡ (give_turn receiver self.old steps.old number).bench }
+        ensures steps { steps.new ≡ (give_turn receiver self.old steps.old number).steps }
+        ensures ended { ended.new ≡ (give_turn receiver self.old steps.old number).ended }
+        ensures within { steps.new ≤ STEPS_MOST }
+    {
+        match self.turn_call(receiver, &Wish::Give(number), steps, ended) {
+            Some(_) => *ended = TurnEnd::Whole,
+            None => {}
+        }
+    }
+
+    /// The send of a turn, from address 0 to 1024, with the tests that each call has.
+    #[tactic(auto, unfolding(crate::specs::Turns::turn_call))]
+    pub fn turn_send(
+        &mut self,
+        sender: CallerNo,
+        payload: &[u8],
+        steps: &mut u64,
+        ended: &mut TurnEnd,
+    ) -> Option<u64>
+        requires sender { sender < 64 }
+        requires fits { length payload.now ≤ PAYLOAD_MOST }
+        requires steps { steps.old ≤ STEPS_MOST }
+        ensures bench { self.new ≡ (turn_call self.old steps.old sender (wish.Send (header_bytes 0 1024 payload.now))).bench }
+        ensures steps { steps.new ≡ (turn_call self.old steps.old sender (wish.Send (header_bytes 0 1024 payload.now))).steps }
+        ensures number { number_of result ended.new ≡ (turn_call self.old steps.old sender (wish.Send (header_bytes 0 1024 payload.now))).number }
+        ensures within { steps.new ≤ STEPS_MOST }
+    {
+        if let Some(fault) = self.ready_fault(sender) {
+            *ended = TurnEnd::Fault(sender, fault);
+            return None;
+        }
+        let head = rpmsg_header::head(0, 1024, payload.len() as u16);
+        let mut end = CallEnd::Empty(0);
+        let progress = self.send(sender, &head, payload, steps, &mut end);
+        reach_number(sender, progress, &end, ended)
+    }
+
+    /// A call of a turn, with the tests that each call has: the number of its message. Where it doesn't
+    /// end well, `ended` says how.
+    #[tactic(auto, unfolding(crate::specs::Turns::turn_call))]
+    fn turn_call(
+        &mut self,
+        caller: CallerNo,
+        wished: &Wish,
+        steps: &mut u64,
+        ended: &mut TurnEnd,
+    ) -> Option<u64>
+        requires caller { caller < 64 }
+        requires steps { steps.old ≤ STEPS_MOST }
+        ensures bench { self.new ≡ (turn_call self.old steps.old caller wished.now).bench }
+        ensures steps { steps.new ≡ (turn_call self.old steps.old caller wished.now).steps }
+        ensures number { number_of result ended.new ≡ (turn_call self.old steps.old caller wished.now).number }
+        ensures within { steps.new ≤ STEPS_MOST }
+    {
+        if let Some(fault) = self.begin_fault(caller, wished) {
+            *ended = TurnEnd::Fault(caller, fault);
+            return None;
+        }
+        let mut end = CallEnd::Empty(0);
+        let progress = self.call(caller, wished, steps, &mut end);
+        reach_number(caller, progress, &end, ended)
+    }
+}
+
+impl Bench {
+    /// The take of a turn, with the tests that each call has: the number of its message, with its end.
+    /// Where it doesn't end well, `ended` says how.
+    #[tactic(auto, unfolding(crate::specs::Turns::turn_call))]
+    pub fn turn_take(
+        &mut self,
+        receiver: CallerNo,
+        steps: &mut u64,
+        end: &mut CallEnd,
+        ended: &mut TurnEnd,
+    ) -> Option<u64>
+        requires receiver { receiver < 64 }
+        requires steps { steps.old ≤ STEPS_MOST }
+        ensures bench { self.new ≡ (turn_call self.old steps.old receiver wish.Take).bench }
+        ensures steps { steps.new ≡ (turn_call self.old steps.old receiver wish.Take).steps }
+        ensures number { number_of result ended.new ≡ (turn_call self.old steps.old receiver wish.Take).number }
+        ensures end { IfSome result (λ _. (call_walk self.old steps.old receiver wish.Take).reach ≡ reach.Ended end.new) }
+        ensures within { steps.new ≤ STEPS_MOST }
+    {
+        if let Some(fault) = self.begin_fault(receiver, &Wish::Take) {
+            *ended = TurnEnd::Fault(receiver, fault);
+            return None;
+        }
+        let progress = self.call(receiver, &Wish::Take, steps, end);
+        reach_number(receiver, progress, end, ended)
+    }
+}
+
+/// The payload of the message of a turn: its number in four bytes.
+pub fn turn_payload(number: u64) -> [u8; 4]
+    requires { number ≤ STEPS_MOST }
+    ensures { result ≡ little_bytes 4 number }
+{
+    (number as u32).to_le_bytes()
+}
+
+/// The number of the message of a call that ended well. Of any other, `ended` says how far it came.
+fn reach_number(
+    caller: CallerNo,
+    progress: Progress,
+    end: &CallEnd,
+    ended: &mut TurnEnd,
+) -> Option<u64>
+    ensures number { number_of result ended.new ≡ reach_number caller (reach_of progress end.now) }
+    ensures reach { IfSome result (λ _. reach_of progress end.now ≡ reach.Ended end.now) }
+{
+    let reach = match (progress, end) {
+        (
+            Progress::Ended,
+            CallEnd::Sent(number) | CallEnd::Took(number, _) | CallEnd::Gave(number),
+        ) => {
+            return Some(*number);
+        }
+        (Progress::Ended, _) => Reach::Ended(*end),
+        (Progress::At(step), _) => Reach::At(step),
+        (Progress::Limit, _) => Reach::Limit,
+    };
+    *ended = TurnEnd::Reached(caller, reach);
+    None
+}

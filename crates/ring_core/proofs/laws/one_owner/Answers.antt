@@ -1,5 +1,0 @@
-use Rattle.ring_core.proofs.OneOwner.{owner_once}
-use Rattle.ring_core.proofs.laws.one_owner.Goals as goal
-
-pub returns : goal.returns
-returns g c = λ s id sound. owner_once s id sound

@@ -1,0 +1,5 @@
+use Rattle.run_laws.proofs.CoresReady.{effect_ready, runs_ready}
+use Rattle.run_laws.proofs.laws.cores_ready.Goals as goal
+
+pub returns : goal.returns
+returns c = record { command = effect_ready; run = runs_ready }

@@ -1,0 +1,65 @@
+//! Laws of runs: over a store of images, and of the links that they leave. Each is the contract of an empty function, and speaks of definitions alone.
+
+ghost use Rattle.std.specs.Prelude.{◌≡◌, List, Option, Some, false, Contains, IfSome};
+ghost use Rattle.script_lang.specs.declared.commands.Command.{Command};
+ghost use Rattle.script_lang.specs.Runnable.{AreRunnable, IsRunnable};
+ghost use Rattle.lane_model.specs.Soundness.{SoundLink};
+ghost use Rattle.link_bench.specs.Benches.{BenchState};
+ghost use Rattle.run_laws.specs.Kept.{AreKept, AreReady};
+ghost use Rattle.script_run.specs.NamedCores.{NamedCoreState};
+ghost use Rattle.script_run.specs.NamedLinks.{NamedLink};
+ghost use Rattle.run_laws.specs.Reached.{AreReached, HandsInOrder};
+ghost use Rattle.script_run.specs.Stores.{Answer, IsHeld, Told, held};
+ghost use Rattle.script_run.specs.Runs.{RunState, effect_of, new_run, run_of};
+
+/// Over a store that tells its images and doesn't fail, a run is a function of the images and the commands.
+pub fn images_and_commands()
+    ensures { (images : List (List ℕ × List ℕ)) (told : Told) (commands : List Command) → IsHeld (Some images) told
+        → run_of told commands ≡ run_of (held images) commands }
+{}
+
+/// No run ends with a fault of the store but where the store fails.
+pub fn faults_alone()
+    ensures { (images : Option (List (List ℕ × List ℕ))) (told : Told) (commands : List Command) → IsHeld images told
+        → (run_of told commands).failed ≡ false }
+{}
+
+/// After each list of commands, and so after each front of a script, each link comes by moves from the start of its incarnation, and so
+/// does the link of each core, whatever the store tells.
+pub fn links_reached()
+    ensures command { (answer : Answer) (run : RunState) (command : Command) → IsRunnable command → AreReached run.objects
+        → AreReached (effect_of answer run command).run.objects }
+    ensures run { (told : Told) (commands : List Command) → AreRunnable commands → AreReached (run_of told commands).last.objects }
+{}
+
+/// So each link of a run, and the link of each core, is sound after each front of a script.
+pub fn links_sound()
+    ensures links { (told : Told) (commands : List Command) (named : NamedLink) → AreRunnable commands
+        → Contains (run_of told commands).last.objects.links named → SoundLink named.bench.link }
+    ensures cores { (told : Told) (commands : List Command) (named : NamedCoreState) → AreRunnable commands
+        → Contains (run_of told commands).last.objects.cores named → IfSome named.core.bench (λ (bench : BenchState). SoundLink bench.link) }
+{}
+
+/// Each link of a run, and the link of each core, hands over each message at most once and in order, and what each endpoint got from a
+/// sender is a front of what is due to it.
+pub fn links_in_order()
+    ensures links { (told : Told) (commands : List Command) (named : NamedLink) → AreRunnable commands
+        → Contains (run_of told commands).last.objects.links named → HandsInOrder named.bench.link }
+    ensures cores { (told : Told) (commands : List Command) (named : NamedCoreState) → AreRunnable commands
+        → Contains (run_of told commands).last.objects.cores named → IfSome named.core.bench (λ (bench : BenchState). HandsInOrder bench.link) }
+{}
+
+/// After each list of commands the link of each core has the core's own callers in use, 0 at the host and 1 at the remote, no turn of it is the
+/// manager's, and it is in the incarnation of the core's life, live exactly while the core runs.
+pub fn cores_kept()
+    ensures command { (answer : Answer) (run : RunState) (command : Command) → AreKept run.objects → AreKept (effect_of answer run command).run.objects }
+    ensures run { (told : Told) (commands : List Command) → AreKept (run_of told commands).last.objects }
+{}
+
+/// The actors of each core hold, while the core runs, what their calls give back, so that the next call of each may always begin, and have begun
+/// no call without a step of it.
+pub fn cores_ready()
+    ensures command { (answer : Answer) (run : RunState) (command : Command) → IsRunnable command → AreReached run.objects → AreKept run.objects
+        → AreReady run.objects → AreReady (effect_of answer run command).run.objects }
+    ensures run { (told : Told) (commands : List Command) → AreRunnable commands → AreReady (run_of told commands).last.objects }
+{}

@@ -1,5 +1,0 @@
-use Rattle.script_run.proofs.CoresReady.{effect_ready, runs_ready}
-use Rattle.script_run.proofs.laws.cores_ready.Goals as goal
-
-pub returns : goal.returns
-returns c = record { command = effect_ready; run = runs_ready }
