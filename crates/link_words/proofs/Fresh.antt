@@ -69,14 +69,14 @@ module _ {D : Type 0} (cd : Coded D) (desk : DeskMeaning D) where
   pub opens_new : (config : LinkConfig) (host remote : D) (xs ys : List (List ℕ)) → IsConfig config → length xs ≡ ring_capacity config.num0 → length ys ≡ ring_capacity config.num1
       → let z : LinkSizes = record { to_host = sizes_of config.num0 true; to_remote = sizes_of config.num1 false; first = config.first } in
       WordsRule cd desk z (opening (words_of 0 [] (opened_ring_link config host remote))
-      (Sender (record { accepted = 0 }) ∷ Receiver (record { handed = 0; returned = 0; held = [] }) ∷ Sender (record { accepted = 0 }) ∷ Receiver (record { handed = 0; returned = 0; held = [] }) ∷ (map Buffer xs ++ map Buffer ys))
+      (Sender (record { accepted = 0 }) ∷ Receiver (record { handed = 0; returned = 0; hands = [] }) ∷ Sender (record { accepted = 0 }) ∷ Receiver (record { handed = 0; returned = 0; hands = [] }) ∷ (map Buffer xs ++ map Buffer ys))
       (first_view z 64))
   opens_new config host remote xs ys is many0 many1 =
       let z : LinkSizes = record { to_host = sizes_of config.num0 true; to_remote = sizes_of config.num1 false; first = config.first } in let m = opened_ring_link config host remote in (
         m,
         0,
         put_together refl
-            (record { host = map some (map Buffer xs); remote = map some (map Buffer ys) }) (ap (λ (l : List (Option_of Slot)). some (Sender (record { accepted = 0 })) ∷ some (Receiver (record { handed = 0; returned = 0; held = [] })) ∷ some (Sender (record { accepted = 0 })) ∷ some (Receiver (record { handed = 0; returned = 0; held = [] })) ∷ l)
+            (record { host = map some (map Buffer xs); remote = map some (map Buffer ys) }) (ap (λ (l : List (Option_of Slot)). some (Sender (record { accepted = 0 })) ∷ some (Receiver (record { handed = 0; returned = 0; hands = [] })) ∷ some (Sender (record { accepted = 0 })) ∷ some (Receiver (record { handed = 0; returned = 0; hands = [] })) ∷ l)
             (map_append some (map Buffer xs) (map Buffer ys)))
             (record { rings = opened_link_sound config host remote is; sound = opened_sound config host remote }) (refl, refl) shelf (record { start = m; run = []; by_run = refl })
             (record {

@@ -21,7 +21,6 @@ use Rattle.lane_model.specs.Lanes.{holder, has_call, message_at}
 use Rattle.lane_laws.specs.Parts.{manager_takes, manager_leaves}
 use Rattle.lane_model.specs.Links.{end_of}
 use Rattle.lane_model.specs.declared.states.BookEntry.{BookEntry}
-use Rattle.lane_model.specs.Crashes.{held_by_others}
 use Rattle.ring_core.specs.declared.states.RingState.{RingState}
 use Rattle.ring_core.specs.Owners.{sender_is_out, receiver_is_out}
 use Rattle.ring_core.specs.Rings.{buffer_at}
@@ -43,7 +42,7 @@ use Rattle.link_words.specs.Codes.{copied}
 use Rattle.link_words.specs.Passes.{PassAt, Mover, with_pass, with_call, with_call_and_hands}
 use Rattle.link_words.specs.Calls.{SeatState}
 use mathlib.Core.Path.{Path}
-use Rattle.ring_core.specs.RingSteps.{ring_form}
+use Rattle.ring_core.specs.RingSteps.{ring_form, hands_of_others}
 use Rattle.link_words.proofs.Frames.{keepers_set, keepers_new}
 use Rattle.link_words.proofs.LaneSteps.{lane_moves_by, hands_kept}
 use Rattle.link_words.proofs.Sends.{true-false}
@@ -239,7 +238,7 @@ module _ {D : Type 0} (cd : Coded D) (desk : DeskMeaning D) (z : LinkSizes) wher
       )
 
   -- part 4: the turn is left, and the caller holds nothing
-  pub leaves_held : (n id : ℕ) (me : SeatState) (o : Mover me.0) (e : End) (x x' : ReceiverSide) → o.pass.call ≡ EndsHeld e x → x' ≡ record x { held = held_by_others x.held o.pass.number } → me.1 ≡ (receiver_slot e, Receiver x') ∷ rest me.1
+  pub leaves_held : (n id : ℕ) (me : SeatState) (o : Mover me.0) (e : End) (x x' : ReceiverSide) → o.pass.call ≡ EndsHeld e x → x' ≡ record x { hands = hands_of_others x.hands o.pass.number } → me.1 ≡ (receiver_slot e, Receiver x') ∷ rest me.1
       → Allows (WordsRule cd desk z) n id me (receiver_word e) (λ _. 0) (λ _ me'. me' ≡ (with_pass me.0 o (with_call_and_hands o.pass (Rests e) []) me'.0.copy, rest me.1))
   leaves_held n id me o e x x' call side_is has_slot st (m, p, r₀) wide at _ =
       let h : IsCallOf m p o.pass.number (EndsHeld e x) = subst (IsCallOf m p o.pass.number) call (r₀.turns.calls id o.place o.pass (me.0, at, o.here)) in
@@ -248,7 +247,7 @@ module _ {D : Type 0} (cd : Coded D) (desk : DeskMeaning D) (z : LinkSizes) wher
       let left : Turn Receiving → RingState D = λ t. record out { lane = record out.lane { receiver = manager_leaves t } } in
       let s = with_receiver s₀ turn.Manager in let is : s₀ ≡ s = λ k. with_receiver s₀ (h.1 k) in let s' = left turn.Manager in
       let ha = lane_homes s (shelf_to r.shelves e) in let hb = lane_homes (lane_to m (other e)) (shelf_to r.shelves (other e)) in
-      let side : x' ≡ receiver_side s' = side_is ∙ ap (λ (u : ReceiverSide). record u { held = held_by_others u.held c }) h.2 in
+      let side : x' ≡ receiver_side s' = side_is ∙ ap (λ (u : ReceiverSide). record u { hands = hands_of_others u.hands c }) h.2 in
       let mine : has_for_manager e o.pass.call ≡ true = ap (has_for_manager e) call ∙ same_self e in (
         _,
         gives,

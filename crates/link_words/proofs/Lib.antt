@@ -28,3 +28,4 @@ pub mod Tells
 pub mod Apart
 pub mod Told
 pub mod Beginnings
+pub mod Gives

@@ -100,6 +100,26 @@ set_behind : {A : Type 0} (xs ys : List A) (i : ℕ) (a : A) → set (xs ++ ys) 
 set_behind [] ys i a = ap (λ (k : ℕ). set ys k a) (let e : 0 + i ≡ i = omega arith in e)
 set_behind {A = A} (x ∷ xs) ys i a = ap (λ (k : ℕ). set (x ∷ (xs ++ ys)) k a) (let e : suc (length xs) + i ≡ suc (length xs + i) = omega arith in e) ∙ ap (λ (l : List A). x ∷ l) (set_behind xs ys i a)
 
+-- a return entry that is stored
+pub returns_set : (e : End) (era i word : ℕ) (entry : UsedWord) (a b : LaneWords) → i < length a.returns → word ≡ 10 + (ahead e b + (length a.forward + i)) → set (words_at e era a b) word (entry_word entry) ≡ words_at e era (record a { returns = set a.returns i entry }) b
+returns_set side.Host era i word entry a b low at =
+    let f = length-map a.forward entry_word in
+    let front : List ℕ → List ℕ = λ l. 0 ∷ era ∷ a.sender ∷ a.receiver ∷ b.sender ∷ b.receiver ∷ a.forward_index ∷ a.return_index ∷ b.forward_index ∷ b.return_index ∷ l in
+    ap (λ (k : ℕ). set (words_at side.Host era a b) k (entry_word entry)) (let e : word ≡ suc (suc (suc (suc (suc (suc (suc (suc (suc (suc (length (map entry_word a.forward) + i)))))))))) = omega (arith, at, f) in e)
+    ∙ ap front (set_behind (map entry_word a.forward) (map entry_word a.returns ++ entry_words_before b []) i (entry_word entry)
+    ∙ ap (λ (l : List ℕ). map entry_word a.forward ++ l) (set_front (map entry_word a.returns) (entry_words_before b []) i (entry_word entry) (let l = length-map a.returns entry_word in omega (arith, low, l))
+    ∙ ap (λ (l : List ℕ). l ++ entry_words_before b []) (sym (map-set entry_word a.returns i entry))))
+returns_set side.Remote era i word entry a b low at =
+    let f = length-map a.forward entry_word in let g = length-map b.forward entry_word in let h = length-map b.returns entry_word in
+    let front : List ℕ → List ℕ = λ l. 0 ∷ era ∷ b.sender ∷ b.receiver ∷ a.sender ∷ a.receiver ∷ b.forward_index ∷ b.return_index ∷ a.forward_index ∷ a.return_index ∷ l in
+    ap (λ (k : ℕ). set (words_at side.Remote era a b) k (entry_word entry))
+    (let e : word ≡ suc (suc (suc (suc (suc (suc (suc (suc (suc (suc (length (map entry_word b.forward) + (length (map entry_word b.returns) + (length (map entry_word a.forward) + i)))))))))))) = omega (arith, at, f, g, h) in e)
+    ∙ ap front (set_behind (map entry_word b.forward) (map entry_word b.returns ++ entry_words_before a []) (length (map entry_word b.returns) + (length (map entry_word a.forward) + i)) (entry_word entry)
+    ∙ ap (λ (l : List ℕ). map entry_word b.forward ++ l) (set_behind (map entry_word b.returns) (entry_words_before a []) (length (map entry_word a.forward) + i) (entry_word entry)
+    ∙ ap (λ (l : List ℕ). map entry_word b.returns ++ l) (set_behind (map entry_word a.forward) (map entry_word a.returns ++ []) i (entry_word entry)
+    ∙ ap (λ (l : List ℕ). map entry_word a.forward ++ l) (set_front (map entry_word a.returns) [] i (entry_word entry) (let l = length-map a.returns entry_word in omega (arith, low, l))
+    ∙ ap (λ (l : List ℕ). l ++ []) (sym (map-set entry_word a.returns i entry))))))
+
 forward_set : (e : End) (era i word : ℕ) (entry : UsedWord) (a b : LaneWords) → i < length a.forward → word ≡ 10 + (ahead e b + i) → set (words_at e era a b) word (entry_word entry) ≡ words_at e era (record a { forward = set a.forward i entry }) b
 forward_set side.Host era i word entry a b low at =
     let front : List ℕ → List ℕ = λ l. 0 ∷ era ∷ a.sender ∷ a.receiver ∷ b.sender ∷ b.receiver ∷ a.forward_index ∷ a.return_index ∷ b.forward_index ∷ b.return_index ∷ l in

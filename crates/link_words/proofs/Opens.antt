@@ -17,7 +17,7 @@ use Rattle.lane_model.specs.Lanes.{holder, has_call}
 use Rattle.lane_model.specs.Links.{end_of}
 use Rattle.lane_model.specs.Recoveries.{link_after_reopen}
 use Rattle.ring_core.specs.declared.states.RingState.{RingState}
-use Rattle.ring_core.specs.RingSteps.{ring_form}
+use Rattle.ring_core.specs.RingSteps.{ring_form, holding_of}
 use Rattle.ring_core.specs.Owners.{sender_is_out, receiver_is_out}
 use Rattle.lane_laws.proofs.RingLinks.{reopen_kept}
 use Rattle.link_words.specs.declared.rule.Slot.{Slot}
@@ -131,7 +131,7 @@ opened_hands desk m q bare has side.Remote user = ap (hands_of q.number) (sym ba
 
 -- the manager's view after the opening
 abbrev pub opened_view : (v : View) → Mover v → Option LinkCopy → View
-opened_view v o k = record (with_pass v o (with_call o.pass (HoldsAll (record { handed = 0; returned = 0; held = [] }) (record { handed = 0; returned = 0; held = [] }))) k) { is_closed = false; inc = v.inc + 1; reclaims = [] }
+opened_view v o k = record (with_pass v o (with_call o.pass (HoldsAll (record { handed = 0; returned = 0; hands = [] }) (record { handed = 0; returned = 0; hands = [] }))) k) { is_closed = false; inc = v.inc + 1; reclaims = [] }
 
 module _ {D : Type 0} (cd : Coded D) (desk : DeskMeaning D) (z : LinkSizes) where
   fresh_is : (m : LaneLink (RingState D)) → (m.to_host.rings.sizes ≡ z.to_host) × (m.to_remote.rings.sizes ≡ z.to_remote) → fresh_block desk m ≡ fresh_of z
@@ -153,7 +153,7 @@ module _ {D : Type 0} (cd : Coded D) (desk : DeskMeaning D) (z : LinkSizes) wher
   opened_shelves m sh old a side.Remote = opened_shelf m.to_remote (link_after_opening desk m).to_remote sh.remote (old side.Remote) a.remote_sender a.remote_receiver refl refl
 
   -- the manager has the four turns, and its sides hold nothing: it loads the era
-  pub begins : (n id : ℕ) (me : SeatState) (o : Mover me.0) (host remote : ReceiverSide) → o.pass.call ≡ HoldsAll host remote → host.held ≡ [] → remote.held ≡ [] → Allows (WordsRule cd desk z) n id me 1 (λ y. y) (BeginsReopening me o)
+  pub begins : (n id : ℕ) (me : SeatState) (o : Mover me.0) (host remote : ReceiverSide) → o.pass.call ≡ HoldsAll host remote → host.hands ≡ [] → remote.hands ≡ [] → Allows (WordsRule cd desk z) n id me 1 (λ y. y) (BeginsReopening me o)
   begins n id me o host remote call bare_host bare_remote st (m, p, r) wide at _ =
       go m.era.is_live refl (subst (IsCallOf m p o.pass.number) call (r.turns.calls id o.place o.pass (me.0, at, o.here))) (ap (λ (ws : List ℕ). get_or ws 1 0) r.words_are)
     where
@@ -164,7 +164,7 @@ module _ {D : Type 0} (cd : Coded D) (desk : DeskMeaning D) (z : LinkSizes) wher
         keeps,
         tt,
         stays_at cd desk z st m p r 1 (get_or st.words 1 0) id me.1 me.0 o (Reopens 0 m.era.inc) Nothing at refl tt refl
-            (h.0, sym h.1, (shut, h.2), refl, (sym (ap (λ (x : ReceiverSide). x.held) h.3) ∙ bare_host, sym (ap (λ (x : ReceiverSide). x.held) h.4) ∙ bare_remote)) (λ i k. ap (has_for_manager i) call ∙ refl),
+            (h.0, sym h.1, (shut, h.2), refl, (sym r.to_host.rings.holdings ∙ ap (map holding_of) (sym (ap (λ (x : ReceiverSide). x.hands) h.3) ∙ bare_host), sym r.to_remote.rings.holdings ∙ ap (map holding_of) (sym (ap (λ (x : ReceiverSide). x.hands) h.4) ∙ bare_remote))) (λ i k. ap (has_for_manager i) call ∙ refl),
         (m.era, word, (λ _. refl), λ live. absurd (true-false (sym live ∙ shut))),
       )
       go true live h word = (
@@ -223,7 +223,7 @@ module _ {D : Type 0} (cd : Coded D) (desk : DeskMeaning D) (z : LinkSizes) wher
       let full : p ≡ length fresh = sym h.1 ∙ (all ∙ ap length (sym (fresh_is m (sizes_in r)))) in
       let m' = link_after_opening desk m in let may : MayDo desk m Opens = (h.2, h.4) in
       let word : new ≡ era_word m'.era = new_is ∙ ap (λ (k : ℕ). era_word (record { inc = k + 1; is_live = true })) (sym h.3) in
-      let w : Call = HoldsAll (record { handed = 0; returned = 0; held = [] }) (record { handed = 0; returned = 0; held = [] }) in let u = opened_view me.0 o (Some (copied cd m')) in let each = each_set st.views id me.0 u o (with_call o.pass w) at refl in (
+      let w : Call = HoldsAll (record { handed = 0; returned = 0; hands = [] }) (record { handed = 0; returned = 0; hands = [] }) in let u = opened_view me.0 o (Some (copied cd m')) in let each = each_set st.views id me.0 u o (with_call o.pass w) at refl in (
         u,
         keeps,
         tt,

@@ -14,10 +14,9 @@ use Rattle.lane_model.specs.declared.calls.CallEnd.{CallEnd}
 use base.Stored.{Coded}
 use Rattle.lane_model.specs.Desks.{DeskMeaning}
 use Rattle.lane_model.specs.Lanes.{holder, has_call}
-use Rattle.lane_model.specs.Crashes.{held_by_others}
 use Rattle.ring_core.specs.declared.states.RingState.{RingState}
 use Rattle.ring_core.specs.Owners.{receiver_is_out}
-use Rattle.ring_core.specs.RingSteps.{ring_form}
+use Rattle.ring_core.specs.RingSteps.{ring_form, hands_of_others}
 use Rattle.link_words.specs.declared.rule.Slot.{Slot}
 use Rattle.link_words.specs.declared.rule.Slot.TheVariants.{Receiver}
 use Rattle.link_words.specs.declared.rule.ReceiverSide.{ReceiverSide}
@@ -97,7 +96,7 @@ module _ {D : Type 0} (cd : Coded D) (desk : DeskMeaning D) (z : LinkSizes) wher
 
   -- part 3 of a reclaim of a caller that has the receiver's turn, with no buffer out: what it holds leaves `held`
   pub ends_receive_bare : (n id : ℕ) (me : SeatState) (o : Mover me.0) (e : End) (t : Turn Receiving) (x x' : ReceiverSide) (b : ℕ) (msg : List ℕ) → o.pass.call ≡ EndsReceive e t x b msg → receiver_is_out t ≡ false
-      → x' ≡ record x { held = held_by_others x.held o.pass.number } → me.1 ≡ (receiver_slot e, Receiver x') ∷ rest me.1
+      → x' ≡ record x { hands = hands_of_others x.hands o.pass.number } → me.1 ≡ (receiver_slot e, Receiver x') ∷ rest me.1
       → Allows (WordsRule cd desk z) n id me (receiver_word e) (λ _. 0) (λ _ me'. me' ≡ (with_pass me.0 o (with_call_and_hands o.pass (Rests e) []) me'.0.copy, rest me.1))
   ends_receive_bare n id me o e t x x' b msg call inside side_is has_slot st (m, p, r₀) wide at _ =
       let h : IsCallOf m p o.pass.number (EndsReceive e t x b msg) = subst (IsCallOf m p o.pass.number) call (r₀.turns.calls id o.place o.pass (me.0, at, o.here)) in let bare = h.1.4 in
@@ -106,7 +105,7 @@ module _ {D : Type 0} (cd : Coded D) (desk : DeskMeaning D) (z : LinkSizes) wher
       let freed : Bool → RingState D = λ y. record ((ring_form desk).after_receive_end s₀ c) { lane = record ((ring_form desk).after_receive_end s₀ c).lane { receiver = cond y turn.Free s₀.lane.receiver } } in
       let s' = freed true in let s = with_receiver s₀ t in let is : s₀ ≡ s = λ k. with_receiver s₀ (h.1.0 k) in
       let ha = lane_homes s (shelf_to r.shelves e) in let hb = lane_homes (lane_to m (other e)) (shelf_to r.shelves (other e)) in
-      let side : x' ≡ receiver_side s' = side_is ∙ ap (λ (u : ReceiverSide). record u { held = held_by_others u.held c }) h.1.2 in let sends = no_send desk m e c r.sound has in (
+      let side : x' ≡ receiver_side s' = side_is ∙ ap (λ (u : ReceiverSide). record u { hands = hands_of_others u.hands c }) h.1.2 in let sends = no_send desk m e c r.sound has in (
         _,
         gives,
         tt,

@@ -23,12 +23,11 @@ use base.Stored.{Coded}
 use Rattle.lane_model.specs.Desks.{DeskMeaning}
 use Rattle.lane_model.specs.Lanes.{holder, has_call, message_at, is_live_in}
 use Rattle.lane_model.specs.Links.{end_of}
-use Rattle.lane_model.specs.Crashes.{held_by_others}
 use Rattle.lane_model.specs.Receives.{after_handing}
 use Rattle.ring_core.specs.declared.states.RingState.{RingState}
 use Rattle.ring_core.specs.Rings.{buffer_at}
 use Rattle.ring_core.specs.Owners.{once_below, times_between, sender_is_out, receiver_is_out}
-use Rattle.ring_core.specs.RingSteps.{ring_form}
+use Rattle.ring_core.specs.RingSteps.{ring_form, hands_of_others}
 use Rattle.ring_core.specs.SoundRings.{IsSoundRings}
 use Rattle.ring_core.proofs.Windows.{times_first, times_some, once_same}
 use Rattle.ring_core.proofs.Hands.{once_under, once_above}
@@ -293,10 +292,10 @@ module _ {D : Type 0} (cd : Coded D) (desk : DeskMeaning D) (z : LinkSizes) wher
       let hb = lane_homes (lane_to m (other e)) (shelf_to r.shelves (other e)) in let l' = set (shelf_to r.shelves e) b (some (Buffer msg)) in let s' = leaves true in
       let verdict : Verdict = desk.verdict s.lane.desk hd message in let nth : x.handed ≡ hd = ap (λ (y : ReceiverSide). y.handed) h.1.2 in
       let t' : Turn Receiving = turn.Leaving c (end.Took x.handed verdict) in
-      let x' : ReceiverSide = record { handed = x.handed + 1; returned = x.returned; held = x.held ++ record { number = x.handed; caller = c } ∷ [] } in
+      let x' : ReceiverSide = record { handed = x.handed + 1; returned = x.returned; hands = x.hands ++ record { number = x.handed; caller = c; buffer = b } ∷ [] } in
       let more : length (s.lane.lane.takers ++ c ∷ []) ≡ hd + 1 = length-append s.lane.lane.takers (c ∷ []) in
-      let side : x' ≡ receiver_side s' = ap (λ (y : ReceiverSide). record { handed = y.handed + 1; returned = y.returned; held = y.held ++ record { number = y.handed; caller = c } ∷ [] }) h.1.2
-      ∙ (λ i. record { handed = sym more i; returned = s.lane.lane.returned; held = s.lane.lane.held ++ record { number = hd; caller = c } ∷ [] }) in
+      let side : x' ≡ receiver_side s' = ap (λ (y : ReceiverSide). record { handed = y.handed + 1; returned = y.returned; hands = y.hands ++ record { number = y.handed; caller = c; buffer = b } ∷ [] }) h.1.2
+      ∙ (λ i. record { handed = sym more i; returned = s.lane.lane.returned; hands = s.rings.hands ++ record { number = hd; caller = c; buffer = sym is_b i } ∷ [] }) in
       let w : Call = Receives e t' x' b msg in let more_hands : List ℕ = o.pass.hands ++ x.handed ∷ [] in let pass : Pass = record o.pass { call = w; own = Take e f x.handed msg ∷ o.pass.own; hands = more_hands } in let new : Holding = record { number = hd; caller = c } in let who : c ≡ o.pass.number = some_number c o.pass.number h.1.1 in
       let held_now : hands_of o.pass.number s.lane.lane.held ≡ o.pass.hands = hands_at m e o.pass h.0 (r.histories.hands id o.place o.pass (me.0, at, o.here)) in
       let mine : IsCallOf (with_lane m e s') 0 o.pass.number w = here_receives desk m e s' o.pass.number t' x' b msg h.0 ((λ i. turn.Leaving c (end.Took (sym nth i) verdict)), h.1.1, side, (λ o. absurd (true-false (sym o))), refl) in (
@@ -375,7 +374,7 @@ module _ {D : Type 0} (cd : Coded D) (desk : DeskMeaning D) (z : LinkSizes) wher
 
   -- part 3 of a reclaim of a take that has its buffer out: the buffer comes home with its message, what the caller holds leaves `held`, and the turn is free
   pub ends_take_out : (n id : ℕ) (me : SeatState) (o : Mover me.0) (e : End) (t : Turn Receiving) (x x' : ReceiverSide) (b first : ℕ) (msg : List ℕ) → o.pass.call ≡ EndsReceive e t x b msg → is_manager t ≡ false → receiver_is_out t ≡ true → first ≡ z.to_host.capacity
-      → x' ≡ record x { held = held_by_others x.held o.pass.number } → me.1 ≡ (buffer_slot first e b, Buffer msg) ∷ (receiver_slot e, Receiver x') ∷ rest (rest me.1)
+      → x' ≡ record x { hands = hands_of_others x.hands o.pass.number } → me.1 ≡ (buffer_slot first e b, Buffer msg) ∷ (receiver_slot e, Receiver x') ∷ rest (rest me.1)
       → Allows (WordsRule cd desk z) n id me (receiver_word e) (λ _. 0) (λ _ me'. me' ≡ (with_pass me.0 o (with_call_and_hands o.pass (Rests e) []) me'.0.copy, rest (rest me.1)))
   ends_take_out n id me o e t x x' b first msg call bare outside first_at side_is has_slots st (m, p, r₀) wide at _ =
       let h : IsCallOf m p o.pass.number (EndsReceive e t x b msg) = subst (IsCallOf m p o.pass.number) call (r₀.turns.calls id o.place o.pass (me.0, at, o.here)) in
@@ -388,7 +387,7 @@ module _ {D : Type 0} (cd : Coded D) (desk : DeskMeaning D) (z : LinkSizes) wher
       let has : has_call s₀.lane.receiver c ≡ true = has_of s₀.lane.receiver c (ap holder h.1.0 ∙ h.1.1) (ap is_manager h.1.0 ∙ bare) in
       let freed : Bool → RingState D = λ y. record ((ring_form desk).after_receive_end s₀ c) { lane = record ((ring_form desk).after_receive_end s₀ c).lane { receiver = cond y turn.Free s₀.lane.receiver } } in
       let s' = freed true in let ha = lane_homes s₀ (shelf_to r.shelves e) in let hb = lane_homes (lane_to m (other e)) (shelf_to r.shelves (other e)) in let l' = set (shelf_to r.shelves e) b (some (Buffer msg)) in
-      let side : x' ≡ receiver_side s' = side_is ∙ ap (λ (u : ReceiverSide). record u { held = held_by_others u.held c }) h.1.2 in (
+      let side : x' ≡ receiver_side s' = side_is ∙ ap (λ (u : ReceiverSide). record u { hands = hands_of_others u.hands c }) h.1.2 in (
         _,
         chain gives gives,
         (tt, tt),

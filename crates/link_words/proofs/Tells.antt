@@ -66,7 +66,7 @@ TakeHandsBy me o e c f x b message n me' = (era : Era) × (n ≡ era_word era)
     × (is_live_in era f ≡ true → (v : Verdict) × (me' ≡ (
       with_pass me.0 o (record o.pass {
         call = Receives e (turn.Leaving c (end.Took x.handed v))
-            (record { handed = x.handed + 1; returned = x.returned; held = x.held ++ record { number = x.handed; caller = c } ∷ [] }) b message;
+            (record { handed = x.handed + 1; returned = x.returned; hands = x.hands ++ record { number = x.handed; caller = c; buffer = b } ∷ [] }) b message;
         own = Take e f x.handed message ∷ o.pass.own;
         hands = o.pass.hands ++ x.handed ∷ [];
       }) me'.0.copy,

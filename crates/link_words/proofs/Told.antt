@@ -12,6 +12,7 @@ use Rattle.lane_model.specs.declared.calls.CallEnd.TheVariants as end
 use Rattle.lane_model.specs.Lanes.{is_live_in}
 use Rattle.link_words.specs.declared.rule.Event.TheVariants.{Publish, Take}
 use Rattle.link_words.specs.declared.rule.Ring.TheVariants as ring
+use Rattle.lane_model.specs.declared.stages.GiveStage.TheVariants as give_stage
 use Rattle.lane_model.specs.declared.stages.SendStage.TheVariants as stage
 use Rattle.lane_model.specs.declared.stages.TakeStage.TheVariants as take_stage
 use Rattle.lane_model.specs.declared.stages.Turn.{Turn}
@@ -21,7 +22,7 @@ use Rattle.lane_model.specs.declared.stages.Receiving.{Receiving}
 use Rattle.lane_model.specs.declared.stages.Work.TheVariants as work
 use Rattle.lane_model.specs.Desks.{DeskMeaning}
 use Rattle.lane_model.specs.Sends.{after_send_era}
-use Rattle.lane_model.specs.Receives.{after_take_era}
+use Rattle.lane_model.specs.Receives.{after_take_era, desk_end}
 use Rattle.ring_core.specs.declared.states.RingSizes.{RingSizes}
 use Rattle.ring_core.specs.Rings.{return_count, entry_length}
 use Rattle.link_words.specs.declared.rule.Call.{Call}
@@ -36,10 +37,10 @@ use Rattle.link_words.specs.Calls.{SeatState, SendAt, WorkAt, SendEnds, ReceiveE
 use Rattle.link_words.specs.Deeds.{Steps}
 use Rattle.link_words.specs.Layouts.{place_in}
 use Rattle.link_words.specs.Parts.{AreNear}
-use Rattle.link_words.specs.Passes.{Mover, with_call, with_pass}
+use Rattle.link_words.specs.Passes.{Mover, with_call, with_pass, with_call_and_hands}
 use Rattle.link_words.specs.Rule.{WordsRule, LinkRule}
-use Rattle.link_words.specs.Steps.{GoesOn, SendLoadsEra, SendLooks, SendTakesBuffer, SendStoresEntry, SendPublishes, LeavesSender, TakeLoadsEra, TakeLooks, TakeTakesBuffer, TakeHands, LeavesReceiver, look_turn, take_look_turn, sizes_by, accepted_by, handed_by, with_publish, with_handing}
-use Rattle.link_words.specs.Words.{other, sizes_at, entries_before, entry_number, sender_word, receiver_word, forward_word, return_word, buffer_slot}
+use Rattle.link_words.specs.Steps.{GoesOn, SendLoadsEra, SendLooks, SendTakesBuffer, SendStoresEntry, SendPublishes, LeavesSender, TakeLoadsEra, TakeLooks, TakeTakesBuffer, TakeHands, LeavesReceiver, look_turn, take_look_turn, sizes_by, accepted_by, handed_by, with_publish, with_handing, GiveStoresEntry, GivePublishes, BindLoadsEra, with_entry, with_given, given_or, hands_but}
+use Rattle.link_words.specs.Words.{other, sizes_at, entries_before, entry_number, sender_word, receiver_word, forward_word, return_word, buffer_slot, era_word}
 use Rattle.link_words.proofs.Apart.{apart}
 use Rattle.link_words.proofs.Buffers.{pulls_own}
 use Rattle.link_words.proofs.Entries.{pulls_entry, forward_entry, sizes_known}
@@ -52,6 +53,10 @@ use Rattle.link_words.proofs.TakeEnds.{leaves_take}
 use Rattle.link_words.proofs.TakeStarts.{takes_era, takes_look}
 use Rattle.link_words.proofs.Takes.{draws, hands}
 use Rattle.link_words.proofs.Tells.{SendLoadsEraBy, SendLooksBy, SendTakesBufferBy, SendStoresEntryBy, SendPublishesBy, SendLeavesBy, TakeLoadsEraBy, TakeLooksBy, TakeTakesBufferBy, TakeHandsBy}
+use Rattle.link_words.proofs.Gives.{gives_entry, gives_back, binds}
+use Rattle.ring_core.specs.RingSteps.{held_buffer, hands_without}
+use Rattle.lane_model.specs.declared.stages.Work.{Work}
+use Rattle.lane_model.specs.declared.calls.CallEnd.{CallEnd}
 
 abbrev send_to : (SenderSide → ℕ → Sending → Turn Sending) → Pass → Call → Pass
 send_to next p k = with_call p (send_or k (λ e t x b. Sends e (under_way_or t (next x) t) x b) k)
@@ -62,11 +67,17 @@ receive_to next p k = with_call p (receive_or k (λ e t x b message. Receives e 
 abbrev with_handing_of : Era → Verdict → Pass → Call → Pass
 with_handing_of era verdict p k = receive_or p (λ e t x b message. under_way_or p (λ caller r. if is_live_in era r.follows
     then record p {
-      call = Receives e (turn.Leaving caller (end.Took x.handed verdict)) (record x { handed = x.handed + 1; held = x.held ++ record { number = x.handed; caller = caller } ∷ [] }) b message;
+      call = Receives e (turn.Leaving caller (end.Took x.handed verdict)) (record x { handed = x.handed + 1; hands = x.hands ++ record { number = x.handed; caller = caller; buffer = b } ∷ [] }) b message;
       own = Take e r.follows x.handed message ∷ p.own;
       hands = p.hands ++ x.handed ∷ [];
     }
     else with_call p (Receives e (turn.Leaving caller (end.Dead era)) x b message)) t) k
+
+abbrev given_to : Pass → Call → Pass
+given_to p k = receive_or p (λ e t x b message. under_way_or p (λ caller r. given_or p (λ number. record p {
+  call = Receives e (turn.Leaving caller (end.Gave number)) (record { handed = x.handed; returned = x.returned + 1; hands = hands_without x.hands number }) b message;
+  hands = hands_but p.hands number;
+}) r.work) t) k
 
 abbrev lane_in : Call → End
 lane_in k = send_or (receive_or side.Host (λ e t x b message. e) k) (λ e t x b. e) k
@@ -207,7 +218,7 @@ module _ {D : Type 0} (cd : Coded D) (desk : DeskMeaning D) (z : LinkSizes) (n i
 
   abbrev handed_to : (live : Bool) (c : ℕ) (x : ReceiverSide) (b : ℕ) (message : List ℕ) (era : Era) (follows : ℕ) (verdict : Verdict) (p : Pass) → Pass
   handed_to live c x b message era follows verdict p = cond live (record p {
-    call = Receives e (turn.Leaving c (end.Took x.handed verdict)) (record x { handed = x.handed + 1; held = x.held ++ record { number = x.handed; caller = c } ∷ [] }) b message;
+    call = Receives e (turn.Leaving c (end.Took x.handed verdict)) (record x { handed = x.handed + 1; hands = x.hands ++ record { number = x.handed; caller = c; buffer = b } ∷ [] }) b message;
     own = Take e follows x.handed message ∷ p.own;
     hands = p.hands ++ x.handed ∷ [];
   }) (with_call p (Receives e (turn.Leaving c (end.Dead era)) x b message))
@@ -238,3 +249,40 @@ module _ {D : Type 0} (cd : Coded D) (desk : DeskMeaning D) (z : LinkSizes) (n i
             becomes me s.mover (place_of me) s.here (with_handing t₀.0 verdict.Malformed) _ (rest me.1) me'
                 (ap (λ (b : Bool). handed_to b s.caller s.side s.buffer s.message t₀.0 s.follows verdict.Malformed s.mover.pass) (sym dead) ∙ ap (with_handing_of t₀.0 verdict.Malformed s.mover.pass) (sym s.call)) (t₀.3 dead),
           )
+
+  pub give_stores_entry : (k : ℕ) (s : WorkAt me e (work.Give k give_stage.Turn)) (count place new : ℕ) → place ≡ place_in (entry_number z e ring.Return count) → me.0.sizes ≡ z → return_count (sizes_by me) s.side.returned ≡ count → new ≡ held_buffer s.side.hands k + 0 * 4294967296
+      → Allows (LinkRule cd desk z) n id me place (λ _. new) (λ _ me'. GiveStoresEntry me me' × GoesOn cd desk me me')
+  give_stores_entry k s count place new is sized at new_is =
+      let next : ReceiverSide → ℕ → Receiving → Turn Receiving = λ x caller r. turn.Taken caller (record r { work = with_entry r.work }) in
+      told_by (entry_number z e ring.Return count) place (λ _. new) s.mover s.here (λ _ me'. me' ≡ (with_pass me.0 s.mover (with_call s.mover.pass (Receives e (turn.Taken s.caller (record { follows = s.follows; work = work.Give k give_stage.Entry })) s.side s.buffer s.message)) me'.0.copy, me.1)) (λ _. GiveStoresEntry me) is
+      (gives_entry cd desk z n id me s.mover e s.caller s.follows k s.side s.buffer count new s.message s.call
+          (sym at ∙ ap (λ (x : RingSizes). return_count x s.side.returned) (work_sizes z me e (work.Give k give_stage.Turn) s sized)) new_is)
+      (λ y me' t₀. becomes me s.mover (place_of me) s.here (with_receive next) _ me.1 me' (ap (receive_to next s.mover.pass) (sym s.call)) t₀)
+
+  pub give_publishes : (k : ℕ) (s : WorkAt me e (work.Give k give_stage.Entry)) (count place new : ℕ) → place ≡ place_in (return_word e) → me.0.sizes ≡ z → return_count (sizes_by me) s.side.returned + 1 ≡ count → new ≡ count % 65536
+      → Allows (LinkRule cd desk z) n id me place (λ _. new) (λ _ me'. GivePublishes me me' × GoesOn cd desk me me')
+  give_publishes k s count place new is sized at new_is =
+      told_by (return_word e) place (λ _. new) s.mover s.here
+          (λ _ me'. me' ≡ (with_pass me.0 s.mover (with_call_and_hands s.mover.pass (Receives e (turn.Leaving s.caller (end.Gave k)) (record { handed = s.side.handed; returned = s.side.returned + 1; hands = hands_without s.side.hands k }) s.buffer s.message) (hands_but s.mover.pass.hands k)) me'.0.copy, me.1)) (λ _. GivePublishes me) is
+      (gives_back cd desk z n id me s.mover e s.caller s.follows k s.side s.buffer new s.message s.call
+          (new_is ∙ (ap (λ (u : ℕ). u % 65536) (sym at) ∙ ap (λ (x : RingSizes). (return_count x s.side.returned + 1) % 65536) (work_sizes z me e (work.Give k give_stage.Entry) s sized))))
+      (λ y me' t₀. becomes me s.mover (place_of me) s.here with_given _ me.1 me' (ap (given_to s.mover.pass) (sym s.call)) t₀)
+
+  bind_told : (w : Work) (s : WorkAt me e w) (y : ℕ) (me' : SeatState)
+      → (era : Era) × (y ≡ era_word era) × (ended : CallEnd) × (me' ≡ (with_pass me.0 s.mover (with_call s.mover.pass (Receives e (cond (is_live_in era s.follows) (turn.Leaving s.caller ended) (turn.Leaving s.caller (end.Dead era))) s.side s.buffer s.message)) me'.0.copy, me.1))
+      → BindLoadsEra me y me'
+  bind_told w s y me' t₀ =
+      let next : ReceiverSide → ℕ → Receiving → Turn Receiving = λ x caller r. cond (is_live_in t₀.0 r.follows) (turn.Leaving caller t₀.2) (turn.Leaving caller (end.Dead t₀.0)) in
+      (t₀.0, t₀.1, t₀.2, becomes me s.mover (place_of me) s.here (with_receive next) _ me.1 me' (ap (receive_to next s.mover.pass) (sym s.call)) t₀.3)
+
+  pub bind_loads_era : (address : ℕ) (s : WorkAt me e (work.Bind address)) → Allows (LinkRule cd desk z) n id me 16 (λ y. y) (λ y me'. BindLoadsEra me y me' × GoesOn cd desk me me')
+  bind_loads_era address s = told_by 1 16 (λ y. y) s.mover s.here
+      (λ y me'. (era : Era) × (y ≡ era_word era) × (ended : CallEnd) × (me' ≡ (with_pass me.0 s.mover (with_call s.mover.pass (Receives e (cond (is_live_in era s.follows) (turn.Leaving s.caller ended) (turn.Leaving s.caller (end.Dead era))) s.side s.buffer s.message)) me'.0.copy, me.1))) (BindLoadsEra me) refl
+      (binds cd desk z (work.Bind address) (λ u. desk.bound u.lane.desk address (length u.lane.lane.takers)) (λ u. desk_end end.Bound (desk.bind_answer u.lane.desk address (length u.lane.lane.takers))) s.follows s.caller refl (λ u era. refl) n id me s.mover e s.side s.buffer s.message s.call)
+      (bind_told (work.Bind address) s)
+
+  pub unbind_loads_era : (address : ℕ) (s : WorkAt me e (work.Unbind address)) → Allows (LinkRule cd desk z) n id me 16 (λ y. y) (λ y me'. BindLoadsEra me y me' × GoesOn cd desk me me')
+  unbind_loads_era address s = told_by 1 16 (λ y. y) s.mover s.here
+      (λ y me'. (era : Era) × (y ≡ era_word era) × (ended : CallEnd) × (me' ≡ (with_pass me.0 s.mover (with_call s.mover.pass (Receives e (cond (is_live_in era s.follows) (turn.Leaving s.caller ended) (turn.Leaving s.caller (end.Dead era))) s.side s.buffer s.message)) me'.0.copy, me.1))) (BindLoadsEra me) refl
+      (binds cd desk z (work.Unbind address) (λ u. desk.unbound u.lane.desk address) (λ u. desk_end end.Unbound (desk.unbind_answer u.lane.desk address)) s.follows s.caller refl (λ u era. refl) n id me s.mover e s.side s.buffer s.message s.call)
+      (bind_told (work.Unbind address) s)

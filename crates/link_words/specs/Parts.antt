@@ -55,7 +55,7 @@ IsCallAt t p number (Rests e) = (end_of t.callers number ≡ Some e) × (has_cal
 IsCallAt t p number (Reclaims e x) = (end_of t.callers number ≡ Some e) × ((t.lanes e).receiver ≡ turn.Manager) × (x ≡ (t.lanes e).receiver_side) × (p ≡ 0) × (has_call (t.lanes (other e)).sender number ≡ false)
 IsCallAt t p number (EndsHeld e x) = (end_of t.callers number ≡ Some e) × ((t.lanes e).receiver ≡ turn.Manager) × (x ≡ (t.lanes e).receiver_side) × (p ≡ 0) × (t.era.is_live ≡ false) × (has_call (t.lanes (other e)).sender number ≡ false)
 IsCallAt t p number (Reopens q inc) = (number ≡ 64) × (q ≡ p) × ((t.era.is_live ≡ false) × HasFourTurns t.lanes) × (t.era.inc ≡ inc)
-    × (((t.lanes side.Host).receiver_side.held ≡ []) × ((t.lanes side.Remote).receiver_side.held ≡ []))
+    × (((t.lanes side.Host).held ≡ []) × ((t.lanes side.Remote).held ≡ []))
 IsCallAt t p number (HoldsAll host remote) = (number ≡ 64) × (p ≡ 0) × HasFourTurns t.lanes × (host ≡ (t.lanes side.Host).receiver_side) × (remote ≡ (t.lanes side.Remote).receiver_side)
 
 -- a call that has the receiver's turn of the lane to this end for the manager

@@ -1,6 +1,8 @@
 -- What each step tells its seat: the number that was found in the word, and the view and the slots after (own; the indexes and the entries are
 -- those of a split virtqueue, VIRTIO 1.2 sections 2.7.6 and 2.7.8).
-use Rattle.std.specs.Prelude.{◌≡◌, ◌≢◌, ℕ, ◌+◌, ◌%◌, ◌==◌, ◌<◌, ◌≤◌, if◌then◌else◌, List, [], ◌∷◌, ◌++◌, length, Some, None}
+use Rattle.lane_model.specs.declared.calls.CallEnd.{CallEnd}
+use Rattle.ring_core.specs.RingSteps.{held_buffer, hands_without}
+use Rattle.std.specs.Prelude.{◌≡◌, ◌≢◌, ℕ, ◌+◌, ◌%◌, ◌==◌, ◌<◌, ◌≤◌, if◌then◌else◌, List, [], ◌∷◌, ◌++◌, length, Some, None, filter, not, ◌⊎◌}
 use base.Stored.{Coded}
 use Rattle.atomic_table.specs.Table.{rest}
 use Rattle.rp_base.specs.declared.kinds.End.{End}
@@ -27,7 +29,7 @@ use Rattle.lane_model.specs.Receives.{after_take_era}
 use Rattle.lane_model.specs.Sends.{after_send_era}
 use Rattle.ring_core.specs.declared.states.RingSizes.{RingSizes}
 use Rattle.ring_core.specs.declared.states.RingState.{RingState}
-use Rattle.ring_core.specs.Rings.{return_count, entry_length}
+use Rattle.ring_core.specs.Rings.{return_count, entry_length, entry_of}
 use Rattle.vring_layout.specs.declared.words.UsedWord.{UsedWord}
 use Rattle.lane_model.specs.declared.recoveries.LaneTurn.{LaneTurn}
 use Rattle.lane_model.specs.declared.recoveries.LaneTurn.TheVariants as lane_turn
@@ -205,7 +207,7 @@ TakeTakesBuffer id me me' = (message : List ℕ)
 abbrev pub with_handing : Era → Verdict → Pass → Pass
 with_handing era verdict p = receive_or p (λ e t x b message. under_way_or p (λ caller r. if is_live_in era r.follows
     then record p {
-      call = Receives e (turn.Leaving caller (end.Took x.handed verdict)) (record x { handed = x.handed + 1; held = x.held ++ record { number = x.handed; caller = caller } ∷ [] }) b message;
+      call = Receives e (turn.Leaving caller (end.Took x.handed verdict)) (record x { handed = x.handed + 1; hands = x.hands ++ record { number = x.handed; caller = caller; buffer = b } ∷ [] }) b message;
       own = Take e r.follows x.handed message ∷ p.own;
       hands = p.hands ++ x.handed ∷ [];
     }
@@ -214,6 +216,44 @@ with_handing era verdict p = receive_or p (λ e t x b message. under_way_or p (�
 -- step 5 of a take: the buffer's slot is at home either way
 abbrev pub TakeHands : SeatState → ℕ → SeatState → Type 0
 TakeHands me n me' = (era : Era) × (n ≡ era_word era) × (verdict : Verdict) × Becomes (with_handing era verdict) (place_of me) (rest me.1) me me'
+
+-- the numbers in hand but for this one
+abbrev pub hands_but : List ℕ → ℕ → List ℕ
+hands_but hands number = filter (λ held. not (held == number)) hands
+
+-- the work of a give that has stored its entry
+abbrev pub with_entry : Work → Work
+with_entry (work.Take stage) = work.Take stage
+with_entry (work.Give number stage) = work.Give number give_stage.Entry
+with_entry (work.Bind address) = work.Bind address
+with_entry (work.Unbind address) = work.Unbind address
+
+-- step 2 of a give: the return entry names the buffer in hand
+abbrev pub GiveStoresEntry : SeatState → SeatState → Type 0
+GiveStoresEntry me me' = Becomes (with_receive (λ x caller r. turn.Taken caller (record r { work = with_entry r.work }))) (place_of me) me.1 me me'
+
+-- the number of a give, else something else
+abbrev pub given_or : {A : Type 0} → A → (ℕ → A) → Work → A
+given_or otherwise f (work.Take stage) = otherwise
+given_or otherwise f (work.Give number stage) = f number
+given_or otherwise f (work.Bind address) = otherwise
+given_or otherwise f (work.Unbind address) = otherwise
+
+-- a pass whose buffer is back: it is in hand no more
+abbrev pub with_given : Pass → Pass
+with_given p = receive_or p (λ e t x b message. under_way_or p (λ caller r. given_or p (λ number. record p {
+  call = Receives e (turn.Leaving caller (end.Gave number)) (record { handed = x.handed; returned = x.returned + 1; hands = hands_without x.hands number }) b message;
+  hands = hands_but p.hands number;
+}) r.work) t) p.call
+
+-- step 3 of a give
+abbrev pub GivePublishes : SeatState → SeatState → Type 0
+GivePublishes me me' = Becomes with_given (place_of me) me.1 me me'
+
+-- step 2 of a binding or an unbinding: in its incarnation, live, the desk says how the call ends
+abbrev pub BindLoadsEra : SeatState → ℕ → SeatState → Type 0
+BindLoadsEra me n me' = (era : Era) × (n ≡ era_word era) × (ended : CallEnd)
+    × Becomes (with_receive (λ x caller r. if is_live_in era r.follows then turn.Leaving caller ended else turn.Leaving caller (end.Dead era))) (place_of me) me.1 me me'
 
 -- the last step of a call that has the receiver's turn
 abbrev pub LeavesReceiver : SeatState → SeatState → Type 0
@@ -246,27 +286,62 @@ pub record HandsAt (me : SeatState) : Type 0 where
   pub at : WorkAt me lane (work.Take take_stage.Buffer)
   pub slots : me.1 ≡ (buffer_slot me.0.sizes.to_host.capacity lane at.buffer, Buffer at.message) ∷ rest me.1
 
+-- a binding or an unbinding, which have one step behind their turn
+abbrev pub BindsAt : SeatState → Type 0
+BindsAt me = (lane : End) × (address : ℕ) × (WorkAt me lane (work.Bind address) ⊎ WorkAt me lane (work.Unbind address))
+
 abbrev pub MayLoadEra : EraUse → SeatState → Type 0
 MayLoadEra era.Send me = (lane : End) × SendAt me lane stage.Turn
 MayLoadEra era.Take me = (lane : End) × WorkAt me lane (work.Take take_stage.Turn)
 MayLoadEra era.Hand me = HandsAt me
+MayLoadEra era.Bind me = BindsAt me
 
 abbrev pub LoadsEra : EraUse → SeatState → ℕ → SeatState → Type 0
 LoadsEra era.Send me n me' = SendLoadsEra me n me'
 LoadsEra era.Take me n me' = TakeLoadsEra me n me'
 LoadsEra era.Hand me n me' = TakeHands me n me'
+LoadsEra era.Bind me n me' = BindLoadsEra me n me'
 
--- a send stores the entry of its number, with its buffer and the length of its message
-pub record MayStoreEntry (lane : End) (number : ℕ) (stored : UsedWord) (me : SeatState) : Type 0 where
+-- a send stores the forward entry of its number, with its buffer and the length of its message
+pub record SendStoresAt (lane : End) (number : ℕ) (stored : UsedWord) (me : SeatState) : Type 0 where
   pub at : SendAt me lane stage.Buffer
   pub count : at.side.accepted ≡ number
   pub entry : stored ≡ record { id = at.buffer; len = entry_length (sizes_by me) (length at.message) }
 
+-- a give stores the return entry of the next count, with the buffer in hand
+pub record GiveStoresAt (lane : End) (number : ℕ) (stored : UsedWord) (me : SeatState) : Type 0 where
+  pub given : ℕ
+  pub at : WorkAt me lane (work.Give given give_stage.Turn)
+  pub count : return_count (sizes_by me) at.side.returned ≡ number
+  pub entry : stored ≡ entry_of (held_buffer at.side.hands given)
+
+abbrev pub MayStoreEntry : Ring → End → ℕ → UsedWord → SeatState → Type 0
+MayStoreEntry ring.Forward lane count entry me = SendStoresAt lane count entry me
+MayStoreEntry ring.Return lane count entry me = GiveStoresAt lane count entry me
+
+abbrev pub StoresEntry : Ring → SeatState → SeatState → Type 0
+StoresEntry ring.Forward me me' = SendStoresEntry me me'
+StoresEntry ring.Return me me' = GiveStoresEntry me me'
+
 -- a send publishes the count behind its number, with its message in its buffer, which is the last slot that is out
-pub record MayPublish (lane : End) (number : ℕ) (me : SeatState) : Type 0 where
+pub record SendPublishesAt (lane : End) (number : ℕ) (me : SeatState) : Type 0 where
   pub at : SendAt me lane stage.Entry
   pub count : at.side.accepted + 1 ≡ number
   pub slots : me.1 ≡ (buffer_slot me.0.sizes.to_host.capacity lane at.buffer, Buffer at.message) ∷ rest me.1
+
+-- a give publishes the count behind that of its entry
+pub record GivePublishesAt (lane : End) (number : ℕ) (me : SeatState) : Type 0 where
+  pub given : ℕ
+  pub at : WorkAt me lane (work.Give given give_stage.Entry)
+  pub count : return_count (sizes_by me) at.side.returned + 1 ≡ number
+
+abbrev pub MayPublish : Ring → End → ℕ → SeatState → Type 0
+MayPublish ring.Forward lane count me = SendPublishesAt lane count me
+MayPublish ring.Return lane count me = GivePublishesAt lane count me
+
+abbrev pub PublishesIndex : Ring → SeatState → SeatState → Type 0
+PublishesIndex ring.Forward me me' = SendPublishes me me'
+PublishesIndex ring.Return me me' = GivePublishes me me'
 
 -- the end of a call that has this turn is settled
 abbrev pub EndsAt : LaneTurn → SeatState → End → Type 0

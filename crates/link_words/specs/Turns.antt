@@ -4,6 +4,7 @@ use Rattle.rp_base.specs.declared.kinds.End.{End}
 use Rattle.rp_base.specs.declared.kinds.End.TheVariants as side
 use Rattle.rp_base.specs.declared.kinds.Era.{Era}
 use Rattle.lane_model.specs.declared.lane_links.LaneLink.{LaneLink}
+use Rattle.lane_model.specs.declared.states.Holding.{Holding}
 use Rattle.lane_model.specs.declared.stages.Turn.{Turn}
 use Rattle.lane_model.specs.declared.stages.Turn.TheVariants as turn
 use Rattle.lane_model.specs.declared.stages.Sending.{Sending}
@@ -21,8 +22,8 @@ is_manager (turn.Taken caller call) = false
 is_manager (turn.Leaving caller end) = false
 is_manager turn.Manager = true
 
--- of one lane: its two turns, the side state that goes with each, the buffer that a send and that a take has out, and the message
--- that is handed over next
+-- of one lane: its two turns, the side state that goes with each, the buffer that a send and that a take has out, who holds what,
+-- and the message that is handed over next
 pub record LaneTurns : Type 0 where
   pub sender : Turn Sending
   pub receiver : Turn Receiving
@@ -30,6 +31,7 @@ pub record LaneTurns : Type 0 where
   pub receiver_side : ReceiverSide
   pub sending : ℕ
   pub taking : ℕ
+  pub held : List Holding
   pub next : List ℕ
 
 abbrev pub turns_of : {D : Type 0} → RingState D → LaneTurns
@@ -40,6 +42,7 @@ turns_of s = record {
   receiver_side = receiver_side s;
   sending = s.rings.sending;
   taking = s.rings.taking;
+  held = s.lane.lane.held;
   next = message_at s.lane.lane.accepted (length s.lane.lane.takers);
 }
 

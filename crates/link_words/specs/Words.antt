@@ -122,7 +122,7 @@ module _ {D : Type 0} where
   sender_side s = record { accepted = length s.lane.lane.accepted }
 
   abbrev pub receiver_side : RingState D → ReceiverSide
-  receiver_side s = record { handed = length s.lane.lane.takers; returned = s.lane.lane.returned; held = s.lane.lane.held }
+  receiver_side s = record { handed = length s.lane.lane.takers; returned = s.lane.lane.returned; hands = s.rings.hands }
 
   abbrev pub lane_homes : RingState D → List (Option Slot) → LaneHomes
   lane_homes s shelf = record {

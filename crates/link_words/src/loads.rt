@@ -5,7 +5,7 @@ ghost use Rattle.link_words.specs.Words.{words_in, IsSized};
 
 use crate::places::{ERA_PLACE, entry_place, forward_place, return_place};
 use crate::plays::{
-    TellsSendLoadsEntry, TellsSendLoadsEra, TellsSendLooks, TellsSendTakesOwn, TellsTakeHands,
+    TellsBindLoadsEra, TellsSendLoadsEntry, TellsSendLoadsEra, TellsSendLooks, TellsSendTakesOwn, TellsTakeHands,
     TellsTakeLoadsEntry, TellsTakeLoadsEra, TellsTakeLooks,
 };
 use crate::rule::{LinkSeat, LinkSizes, LinkTable, Ring};
@@ -32,6 +32,8 @@ pub enum EraUse {
     Take,
     /// Step 5 of a take, at which the message is handed over.
     Hand,
+    /// Step 2 of a binding or an unbinding, at which the endpoint changes.
+    Bind,
 }
 
 /// Step 3 of a send or a take, and step 4 of a send that takes a buffer of the sender's own list: a load of an index of the lane.
@@ -79,7 +81,7 @@ pub fn load_entry<D: Desk>(
     }
 }
 
-/// Step 2 of a send or a take, and step 5 of a take: a load of the era.
+/// Step 2 of a send, a take, a binding or an unbinding, and step 5 of a take: a load of the era.
 #[inline(always)]
 pub fn load_era<D: Desk>(table: &LinkTable<D>, seat: &mut LinkSeat, era: EraUse) -> u64
     requires table { (seat.old.table_id ≡ table.now.table_id) × (words_in table.now.key ≤ table.now.table_id.words) × (seat.old.me.0.sizes ≡ table.now.key) }
@@ -92,5 +94,6 @@ pub fn load_era<D: Desk>(table: &LinkTable<D>, seat: &mut LinkSeat, era: EraUse)
         EraUse::Send => table.load::<TellsSendLoadsEra<D>>(seat, ERA_PLACE),
         EraUse::Take => table.load::<TellsTakeLoadsEra<D>>(seat, ERA_PLACE),
         EraUse::Hand => table.load::<TellsTakeHands<D>>(seat, ERA_PLACE),
+        EraUse::Bind => table.load::<TellsBindLoadsEra<D>>(seat, ERA_PLACE),
     }
 }

@@ -148,3 +148,36 @@ impl<D: Desk> Play<Slot, View> for TellsTakeHands<D> {
 
     ghost then = { λ st m r m'. TakeHands m r m' × GoesOn D.row.coded D.meaning m m' };
 }
+
+/// Step 2 of a give.
+pub struct TellsGiveStoresEntry<D> {
+    marker: PhantomData<D>,
+}
+
+impl<D: Desk> Play<Slot, View> for TellsGiveStoresEntry<D> {
+    ghost use Rattle.link_words.specs.Steps.{GoesOn, GiveStoresEntry};
+
+    ghost then = { λ st m r m'. GiveStoresEntry m m' × GoesOn D.row.coded D.meaning m m' };
+}
+
+/// Step 3 of a give.
+pub struct TellsGivePublishes<D> {
+    marker: PhantomData<D>,
+}
+
+impl<D: Desk> Play<Slot, View> for TellsGivePublishes<D> {
+    ghost use Rattle.link_words.specs.Steps.{GoesOn, GivePublishes};
+
+    ghost then = { λ st m r m'. GivePublishes m m' × GoesOn D.row.coded D.meaning m m' };
+}
+
+/// Step 2 of a binding or an unbinding.
+pub struct TellsBindLoadsEra<D> {
+    marker: PhantomData<D>,
+}
+
+impl<D: Desk> Play<Slot, View> for TellsBindLoadsEra<D> {
+    ghost use Rattle.link_words.specs.Steps.{GoesOn, BindLoadsEra};
+
+    ghost then = { λ st m r m'. BindLoadsEra m r m' × GoesOn D.row.coded D.meaning m m' };
+}

@@ -1,8 +1,8 @@
 //! The words, the slots, what a seat knows, and the rule.
 use crate::copies::LinkCopy;
 use atomic_table::{Seat, Shared, TableRule};
-use lane_model::{Desk, Holding, Receiving, Sending, Turn, Wish};
-use ring_core::RingSizes;
+use lane_model::{Desk, Receiving, Sending, Turn, Wish};
+use ring_core::{Hand, RingSizes};
 use rp_base::{CallerNo, End, Inc, Message};
 use std::collections::LinkedList;
 use std::marker::PhantomData;
@@ -28,8 +28,8 @@ pub struct ReceiverSide {
     pub handed: u64,
     /// How many buffers were given back.
     pub returned: u64,
-    /// The messages whose buffers are out.
-    pub held: LinkedList<Holding>,
+    /// The buffers that are in hand, with the messages' numbers.
+    pub hands: LinkedList<Hand>,
 }
 
 /// What a caller begins.
