@@ -1,4 +1,4 @@
--- The steps of a SEND at which a buffer goes out and comes home, on either lane: from the sender's own list or from the return ring.
+-- The steps of a send at which a buffer goes out and comes home, on either lane: from the sender's own list or from the return ring.
 use Rattle.std.proofs.Common.{◌≡◌, ℕ, ◌+◌, ◌<◌, true, List, ◌∷◌, length, get_or, set, refl, sym, ap, ◌∙◌, subst, arith, length-set, le_refl}
 use Rattle.std.specs.Prelude.{None}
 use Rattle.std.specs.Prelude.{Some}
@@ -75,7 +75,7 @@ first_is cd desk z st m r side.Host first is at = absurd (host_is_not at)
 first_is cd desk z st m r side.Remote first is at = is ∙ sym (((buffers_in r) side.Host).long ∙ ap (λ x. x.capacity) (sizes_in r).0)
 
 module _ {D : Type 0} (cd : Coded D) (desk : DeskMeaning D) (z : LinkSizes) where
-  -- SEND 4, whatever word it loads: the buffer of the coming send is at home, and goes out
+  -- step 4 of a send, whatever word it loads: the buffer of the coming send is at home, and goes out
   pub pulls : (n id : ℕ) (me : SeatState) (o : Mover me.0) (e : End) (c f : ℕ) (message : List ℕ) (x : SenderSide) (b i first : ℕ) → o.pass.call ≡ Sends e (turn.Taken c (record { follows = f; message = message; stage = stage.Look })) x b → first ≡ z.to_host.capacity
       → (told : ℕ → ℕ)
       → ((st : State Slot View) (m : LaneLink (RingState D)) (r : Shows cd desk z st m 0) → x ≡ sender_side (lane_to m e) → IsSoundRings (lane_to m e) → length (lane_to m e).lane.lane.accepted < (lane_to m e).lane.lane.returned + (lane_to m e).rings.sizes.capacity
@@ -122,7 +122,7 @@ module _ {D : Type 0} (cd : Coded D) (desk : DeskMeaning D) (z : LinkSizes) wher
         ),
       )
 
-  -- SEND 4 of the first sends of an incarnation: the sender's own list
+  -- step 4 of a send of the first sends of an incarnation: the sender's own list
   pub pulls_own : (n id : ℕ) (me : SeatState) (o : Mover me.0) (e : End) (c f : ℕ) (message : List ℕ) (x : SenderSide) (b i first own : ℕ) → o.pass.call ≡ Sends e (turn.Taken c (record { follows = f; message = message; stage = stage.Look })) x b → first ≡ z.to_host.capacity
       → ((st : State Slot View) (m : LaneLink (RingState D)) → Shows cd desk z st m 0 → (lane_to m e).rings.sizes.own ≡ own) → x.accepted < own
       → Allows (WordsRule cd desk z) n id me i (λ y. y) (λ _ me'. SendTakesBufferBy me o first e c (record { follows = f; message = message; stage = stage.Look }) x x.accepted me' × StepBy cd desk me o (Steps o.pass.number 0 None) me')

@@ -1,4 +1,4 @@
--- The close is the machine's, made by any seat.
+-- The close is that of the ring form, made by any seat.
 use Rattle.std.proofs.Common.{◌≡◌, ℕ, ◌+◌, ◌*◌, Bool, true, false, cond, eqb, ◌&&◌, List, get_or, set, refl, sym, ap, ◌∙◌, subst, inl, ⊎_elim, arith, eq-eqb, ne_eqb}
 use Rattle.std.specs.Prelude.{Some}
 use mathlib.Core.Option.{some}

@@ -1,4 +1,4 @@
--- SEND 4 from the return ring, on either lane: where the entry's word stands, and what its number says.
+-- step 4 of a send from the return ring, on either lane: where the entry's word stands, and what its number says.
 use Rattle.std.proofs.Common.{◌≡◌, ℕ, suc, ◌+◌, ◌-◌, ◌*◌, ◌%◌, ◌<◌, ◌≤◌, List, [], ◌++◌, map, length, get_or, refl, sym, ap, ◌∙◌, arith}
 use Rattle.std.proofs.lemmas.List.{length-map, get_or-map, get_or_append_left}
 use native.Mathlib.Nat.{mod-lt}
@@ -78,7 +78,7 @@ pub id_of : (entry : UsedWord) → entry.id < 4294967296 → entry_word entry % 
 id_of entry low = let n : ℕ = entry.id in let l : ℕ = entry.len in let small : n < 4294967296 = low in let e : (n + l * 4294967296) % 4294967296 ≡ n = omega arith in e
 
 module _ {D : Type 0} (cd : Coded D) (desk : DeskMeaning D) (z : LinkSizes) where
-  -- SEND 4 behind the own list: the word is that of the return entry
+  -- step 4 of a send behind the own list: the word is that of the return entry
   pub pulls_entry : (n id : ℕ) (me : SeatState) (o : Mover me.0) (e : End) (c f : ℕ) (message : List ℕ) (x : SenderSide) (b i first entries own before : ℕ) → o.pass.call ≡ Sends e (turn.Taken c (record { follows = f; message = message; stage = stage.Look })) x b → first ≡ z.to_host.capacity
       → ((st : State Slot View) (m : LaneLink (RingState D)) → Shows cd desk z st m 0 → ((lane_to m e).rings.sizes.entries ≡ entries) × ((lane_to m e).rings.sizes.own ≡ own) × (ahead e (lane_words (lane_to m (other e))) ≡ before))
       → own ≤ x.accepted → i ≡ 10 + (before + (entries + (x.accepted - own) % entries))
@@ -99,7 +99,7 @@ module _ {D : Type 0} (cd : Coded D) (desk : DeskMeaning D) (z : LinkSizes) wher
       let most = sound.sized.most in
       ap (λ (k : ℕ). k % 4294967296) found ∙ (id_of entry (omega (arith, below, source, most)) ∙ sym source))
 
--- what both forms of SEND 4 ask of the sizes holds of every state of the rule
+-- what both forms of step 4 of a send ask of the sizes holds of every state of the rule
 pub sizes_known : {D : Type 0} (cd : Coded D) (desk : DeskMeaning D) (z : LinkSizes) (e : End) (st : State Slot View) (m : LaneLink (RingState D)) → Shows cd desk z st m 0
     → ((lane_to m e).rings.sizes.entries ≡ (sizes_at z e).entries) × ((lane_to m e).rings.sizes.own ≡ (sizes_at z e).own) × (ahead e (lane_words (lane_to m (other e))) ≡ entries_before z e)
 sizes_known cd desk z side.Host st m r = (ap (λ (x : RingSizes). x.entries) (sizes_in r).0, ap (λ (x : RingSizes). x.own) (sizes_in r).0, refl)

@@ -1,4 +1,4 @@
--- The manager's form: a step by the manager's seat takes its copy exactly by the machine's function, though no desk is in the copy.
+-- The manager's form: a step by the manager's seat takes its copy exactly by the ring form's function, though no desk is in the copy.
 use Rattle.std.proofs.Common.{◌≡◌, ℕ, zero, suc, List, [], ◌∷◌, set, refl, sym, ap, ◌∙◌, subst}
 use base.Stored.{Coded}
 use Rattle.lane_model.specs.declared.lane_links.LaneLink.{LaneLink}

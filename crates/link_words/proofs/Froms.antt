@@ -7,7 +7,7 @@ use lib.ListN.{get_elem?}
 use Rattle.atomic_table.proofs.Lists.{at_set, at_longer}
 use Rattle.link_words.specs.declared.rule.Pass.{Pass}
 use Rattle.link_words.specs.declared.rule.View.{View}
-use Rattle.link_words.specs.Passes.{PassAt, EachPass, HasNumber, Manages, front, last_pass_only, numbers_of, without_last, only_last, with_passes_from, spent_view}
+use Rattle.link_words.specs.Passes.{PassAt, EachPass, HasNumber, Manages, all_but_last, last_pass_only, numbers_of, without_last, only_last, with_passes_from, spent_view}
 use Rattle.link_words.specs.Parts.{AreKeepersApart, AreNumbersApart}
 
 abbrev pub Spot : Type 0
@@ -60,14 +60,14 @@ keeps_place from to o ne = here (ℕ_discrete o.0 from.0) (ℕ_discrete o.1 from
     here (yes _) (no n) = refl
     here (no n) e = refl
 
--- a pass of the front stood in the list
-front_at : (l : List Pass) (k : ℕ) (p : Pass) → get_elem? (front l) k ≡ some p → get_elem? l k ≡ some p
+-- a pass of the all_but_last stood in the list
+front_at : (l : List Pass) (k : ℕ) (p : Pass) → get_elem? (all_but_last l) k ≡ some p → get_elem? l k ≡ some p
 front_at [] k p e = absurd (some-ne-none p (sym e))
 front_at (x ∷ []) k p e = absurd (some-ne-none p (sym e))
 front_at (x ∷ y ∷ ys) zero p e = e
 front_at (x ∷ y ∷ ys) (suc k) p e = front_at (y ∷ ys) k p e
 
-front_near : (l : List Pass) (k : ℕ) (p : Pass) → get_elem? (front l) k ≡ some p → k < length l - 1
+front_near : (l : List Pass) (k : ℕ) (p : Pass) → get_elem? (all_but_last l) k ≡ some p → k < length l - 1
 front_near [] k p e = absurd (some-ne-none p (sym e))
 front_near (x ∷ []) k p e = absurd (some-ne-none p (sym e))
 front_near (x ∷ y ∷ ys) zero p e = omega arith

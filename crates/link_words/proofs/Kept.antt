@@ -1,4 +1,4 @@
--- What a deed of the shared link keeps, by the laws of the landed machine.
+-- What a deed of the shared link keeps, by the laws of the ring form.
 use Rattle.std.proofs.Common.{◌≡◌, ℕ, Bool, true, false, cond, ◌||◌, refl, sym, ap, ◌∙◌, subst, List}
 use Rattle.std.specs.Prelude.{Option, Some, None}
 use Rattle.rp_base.specs.declared.kinds.End.{End}
@@ -148,7 +148,7 @@ left_rings desk s caller is sound = let q = receive_ended_sound desk s caller so
   work = free_has _ s.lane.receiver is;
 }
 
--- every deed keeps a link sound, by the landed laws
+-- every deed keeps a link sound, by the laws of links and of rings
 pub deed_kept : {D : Type 0} (desk : DeskMeaning D) (m : LaneLink (RingState D)) (d : Deed) → MayDo desk m d → IsSoundState desk m → IsSoundState desk (after_deed desk m d)
 deed_kept desk m (Steps caller follows wished) may k = record {
   rings = link_kept desk caller follows m wished k.rings may;
@@ -200,7 +200,7 @@ deed_kept desk m Opens may k =
       };
     }
 
--- a later step of a send, as the machine's
+-- a later step of a send, as the ring form's
 pub send_done : {D : Type 0} (desk : DeskMeaning D) (m : LaneLink (RingState D)) (e : End) (caller follows : ℕ) → has_call (lane_to m e).lane.sender caller ≡ true
     → (on_lanes m (Some (other e)) (λ lanes. lanes_step (ring_form desk) desk m.era lanes caller follows None)).state ≡ with_lane m e ((ring_form desk).sent_on (lane_to m e) m.era)
 send_done {D} desk m side.Host caller follows has =

@@ -1,4 +1,4 @@
--- A step of a seat on one lane that is a deed of the machine keeps the rule.
+-- A step of a seat on one lane that is a deed of the ring form keeps the rule.
 use Rattle.link_words.specs.Histories.{NoneOf}
 use Rattle.std.proofs.Common.{◌≡◌, ◌≢◌, ℕ, true, false, List, length, set, refl, sym, ap, ◌∙◌, subst, inl, ne_eqb}
 use Rattle.std.specs.Prelude.{Option, Some, None}
@@ -212,7 +212,7 @@ module _ {D : Type 0} (desk : DeskMeaning D) where
   hands_kept m side.Remote s q stays has side.Remote user = stays (has side.Remote user)
 
 module _ {D : Type 0} (cd : Coded D) (desk : DeskMeaning D) where
-  -- the table after a step on one lane is the one that the machine spells after the deed
+  -- the table after a step on one lane is the one that the ring form shows after the deed
   pub lane_moves_with : (z : LinkSizes) (st : State Slot View) (m : LaneLink (RingState D)) (r : Shows cd desk z st m 0) (e : End) (s s' : RingState D) → lane_to m e ≡ s
       → (i n id : ℕ) (cs : List (ℕ × Slot)) (v : View) (o : Mover v) (w : Pass) (a : Act Slot) (d : Deed) (l' : List (Option_of Slot)) → get_elem? st.views id ≡ some v
       → MayDo desk m d → with_lane m e s' ≡ after_deed desk m d

@@ -1,4 +1,4 @@
--- SEND 3 and SEND 5: the look for room, and the forward entry, on either lane.
+-- steps 3 and 5 of a send: the look for room, and the forward entry, on either lane.
 use Rattle.std.proofs.Common.{◌≡◌, ℕ, zero, suc, ◌+◌, ◌*◌, ◌%◌, ◌<◌, ◌≤◌, Bool, true, false, cond, eqb, List, [], ◌∷◌, ◌++◌, map, length, get_or, set, refl, sym, ap, ◌∙◌, subst, arith}
 use Rattle.std.specs.Prelude.{Some, None}
 use mathlib.Core.Option.{none}
@@ -137,7 +137,7 @@ forward_set side.Remote era i word entry a b low at =
     ∙ ap (λ (l : List ℕ). l ++ (map entry_word a.returns ++ [])) (sym (map-set entry_word a.forward i entry)))))
 
 module _ {D : Type 0} (cd : Coded D) (desk : DeskMeaning D) (z : LinkSizes) where
-  -- SEND 3
+  -- step 3 of a send
   pub sends_look : (n id : ℕ) (me : SeatState) (o : Mover me.0) (e : End) (c f : ℕ) (message : List ℕ) (x : SenderSide) (b : ℕ) → o.pass.call ≡ Sends e (turn.Taken c (record { follows = f; message = message; stage = stage.Era })) x b
       → Allows (WordsRule cd desk z) n id me (return_word e) (λ y. y) (λ y me'. SendLooksBy me o (sizes_at z e) e c (record { follows = f; message = message; stage = stage.Era }) x b y me' × StepBy cd desk me o (Steps o.pass.number 0 None) me')
   sends_look n id me o e c f message x b call st (m, p, r₀) wide at _ =
@@ -179,7 +179,7 @@ module _ {D : Type 0} (cd : Coded D) (desk : DeskMeaning D) (z : LinkSizes) wher
         ),
       )
 
-  -- SEND 5: the entry is stored while the buffer is out, and the buffers of the messages before it stand
+  -- step 5 of a send: the entry is stored while the buffer is out, and the buffers of the messages before it stand
   pub sends_entry : (n id : ℕ) (me : SeatState) (o : Mover me.0) (e : End) (c f : ℕ) (message : List ℕ) (x : SenderSide) (b word new before : ℕ) → o.pass.call ≡ Sends e (turn.Taken c (record { follows = f; message = message; stage = stage.Buffer })) x b
       → ((st : State Slot View) (m : LaneLink (RingState D)) → Shows cd desk z st m 0 → ahead e (lane_words (lane_to m (other e))) ≡ before)
       → word ≡ 10 + (before + x.accepted % (sizes_at z e).entries) → new ≡ b + entry_length (sizes_at z e) (length message) * 4294967296

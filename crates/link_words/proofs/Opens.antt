@@ -1,4 +1,4 @@
--- A reopening: words reset one by one, which are no steps of the machine, and then its one step.
+-- A reopening: words reset one by one, which are no steps of the ring form, and then its one step.
 use Rattle.std.proofs.Common.{◌≡◌, ◌≢◌, ℕ, zero, suc, ◌+◌, ◌<◌, Bool, true, false, List, [], ◌∷◌, ◌++◌, map, length, get_or, set, refl, sym, ap, ◌∙◌, subst, inl, inr, arith, length-append}
 use Rattle.std.proofs.lemmas.List.{length-map}
 use Rattle.std.specs.Prelude.{Option, Some}
@@ -213,7 +213,7 @@ module _ {D : Type 0} (cd : Coded D) (desk : DeskMeaning D) (z : LinkSizes) wher
         refl,
       )
 
-  -- the era is opened, where all is reset and nothing is held: the machine's one step
+  -- the era is opened, where all is reset and nothing is held: the one step of the ring form
   pub opens : (n id : ℕ) (me : SeatState) (o : Mover me.0) (q inc new : ℕ) → o.pass.call ≡ Reopens q inc → q ≡ length (fresh_of z)
       → new ≡ era_word (record { inc = inc + 1; is_live = true })
       → Allows (WordsRule cd desk z) n id me 1 (λ _. new) (λ _ me'. me' ≡ (opened_view me.0 o me'.0.copy, me.1))

@@ -1,4 +1,4 @@
--- SEND 6: the message is accepted and its buffer comes home, on either lane.
+-- step 6 of a send: the message is accepted and its buffer comes home, on either lane.
 use Rattle.std.proofs.Common.{◌≡◌, ℕ, zero, suc, ◌+◌, ◌%◌, ◌<◌, ◌≤◌, true, List, [], ◌∷◌, ◌++◌, length, set, refl, sym, ap, ◌∙◌, subst, arith, length-set, length-append}
 use Rattle.std.specs.Prelude.{None}
 use Rattle.std.specs.Prelude.{Some}

@@ -1,4 +1,4 @@
--- Each step of a SEND is the machine's, on either lane.
+-- Each step of a send is one of the ring form, on either lane.
 use Rattle.std.proofs.Common.{◌≡◌, ℕ, suc, Bool, true, false, cond, eqb, ◌&&◌, List, get_or, set, refl, sym, ap, ◌∙◌, subst, ⊎_elim, eq-eqb}
 use Rattle.std.specs.Prelude.{Option, Some, None}
 use mathlib.Core.Option.{some, none}
@@ -120,7 +120,7 @@ module _ {D : Type 0} (cd : Coded D) (desk : DeskMeaning D) (z : LinkSizes) wher
   current_of true c s era live = λ _. sym (eqb-true era.inc s.follows (and_left (eqb era.inc s.follows) era.is_live live))
   current_of false c s era live = tt
 
-  -- SEND 2, in any era
+  -- step 2 of a send, in any era
   pub sends_era : (n id : ℕ) (me : SeatState) (o : Mover me.0) (e : End) (c f : ℕ) (message : List ℕ) (x : SenderSide) (b : ℕ) → o.pass.call ≡ Sends e (turn.Taken c (record { follows = f; message = message; stage = stage.Turn })) x b
       → Allows (WordsRule cd desk z) n id me 1 (λ y. y) (λ y me'. SendLoadsEraBy me o e c (record { follows = f; message = message; stage = stage.Turn }) x b y me' × StepBy cd desk me o (Steps o.pass.number 0 None) me')
   sends_era n id me o e c f message x b call st (m, p, r₀) wide at _ =

@@ -1,4 +1,4 @@
--- The first three steps of a TAKE: its turn, the era, and the look for a message.
+-- The first three steps of a take: its turn, the era, and the look for a message.
 use Rattle.std.proofs.Common.{◌≡◌, ℕ, suc, ◌≤◌, Bool, true, false, cond, eqb, List, [], ◌∷◌, length, get_or, refl, sym, ap, ◌∙◌, subst, ⊎_elim, arith}
 use Rattle.std.specs.Prelude.{Option, Some, None}
 use mathlib.Core.Option.{some, none}
@@ -220,7 +220,7 @@ module _ {D : Type 0} (cd : Coded D) (desk : DeskMeaning D) (z : LinkSizes) wher
         step_by cd desk z st m r id me o (with_call o.pass call) (Steps c 0 None) (with_lane m e (with_receiver s t')) me.1 at may deed has,
       )
 
-  -- TAKE 2
+  -- step 2 of a take
   pub takes_era : (n id : ℕ) (me : SeatState) (o : Mover me.0) (e : End) (c f : ℕ) (x : ReceiverSide) (b : ℕ) (msg : List ℕ) → o.pass.call ≡ Receives e (turn.Taken c (record { follows = f; work = work.Take take_stage.Turn })) x b msg
       → Allows (WordsRule cd desk z) n id me 1 (λ y. y) (λ y me'. TakeLoadsEraBy me o e c (record { follows = f; work = work.Take take_stage.Turn }) x b msg y me' × StepBy cd desk me o (Steps o.pass.number 0 None) me')
   takes_era n id me o e c f x b msg call st (m, p, r₀) wide at _ =
@@ -244,7 +244,7 @@ module _ {D : Type 0} (cd : Coded D) (desk : DeskMeaning D) (z : LinkSizes) wher
   index_seen side.Host era a b = refl
   index_seen side.Remote era a b = refl
 
-  -- TAKE 3
+  -- step 3 of a take
   pub takes_look : (n id : ℕ) (me : SeatState) (o : Mover me.0) (e : End) (c f : ℕ) (x : ReceiverSide) (b : ℕ) (msg : List ℕ) → o.pass.call ≡ Receives e (turn.Taken c (record { follows = f; work = work.Take take_stage.Era })) x b msg
       → Allows (WordsRule cd desk z) n id me (forward_word e) (λ y. y) (λ y me'. TakeLooksBy me o (sizes_at z e) e c (record { follows = f; work = work.Take take_stage.Era }) x b msg y me' × StepBy cd desk me o (Steps o.pass.number 0 None) me')
   takes_look n id me o e c f x b msg call st (m, p, r₀) wide at _ =

@@ -1,4 +1,4 @@
--- The steps of a TAKE at which a buffer goes out and comes home, with the era loaded again; and the leave by which a reclaim ends it.
+-- The steps of a take at which a buffer goes out and comes home, with the era loaded again; and the leave by which a reclaim ends it.
 use Rattle.std.proofs.Common.{◌≡◌, ◌≢◌, ℕ, ◌+◌, ◌-◌, ◌<◌, ◌≤◌, Bool, true, false, cond, List, [], ◌∷◌, ◌++◌, length, get_or, set, refl, sym, ap, ◌∙◌, subst, inl, inr, ⊎_elim, arith, length-set, length-append, le_refl}
 use Rattle.std.specs.Prelude.{Some, None}
 use mathlib.Core.Option.{some, none}
@@ -227,7 +227,7 @@ module _ {D : Type 0} (cd : Coded D) (desk : DeskMeaning D) (z : LinkSizes) wher
   receive_rests m side.Host s number user receives sends = (user, sends, receives)
   receive_rests m side.Remote s number user receives sends = (user, sends, receives)
 
-  -- TAKE 4, whatever word it loads
+  -- step 4 of a take, whatever word it loads
   pub draws : (n id : ℕ) (me : SeatState) (o : Mover me.0) (e : End) (c f : ℕ) (x : ReceiverSide) (b i first : ℕ) (msg : List ℕ) → o.pass.call ≡ Receives e (turn.Taken c (record { follows = f; work = work.Take take_stage.Look })) x b msg → first ≡ z.to_host.capacity
       → (told : ℕ → ℕ)
       → ((st : State Slot View) (m : LaneLink (RingState D)) (r : Shows cd desk z st m 0) → x ≡ receiver_side (lane_to m e) → IsSoundRings (lane_to m e) → buffer_at (lane_to m e).rings.sizes.entries (lane_to m e).rings.forward (length (lane_to m e).lane.lane.takers) < (lane_to m e).rings.sizes.capacity
@@ -358,7 +358,7 @@ module _ {D : Type 0} (cd : Coded D) (desk : DeskMeaning D) (z : LinkSizes) wher
         ),
       )
 
-  -- TAKE 5: the era again. Live: the desk judges the message and it is handed; else the take is dead. The slot is at home either way, with the message
+  -- step 5 of a take: the era again. Live: the desk judges the message and it is handed; else the take is dead. The slot is at home either way, with the message
   pub hands : (n id : ℕ) (me : SeatState) (o : Mover me.0) (e : End) (c f : ℕ) (x : ReceiverSide) (b first : ℕ) (msg : List ℕ) → o.pass.call ≡ Receives e (turn.Taken c (record { follows = f; work = work.Take take_stage.Buffer })) x b msg → first ≡ z.to_host.capacity
       → me.1 ≡ (buffer_slot first e b, Buffer msg) ∷ rest me.1
       → Allows (WordsRule cd desk z) n id me 1 (λ y. y) (λ y me'. TakeHandsBy me o e c f x b msg y me' × StepBy cd desk me o (Steps o.pass.number 0 None) me')

@@ -30,15 +30,15 @@ use Rattle.link_words.specs.declared.rule.Event.TheVariants.{Publish, Take}
 use Rattle.link_words.specs.Passes.{Mover, with_call, with_pass}
 use Rattle.link_words.specs.Words.{receiver_slot, other, era_word, buffer_slot}
 
--- SEND 2: the era that was found decides
+-- step 2 of a send: the era that was found decides
 abbrev pub SendLoadsEraBy : (me : SeatState) → Mover me.0 → End → ℕ → Sending → SenderSide → ℕ → ℕ → SeatState → Type 0
 SendLoadsEraBy me o e c s x b n me' = (era : Era) × (n ≡ era_word era) × (me' ≡ (with_pass me.0 o (with_call o.pass (Sends e (after_send_era era c s) x b)) me'.0.copy, me.1))
 
--- SEND 4: the buffer is out
+-- step 4 of a send: the buffer is out
 abbrev pub SendTakesBufferBy : (me : SeatState) → Mover me.0 → ℕ → End → ℕ → Sending → SenderSide → ℕ → SeatState → Type 0
 SendTakesBufferBy me o first e c s x id me' = (y : Slot) × (me' ≡ (with_pass me.0 o (with_call o.pass (Sends e (turn.Taken c (record s { stage = stage.Buffer })) x id)) me'.0.copy, (buffer_slot first e id, y) ∷ me.1))
 
--- SEND 6: the message is in the book, and the buffer at home
+-- step 6 of a send: the message is in the book, and the buffer at home
 abbrev pub SendPublishesBy : (me : SeatState) → Mover me.0 → End → ℕ → ℕ → List ℕ → SenderSide → ℕ → SeatState → Type 0
 SendPublishesBy me o e c f message x b me' =
     me' ≡ (with_pass me.0 o (record o.pass { call = Sends e (turn.Leaving c (end.Sent x.accepted)) (record { accepted = x.accepted + 1 }) b; own = Publish e f x.accepted message ∷ o.pass.own }) me'.0.copy, rest me.1)
@@ -55,12 +55,12 @@ FindsClosedEra me o e t x b n me' = (era : Era) × (n ≡ era_word era) × (era.
 abbrev pub BeginsReopening : (me : SeatState) → Mover me.0 → ℕ → SeatState → Type 0
 BeginsReopening me o n me' = (era : Era) × (n ≡ era_word era) × (era.is_live ≡ false → me' ≡ (with_pass me.0 o (with_call o.pass (Reopens 0 era.inc)) me'.0.copy, me.1)) × (era.is_live ≡ true → me' ≡ me)
 
--- TAKE 4: the buffer is out, with its message
+-- step 4 of a take: the buffer is out, with its message
 abbrev pub TakeTakesBufferBy : (me : SeatState) → Mover me.0 → ℕ → End → ℕ → ℕ → ReceiverSide → ℕ → SeatState → Type 0
 TakeTakesBufferBy me o first e c f x id me' = (message : List ℕ)
     × (me' ≡ (with_pass me.0 o (with_call o.pass (Receives e (turn.Taken c (record { follows = f; work = work.Take take_stage.Buffer })) x id message)) me'.0.copy, (buffer_slot first e id, Buffer message) ∷ me.1))
 
--- TAKE 5: the era that was found decides; the buffer's slot is at home either way
+-- step 5 of a take: the era that was found decides; the buffer's slot is at home either way
 abbrev pub TakeHandsBy : (me : SeatState) → Mover me.0 → End → ℕ → ℕ → ReceiverSide → ℕ → List ℕ → ℕ → SeatState → Type 0
 TakeHandsBy me o e c f x b message n me' = (era : Era) × (n ≡ era_word era)
     × (is_live_in era f ≡ true → (v : Verdict) × (me' ≡ (
@@ -74,20 +74,20 @@ TakeHandsBy me o e c f x b message n me' = (era : Era) × (n ≡ era_word era)
     )))
     × (is_live_in era f ≡ false → me' ≡ (with_pass me.0 o (with_call o.pass (Receives e (turn.Leaving c (end.Dead era)) x b message)) me'.0.copy, rest me.1))
 
--- SEND 3: the return index that was found tells how many buffers are back
+-- step 3 of a send: the return index that was found tells how many buffers are back
 abbrev pub SendLooksBy : (me : SeatState) → Mover me.0 → RingSizes → End → ℕ → Sending → SenderSide → ℕ → ℕ → SeatState → Type 0
 SendLooksBy me o sizes e c s x b n me' = (returned : ℕ) × (book : ℕ) × (n ≡ return_count sizes returned % 65536) × (returned ≤ x.accepted) × (x.accepted ≤ returned + sizes.capacity)
     × (me' ≡ (with_pass me.0 o (with_call o.pass (Sends e (look_turn x.accepted returned sizes.capacity book c s) x b)) me'.0.copy, me.1))
 
--- SEND 5: the forward entry names the buffer
+-- step 5 of a send: the forward entry names the buffer
 abbrev pub SendStoresEntryBy : (me : SeatState) → Mover me.0 → End → ℕ → Sending → SenderSide → ℕ → SeatState → Type 0
 SendStoresEntryBy me o e c s x b me' = me' ≡ (with_pass me.0 o (with_call o.pass (Sends e (turn.Taken c (record s { stage = stage.Entry })) x b)) me'.0.copy, me.1)
 
--- TAKE 2: the era that was found decides
+-- step 2 of a take: the era that was found decides
 abbrev pub TakeLoadsEraBy : (me : SeatState) → Mover me.0 → End → ℕ → Receiving → ReceiverSide → ℕ → List ℕ → ℕ → SeatState → Type 0
 TakeLoadsEraBy me o e c q x b message n me' = (era : Era) × (n ≡ era_word era) × (me' ≡ (with_pass me.0 o (with_call o.pass (Receives e (after_take_era era c q) x b message)) me'.0.copy, me.1))
 
--- TAKE 3: the forward index that was found tells how many messages there are
+-- step 3 of a take: the forward index that was found tells how many messages there are
 abbrev pub TakeLooksBy : (me : SeatState) → Mover me.0 → RingSizes → End → ℕ → Receiving → ReceiverSide → ℕ → List ℕ → ℕ → SeatState → Type 0
 TakeLooksBy me o sizes e c q x b message n me' = (accepted : ℕ) × (n ≡ accepted % 65536) × (x.handed ≤ accepted) × (accepted ≤ x.handed + sizes.capacity)
     × (me' ≡ (with_pass me.0 o (with_call o.pass (Receives e (take_look_turn x.handed accepted c q) x b message)) me'.0.copy, me.1))

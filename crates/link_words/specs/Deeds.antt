@@ -1,4 +1,4 @@
--- What the shared link does, as changes of the landed machine over rings.
+-- What is done to a shared link, as changes of the ring form (own).
 use Rattle.std.specs.Prelude.{None, slice_set, ◌≡◌, ℕ, false, if◌then◌else◌, [], Option, Some}
 use Rattle.rp_base.specs.declared.kinds.End.{End}
 use Rattle.lane_model.specs.declared.lane_links.LaneLink.{LaneLink}
@@ -19,12 +19,15 @@ use Rattle.ring_core.specs.declared.states.RingState.{RingState}
 use Rattle.ring_core.specs.RingSteps.{ring_form}
 use Rattle.lane_laws.specs.SoundRingLinks.{HasSoundRings}
 
+-- one of the changes
 pub data Deed : Type 0 where
-  -- a step of this caller, whose call follows an incarnation
+  -- a step of this caller, whose call follows an incarnation; the wish is there where it is the first
   Steps : ℕ → ℕ → Option Wish → Deed
+  -- the close of this incarnation
   Closes : ℕ → Deed
   -- part 3 of a reclaim of this caller of this end: the turn of its call is left
   EndsCall : End → ℕ → Deed
+  -- the opening of the next incarnation
   Opens : Deed
   -- parts 2 and 4 of a reclaim: the manager has this receiver's turn, and leaves it without what this caller holds
   TakesReceiver : End → Deed
@@ -32,7 +35,7 @@ pub data Deed : Type 0 where
   -- a caller is made on this end, or the number of this caller of this end is free
   Enlists : End → Deed
   Frees : End → ℕ → Deed
-  -- a load or a reset that is no step of the machine
+  -- a load or a reset that is no step of the ring form
   Nothing : Deed
 
 -- the four turns are the manager's
@@ -48,6 +51,7 @@ abbrev pub HoldsNothing : {D : Type 0} → LaneLink (RingState D) → Type 0
 HoldsNothing m = (m.to_host.lane.lane.held ≡ []) × (m.to_remote.lane.lane.held ≡ [])
 
 module _ {D : Type 0} (desk : DeskMeaning D) where
+  -- the lanes of a caller whose call is ended by a reclaim
   abbrev pub lanes_after_end : Lanes (RingState D) → ℕ → Lanes (RingState D)
   lanes_after_end lanes caller = record {
     outgoing = (ring_form desk).after_send_end lanes.outgoing caller;
@@ -61,9 +65,11 @@ module _ {D : Type 0} (desk : DeskMeaning D) where
     to_remote = record o.to_remote { lane = record o.to_remote.lane { sender = turn.Manager; receiver = turn.Manager } };
   }
 
+  -- a lane whose receiver's turn the manager leaves, without what this caller held
   abbrev pub after_leave_without : RingState D → ℕ → RingState D
   after_leave_without s caller = record ((ring_form desk).after_receive_end s caller) { lane = turn_left_without s.lane caller }
 
+  -- the state after a deed
   abbrev pub after_deed : LaneLink (RingState D) → Deed → LaneLink (RingState D)
   after_deed m (Steps caller follows wished) = (form_step (ring_form desk) desk m caller follows wished).state
   after_deed m (Closes inc) = link_after_close m inc
@@ -75,6 +81,7 @@ module _ {D : Type 0} (desk : DeskMeaning D) where
   after_deed m (Frees e caller) = record m { callers = slice_set m.callers caller None }
   after_deed m Nothing = m
 
+  -- when a deed may be done: a step of a call by the condition of every step, the others in a closed era
   abbrev pub MayDo : LaneLink (RingState D) → Deed → Type 0
   MayDo m (Steps caller follows wished) = MayStep (link_of (ring_form desk) m) caller wished
   MayDo m (Closes inc) = Unit {0}
@@ -86,7 +93,7 @@ module _ {D : Type 0} (desk : DeskMeaning D) where
   MayDo m (Frees e caller) = (m.era.is_live ≡ false) × (end_of m.callers caller ≡ Some e) × MayPart (lanes_of (link_of (ring_form desk) m) e) caller part.FreesNumber
   MayDo m Nothing = Unit {0}
 
--- both landed laws of a state
+-- a state's rings are sound, and so is the link that it stands for
 pub record IsSoundState {D : Type 0} (desk : DeskMeaning D) (m : LaneLink (RingState D)) : Type 0 where
   pub rings : HasSoundRings m
   pub sound : SoundLink (link_of (ring_form desk) m)

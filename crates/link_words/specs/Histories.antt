@@ -1,4 +1,4 @@
--- The part on histories: what the books say of a pass is what its own list says.
+-- The part on histories: what the books say of a pass is what its own list says (own).
 use Rattle.std.specs.Prelude.{◌≡◌, ℕ, suc, ◌==◌, ◌&&◌, ◌≤◌, ◌<◌, length, Bool, true, false, if◌then◌else◌, List, [], ◌∷◌, ◌++◌, Option, Some}
 use Rattle.rp_base.specs.declared.kinds.End.{End}
 use Rattle.rp_base.specs.declared.kinds.End.TheVariants as side
@@ -16,6 +16,7 @@ use Rattle.link_words.specs.declared.rule.Event.{Event}
 use Rattle.link_words.specs.declared.rule.Event.TheVariants.{Publish, Take}
 use Rattle.link_words.specs.Words.{lane_to}
 
+-- the two ends are one
 abbrev pub same_end : End → End → Bool
 same_end side.Host side.Host = true
 same_end side.Host side.Remote = false
@@ -62,6 +63,7 @@ pub record LaneBooks : Type 0 where
   pub takers : List ℕ
   pub held : List Holding
 
+-- those of a lane of the ring form
 abbrev pub books_of : {D : Type 0} → RingState D → LaneBooks
 books_of s = record { accepted = s.lane.lane.accepted; takers = s.lane.lane.takers; held = s.lane.lane.held }
 
@@ -90,6 +92,7 @@ is_past_era stage.Look = true
 is_past_era stage.Buffer = true
 is_past_era stage.Entry = true
 
+-- so the send that has the turn, if any, follows this incarnation
 abbrev pub IsCurrent : Turn Sending → ℕ → Type 0
 IsCurrent t inc = OfCall t (λ caller s. is_past_era s.stage ≡ true → s.follows ≡ inc)
 

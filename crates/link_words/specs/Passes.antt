@@ -1,4 +1,4 @@
--- Passes in views: where each stands, which one a step moves, and how passes go from one view to another.
+-- Passes in views: where each stands, which one a step moves, and how passes go from one view to another (own).
 use Rattle.std.specs.Prelude.{true, Bool, ◌+◌, if◌then◌else◌, ◌==◌, ◌≡◌, ℕ, zero, suc, List, [], ◌∷◌, ◌++◌, false, slice_set, Some, None}
 use Rattle.std.specs.Prelude.{Option as Option_of}
 use Rattle.rp_base.specs.declared.kinds.End.{End}
@@ -19,6 +19,7 @@ PassAt views j l p = (v : View) × (get_elem? views j ≡ some v) × (get_elem? 
 abbrev pub EachPass : (Pass → Type 0) → List View → Type 0
 EachPass F views = (j l : ℕ) (p : Pass) → PassAt views j l p → F p
 
+-- the list has this number
 abbrev pub HasNumber : List ℕ → ℕ → Type 0
 HasNumber out n = (k : ℕ) × (get_elem? out k ≡ some n)
 
@@ -32,9 +33,11 @@ pub record Mover (v : View) : Type 0 where
   pub pass : Pass
   pub here : get_elem? v.passes place ≡ some pass
 
+-- the pass in another call
 abbrev pub with_call : Pass → Call → Pass
 with_call p call = record p { call = call }
 
+-- the pass in another call, with these numbers in hand
 abbrev pub with_call_and_hands : Pass → Call → List ℕ → Pass
 with_call_and_hands p call hands = record p { call = call; hands = hands }
 
@@ -55,24 +58,28 @@ spent_view = record {
   sizes = record { to_host = record { entries = 0; capacity = 0; own = 0 }; to_remote = record { entries = 0; capacity = 0; own = 0 }; first = 0 };
 }
 
-abbrev pub front : List Pass → List Pass
-front [] = []
-front (p ∷ []) = []
-front (p ∷ q ∷ ps) = p ∷ front (q ∷ ps)
+-- all passes but the last
+abbrev pub all_but_last : List Pass → List Pass
+all_but_last [] = []
+all_but_last (p ∷ []) = []
+all_but_last (p ∷ q ∷ ps) = p ∷ all_but_last (q ∷ ps)
 
+-- the last pass alone
 abbrev pub last_pass_only : List Pass → List Pass
 last_pass_only [] = []
 last_pass_only (p ∷ []) = p ∷ []
 last_pass_only (p ∷ q ∷ ps) = last_pass_only (q ∷ ps)
 
+-- the numbers of passes
 abbrev pub numbers_of : List Pass → List ℕ
 numbers_of [] = []
 numbers_of (p ∷ ps) = p.number ∷ numbers_of ps
 
 -- a split: the last pass goes out
 abbrev pub without_last : View → View
-without_last v = record v { passes = front v.passes; out = numbers_of (last_pass_only v.passes) ++ v.out }
+without_last v = record v { passes = all_but_last v.passes; out = numbers_of (last_pass_only v.passes) ++ v.out }
 
+-- the view of the seat that it goes to
 abbrev pub only_last : View → View
 only_last v = record spent_view { passes = last_pass_only v.passes; sizes = v.sizes }
 
@@ -84,6 +91,7 @@ with_passes_from v w = record v { passes = v.passes ++ w.passes }
 abbrev pub new_pass : End → ℕ → ℕ → Pass
 new_pass e number first = record { number = number; call = Rests e; first = first; own = []; hands = [] }
 
+-- whether the list has this number
 abbrev pub is_listed : ℕ → List ℕ → Bool
 is_listed n [] = false
 is_listed n (x ∷ xs) = if x == n then true else is_listed n xs
@@ -92,10 +100,12 @@ is_listed n (x ∷ xs) = if x == n then true else is_listed n xs
 abbrev pub first_incarnation : ℕ → View → ℕ
 first_incarnation n v = if is_listed n v.reclaims then v.inc + 1 else v.inc
 
+-- the view with a caller more under this number, where there is one
 abbrev pub with_caller_as : End → View → Option_of LinkCopy → Option_of ℕ → View
 with_caller_as e v k None = v
 with_caller_as e v k (Some n) = record v { copy = k; passes = v.passes ++ new_pass e n (first_incarnation n v) ∷ []; users = slice_set v.users n (Some e) }
 
+-- the view with a caller more under the least number that is free
 abbrev pub with_new_caller : End → View → Option_of LinkCopy → View
 with_new_caller e v k = with_caller_as e v k (free_number v.users)
 
@@ -103,6 +113,7 @@ with_new_caller e v k = with_caller_as e v k (free_number v.users)
 abbrev pub without_new : End → View → View
 without_new e v = without_last (with_new_caller e v None)
 
+-- the view of the new caller's seat
 abbrev pub only_new : End → View → View
 only_new e v = only_last (with_new_caller e v None)
 
@@ -121,6 +132,7 @@ abbrev pub callers_without : List Pass → List (Option_of End) → List (Option
 callers_without [] users = users
 callers_without (p ∷ ps) users = slice_set users p.number None
 
+-- the manager's view when the caller of another seat has ended
 abbrev pub after_end_with : View → View → View
 after_end_with v w = record v { copy = None; reclaims = numbers_of w.passes ++ v.reclaims; users = callers_without w.passes v.users }
 
@@ -129,6 +141,7 @@ abbrev pub place_of_number : ℕ → List Pass → ℕ
 place_of_number n [] = 0
 place_of_number n (p ∷ ps) = if p.number == n then 0 else suc (place_of_number n ps)
 
+-- the manager's view when the caller of this number, which it carries, has ended
 abbrev pub after_end_of : ℕ → View → Option_of LinkCopy → View
 after_end_of n v k = record v { copy = k; reclaims = n ∷ v.reclaims; passes = without_pass (place_of_number n v.passes) v.passes; users = slice_set v.users n None }
 

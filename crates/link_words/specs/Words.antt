@@ -1,4 +1,5 @@
--- The words and the slots of a link, as functions of the state of the landed machine.
+-- The words and the slots of a link, as functions of the state of the ring form (own; what an index and an entry say is that of a split
+-- virtqueue, VIRTIO 1.2 sections 2.7.6 and 2.7.8).
 use Rattle.std.specs.Prelude.{ℕ, zero, suc, ◌+◌, ◌*◌, ◌%◌, ◌≤◌, if◌then◌else◌, List, [], ◌∷◌, ◌++◌, map, length}
 use mathlib.Core.Option.{Option, some, none}
 use Rattle.rp_base.specs.declared.kinds.Era.{Era}
@@ -19,6 +20,7 @@ use Rattle.link_words.specs.declared.rule.Slot.TheVariants.{Sender, Receiver}
 use Rattle.link_words.specs.declared.rule.SenderSide.{SenderSide}
 use Rattle.link_words.specs.declared.rule.ReceiverSide.{ReceiverSide}
 
+-- the other end
 abbrev pub other : End → End
 other side.Host = side.Remote
 other side.Remote = side.Host
@@ -28,19 +30,23 @@ abbrev pub lane_to : {L : Type 0} → LaneLink L → End → L
 lane_to m side.Host = m.to_host
 lane_to m side.Remote = m.to_remote
 
+-- the link with another lane to this end
 abbrev pub with_lane : {L : Type 0} → LaneLink L → End → L → LaneLink L
 with_lane m side.Host s = record m { to_host = s }
 with_lane m side.Remote s = record m { to_remote = s }
 
+-- a turn: 0 where it is free, else its holder's number and 1
 abbrev pub turn_word : {C : Type 0} → Turn C → ℕ
 turn_word turn.Free = 0
 turn_word (turn.Taken caller call) = suc caller
 turn_word (turn.Leaving caller end) = suc caller
 turn_word turn.Manager = 65
 
+-- an era: twice its incarnation, and 1 more where it is live
 abbrev pub era_word : Era → ℕ
 era_word era = era.inc * 2 + (if era.is_live then 1 else 0)
 
+-- an entry: the buffer's number in the low half, the length in the high one
 abbrev pub entry_word : UsedWord → ℕ
 entry_word entry = entry.id + entry.len * 4294967296
 
@@ -53,6 +59,7 @@ pub record LaneWords : Type 0 where
   pub forward : List UsedWord
   pub returns : List UsedWord
 
+-- those of a lane of the ring form
 abbrev pub lane_words : {D : Type 0} → RingState D → LaneWords
 lane_words s = record {
   sender = turn_word s.lane.sender;
@@ -63,6 +70,7 @@ lane_words s = record {
   returns = s.rings.returns;
 }
 
+-- the entries of a lane, and then more
 abbrev pub entry_words_before : LaneWords → List ℕ → List ℕ
 entry_words_before a more = map entry_word a.forward ++ (map entry_word a.returns ++ more)
 
@@ -77,6 +85,7 @@ reset_first (suc p) [] old = old
 reset_first (suc p) (f ∷ fs) [] = []
 reset_first (suc p) (f ∷ fs) (o ∷ os) = f ∷ reset_first p fs os
 
+-- all words: the idle one, the era, the turns, and what a reopening resets, of which it has reset so many
 abbrev pub words_from : ℕ → List ℕ → ℕ → LaneWords → LaneWords → List ℕ
 words_from p fresh era a b = 0 ∷ era ∷ a.sender ∷ a.receiver ∷ b.sender ∷ b.receiver ∷ reset_first p fresh (reset_block a b)
 
@@ -85,6 +94,7 @@ abbrev pub words_at : End → ℕ → LaneWords → LaneWords → List ℕ
 words_at side.Host era a b = words_from 0 [] era a b
 words_at side.Remote era a b = words_from 0 [] era b a
 
+-- a side state is at home where its turn is free
 abbrev pub home_if : {C : Type 0} → Turn C → Slot → Option Slot
 home_if turn.Free x = some x
 home_if (turn.Taken caller call) x = none
@@ -97,9 +107,11 @@ pub record LaneHomes : Type 0 where
   pub receiver : Option Slot
   pub shelf : List (Option Slot)
 
+-- all slots: the four side states, in the order of the turns, then the buffers
 abbrev pub homes_from : LaneHomes → LaneHomes → List (Option Slot)
 homes_from a b = a.sender ∷ a.receiver ∷ b.sender ∷ b.receiver ∷ (a.shelf ++ b.shelf)
 
+-- this lane and the other one
 abbrev pub homes_at : End → LaneHomes → LaneHomes → List (Option Slot)
 homes_at side.Host a b = homes_from a b
 homes_at side.Remote a b = homes_from b a
@@ -109,21 +121,25 @@ pub record Shelves : Type 0 where
   pub host : List (Option Slot)
   pub remote : List (Option Slot)
 
+-- of the lane to an end
 abbrev pub shelf_to : Shelves → End → List (Option Slot)
 shelf_to sh side.Host = sh.host
 shelf_to sh side.Remote = sh.remote
 
+-- with other slots of the lane to this end
 abbrev pub with_shelf : Shelves → End → List (Option Slot) → Shelves
 with_shelf sh side.Host l = record sh { host = l }
 with_shelf sh side.Remote l = record sh { remote = l }
 
 module _ {D : Type 0} where
+  -- what goes with the turns of a lane
   abbrev pub sender_side : RingState D → SenderSide
   sender_side s = record { accepted = length s.lane.lane.accepted }
 
   abbrev pub receiver_side : RingState D → ReceiverSide
   receiver_side s = record { handed = length s.lane.lane.takers; returned = s.lane.lane.returned; hands = s.rings.hands }
 
+  -- the slots of a lane that are at home
   abbrev pub lane_homes : RingState D → List (Option Slot) → LaneHomes
   lane_homes s shelf = record {
     sender = home_if s.lane.sender (Sender (sender_side s));
@@ -131,9 +147,11 @@ module _ {D : Type 0} where
     shelf = shelf;
   }
 
+  -- the words of a link, of which a reopening has reset so many
   abbrev pub words_of : ℕ → List ℕ → LaneLink (RingState D) → List ℕ
   words_of p fresh m = words_from p fresh (era_word m.era) (lane_words m.to_host) (lane_words m.to_remote)
 
+  -- its slots
   abbrev pub homes_of : LaneLink (RingState D) → Shelves → List (Option Slot)
   homes_of m sh = homes_from (lane_homes m.to_host sh.host) (lane_homes m.to_remote sh.remote)
 

@@ -9,6 +9,7 @@ mod places;
 mod plays;
 mod rule;
 mod seats;
+mod sides;
 mod slots;
 mod stores;
 mod turns;
@@ -23,6 +24,7 @@ pub use rule::{
 pub use seats::{
     close_era, end_carried, enlist_carried, join, learn_era, let_go, settle, split, take_in,
 };
+pub use sides::ReceiverState;
 pub use slots::copy_message;
 pub use stores::{publish_index, store_entry};
 pub use turns::{leave_turn, take_turn};

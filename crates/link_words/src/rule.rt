@@ -1,5 +1,6 @@
 //! The words, the slots, what a seat knows, and the rule.
 use crate::copies::LinkCopy;
+use crate::sides::ReceiverState;
 use atomic_table::{Seat, Shared, TableRule};
 use lane_model::{Desk, Receiving, Sending, Turn, Wish};
 use ring_core::{Hand, RingSizes};
@@ -21,8 +22,8 @@ pub struct SenderSide {
     pub accepted: u64,
 }
 
-/// What goes with the receiver's turn of a lane.
-#[derive(Drop)]
+/// What goes with the receiver's turn of a lane, as contracts see it: a [`ReceiverState`] in its slot.
+/// No value of it is made.
 pub struct ReceiverSide {
     /// How many messages were handed over.
     pub handed: u64,
@@ -48,7 +49,7 @@ pub struct CallStart {
 pub enum Slot {
     Empty,
     Sender(SenderSide),
-    Receiver(ReceiverSide),
+    Receiver(ReceiverState),
     Buffer(Message),
     /// In no slot: the caller that a step names to the proofs.
     Caller(CallerNo),
@@ -65,7 +66,7 @@ pub enum Ring {
     Return,
 }
 
-/// The call that a seat is in: the lane by the end that it leads to, the turn as the machine has it, the side, and the buffer
+/// The call that a seat is in: the lane by the end that it leads to, the turn as the ring form has it, the side, and the buffer
 /// that is out, where one is.
 pub enum Call {
     Idle,
