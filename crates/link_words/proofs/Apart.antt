@@ -16,7 +16,7 @@ use Rattle.link_words.specs.Calls.{SeatState}
 use Rattle.link_words.specs.Layouts.{words_apart, place_apart, place_in}
 use Rattle.link_words.specs.Rule.{WordsRule, LinkRule}
 
-found_apart : (n : ℕ) (ws : List ℕ) (i : ℕ) → get_or (words_apart n ws) (place_apart n i) 0 ≡ get_or ws i 0
+pub found_apart : (n : ℕ) (ws : List ℕ) (i : ℕ) → get_or (words_apart n ws) (place_apart n i) 0 ≡ get_or ws i 0
 found_apart n [] i = refl
 found_apart zero (w ∷ ws) zero = refl
 found_apart (suc n) (w ∷ ws) zero = refl

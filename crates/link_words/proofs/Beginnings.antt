@@ -33,10 +33,10 @@ use Rattle.link_words.specs.Histories.{hands_of}
 use Rattle.link_words.specs.Layouts.{place_in}
 use Rattle.link_words.specs.Passes.{HasNumber, with_call, place_of_number}
 use Rattle.link_words.specs.Rule.{IsCallOf, Shows, LinkRule}
-use Rattle.link_words.specs.Steps.{IsStepOf, Begins, IsFit, first_work, turn_word_for, TakesSender, TakesReceiver, TakesTurn}
+use Rattle.link_words.specs.Steps.{IsStepOf, Begins, IsFit, first_work, turn_word_for, TakesSender, TakesReceiver, TakesTurn, HasWord}
 use Rattle.link_words.specs.Words.{other, lane_to, sender_word, receiver_word, sender_slot, receiver_slot}
 use Rattle.link_words.proofs.Apart.{apart, sender_low, receiver_low}
-use Rattle.link_words.proofs.Exact.{StepBy, number_is, becomes, step_told}
+use Rattle.link_words.proofs.Exact.{StepBy, number_is, becomes, step_told, ReadsAt, read_there}
 use Rattle.link_words.proofs.Starts.{SendBeginsBy, starts}
 use Rattle.link_words.proofs.TakeStarts.{takes_turn}
 use Rattle.link_words.proofs.Tells.{TakeBeginsBy}
@@ -70,10 +70,10 @@ module _ {D : Type 0} (cd : Coded D) (desk : DeskMeaning D) (z : LinkSizes) (n i
   suc_number = let same = s.number in omega (arith, new_is, same)
 
   -- the step by its place and its number
-  begin_told : (w : Wish) (me' : SeatState) → StepBy cd desk me s.mover (Steps s.mover.pass.number follows (Some w)) me' → Begins cd desk number follows w me me'
-  begin_told w me' step = let k = place_of_number number me.0.passes in
-      subst (λ (j : ℕ). IsStepOf cd desk (Steps j follows (Some w)) j (call_at k me.0.passes) (call_at k me'.0.passes) me me') (sym (number_is me s.mover k s.here) ∙ s.number)
-      (step_told me s.mover k s.here cd desk (λ j. Steps j follows (Some w)) me' step)
+  begin_told : (w : Wish) (i y : ℕ) (me' : SeatState) → place ≡ place_in i → StepBy cd desk (ReadsAt i y) me s.mover (Steps s.mover.pass.number follows (Some w)) me' → Begins cd desk (HasWord place y) number follows w me me'
+  begin_told w i y me' is step = let k = place_of_number number me.0.passes in
+      read_there cd desk i place y is _ _ _ _ me me' (subst (λ (j : ℕ). IsStepOf cd desk (ReadsAt i y) (Steps j follows (Some w)) j (call_at k me.0.passes) (call_at k me'.0.passes) me me') (sym (number_is me s.mover k s.here) ∙ s.number)
+      (step_told me s.mover k s.here cd desk (ReadsAt i y) (λ j. Steps j follows (Some w)) me' step))
 
   takes_sender : (message : List ℕ) (y : ℕ) (me' : SeatState) → SendBeginsBy cd desk z me s.mover (other e) follows message y me' → TakesSender (other e) number follows message me y me'
   takes_sender message y me' t = (
@@ -96,21 +96,21 @@ module _ {D : Type 0} (cd : Coded D) (desk : DeskMeaning D) (z : LinkSizes) (n i
   )
 
   send_begins : (message : List ℕ) → IsFit (wish.Send message) s.mover.pass.hands → place ≡ place_in (sender_word (other e))
-      → Allows (LinkRule cd desk z) n id me place (λ y. either (eqb y 0) new y) (λ y me'. TakesTurn e number follows (wish.Send message) me y me' × (y ≤ 65) × Begins cd desk number follows (wish.Send message) me me')
+      → Allows (LinkRule cd desk z) n id me place (λ y. either (eqb y 0) new y) (λ y me'. TakesTurn e number follows (wish.Send message) me y me' × (y ≤ 65) × Begins cd desk (HasWord place y) number follows (wish.Send message) me me')
   send_begins message fits is st kept long at wide =
       let a = apart cd desk z n id me (sender_word (other e)) place (λ y. either (eqb y 0) new y)
-      (λ y me'. SendBeginsBy cd desk z me s.mover (other e) follows message y me' × (y ≤ 65) × StepBy cd desk me s.mover (Steps s.mover.pass.number follows (Some (wish.Send message))) me') is
+      (λ y me'. SendBeginsBy cd desk z me s.mover (other e) follows message y me' × (y ≤ 65) × StepBy cd desk (ReadsAt (sender_word (other e)) y) me s.mover (Steps s.mover.pass.number follows (Some (wish.Send message))) me') is
       (starts cd desk z n id me s.mover (other e) follows new message fits (s.call ∙ ap Rests (sym (other_twice e))) suc_number) st kept long at wide in
-      (a.0, a.1, a.2, a.3, (takes_sender message _ _ a.4.0, a.4.1, begin_told (wish.Send message) _ a.4.2))
+      (a.0, a.1, a.2, a.3, (takes_sender message _ _ a.4.0, a.4.1, begin_told (wish.Send message) (sender_word (other e)) _ _ is a.4.2))
 
   work_begins : (w : Wish) (first : Work) → ((lanes : Lanes (RingState D)) (caller : ℕ) → first_step (ring_form desk) lanes caller follows w ≡ receive_first (ring_form desk) lanes caller follows first) → work_is_out first ≡ false
       → ((st : State Slot View) (m : LaneLink (RingState D)) (p : ℕ) → Shows cd desk z st m p → get_elem? st.views id ≡ some me.0 → IsFitWish w (lane_to m e).lane.lane.held s.mover.pass.number) → place ≡ place_in (receiver_word e)
-      → Allows (LinkRule cd desk z) n id me place (λ y. either (eqb y 0) new y) (λ y me'. TakesReceiver e number follows first me y me' × (y ≤ 65) × Begins cd desk number follows w me me')
+      → Allows (LinkRule cd desk z) n id me place (λ y. either (eqb y 0) new y) (λ y me'. TakesReceiver e number follows first me y me' × (y ≤ 65) × Begins cd desk (HasWord place y) number follows w me me')
   work_begins w first begins inside fits is st kept long at wide =
       let a = apart cd desk z n id me (receiver_word e) place (λ y. either (eqb y 0) new y)
-      (λ y me'. TakeBeginsBy me s.mover e follows first y me' × (y ≤ 65) × StepBy cd desk me s.mover (Steps s.mover.pass.number follows (Some w)) me') is
+      (λ y me'. TakeBeginsBy me s.mover e follows first y me' × (y ≤ 65) × StepBy cd desk (ReadsAt (receiver_word e) y) me s.mover (Steps s.mover.pass.number follows (Some w)) me') is
       (takes_turn desk w first follows begins cd z id me s.mover e s.call inside fits n new suc_number) st kept long at wide in
-      (a.0, a.1, a.2, a.3, (takes_receiver first _ _ a.4.0, a.4.1, begin_told w _ a.4.2))
+      (a.0, a.1, a.2, a.3, (takes_receiver first _ _ a.4.0, a.4.1, begin_told w (receiver_word e) _ _ is a.4.2))
 
   give_fits : (k : ℕ) → HasNumber s.mover.pass.hands k → (st : State Slot View) (m : LaneLink (RingState D)) (p : ℕ) → Shows cd desk z st m p → get_elem? st.views id ≡ some me.0 → IsFitWish (wish.Give k) (lane_to m e).lane.lane.held s.mover.pass.number
   give_fits k has st m p r at =
@@ -120,7 +120,7 @@ module _ {D : Type 0} (cd : Coded D) (desk : DeskMeaning D) (z : LinkSizes) (n i
 
   -- step 1 of what a caller wishes
   pub call_begins : (w : Wish) → IsFit w s.mover.pass.hands → place ≡ place_in (turn_word_for e w)
-      → Allows (LinkRule cd desk z) n id me place (λ y. either (eqb y 0) new y) (λ y me'. TakesTurn e number follows w me y me' × (y ≤ 65) × Begins cd desk number follows w me me')
+      → Allows (LinkRule cd desk z) n id me place (λ y. either (eqb y 0) new y) (λ y me'. TakesTurn e number follows w me y me' × (y ≤ 65) × Begins cd desk (HasWord place y) number follows w me me')
   call_begins (wish.Send message) fits is = send_begins message fits is
   call_begins wish.Take fits is = work_begins wish.Take (first_work wish.Take) (λ lanes caller. refl) refl (λ st m p r at. tt) is
   call_begins (wish.Give k) fits is = work_begins (wish.Give k) (first_work (wish.Give k)) (λ lanes caller. refl) refl (give_fits k fits) is

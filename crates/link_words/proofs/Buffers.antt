@@ -44,7 +44,7 @@ use Rattle.link_words.proofs.Frames.{words_seen, homes_seen, same_lane, same_she
 use Rattle.link_words.proofs.Kept.{send_deed, send_may}
 use Rattle.link_words.proofs.LaneSteps.{no_call, others_send, here_sends, lane_moves}
 use Rattle.link_words.proofs.Sends.{has_of, true-false, at_zero}
-use Rattle.link_words.proofs.Exact.{StepBy, step_by}
+use Rattle.link_words.proofs.Exact.{StepBy, step_by, ReadsAt, read_by}
 use Rattle.link_words.proofs.Parts.{rings_in, sizes_in, buffers_in}
 
 pub rings_to : {D : Type 0} (m : LaneLink (RingState D)) (e : End) → HasSoundRings m → IsSoundRings (lane_to m e)
@@ -80,7 +80,7 @@ module _ {D : Type 0} (cd : Coded D) (desk : DeskMeaning D) (z : LinkSizes) wher
       → (told : ℕ → ℕ)
       → ((st : State Slot View) (m : LaneLink (RingState D)) (r : Shows cd desk z st m 0) → x ≡ sender_side (lane_to m e) → IsSoundRings (lane_to m e) → length (lane_to m e).lane.lane.accepted < (lane_to m e).lane.lane.returned + (lane_to m e).rings.sizes.capacity
       → told (get_or st.words i 0) ≡ source_buffer (lane_to m e).rings.sizes.entries (lane_to m e).rings.sizes.own (lane_to m e).rings.returns (length (lane_to m e).lane.lane.accepted))
-      → Allows (WordsRule cd desk z) n id me i (λ y. y) (λ y me'. SendTakesBufferBy me o first e c (record { follows = f; message = message; stage = stage.Look }) x (told y) me' × StepBy cd desk me o (Steps o.pass.number 0 None) me')
+      → Allows (WordsRule cd desk z) n id me i (λ y. y) (λ y me'. SendTakesBufferBy me o first e c (record { follows = f; message = message; stage = stage.Look }) x (told y) me' × StepBy cd desk (ReadsAt i y) me o (Steps o.pass.number 0 None) me')
   pulls n id me o e c f message x b i first call first_at told knows st (m, p, r₀) wide at _ =
       let sending : Sending = record { follows = f; message = message; stage = stage.Look } in let t : Turn Sending = turn.Taken c sending in
       let h : IsCallOf m p o.pass.number (Sends e t x b) = subst (IsCallOf m p o.pass.number) call (r₀.turns.calls id o.place o.pass (me.0, at, o.here)) in
@@ -118,14 +118,14 @@ module _ {D : Type 0} (cd : Coded D) (desk : DeskMeaning D) (z : LinkSizes) wher
             (others_send desk m e s' t o.pass.number h.1.0 h.1.1 refl refl refl (λ _. refl) (λ k apart. no_call desk t' o.pass.number k h.1.1 apart)) refl refl refl refl (λ i k. absurd (true-false (sym k))),
         (
           (y, λ k. (with_pass me.0 o (with_call o.pass (Sends e t' x (sym id_is k))) (Some (copied cd (with_lane m e s'))), (buffer_slot first e (sym id_is k), y) ∷ me.1)),
-          step_by cd desk z st m r id me o (with_call o.pass w) (Steps o.pass.number 0 None) (with_lane m e s') ((buffer_slot first e own, y) ∷ me.1) at may deed mine,
+          read_by i cd desk z st m r id me o (with_call o.pass w) (Steps o.pass.number 0 None) (with_lane m e s') ((buffer_slot first e own, y) ∷ me.1) at may deed mine,
         ),
       )
 
   -- step 4 of a send of the first sends of an incarnation: the sender's own list
   pub pulls_own : (n id : ℕ) (me : SeatState) (o : Mover me.0) (e : End) (c f : ℕ) (message : List ℕ) (x : SenderSide) (b i first own : ℕ) → o.pass.call ≡ Sends e (turn.Taken c (record { follows = f; message = message; stage = stage.Look })) x b → first ≡ z.to_host.capacity
       → ((st : State Slot View) (m : LaneLink (RingState D)) → Shows cd desk z st m 0 → (lane_to m e).rings.sizes.own ≡ own) → x.accepted < own
-      → Allows (WordsRule cd desk z) n id me i (λ y. y) (λ _ me'. SendTakesBufferBy me o first e c (record { follows = f; message = message; stage = stage.Look }) x x.accepted me' × StepBy cd desk me o (Steps o.pass.number 0 None) me')
+      → Allows (WordsRule cd desk z) n id me i (λ y. y) (λ y me'. SendTakesBufferBy me o first e c (record { follows = f; message = message; stage = stage.Look }) x x.accepted me' × StepBy cd desk (ReadsAt i y) me o (Steps o.pass.number 0 None) me')
   pulls_own n id me o e c f message x b i first own call first_at own_is early = pulls n id me o e c f message x b i first call first_at (λ _. x.accepted)
       (λ st m r side sound room. let a : x.accepted ≡ length (lane_to m e).lane.lane.accepted = ap (λ (u : SenderSide). u.accepted) side in let o = own_is st m r in
       a ∙ sym (source-early (lane_to m e).rings.sizes.entries (lane_to m e).rings.sizes.own (lane_to m e).rings.returns (length (lane_to m e).lane.lane.accepted) (omega (arith, early, a, o))))

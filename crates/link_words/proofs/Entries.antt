@@ -28,7 +28,7 @@ use Rattle.link_words.specs.Passes.{Mover}
 use Rattle.link_words.specs.Calls.{SeatState}
 use Rattle.link_words.proofs.Tells.{SendTakesBufferBy}
 use Rattle.link_words.proofs.Buffers.{words_here, pulls}
-use Rattle.link_words.proofs.Exact.{StepBy}
+use Rattle.link_words.proofs.Exact.{StepBy, ReadsAt}
 use Rattle.link_words.proofs.Parts.{rings_in, sizes_in}
 use Rattle.link_words.specs.Words.{sizes_at}
 use Rattle.link_words.specs.Deeds.{Steps}
@@ -82,7 +82,7 @@ module _ {D : Type 0} (cd : Coded D) (desk : DeskMeaning D) (z : LinkSizes) wher
   pub pulls_entry : (n id : ℕ) (me : SeatState) (o : Mover me.0) (e : End) (c f : ℕ) (message : List ℕ) (x : SenderSide) (b i first entries own before : ℕ) → o.pass.call ≡ Sends e (turn.Taken c (record { follows = f; message = message; stage = stage.Look })) x b → first ≡ z.to_host.capacity
       → ((st : State Slot View) (m : LaneLink (RingState D)) → Shows cd desk z st m 0 → ((lane_to m e).rings.sizes.entries ≡ entries) × ((lane_to m e).rings.sizes.own ≡ own) × (ahead e (lane_words (lane_to m (other e))) ≡ before))
       → own ≤ x.accepted → i ≡ 10 + (before + (entries + (x.accepted - own) % entries))
-      → Allows (WordsRule cd desk z) n id me i (λ y. y) (λ y me'. SendTakesBufferBy me o first e c (record { follows = f; message = message; stage = stage.Look }) x (y % 4294967296) me' × StepBy cd desk me o (Steps o.pass.number 0 None) me')
+      → Allows (WordsRule cd desk z) n id me i (λ y. y) (λ y me'. SendTakesBufferBy me o first e c (record { follows = f; message = message; stage = stage.Look }) x (y % 4294967296) me' × StepBy cd desk (ReadsAt i y) me o (Steps o.pass.number 0 None) me')
   pulls_entry n id me o e c f message x b i first entries own before call first_at sizes_are late at_word = pulls cd desk z n id me o e c f message x b i first call first_at (λ y. y % 4294967296)
       (λ st m r side sound room.
       let s = lane_to m e in let sizes = sizes_are st m r in let rings = s.rings in let a = length s.lane.lane.accepted in

@@ -47,12 +47,12 @@ use Rattle.link_words.specs.Histories.{hands_of}
 use Rattle.link_words.specs.Parts.{HoldsBuffers}
 use Rattle.link_words.specs.Passes.{Mover, with_pass, with_call, with_call_and_hands}
 use Rattle.link_words.specs.Rule.{IsCallOf, HandsOf, Shows, WordsRule}
-use Rattle.link_words.specs.Steps.{hands_but}
+use Rattle.link_words.specs.Steps.{hands_but, AnyWord}
 use Rattle.link_words.specs.Turns.{is_manager}
 use Rattle.link_words.specs.Words.{other, lane_to, with_lane, era_word, turn_word, entry_word, LaneWords, lane_words, words_at, home_if, lane_homes, homes_at, shelf_to, receiver_side, return_word, sizes_at, entries_before, entry_number}
 use Rattle.link_words.proofs.Buffers.{words_here, loaded, rings_to}
 use Rattle.link_words.proofs.Entries.{ahead, sizes_known}
-use Rattle.link_words.proofs.Exact.{StepBy, step_by}
+use Rattle.link_words.proofs.Exact.{StepBy, step_by, ReadsAt, read_by}
 use Rattle.link_words.proofs.Frames.{keepers_set}
 use Rattle.link_words.proofs.Hands.{hands_here, hands_at}
 use Rattle.link_words.proofs.Kept.{no_send, receive_deed, receive_may}
@@ -98,7 +98,7 @@ module _ {D : Type 0} (cd : Coded D) (desk : DeskMeaning D) (z : LinkSizes) wher
   -- step 2 of a give: the return entry names the buffer in hand
   pub gives_entry : (n id : ℕ) (me : SeatState) (o : Mover me.0) (e : End) (c f k : ℕ) (x : ReceiverSide) (b count new : ℕ) (msg : List ℕ) → o.pass.call ≡ Receives e (turn.Taken c (record { follows = f; work = work.Give k give_stage.Turn })) x b msg
       → count ≡ return_count (sizes_at z e) x.returned → new ≡ held_buffer x.hands k + 0 * 4294967296
-      → Allows (WordsRule cd desk z) n id me (entry_number z e ring.Return count) (λ _. new) (λ _ me'. (me' ≡ (with_pass me.0 o (with_call o.pass (Receives e (turn.Taken c (record { follows = f; work = work.Give k give_stage.Entry })) x b msg)) me'.0.copy, me.1)) × StepBy cd desk me o (Steps o.pass.number 0 None) me')
+      → Allows (WordsRule cd desk z) n id me (entry_number z e ring.Return count) (λ _. new) (λ _ me'. (me' ≡ (with_pass me.0 o (with_call o.pass (Receives e (turn.Taken c (record { follows = f; work = work.Give k give_stage.Entry })) x b msg)) me'.0.copy, me.1)) × StepBy cd desk AnyWord me o (Steps o.pass.number 0 None) me')
   gives_entry n id me o e c f k x b count new msg call count_is new_is st (m, p, r₀) wide at _ =
       let t : Turn Receiving = turn.Taken c (record { follows = f; work = work.Give k give_stage.Turn }) in
       let h : IsCallOf m p o.pass.number (Receives e t x b msg) = subst (IsCallOf m p o.pass.number) call (r₀.turns.calls id o.place o.pass (me.0, at, o.here)) in
@@ -138,7 +138,7 @@ module _ {D : Type 0} (cd : Coded D) (desk : DeskMeaning D) (z : LinkSizes) wher
   pub gives_back : (n id : ℕ) (me : SeatState) (o : Mover me.0) (e : End) (c f k : ℕ) (x : ReceiverSide) (b new : ℕ) (msg : List ℕ) → o.pass.call ≡ Receives e (turn.Taken c (record { follows = f; work = work.Give k give_stage.Entry })) x b msg
       → new ≡ (return_count (sizes_at z e) x.returned + 1) % 65536
       → Allows (WordsRule cd desk z) n id me (return_word e) (λ _. new) (λ _ me'. (me' ≡ (with_pass me.0 o (with_call_and_hands o.pass (Receives e (turn.Leaving c (end.Gave k)) (record { handed = x.handed; returned = x.returned + 1; hands = hands_without x.hands k }) b msg) (hands_but o.pass.hands k)) me'.0.copy, me.1))
-          × StepBy cd desk me o (Steps o.pass.number 0 None) me')
+          × StepBy cd desk AnyWord me o (Steps o.pass.number 0 None) me')
   gives_back n id me o e c f k x b new msg call new_is st (m, p, r₀) wide at _ =
       let t : Turn Receiving = turn.Taken c (record { follows = f; work = work.Give k give_stage.Entry }) in
       let h : IsCallOf m p o.pass.number (Receives e t x b msg) = subst (IsCallOf m p o.pass.number) call (r₀.turns.calls id o.place o.pass (me.0, at, o.here)) in
@@ -178,7 +178,7 @@ module _ {D : Type 0} (cd : Coded D) (desk : DeskMeaning D) (z : LinkSizes) wher
   binds_with : (st : State Slot View) (m : LaneLink (RingState D)) (r : Shows cd desk z st m 0) (id : ℕ) (me : SeatState) (o : Mover me.0) (e : End) (w : Work) (f c : ℕ) (x : ReceiverSide) (b : ℕ) (msg : List ℕ) (ended : CallEnd) (left : D) → get_elem? st.views id ≡ some me.0
       → IsCallOf m 0 o.pass.number (Receives e (turn.Taken c (record { follows = f; work = w })) x b msg) → work_is_out w ≡ false
       → (ring_form desk).received_on (with_receiver (lane_to m e) (turn.Taken c (record { follows = f; work = w }))) m.era ≡ record { lane = record (lane_to m e).lane { receiver = turn.Leaving c ended; desk = left }; rings = (lane_to m e).rings }
-      → (v : View) × WordsRule cd desk z (stepped st 1 (get_or st.words 1 0) id me.1 v keeps) × (v ≡ with_pass me.0 o (with_call o.pass (Receives e (turn.Leaving c ended) x b msg)) v.copy) × StepBy cd desk me o (Steps o.pass.number 0 None) (v, me.1)
+      → (v : View) × WordsRule cd desk z (stepped st 1 (get_or st.words 1 0) id me.1 v keeps) × (v ≡ with_pass me.0 o (with_call o.pass (Receives e (turn.Leaving c ended) x b msg)) v.copy) × StepBy cd desk (ReadsAt 1 (get_or st.words 1 0)) me o (Steps o.pass.number 0 None) (v, me.1)
   binds_with st m r id me o e w f c x b msg ended left at h inside does =
       let t : Turn Receiving = turn.Taken c (record { follows = f; work = w }) in let s₀ = lane_to m e in let s = with_receiver s₀ t in let is : s₀ ≡ s = λ i. with_receiver s₀ (h.1.0 i) in
       let t' : Turn Receiving = turn.Leaving c ended in let s' : RingState D = record { lane = record s₀.lane { receiver = t'; desk = left }; rings = s₀.rings } in let call : Call = Receives e t' x b msg in
@@ -197,7 +197,7 @@ module _ {D : Type 0} (cd : Coded D) (desk : DeskMeaning D) (z : LinkSizes) wher
             mine
             (others_receive desk m e s' t o.pass.number h.1.0 h.1.1 refl refl refl refl (λ i apart. no_call desk t' o.pass.number i h.1.1 apart)) refl refl refl refl (λ i l. absurd (true-false (sym l))),
         refl,
-        step_by cd desk z st m r id me o (with_call o.pass call) (Steps o.pass.number 0 None) (with_lane m e s') me.1 at may deed mine,
+        read_by 1 cd desk z st m r id me o (with_call o.pass call) (Steps o.pass.number 0 None) (with_lane m e s') me.1 at may deed mine,
       )
 
   -- in its incarnation, live, the desk changes and says how the call ends
@@ -208,7 +208,7 @@ module _ {D : Type 0} (cd : Coded D) (desk : DeskMeaning D) (z : LinkSizes) wher
       })
       → (n id : ℕ) (me : SeatState) (o : Mover me.0) (e : End) (x : ReceiverSide) (b : ℕ) (msg : List ℕ) → o.pass.call ≡ Receives e (turn.Taken c (record { follows = f; work = w })) x b msg
       → Allows (WordsRule cd desk z) n id me 1 (λ y. y) (λ y me'. ((era : Era) × (y ≡ era_word era) × (ended : CallEnd) × (me' ≡ (with_pass me.0 o (with_call o.pass (Receives e (cond (is_live_in era f) (turn.Leaving c ended) (turn.Leaving c (end.Dead era))) x b msg)) me'.0.copy, me.1)))
-          × StepBy cd desk me o (Steps o.pass.number 0 None) me')
+          × StepBy cd desk (ReadsAt 1 y) me o (Steps o.pass.number 0 None) me')
   binds w desk_after end_after f c inside does n id me o e x b msg call st (m, p, r₀) wide at _ =
       let t : Turn Receiving = turn.Taken c (record { follows = f; work = w }) in
       let h : IsCallOf m p o.pass.number (Receives e t x b msg) = subst (IsCallOf m p o.pass.number) call (r₀.turns.calls id o.place o.pass (me.0, at, o.here)) in
@@ -217,7 +217,7 @@ module _ {D : Type 0} (cd : Coded D) (desk : DeskMeaning D) (z : LinkSizes) wher
       go : (live : Bool) → is_live_in m.era f ≡ live → IsCallOf m 0 o.pass.number (Receives e (turn.Taken c (record { follows = f; work = w })) x b msg) → Shows cd desk z st m 0 → get_or st.words 1 0 ≡ era_word m.era
           → (v : View) × (a : Act Slot) × Valid st.homes me.1 a × WordsRule cd desk z (stepped st 1 (get_or st.words 1 0) id me.1 v a)
           × (((era : Era) × (get_or st.words 1 0 ≡ era_word era) × (ended : CallEnd) × Path (Me Slot View) (v, carried_after me.1 a) (with_pass me.0 o (with_call o.pass (Receives e (cond (is_live_in era f) (turn.Leaving c ended) (turn.Leaving c (end.Dead era))) x b msg)) v.copy, me.1))
-            × StepBy cd desk me o (Steps o.pass.number 0 None) (v, carried_after me.1 a))
+            × StepBy cd desk (ReadsAt 1 (get_or st.words 1 0)) me o (Steps o.pass.number 0 None) (v, carried_after me.1 a))
       go true is_live h r word =
           let all = binds_with st m r id me o e w f c x b msg (end_after (lane_to m e)) (desk_after (lane_to m e)) at h inside
               (does (lane_to m e) m.era ∙ λ i. record { lane = cond (is_live i) (record (lane_to m e).lane { receiver = turn.Leaving c (end_after (lane_to m e)); desk = desk_after (lane_to m e) }) (record (lane_to m e).lane { receiver = turn.Leaving c (end.Dead m.era) }); rings = (lane_to m e).rings }) in

@@ -43,13 +43,13 @@ use Rattle.link_words.specs.Codes.{copied}
 use Rattle.link_words.specs.Passes.{Mover, with_pass, with_call}
 use Rattle.link_words.specs.Calls.{SeatState}
 use Rattle.link_words.proofs.Tells.{SendLooksBy, SendStoresEntryBy}
-use Rattle.link_words.specs.Steps.{look_turn}
+use Rattle.link_words.specs.Steps.{look_turn, AnyWord}
 use Rattle.link_words.proofs.Kept.{send_deed, send_may}
 use Rattle.link_words.proofs.LaneSteps.{no_call, others_send, here_sends, lane_moves}
 use Rattle.link_words.proofs.Sends.{has_of, true-false, at_zero, turn_only}
 use Rattle.link_words.proofs.Buffers.{words_here, loaded, rings_to}
 use Rattle.link_words.proofs.Entries.{ahead}
-use Rattle.link_words.proofs.Exact.{StepBy, step_by}
+use Rattle.link_words.proofs.Exact.{StepBy, step_by, ReadsAt, read_by}
 use Rattle.link_words.proofs.Parts.{rings_in, sizes_in, buffers_in}
 use Rattle.link_words.specs.Words.{sizes_at}
 
@@ -139,7 +139,7 @@ forward_set side.Remote era i word entry a b low at =
 module _ {D : Type 0} (cd : Coded D) (desk : DeskMeaning D) (z : LinkSizes) where
   -- step 3 of a send
   pub sends_look : (n id : ℕ) (me : SeatState) (o : Mover me.0) (e : End) (c f : ℕ) (message : List ℕ) (x : SenderSide) (b : ℕ) → o.pass.call ≡ Sends e (turn.Taken c (record { follows = f; message = message; stage = stage.Era })) x b
-      → Allows (WordsRule cd desk z) n id me (return_word e) (λ y. y) (λ y me'. SendLooksBy me o (sizes_at z e) e c (record { follows = f; message = message; stage = stage.Era }) x b y me' × StepBy cd desk me o (Steps o.pass.number 0 None) me')
+      → Allows (WordsRule cd desk z) n id me (return_word e) (λ y. y) (λ y me'. SendLooksBy me o (sizes_at z e) e c (record { follows = f; message = message; stage = stage.Era }) x b y me' × StepBy cd desk (ReadsAt (return_word e) y) me o (Steps o.pass.number 0 None) me')
   sends_look n id me o e c f message x b call st (m, p, r₀) wide at _ =
       let sending : Sending = record { follows = f; message = message; stage = stage.Era } in let t : Turn Sending = turn.Taken c sending in
       let h : IsCallOf m p o.pass.number (Sends e t x b) = subst (IsCallOf m p o.pass.number) call (r₀.turns.calls id o.place o.pass (me.0, at, o.here)) in
@@ -175,7 +175,7 @@ module _ {D : Type 0} (cd : Coded D) (desk : DeskMeaning D) (z : LinkSizes) wher
             omega (arith, side, out, cap),
             λ i. (with_pass me.0 o (with_call o.pass (Sends e (look_turn (sym side i) k (room i) lane.book c sending) x b)) (Some (copied cd m')), me.1),
           ),
-          step_by cd desk z st m r id me o (with_call o.pass w) (Steps o.pass.number 0 None) m' me.1 at may deed mine,
+          read_by (return_word e) cd desk z st m r id me o (with_call o.pass w) (Steps o.pass.number 0 None) m' me.1 at may deed mine,
         ),
       )
 
@@ -183,7 +183,7 @@ module _ {D : Type 0} (cd : Coded D) (desk : DeskMeaning D) (z : LinkSizes) wher
   pub sends_entry : (n id : ℕ) (me : SeatState) (o : Mover me.0) (e : End) (c f : ℕ) (message : List ℕ) (x : SenderSide) (b word new before : ℕ) → o.pass.call ≡ Sends e (turn.Taken c (record { follows = f; message = message; stage = stage.Buffer })) x b
       → ((st : State Slot View) (m : LaneLink (RingState D)) → Shows cd desk z st m 0 → ahead e (lane_words (lane_to m (other e))) ≡ before)
       → word ≡ 10 + (before + x.accepted % (sizes_at z e).entries) → new ≡ b + entry_length (sizes_at z e) (length message) * 4294967296
-      → Allows (WordsRule cd desk z) n id me word (λ _. new) (λ _ me'. SendStoresEntryBy me o e c (record { follows = f; message = message; stage = stage.Buffer }) x b me' × StepBy cd desk me o (Steps o.pass.number 0 None) me')
+      → Allows (WordsRule cd desk z) n id me word (λ _. new) (λ _ me'. SendStoresEntryBy me o e c (record { follows = f; message = message; stage = stage.Buffer }) x b me' × StepBy cd desk AnyWord me o (Steps o.pass.number 0 None) me')
   sends_entry n id me o e c f message x b word new before call before_is at_word new_is st (m, p, r₀) wide at _ =
       let sending : Sending = record { follows = f; message = message; stage = stage.Buffer } in let t : Turn Sending = turn.Taken c sending in
       let h : IsCallOf m p o.pass.number (Sends e t x b) = subst (IsCallOf m p o.pass.number) call (r₀.turns.calls id o.place o.pass (me.0, at, o.here)) in

@@ -15,7 +15,7 @@ use Rattle.link_words.specs.declared.rule.Slot.{Slot}
 use Rattle.link_words.specs.declared.rule.LinkSizes.{LinkSizes}
 use Rattle.link_words.specs.declared.rule.View.{View}
 use Rattle.link_words.specs.declared.rule.Event.{Event}
-use Rattle.link_words.specs.Words.{lane_to, Shelves, shelf_to, words_of, homes_of}
+use Rattle.link_words.specs.Words.{sizes_at, lane_to, Shelves, shelf_to, words_of, homes_of}
 use Rattle.link_words.specs.Turns.{turns_in}
 use Rattle.link_words.specs.Histories.{entries_by, sends_in, takes_by, takes_in, books_of}
 use Rattle.link_words.specs.Deeds.{Deed, after_deed, MayDo, IsSoundState}
@@ -42,6 +42,10 @@ module _ {D : Type 0} {cd : Coded D} {desk : DeskMeaning D} {z : LinkSizes} {st 
   pub buffers_in : (r : Shows cd desk z st m p) (e : End) → HoldsBuffers (lane_to m e) (shelf_to r.shelves e)
   buffers_in r side.Host = r.to_host.buffers
   buffers_in r side.Remote = r.to_remote.buffers
+
+  pub near_in : Shows cd desk z st m p → (e : End) → AreNear (sizes_at z e).capacity (length (lane_to m e).lane.lane.accepted) (lane_to m e).lane.lane.returned
+  near_in r side.Host = r.to_host.near
+  near_in r side.Remote = r.to_remote.near
 
 -- a lane with sound rings has the counts of its indexes near
 pub near : {D : Type 0} (s : RingState D) (sizes : RingSizes) → s.rings.sizes ≡ sizes → IsSoundRings s → AreNear sizes.capacity (length s.lane.lane.accepted) s.lane.lane.returned

@@ -51,6 +51,7 @@ use Rattle.link_words.proofs.Books.{history_published, history_other, none_publi
 use Rattle.link_words.proofs.Buffers.{rings_to, index_set, first_is}
 use Rattle.link_words.proofs.Exact.{StepBy, step_by}
 use Rattle.link_words.proofs.Parts.{rings_in, buffers_in}
+use Rattle.link_words.specs.Steps.{AnyWord}
 
 -- one message more leaves those before it
 message_before : (book : List BookEntry) (entry : BookEntry) (k : ℕ) → k < length book → message_at (book ++ entry ∷ []) k ≡ message_at book k
@@ -101,7 +102,7 @@ shelved_home {D} s s' l y sound out q sizes forward taking receiver takers newer
 module _ {D : Type 0} (cd : Coded D) (desk : DeskMeaning D) (z : LinkSizes) where
   pub publishes : (n id : ℕ) (me : SeatState) (o : Mover me.0) (e : End) (c f : ℕ) (message : List ℕ) (x : SenderSide) (b first new : ℕ) → o.pass.call ≡ Sends e (turn.Taken c (record { follows = f; message = message; stage = stage.Entry })) x b → first ≡ z.to_host.capacity
       → me.1 ≡ (buffer_slot first e b, Buffer message) ∷ rest me.1 → new ≡ (x.accepted + 1) % 65536
-      → Allows (WordsRule cd desk z) n id me (forward_word e) (λ _. new) (λ _ me'. SendPublishesBy me o e c f message x b me' × StepBy cd desk me o (Steps o.pass.number 0 None) me')
+      → Allows (WordsRule cd desk z) n id me (forward_word e) (λ _. new) (λ _ me'. SendPublishesBy me o e c f message x b me' × StepBy cd desk AnyWord me o (Steps o.pass.number 0 None) me')
   publishes n id me o e c f message x b first new call first_at has_slot new_is st (m, p, r₀) wide at _ =
       let sending : Sending = record { follows = f; message = message; stage = stage.Entry } in let t : Turn Sending = turn.Taken c sending in
       let h : IsCallOf m p o.pass.number (Sends e t x b) = subst (IsCallOf m p o.pass.number) call (r₀.turns.calls id o.place o.pass (me.0, at, o.here)) in

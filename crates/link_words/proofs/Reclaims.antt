@@ -48,6 +48,7 @@ use Rattle.link_words.proofs.Buffers.{rings_to, first_is}
 use Rattle.link_words.proofs.Publishes.{shelved_home}
 use Rattle.link_words.proofs.Exact.{StepBy, step_by}
 use Rattle.link_words.proofs.Parts.{rings_in, buffers_in}
+use Rattle.link_words.specs.Steps.{AnyWord}
 
 rests_after : {D : Type 0} (m : LaneLink (RingState D)) (e : End) (s : RingState D) (number : ℕ) → end_of m.callers number ≡ Some (other e) → has_call s.lane.sender number ≡ false → has_call (lane_to m (other e)).lane.receiver number ≡ false
     → IsCallOf (with_lane m e s) 0 number (Rests (other e))
@@ -62,7 +63,7 @@ module _ {D : Type 0} (cd : Coded D) (desk : DeskMeaning D) (z : LinkSizes) wher
 
   -- the last step of a send
   pub leaves : (n id : ℕ) (me : SeatState) (o : Mover me.0) (e : End) (c : ℕ) (end : CallEnd) (x : SenderSide) (b : ℕ) → o.pass.call ≡ Sends e (turn.Leaving c end) x b → me.1 ≡ (sender_slot e, Sender x) ∷ rest me.1
-      → Allows (WordsRule cd desk z) n id me (sender_word e) (λ _. 0) (λ _ me'. SendLeavesBy me o e (rest me.1) me' × StepBy cd desk me o (Steps o.pass.number 0 None) me')
+      → Allows (WordsRule cd desk z) n id me (sender_word e) (λ _. 0) (λ _ me'. SendLeavesBy me o e (rest me.1) me' × StepBy cd desk AnyWord me o (Steps o.pass.number 0 None) me')
   leaves n id me o e c end x b call has_slot st (m, p, r₀) wide at _ =
       let t : Turn Sending = turn.Leaving c end in
       let h : IsCallOf m p o.pass.number (Sends e t x b) = subst (IsCallOf m p o.pass.number) call (r₀.turns.calls id o.place o.pass (me.0, at, o.here)) in

@@ -42,7 +42,7 @@ use Rattle.link_words.specs.Codes.{copied}
 use Rattle.link_words.specs.Passes.{Mover, with_pass, with_call}
 use Rattle.link_words.specs.Calls.{SeatState}
 use Rattle.link_words.proofs.Tells.{SendLoadsEraBy}
-use Rattle.link_words.proofs.Exact.{StepBy, step_by}
+use Rattle.link_words.proofs.Exact.{ReadsAt, StepBy, read_by}
 use Rattle.link_words.proofs.Kept.{send_deed, send_may}
 use Rattle.link_words.proofs.LaneSteps.{still_sender, no_call, others_send, here_sends, lane_moves}
 use Rattle.link_words.proofs.Parts.{buffers_in}
@@ -122,7 +122,7 @@ module _ {D : Type 0} (cd : Coded D) (desk : DeskMeaning D) (z : LinkSizes) wher
 
   -- step 2 of a send, in any era
   pub sends_era : (n id : ℕ) (me : SeatState) (o : Mover me.0) (e : End) (c f : ℕ) (message : List ℕ) (x : SenderSide) (b : ℕ) → o.pass.call ≡ Sends e (turn.Taken c (record { follows = f; message = message; stage = stage.Turn })) x b
-      → Allows (WordsRule cd desk z) n id me 1 (λ y. y) (λ y me'. SendLoadsEraBy me o e c (record { follows = f; message = message; stage = stage.Turn }) x b y me' × StepBy cd desk me o (Steps o.pass.number 0 None) me')
+      → Allows (WordsRule cd desk z) n id me 1 (λ y. y) (λ y me'. SendLoadsEraBy me o e c (record { follows = f; message = message; stage = stage.Turn }) x b y me' × StepBy cd desk (ReadsAt 1 y) me o (Steps o.pass.number 0 None) me')
   sends_era n id me o e c f message x b call st (m, p, r₀) wide at _ =
       let sending : Sending = record { follows = f; message = message; stage = stage.Turn } in let t : Turn Sending = turn.Taken c sending in
       let h : IsCallOf m p o.pass.number (Sends e t x b) = subst (IsCallOf m p o.pass.number) call (r₀.turns.calls id o.place o.pass (me.0, at, o.here)) in
@@ -144,5 +144,5 @@ module _ {D : Type 0} (cd : Coded D) (desk : DeskMeaning D) (z : LinkSizes) wher
             (ap (set (words_at e (era_word m.era) (lane_words (lane_to m e)) (lane_words (lane_to m (other e)))) 1) word ∙ era_again e (era_word m.era) (lane_words (lane_to m e)) (lane_words (lane_to m (other e))))
             (era_word_of live c sending m.era) (era_home_of live c sending m.era) (era_out_of live c sending m.era)
             mine (λ i k. absurd (true-false (sym k))) (era_holder_of live c sending m.era ∙ h.1.1),
-        ((m.era, word, refl), step_by cd desk z st m r id me o (with_call o.pass w) (Steps o.pass.number 0 None) m' me.1 at may same_deed mine),
+        ((m.era, word, refl), read_by 1 cd desk z st m r id me o (with_call o.pass w) (Steps o.pass.number 0 None) m' me.1 at may same_deed mine),
       )

@@ -42,7 +42,7 @@ use Rattle.link_words.proofs.Sends.{true-false, shelved_turn}
 use Rattle.link_words.proofs.Closes.{stays}
 use Rattle.link_words.proofs.Buffers.{homes_here}
 use Rattle.link_words.proofs.Held.{free_if, is_free}
-use Rattle.link_words.proofs.Exact.{StepBy, step_by, busy_by}
+use Rattle.link_words.proofs.Exact.{StepBy, step_by, busy_by, ReadsAt, read_by}
 use Rattle.lane_model.specs.Soundness.{SoundLink, IsSoundTurn}
 use Rattle.link_words.proofs.Parts.{buffers_in}
 
@@ -83,6 +83,11 @@ module _ {D : Type 0} (desk : DeskMeaning D) where
   seen_sender m p side.Host = refl
   seen_sender m p side.Remote = refl
 
+-- the word of a sender's turn
+sender_of : {D : Type 0} (m : LaneLink (RingState D)) (e : End) → turn_word (lane_to m e).lane.sender ≡ get_or (words_of 0 [] m) (sender_word e) 0
+sender_of m side.Host = refl
+sender_of m side.Remote = refl
+
 -- a number in use is one of those there are
 in_range : (callers : List (Option End)) (n : ℕ) (e : End) → end_of callers n ≡ Some e → n < length callers
 in_range [] n e is = absurd (cc)
@@ -114,7 +119,7 @@ module _ {D : Type 0} (cd : Coded D) (desk : DeskMeaning D) (z : LinkSizes) wher
   starts_free : (id : ℕ) (me : SeatState) (o : Mover me.0) (e : End) (follows : ℕ) (message : List ℕ) → length message ≤ MESSAGE_MOST → o.pass.call ≡ Rests (other e) → (st : State Slot View) (m : LaneLink (RingState D)) (r : Shows cd desk z st m 0) → get_elem? st.views id ≡ some me.0 → (lane_to m e).lane.sender ≡ turn.Free
       → (w : View) × (a : Act Slot) × Valid st.homes me.1 a × WordsRule cd desk z (stepped st (sender_word e) (suc o.pass.number) id me.1 w a)
       × ((x : SenderSide) × Path (Me Slot View) (w, carried_after me.1 a) (with_pass me.0 o (with_call o.pass (Sends e (turn.Taken o.pass.number (record { follows = follows; message = message; stage = stage.Turn })) x 0)) w.copy, (sender_slot e, Sender x) ∷ me.1))
-      × StepBy cd desk me o (Steps o.pass.number follows (Some (wish.Send message))) (w, carried_after me.1 a)
+      × StepBy cd desk (ReadsAt (sender_word e) (get_or st.words (sender_word e) 0)) me o (Steps o.pass.number follows (Some (wish.Send message))) (w, carried_after me.1 a)
   starts_free id me o e follows message fits call st m r at free =
       let c = o.pass.number in let rests : IsCallOf m 0 c (Rests (other e)) = subst (IsCallOf m 0 c) call (r.turns.calls id o.place o.pass (me.0, at, o.here)) in
       let s₀ = lane_to m e in let s = with_turn s₀ turn.Free in let is : s₀ ≡ s = λ k. with_turn s₀ (free k) in
@@ -136,17 +141,17 @@ module _ {D : Type 0} (cd : Coded D) (desk : DeskMeaning D) (z : LinkSizes) wher
             (λ k apart. others_free_send desk m e s' free refl refl refl (λ _. refl) k (no_call desk t' c k refl apart))
             refl refl refl refl (λ i k. absurd (true-false (sym k))),
         (x, refl),
-        step_by cd desk z st m r id me o (with_call o.pass w) (Steps c follows (Some (wish.Send message))) (with_lane m e s') ((sender_slot e, Sender x) ∷ me.1) at may deed mine,
+        read_by (sender_word e) cd desk z st m r id me o (with_call o.pass w) (Steps c follows (Some (wish.Send message))) (with_lane m e s') ((sender_slot e, Sender x) ∷ me.1) at may deed mine,
       )
 
   pub starts : (n id : ℕ) (me : SeatState) (o : Mover me.0) (e : End) (follows new : ℕ) (message : List ℕ) → length message ≤ MESSAGE_MOST → o.pass.call ≡ Rests (other e) → new ≡ suc o.pass.number
-      → Allows (WordsRule cd desk z) n id me (sender_word e) (λ y. either (eqb y 0) new y) (λ y me'. SendBeginsBy me o e follows message y me' × (y ≤ 65) × StepBy cd desk me o (Steps o.pass.number follows (Some (wish.Send message))) me')
+      → Allows (WordsRule cd desk z) n id me (sender_word e) (λ y. either (eqb y 0) new y) (λ y me'. SendBeginsBy me o e follows message y me' × (y ≤ 65) × StepBy cd desk (ReadsAt (sender_word e) y) me o (Steps o.pass.number follows (Some (wish.Send message))) me')
   starts n id me o e follows new message fits call num st (m, p, r₀) wide at _ =
       let y : ℕ = get_or st.words (sender_word e) 0 in let c = o.pass.number in
       let found : y ≡ turn_word (lane_to m e).lane.sender = ap (λ (ws : List ℕ). get_or ws (sender_word e) 0) r₀.words_are ∙ seen_sender desk m p e in
       let rests : IsCallOf m p c (Rests (other e)) = subst (IsCallOf m p c) call (r₀.turns.calls id o.place o.pass (me.0, at, o.here)) in
       let held : y ≤ 65 = subst (λ (k : ℕ). k ≤ 65) (sym found) (sender_word_most desk m e r₀.numbers.many r₀.sound) in
-      exchanged y 0 new (λ f. (w : View) × (a : Act Slot) × Valid st.homes me.1 a × WordsRule cd desk z (stepped st (sender_word e) f id me.1 w a) × (SendBeginsBy me o e follows message y (w, carried_after me.1 a) × (y ≤ 65) × StepBy cd desk me o (Steps c follows (Some (wish.Send message))) (w, carried_after me.1 a)))
+      exchanged y 0 new (λ f. (w : View) × (a : Act Slot) × Valid st.homes me.1 a × WordsRule cd desk z (stepped st (sender_word e) f id me.1 w a) × (SendBeginsBy me o e follows message y (w, carried_after me.1 a) × (y ≤ 65) × StepBy cd desk (ReadsAt (sender_word e) y) me o (Steps c follows (Some (wish.Send message))) (w, carried_after me.1 a)))
       (λ hit.
       let free : (lane_to m e).lane.sender ≡ turn.Free = free_if (lane_to m e).lane.sender (sym found ∙ hit) in
       let r : Shows cd desk z st m 0 = ⊎_elim (λ (none_reset : p ≡ 0). subst (Shows cd desk z st m) none_reset r₀)
@@ -164,6 +169,6 @@ module _ {D : Type 0} (cd : Coded D) (desk : DeskMeaning D) (z : LinkSizes) wher
         (
           ((λ hit. absurd (miss hit)), λ _. refl),
           held,
-          busy_by cd desk z st m p r₀ id me o (other e) (Steps c follows (Some (wish.Send message))) call at (start_may desk m p e c follows message fits rests) same,
+          busy_by cd desk z st m p r₀ id (sender_word e) me o (other e) (Steps c follows (Some (wish.Send message))) (found ∙ sender_of m e) call at (start_may desk m p e c follows message fits rests) same,
         ),
       ))

@@ -41,11 +41,12 @@ use Rattle.link_words.specs.Words.{receiver_word}
 use Rattle.link_words.proofs.Held.{shelved_receiver}
 use Rattle.link_words.proofs.Exact.{StepBy, step_by}
 use Rattle.link_words.proofs.Parts.{buffers_in}
+use Rattle.link_words.specs.Steps.{AnyWord}
 
 module _ {D : Type 0} (cd : Coded D) (desk : DeskMeaning D) (z : LinkSizes) where
   -- the last step of a call that has the receiver's turn
   pub leaves_take : (n id : ℕ) (me : SeatState) (o : Mover me.0) (e : End) (c : ℕ) (end : CallEnd) (x : ReceiverSide) (b : ℕ) (msg : List ℕ) → o.pass.call ≡ Receives e (turn.Leaving c end) x b msg → me.1 ≡ (receiver_slot e, Receiver x) ∷ rest me.1
-      → Allows (WordsRule cd desk z) n id me (receiver_word e) (λ _. 0) (λ _ me'. (me' ≡ (with_pass me.0 o (with_call o.pass (Rests e)) me'.0.copy, rest me.1)) × StepBy cd desk me o (Steps o.pass.number 0 None) me')
+      → Allows (WordsRule cd desk z) n id me (receiver_word e) (λ _. 0) (λ _ me'. (me' ≡ (with_pass me.0 o (with_call o.pass (Rests e)) me'.0.copy, rest me.1)) × StepBy cd desk AnyWord me o (Steps o.pass.number 0 None) me')
   leaves_take n id me o e c end x b msg call has_slot st (m, p, r₀) wide at _ =
       let t : Turn Receiving = turn.Leaving c end in
       let h : IsCallOf m p o.pass.number (Receives e t x b msg) = subst (IsCallOf m p o.pass.number) call (r₀.turns.calls id o.place o.pass (me.0, at, o.here)) in

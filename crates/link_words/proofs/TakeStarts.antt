@@ -39,7 +39,7 @@ use Rattle.link_words.specs.declared.rule.Call.{Call}
 use Rattle.link_words.specs.declared.rule.Call.TheVariants.{Rests, Receives}
 use Rattle.link_words.specs.declared.rule.View.{View}
 use Rattle.link_words.specs.Turns.{is_manager}
-use Rattle.link_words.specs.Words.{other, lane_to, with_lane, era_word, turn_word, LaneWords, lane_words, words_at, home_if, lane_homes, homes_at, shelf_to, receiver_side, receiver_slot, forward_word}
+use Rattle.link_words.specs.Words.{other, lane_to, with_lane, era_word, turn_word, LaneWords, lane_words, words_at, home_if, lane_homes, homes_at, shelf_to, receiver_side, receiver_slot, forward_word, words_of}
 use Rattle.link_words.specs.Deeds.{Steps, after_deed, MayDo, IsStill}
 use Rattle.link_words.specs.Rule.{IsCallOf, Shows, WordsRule}
 use Rattle.link_words.specs.Parts.{has_for_manager}
@@ -48,7 +48,7 @@ use Rattle.link_words.specs.Passes.{Mover, with_pass, with_call}
 use Rattle.link_words.specs.Calls.{SeatState}
 use Rattle.link_words.specs.Steps.{take_look_turn}
 use Rattle.link_words.proofs.Tells.{TakeBeginsBy, TakeLoadsEraBy, TakeLooksBy}
-use Rattle.link_words.proofs.Exact.{StepBy, step_by, busy_by}
+use Rattle.link_words.proofs.Exact.{StepBy, step_by, busy_by, ReadsAt, read_by}
 use Rattle.link_words.proofs.Kept.{no_send, receive_deed, receive_may}
 use Rattle.link_words.proofs.LaneSteps.{no_call, lane_moves}
 use Rattle.link_words.proofs.Sends.{has_of, true-false}
@@ -110,6 +110,11 @@ es_out : (b : Bool) (c : ℕ) (q : Receiving) (ended : CallEnd) → receiver_is_
 es_out true c q ended inside = refl
 es_out false c q ended inside = inside
 
+-- the word of a receiver's turn
+receiver_of : {D : Type 0} (m : LaneLink (RingState D)) (e : End) → turn_word (lane_to m e).lane.receiver ≡ get_or (words_of 0 [] m) (receiver_word e) 0
+receiver_of m side.Host = refl
+receiver_of m side.Remote = refl
+
 module _ {D : Type 0} (desk : DeskMeaning D) (wished : Wish) (first : Work) (follows : ℕ) (begins : (lanes : Lanes (RingState D)) (caller : ℕ) → first_step (ring_form desk) lanes caller follows wished ≡ receive_first (ring_form desk) lanes caller follows first) where
   work_done : (m : LaneLink (RingState D)) (e : End) (caller : ℕ)
       → with_lane m e ((ring_form desk).after_receive_start (lane_to m e) caller follows first) ≡ (on_lanes m (Some e) (λ lanes. receive_first (ring_form desk) lanes caller follows first)).state
@@ -140,7 +145,7 @@ module _ {D : Type 0} (desk : DeskMeaning D) (wished : Wish) (first : Work) (fol
     work_free : (st : State Slot View) (m : LaneLink (RingState D)) (r : Shows cd desk z st m 0) → get_elem? st.views id ≡ some me.0 → (lane_to m e).lane.receiver ≡ turn.Free
         → (w : View) × (a : Act Slot) × Valid st.homes me.1 a × WordsRule cd desk z (stepped st (receiver_word e) (suc o.pass.number) id me.1 w a)
         × ((x : ReceiverSide) × Path (Me Slot View) (w, carried_after me.1 a) (with_pass me.0 o (with_call o.pass (Receives e (turn.Taken o.pass.number (record { follows = follows; work = first })) x 0 [])) w.copy, (receiver_slot e, Receiver x) ∷ me.1))
-        × StepBy cd desk me o (Steps o.pass.number follows (Some wished)) (w, carried_after me.1 a)
+        × StepBy cd desk (ReadsAt (receiver_word e) (get_or st.words (receiver_word e) 0)) me o (Steps o.pass.number follows (Some wished)) (w, carried_after me.1 a)
     work_free st m r at free =
         let c = o.pass.number in let rests : IsCallOf m 0 c (Rests e) = subst (IsCallOf m 0 c) call (r.turns.calls id o.place o.pass (me.0, at, o.here)) in
         let s₀ = lane_to m e in let s = with_receiver s₀ turn.Free in let is : s₀ ≡ s = λ k. with_receiver s₀ (free k) in
@@ -162,18 +167,18 @@ module _ {D : Type 0} (desk : DeskMeaning D) (wished : Wish) (first : Work) (fol
               (λ k apart call had. others_beside desk m e s' refl refl refl k (no_call desk t' c k refl apart) call (λ having has. free_for_all cd desk z m e 0 free k call having has) had)
               refl refl refl refl (λ i k. absurd (true-false (sym k))),
           (x, refl),
-          step_by cd desk z st m r id me o (with_call o.pass w) (Steps c follows (Some wished)) (with_lane m e s') ((receiver_slot e, Receiver x) ∷ me.1) at may deed mine,
+          read_by (receiver_word e) cd desk z st m r id me o (with_call o.pass w) (Steps c follows (Some wished)) (with_lane m e s') ((receiver_slot e, Receiver x) ∷ me.1) at may deed mine,
         )
 
     -- step 1: one attempt
     pub takes_turn : (n new : ℕ) → new ≡ suc o.pass.number
-        → Allows (WordsRule cd desk z) n id me (receiver_word e) (λ y. either (eqb y 0) new y) (λ y me'. TakeBeginsBy me o e follows first y me' × (y ≤ 65) × StepBy cd desk me o (Steps o.pass.number follows (Some wished)) me')
+        → Allows (WordsRule cd desk z) n id me (receiver_word e) (λ y. either (eqb y 0) new y) (λ y me'. TakeBeginsBy me o e follows first y me' × (y ≤ 65) × StepBy cd desk (ReadsAt (receiver_word e) y) me o (Steps o.pass.number follows (Some wished)) me')
     takes_turn n new num st (m, p, r₀) wide at _ =
         let y : ℕ = get_or st.words (receiver_word e) 0 in let c = o.pass.number in
         let found : y ≡ turn_word (lane_to m e).lane.receiver = ap (λ (ws : List ℕ). get_or ws (receiver_word e) 0) r₀.words_are ∙ seen_receiver cd desk z m p e in
         let rests : IsCallOf m p c (Rests e) = subst (IsCallOf m p c) call (r₀.turns.calls id o.place o.pass (me.0, at, o.here)) in
         let held : y ≤ 65 = subst (λ (k : ℕ). k ≤ 65) (sym found) (receiver_word_most desk m e r₀.numbers.many r₀.sound) in
-        exchanged y 0 new (λ f. (w : View) × (a : Act Slot) × Valid st.homes me.1 a × WordsRule cd desk z (stepped st (receiver_word e) f id me.1 w a) × (TakeBeginsBy me o e follows first y (w, carried_after me.1 a) × (y ≤ 65) × StepBy cd desk me o (Steps c follows (Some wished)) (w, carried_after me.1 a)))
+        exchanged y 0 new (λ f. (w : View) × (a : Act Slot) × Valid st.homes me.1 a × WordsRule cd desk z (stepped st (receiver_word e) f id me.1 w a) × (TakeBeginsBy me o e follows first y (w, carried_after me.1 a) × (y ≤ 65) × StepBy cd desk (ReadsAt (receiver_word e) y) me o (Steps c follows (Some wished)) (w, carried_after me.1 a)))
         (λ hit.
         let free : (lane_to m e).lane.receiver ≡ turn.Free = free_if (lane_to m e).lane.receiver (sym found ∙ hit) in
         let r : Shows cd desk z st m 0 = ⊎_elim (λ (none_reset : p ≡ 0). subst (Shows cd desk z st m) none_reset r₀)
@@ -191,7 +196,7 @@ module _ {D : Type 0} (desk : DeskMeaning D) (wished : Wish) (first : Work) (fol
           (
             ((λ hit. absurd (miss hit)), λ _. refl),
             held,
-            busy_by cd desk z st m p r₀ id me o e (Steps c follows (Some wished)) call at may same,
+            busy_by cd desk z st m p r₀ id (receiver_word e) me o e (Steps c follows (Some wished)) (found ∙ receiver_of m e) call at may same,
           ),
         ))
 
@@ -203,7 +208,7 @@ module _ {D : Type 0} (cd : Coded D) (desk : DeskMeaning D) (z : LinkSizes) wher
       → turn_word t' ≡ turn_word t → ((y : Slot) → home_if t' y ≡ home_if t y) → receiver_is_out t' ≡ false
       → IsCallOf (with_lane m e (with_receiver (lane_to m e) t')) 0 o.pass.number call → ((i : End) → has_for_manager i call ≡ true → has_for_manager i o.pass.call ≡ true) → holder t' ≡ Some o.pass.number
       → WordsRule cd desk z (stepped st i (get_or st.words i 0) id me.1 (with_pass me.0 o (with_call o.pass call) (Some (copied cd (with_lane m e (with_receiver (lane_to m e) t'))))) keeps)
-      × StepBy cd desk me o (Steps o.pass.number 0 None) (with_pass me.0 o (with_call o.pass call) (Some (copied cd (with_lane m e (with_receiver (lane_to m e) t')))), me.1)
+      × StepBy cd desk (ReadsAt i (get_or st.words i 0)) me o (Steps o.pass.number 0 None) (with_pass me.0 o (with_call o.pass call) (Some (copied cd (with_lane m e (with_receiver (lane_to m e) t')))), me.1)
   receiver_only st m r e t t' is i id me o call f at mine bare inside user does turns home out has quiet held =
       let s = lane_to m e in let c = o.pass.number in
       let here : has_call s.lane.receiver c ≡ true = has_of s.lane.receiver c (ap holder is ∙ mine) (ap is_manager is ∙ bare) in
@@ -217,12 +222,12 @@ module _ {D : Type 0} (cd : Coded D) (desk : DeskMeaning D) (z : LinkSizes) wher
             (ap (λ (u : Turn Receiving). home_if u (Receiver (receiver_side s))) is ∙ sym (home (Receiver (receiver_side s)))))
             (shelved_receiver s (with_receiver s t') (shelf_to r.shelves e) (ap receiver_is_out is ∙ inside) out refl refl refl refl refl refl ((buffers_in r) e))
             has (others_receive desk m e (with_receiver s t') t c is mine bare refl refl refl (λ k apart. no_call desk t' c k held apart)) refl refl refl refl quiet,
-        step_by cd desk z st m r id me o (with_call o.pass call) (Steps c 0 None) (with_lane m e (with_receiver s t')) me.1 at may deed has,
+        read_by i cd desk z st m r id me o (with_call o.pass call) (Steps c 0 None) (with_lane m e (with_receiver s t')) me.1 at may deed has,
       )
 
   -- step 2 of a take
   pub takes_era : (n id : ℕ) (me : SeatState) (o : Mover me.0) (e : End) (c f : ℕ) (x : ReceiverSide) (b : ℕ) (msg : List ℕ) → o.pass.call ≡ Receives e (turn.Taken c (record { follows = f; work = work.Take take_stage.Turn })) x b msg
-      → Allows (WordsRule cd desk z) n id me 1 (λ y. y) (λ y me'. TakeLoadsEraBy me o e c (record { follows = f; work = work.Take take_stage.Turn }) x b msg y me' × StepBy cd desk me o (Steps o.pass.number 0 None) me')
+      → Allows (WordsRule cd desk z) n id me 1 (λ y. y) (λ y me'. TakeLoadsEraBy me o e c (record { follows = f; work = work.Take take_stage.Turn }) x b msg y me' × StepBy cd desk (ReadsAt 1 y) me o (Steps o.pass.number 0 None) me')
   takes_era n id me o e c f x b msg call st (m, p, r₀) wide at _ =
       let q : Receiving = record { follows = f; work = work.Take take_stage.Turn } in let t : Turn Receiving = turn.Taken c q in
       let h : IsCallOf m p o.pass.number (Receives e t x b msg) = subst (IsCallOf m p o.pass.number) call (r₀.turns.calls id o.place o.pass (me.0, at, o.here)) in
@@ -246,7 +251,7 @@ module _ {D : Type 0} (cd : Coded D) (desk : DeskMeaning D) (z : LinkSizes) wher
 
   -- step 3 of a take
   pub takes_look : (n id : ℕ) (me : SeatState) (o : Mover me.0) (e : End) (c f : ℕ) (x : ReceiverSide) (b : ℕ) (msg : List ℕ) → o.pass.call ≡ Receives e (turn.Taken c (record { follows = f; work = work.Take take_stage.Era })) x b msg
-      → Allows (WordsRule cd desk z) n id me (forward_word e) (λ y. y) (λ y me'. TakeLooksBy me o (sizes_at z e) e c (record { follows = f; work = work.Take take_stage.Era }) x b msg y me' × StepBy cd desk me o (Steps o.pass.number 0 None) me')
+      → Allows (WordsRule cd desk z) n id me (forward_word e) (λ y. y) (λ y me'. TakeLooksBy me o (sizes_at z e) e c (record { follows = f; work = work.Take take_stage.Era }) x b msg y me' × StepBy cd desk (ReadsAt (forward_word e) y) me o (Steps o.pass.number 0 None) me')
   takes_look n id me o e c f x b msg call st (m, p, r₀) wide at _ =
       let q : Receiving = record { follows = f; work = work.Take take_stage.Era } in let t : Turn Receiving = turn.Taken c q in
       let h : IsCallOf m p o.pass.number (Receives e t x b msg) = subst (IsCallOf m p o.pass.number) call (r₀.turns.calls id o.place o.pass (me.0, at, o.here)) in

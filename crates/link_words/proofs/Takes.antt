@@ -63,7 +63,7 @@ use Rattle.link_words.specs.declared.rule.Event.TheVariants.{Take}
 use Rattle.link_words.proofs.LaneSteps.{lane_moves_with}
 use Rattle.link_words.proofs.Sends.{live_now, some_number, has_of, true-false}
 use Rattle.link_words.proofs.Buffers.{rings_to, homes_here, loaded, first_is}
-use Rattle.link_words.proofs.Exact.{StepBy, step_by}
+use Rattle.link_words.proofs.Exact.{StepBy, step_by, ReadsAt, read_by}
 use Rattle.link_words.proofs.Parts.{rings_in, buffers_in}
 
 -- the lane, with the receiver's turn written out
@@ -232,7 +232,7 @@ module _ {D : Type 0} (cd : Coded D) (desk : DeskMeaning D) (z : LinkSizes) wher
       → (told : ℕ → ℕ)
       → ((st : State Slot View) (m : LaneLink (RingState D)) (r : Shows cd desk z st m 0) → x ≡ receiver_side (lane_to m e) → IsSoundRings (lane_to m e) → buffer_at (lane_to m e).rings.sizes.entries (lane_to m e).rings.forward (length (lane_to m e).lane.lane.takers) < (lane_to m e).rings.sizes.capacity
       → told (get_or st.words i 0) ≡ buffer_at (lane_to m e).rings.sizes.entries (lane_to m e).rings.forward (length (lane_to m e).lane.lane.takers))
-      → Allows (WordsRule cd desk z) n id me i (λ y. y) (λ y me'. TakeTakesBufferBy me o first e c f x (told y) me' × StepBy cd desk me o (Steps o.pass.number 0 None) me')
+      → Allows (WordsRule cd desk z) n id me i (λ y. y) (λ y me'. TakeTakesBufferBy me o first e c f x (told y) me' × StepBy cd desk (ReadsAt i y) me o (Steps o.pass.number 0 None) me')
   draws n id me o e c f x b i first msg call first_at told knows st (m, p, r₀) wide at _ =
       let t : Turn Receiving = turn.Taken c (record { follows = f; work = work.Take take_stage.Look }) in
       let h : IsCallOf m p o.pass.number (Receives e t x b msg) = subst (IsCallOf m p o.pass.number) call (r₀.turns.calls id o.place o.pass (me.0, at, o.here)) in
@@ -265,14 +265,14 @@ module _ {D : Type 0} (cd : Coded D) (desk : DeskMeaning D) (z : LinkSizes) wher
             (others_receive desk m e s' t o.pass.number h.1.0 h.1.1 refl refl refl refl (λ k apart. no_call desk t' o.pass.number k h.1.1 apart)) refl refl refl refl (λ i k. absurd (true-false (sym k))),
         (
           (message, λ k. (with_pass me.0 o (with_call o.pass (Receives e t' x (sym id_is k) message)) (Some (copied cd (with_lane m e s'))), (buffer_slot first e (sym id_is k), Buffer message) ∷ me.1)),
-          step_by cd desk z st m r id me o (with_call o.pass w) (Steps o.pass.number 0 None) (with_lane m e s') ((buffer_slot first e own, Buffer message) ∷ me.1) at may deed mine,
+          read_by i cd desk z st m r id me o (with_call o.pass w) (Steps o.pass.number 0 None) (with_lane m e s') ((buffer_slot first e own, Buffer message) ∷ me.1) at may deed mine,
         ),
       )
 
   hands_live : (n id : ℕ) (me : SeatState) (o : Mover me.0) (e : End) (c f : ℕ) (x : ReceiverSide) (b first : ℕ) (msg : List ℕ) → first ≡ z.to_host.capacity → me.1 ≡ (buffer_slot first e b, Buffer msg) ∷ rest me.1
       → (st : State Slot View) (m : LaneLink (RingState D)) → is_live_in m.era f ≡ true → get_elem? st.views id ≡ some me.0
       → IsCallOf m 0 o.pass.number (Receives e (turn.Taken c (record { follows = f; work = work.Take take_stage.Buffer })) x b msg) → Shows cd desk z st m 0
-      → (w : View) × (a : Act Slot) × Valid st.homes me.1 a × WordsRule cd desk z (stepped st 1 (get_or st.words 1 0) id me.1 w a) × (TakeHandsBy me o e c f x b msg (get_or st.words 1 0) (w, carried_after me.1 a) × StepBy cd desk me o (Steps o.pass.number 0 None) (w, carried_after me.1 a))
+      → (w : View) × (a : Act Slot) × Valid st.homes me.1 a × WordsRule cd desk z (stepped st 1 (get_or st.words 1 0) id me.1 w a) × (TakeHandsBy me o e c f x b msg (get_or st.words 1 0) (w, carried_after me.1 a) × StepBy cd desk (ReadsAt 1 (get_or st.words 1 0)) me o (Steps o.pass.number 0 None) (w, carried_after me.1 a))
   hands_live n id me o e c f x b first msg first_at has_slot st m is_live at h r =
       let t : Turn Receiving = turn.Taken c (record { follows = f; work = work.Take take_stage.Buffer }) in
       let s₀ = lane_to m e in let s = with_receiver s₀ t in let is : s₀ ≡ s = λ k. with_receiver s₀ (h.1.0 k) in let era = m.era in
@@ -316,14 +316,14 @@ module _ {D : Type 0} (cd : Coded D) (desk : DeskMeaning D) (z : LinkSizes) wher
             (keepers_set st.views id me.0 (with_pass me.0 o pass (Some (copied cd (with_lane m e s')))) o pass at refl refl (λ i k. absurd (true-false (sym k))) r.turns.keepers),
         (
           (m.era, word, (λ _. (verdict, refl)), λ dead. absurd (true-false (sym is_live ∙ dead))),
-          step_by cd desk z st m r id me o pass (Steps o.pass.number 0 None) (with_lane m e s') (rest me.1) at may deed mine,
+          read_by 1 cd desk z st m r id me o pass (Steps o.pass.number 0 None) (with_lane m e s') (rest me.1) at may deed mine,
         ),
       )
 
   hands_dead : (n id : ℕ) (me : SeatState) (o : Mover me.0) (e : End) (c f : ℕ) (x : ReceiverSide) (b first : ℕ) (msg : List ℕ) → first ≡ z.to_host.capacity → me.1 ≡ (buffer_slot first e b, Buffer msg) ∷ rest me.1
       → (st : State Slot View) (m : LaneLink (RingState D)) → is_live_in m.era f ≡ false → get_elem? st.views id ≡ some me.0
       → IsCallOf m 0 o.pass.number (Receives e (turn.Taken c (record { follows = f; work = work.Take take_stage.Buffer })) x b msg) → Shows cd desk z st m 0
-      → (w : View) × (a : Act Slot) × Valid st.homes me.1 a × WordsRule cd desk z (stepped st 1 (get_or st.words 1 0) id me.1 w a) × (TakeHandsBy me o e c f x b msg (get_or st.words 1 0) (w, carried_after me.1 a) × StepBy cd desk me o (Steps o.pass.number 0 None) (w, carried_after me.1 a))
+      → (w : View) × (a : Act Slot) × Valid st.homes me.1 a × WordsRule cd desk z (stepped st 1 (get_or st.words 1 0) id me.1 w a) × (TakeHandsBy me o e c f x b msg (get_or st.words 1 0) (w, carried_after me.1 a) × StepBy cd desk (ReadsAt 1 (get_or st.words 1 0)) me o (Steps o.pass.number 0 None) (w, carried_after me.1 a))
   hands_dead n id me o e c f x b first msg first_at has_slot st m is_live at h r =
       let t : Turn Receiving = turn.Taken c (record { follows = f; work = work.Take take_stage.Buffer }) in
       let s₀ = lane_to m e in let s = with_receiver s₀ t in let is : s₀ ≡ s = λ k. with_receiver s₀ (h.1.0 k) in let era = m.era in
@@ -354,21 +354,21 @@ module _ {D : Type 0} (cd : Coded D) (desk : DeskMeaning D) (z : LinkSizes) wher
             (others_receive desk m e s' t o.pass.number h.1.0 h.1.1 refl refl refl refl (λ k apart. no_call desk t' o.pass.number k h.1.1 apart)) refl refl refl refl (λ i k. absurd (true-false (sym k))),
         (
           (m.era, word, (λ live. absurd (true-false (sym live ∙ is_live))), λ _. refl),
-          step_by cd desk z st m r id me o (with_call o.pass w) (Steps o.pass.number 0 None) (with_lane m e s') (rest me.1) at may deed mine,
+          read_by 1 cd desk z st m r id me o (with_call o.pass w) (Steps o.pass.number 0 None) (with_lane m e s') (rest me.1) at may deed mine,
         ),
       )
 
   -- step 5 of a take: the era again. Live: the desk judges the message and it is handed; else the take is dead. The slot is at home either way, with the message
   pub hands : (n id : ℕ) (me : SeatState) (o : Mover me.0) (e : End) (c f : ℕ) (x : ReceiverSide) (b first : ℕ) (msg : List ℕ) → o.pass.call ≡ Receives e (turn.Taken c (record { follows = f; work = work.Take take_stage.Buffer })) x b msg → first ≡ z.to_host.capacity
       → me.1 ≡ (buffer_slot first e b, Buffer msg) ∷ rest me.1
-      → Allows (WordsRule cd desk z) n id me 1 (λ y. y) (λ y me'. TakeHandsBy me o e c f x b msg y me' × StepBy cd desk me o (Steps o.pass.number 0 None) me')
+      → Allows (WordsRule cd desk z) n id me 1 (λ y. y) (λ y me'. TakeHandsBy me o e c f x b msg y me' × StepBy cd desk (ReadsAt 1 y) me o (Steps o.pass.number 0 None) me')
   hands n id me o e c f x b first msg call first_at has_slot st (m, p, r₀) wide at _ =
       let h : IsCallOf m p o.pass.number (Receives e (turn.Taken c (record { follows = f; work = work.Take take_stage.Buffer })) x b msg) = subst (IsCallOf m p o.pass.number) call (r₀.turns.calls id o.place o.pass (me.0, at, o.here)) in
       let r = at_zero' st m p e (turn.Taken c (record { follows = f; work = work.Take take_stage.Buffer })) h.1.0 refl r₀ in
       go (is_live_in m.era f) refl h r
     where
       go : (live : Bool) → is_live_in m.era f ≡ live → IsCallOf m 0 o.pass.number (Receives e (turn.Taken c (record { follows = f; work = work.Take take_stage.Buffer })) x b msg) → Shows cd desk z st m 0
-          → (w : View) × (a : Act Slot) × Valid st.homes me.1 a × WordsRule cd desk z (stepped st 1 (get_or st.words 1 0) id me.1 w a) × (TakeHandsBy me o e c f x b msg (get_or st.words 1 0) (w, carried_after me.1 a) × StepBy cd desk me o (Steps o.pass.number 0 None) (w, carried_after me.1 a))
+          → (w : View) × (a : Act Slot) × Valid st.homes me.1 a × WordsRule cd desk z (stepped st 1 (get_or st.words 1 0) id me.1 w a) × (TakeHandsBy me o e c f x b msg (get_or st.words 1 0) (w, carried_after me.1 a) × StepBy cd desk (ReadsAt 1 (get_or st.words 1 0)) me o (Steps o.pass.number 0 None) (w, carried_after me.1 a))
       go true live h r = hands_live n id me o e c f x b first msg first_at has_slot st m live at h r
       go false dead h r = hands_dead n id me o e c f x b first msg first_at has_slot st m dead at h r
 

@@ -39,12 +39,12 @@ use Rattle.link_words.specs.Layouts.{place_in}
 use Rattle.link_words.specs.Parts.{AreNear}
 use Rattle.link_words.specs.Passes.{Mover, with_call, with_pass, with_call_and_hands}
 use Rattle.link_words.specs.Rule.{WordsRule, LinkRule}
-use Rattle.link_words.specs.Steps.{GoesOn, SendLoadsEra, SendLooks, SendTakesBuffer, SendStoresEntry, SendPublishes, LeavesSender, TakeLoadsEra, TakeLooks, TakeTakesBuffer, TakeHands, LeavesReceiver, look_turn, take_look_turn, sizes_by, accepted_by, handed_by, with_publish, with_handing, GiveStoresEntry, GivePublishes, BindLoadsEra, with_entry, with_given, given_or, hands_but}
+use Rattle.link_words.specs.Steps.{GoesOn, SendLoadsEra, SendLooks, SendTakesBuffer, SendStoresEntry, SendPublishes, LeavesSender, TakeLoadsEra, TakeLooks, TakeTakesBuffer, TakeHands, LeavesReceiver, look_turn, take_look_turn, sizes_by, accepted_by, handed_by, with_publish, with_handing, GiveStoresEntry, GivePublishes, BindLoadsEra, with_entry, with_given, given_or, hands_but, AnyWord, HasWord}
 use Rattle.link_words.specs.Words.{other, sizes_at, entries_before, entry_number, sender_word, receiver_word, forward_word, return_word, buffer_slot, era_word}
 use Rattle.link_words.proofs.Apart.{apart}
 use Rattle.link_words.proofs.Buffers.{pulls_own}
 use Rattle.link_words.proofs.Entries.{pulls_entry, forward_entry, sizes_known}
-use Rattle.link_words.proofs.Exact.{StepBy, call_is, becomes, step_told}
+use Rattle.link_words.proofs.Exact.{StepBy, call_is, becomes, step_told, ReadsAt, read_there}
 use Rattle.link_words.proofs.Looks.{sends_look, sends_entry}
 use Rattle.link_words.proofs.Publishes.{publishes}
 use Rattle.link_words.proofs.Reclaims.{leaves}
@@ -102,20 +102,28 @@ work_sizes : (z : LinkSizes) (me : SeatState) (e : End) (w : _) (s : WorkAt me e
 work_sizes z me e w s sized = λ i. sizes_at (sized i) (ap lane_in (work_here me e w s) i)
 
 module _ {D : Type 0} (cd : Coded D) (desk : DeskMeaning D) (z : LinkSizes) (n id : ℕ) (me : SeatState) (e : End) where
-  -- a later step of a call, on the word of the table, told by the place of the pass that steps
-  told_by : (i place : ℕ) (f : ℕ → ℕ) (o : Mover me.0) → o.place ≡ place_of me → (T T' : ℕ → SeatState → Type 0) → place ≡ place_in i
-      → Allows (WordsRule cd desk z) n id me i f (λ y me'. T y me' × StepBy cd desk me o (Steps o.pass.number 0 None) me') → ((y : ℕ) (me' : SeatState) → T y me' → T' y me')
-      → Allows (LinkRule cd desk z) n id me place f (λ y me'. T' y me' × GoesOn cd desk me me')
-  told_by i place f o here T T' is allows follows s kept long at wide =
-      let a = apart cd desk z n id me i place f (λ y me'. T y me' × StepBy cd desk me o (Steps o.pass.number 0 None) me') is allows s kept long at wide in
-      (a.0, a.1, a.2, a.3, (follows _ _ a.4.0, step_told me o (place_of me) here cd desk (λ k. Steps k 0 None) _ a.4.1))
+  -- a later step of a call at a store, on the word of the table, told by the place of the pass that steps
+  stored_by : (i place : ℕ) (f : ℕ → ℕ) (o : Mover me.0) → o.place ≡ place_of me → (T T' : ℕ → SeatState → Type 0) → place ≡ place_in i
+      → Allows (WordsRule cd desk z) n id me i f (λ y me'. T y me' × StepBy cd desk AnyWord me o (Steps o.pass.number 0 None) me') → ((y : ℕ) (me' : SeatState) → T y me' → T' y me')
+      → Allows (LinkRule cd desk z) n id me place f (λ y me'. T' y me' × GoesOn cd desk AnyWord me me')
+  stored_by i place f o here T T' is allows follows s kept long at wide =
+      let a = apart cd desk z n id me i place f (λ y me'. T y me' × StepBy cd desk AnyWord me o (Steps o.pass.number 0 None) me') is allows s kept long at wide in
+      (a.0, a.1, a.2, a.3, (follows _ _ a.4.0, step_told me o (place_of me) here cd desk AnyWord (λ k. Steps k 0 None) _ a.4.1))
 
-  pub send_loads_era : (s : SendAt me e stage.Turn) → Allows (LinkRule cd desk z) n id me 16 (λ y. y) (λ y me'. SendLoadsEra me y me' × GoesOn cd desk me me')
+  -- the same at a load
+  told_by : (i place : ℕ) (f : ℕ → ℕ) (o : Mover me.0) → o.place ≡ place_of me → (T T' : ℕ → SeatState → Type 0) → place ≡ place_in i
+      → Allows (WordsRule cd desk z) n id me i f (λ y me'. T y me' × StepBy cd desk (ReadsAt i y) me o (Steps o.pass.number 0 None) me') → ((y : ℕ) (me' : SeatState) → T y me' → T' y me')
+      → Allows (LinkRule cd desk z) n id me place f (λ y me'. T' y me' × GoesOn cd desk (HasWord place y) me me')
+  told_by i place f o here T T' is allows follows s kept long at wide =
+      let a = apart cd desk z n id me i place f (λ y me'. T y me' × StepBy cd desk (ReadsAt i y) me o (Steps o.pass.number 0 None) me') is allows s kept long at wide in
+      (a.0, a.1, a.2, a.3, (follows _ _ a.4.0, read_there cd desk i place _ is _ _ _ _ me _ (step_told me o (place_of me) here cd desk (ReadsAt i _) (λ k. Steps k 0 None) _ a.4.1)))
+
+  pub send_loads_era : (s : SendAt me e stage.Turn) → Allows (LinkRule cd desk z) n id me 16 (λ y. y) (λ y me'. SendLoadsEra me y me' × GoesOn cd desk (HasWord 16 y) me me')
   send_loads_era s = told_by 1 16 (λ y. y) s.mover s.here (SendLoadsEraBy me s.mover e s.caller (record { follows = s.follows; message = s.message; stage = stage.Turn }) s.side s.buffer) (λ y me'. SendLoadsEra me y me') refl
       (sends_era cd desk z n id me s.mover e s.caller s.follows s.message s.side s.buffer s.call)
       (λ y me' t₀. (t₀.0, t₀.1, becomes me s.mover (place_of me) s.here (with_send (λ x caller q. after_send_era t₀.0 caller q)) _ me.1 me' (ap (send_to (λ x caller q. after_send_era t₀.0 caller q) s.mover.pass) (sym s.call)) t₀.2))
 
-  pub send_looks : (s : SendAt me e stage.Era) (place : ℕ) → place ≡ place_in (return_word e) → me.0.sizes ≡ z → Allows (LinkRule cd desk z) n id me place (λ y. y) (λ y me'. SendLooks me y me' × GoesOn cd desk me me')
+  pub send_looks : (s : SendAt me e stage.Era) (place : ℕ) → place ≡ place_in (return_word e) → me.0.sizes ≡ z → Allows (LinkRule cd desk z) n id me place (λ y. y) (λ y me'. SendLooks me y me' × GoesOn cd desk (HasWord place y) me me')
   send_looks s place is sized = told_by (return_word e) place (λ y. y) s.mover s.here (SendLooksBy me s.mover (sizes_at z e) e s.caller (record { follows = s.follows; message = s.message; stage = stage.Era }) s.side s.buffer) (λ y me'. SendLooks me y me') is
       (sends_look cd desk z n id me s.mover e s.caller s.follows s.message s.side s.buffer s.call)
       (λ y me' t₀. let t = t₀ in
@@ -134,7 +142,7 @@ module _ {D : Type 0} (cd : Coded D) (desk : DeskMeaning D) (z : LinkSizes) (n i
       (t₀.0, becomes me s.mover (place_of me) s.here (λ p. F p p.call) _ ((buffer_slot z.to_host.capacity e buffer, t₀.0) ∷ me.1) me' (ap (F s.mover.pass) (sym s.call)) t₀.1)
 
   pub send_takes_own : (s : SendAt me e stage.Look) (i place : ℕ) → place ≡ place_in i → me.0.sizes ≡ z → accepted_by me < (sizes_by me).own
-      → Allows (LinkRule cd desk z) n id me place (λ y. y) (λ y me'. SendTakesBuffer (accepted_by me) me me' × GoesOn cd desk me me')
+      → Allows (LinkRule cd desk z) n id me place (λ y. y) (λ y me'. SendTakesBuffer (accepted_by me) me me' × GoesOn cd desk (HasWord place y) me me')
   send_takes_own s i place is sized early =
       let a = send_accepted me e stage.Look s in let o : (sizes_by me).own ≡ (sizes_at z e).own = ap (λ (x : RingSizes). x.own) (send_sizes z me e stage.Look s sized) in
       told_by i place (λ y. y) s.mover s.here (λ _. SendTakesBufferBy me s.mover z.to_host.capacity e s.caller (record { follows = s.follows; message = s.message; stage = stage.Look }) s.side s.side.accepted) (λ y me'. SendTakesBuffer (accepted_by me) me me') is
@@ -143,7 +151,7 @@ module _ {D : Type 0} (cd : Coded D) (desk : DeskMeaning D) (z : LinkSizes) (n i
       (λ y me' t₀. subst (λ (b : ℕ). SendTakesBuffer b me me') (sym a) (buffer_told s s.side.accepted me' sized t₀))
 
   pub send_loads_entry : (s : SendAt me e stage.Look) (count place : ℕ) → place ≡ place_in (entry_number z e ring.Return count) → me.0.sizes ≡ z → accepted_by me ≡ (sizes_by me).own + count
-      → Allows (LinkRule cd desk z) n id me place (λ y. y) (λ y me'. SendTakesBuffer (y % 4294967296) me me' × GoesOn cd desk me me')
+      → Allows (LinkRule cd desk z) n id me place (λ y. y) (λ y me'. SendTakesBuffer (y % 4294967296) me me' × GoesOn cd desk (HasWord place y) me me')
   send_loads_entry s count place is sized at =
       let a = send_accepted me e stage.Look s in let o : (sizes_by me).own ≡ (sizes_at z e).own = ap (λ (x : RingSizes). x.own) (send_sizes z me e stage.Look s sized) in
       let size = (sizes_at z e).entries in let late : (sizes_at z e).own ≤ s.side.accepted = omega (arith, at, a, o) in
@@ -154,48 +162,48 @@ module _ {D : Type 0} (cd : Coded D) (desk : DeskMeaning D) (z : LinkSizes) (n i
       (λ y me' t₀. buffer_told s (y % 4294967296) me' sized t₀)
 
   pub send_stores_entry : (s : SendAt me e stage.Buffer) (count place new : ℕ) → place ≡ place_in (entry_number z e ring.Forward count) → s.side.accepted ≡ count → new ≡ s.buffer + entry_length (sizes_at z e) (length s.message) * 4294967296
-      → Allows (LinkRule cd desk z) n id me place (λ _. new) (λ _ me'. SendStoresEntry me me' × GoesOn cd desk me me')
+      → Allows (LinkRule cd desk z) n id me place (λ _. new) (λ _ me'. SendStoresEntry me me' × GoesOn cd desk AnyWord me me')
   send_stores_entry s count place new is at new_is =
       let size = (sizes_at z e).entries in let next : SenderSide → ℕ → Sending → Turn Sending = λ x caller q. turn.Taken caller (record q { stage = stage.Entry }) in
       let zero_before : entry_number z e ring.Forward count ≡ 10 + (entries_before z e + s.side.accepted % size) = (let e0 : 10 + (entries_before z e + (0 + count % size)) ≡ 10 + (entries_before z e + count % size) = omega arith in e0) ∙ ap (λ (k : ℕ). 10 + (entries_before z e + k % size)) (sym at) in
-      told_by (entry_number z e ring.Forward count) place (λ _. new) s.mover s.here (λ _. SendStoresEntryBy me s.mover e s.caller (record { follows = s.follows; message = s.message; stage = stage.Buffer }) s.side s.buffer) (λ _ me'. SendStoresEntry me me') is
+      stored_by (entry_number z e ring.Forward count) place (λ _. new) s.mover s.here (λ _. SendStoresEntryBy me s.mover e s.caller (record { follows = s.follows; message = s.message; stage = stage.Buffer }) s.side s.buffer) (λ _ me'. SendStoresEntry me me') is
       (sends_entry cd desk z n id me s.mover e s.caller s.follows s.message s.side s.buffer (entry_number z e ring.Forward count) new (entries_before z e) s.call
       (λ st m r. (sizes_known cd desk z e st m r).2) zero_before new_is)
       (λ y me' t₀. becomes me s.mover (place_of me) s.here (with_send next) _ me.1 me' (ap (send_to next s.mover.pass) (sym s.call)) t₀)
 
   pub send_publishes : (s : SendAt me e stage.Entry) (count place new : ℕ) → place ≡ place_in (forward_word e) → s.side.accepted + 1 ≡ count → new ≡ count % 65536 → me.0.sizes ≡ z
       → me.1 ≡ (buffer_slot me.0.sizes.to_host.capacity e s.buffer, Buffer s.message) ∷ rest me.1
-      → Allows (LinkRule cd desk z) n id me place (λ _. new) (λ _ me'. SendPublishes me me' × GoesOn cd desk me me')
+      → Allows (LinkRule cd desk z) n id me place (λ _. new) (λ _ me'. SendPublishes me me' × GoesOn cd desk AnyWord me me')
   send_publishes s count place new is at new_is sized slots =
       let F : Pass → Call → Pass = λ p k. send_or p (λ e t x b. under_way_or p (λ caller q. record p {
         call = Sends e (turn.Leaving caller (end.Sent x.accepted)) (record { accepted = x.accepted + 1 }) b;
         own = Publish e q.follows x.accepted q.message ∷ p.own;
       }) t) k in
-      told_by (forward_word e) place (λ _. new) s.mover s.here (λ _. SendPublishesBy me s.mover e s.caller s.follows s.message s.side s.buffer) (λ _ me'. SendPublishes me me') is
+      stored_by (forward_word e) place (λ _. new) s.mover s.here (λ _. SendPublishesBy me s.mover e s.caller s.follows s.message s.side s.buffer) (λ _ me'. SendPublishes me me') is
       (publishes cd desk z n id me s.mover e s.caller s.follows s.message s.side s.buffer z.to_host.capacity new s.call refl
       (slots ∙ ap (λ (w : LinkSizes). (buffer_slot w.to_host.capacity e s.buffer, Buffer s.message) ∷ rest me.1) sized) (new_is ∙ ap (λ (k : ℕ). k % 65536) (sym at)))
       (λ y me' t₀. becomes me s.mover (place_of me) s.here with_publish _ (rest me.1) me' (ap (F s.mover.pass) (sym s.call)) t₀)
 
-  pub leaves_sender : (s : SendEnds me e) (place : ℕ) → place ≡ place_in (sender_word e) → Allows (LinkRule cd desk z) n id me place (λ _. 0) (λ _ me'. LeavesSender me me' × GoesOn cd desk me me')
+  pub leaves_sender : (s : SendEnds me e) (place : ℕ) → place ≡ place_in (sender_word e) → Allows (LinkRule cd desk z) n id me place (λ _. 0) (λ _ me'. LeavesSender me me' × GoesOn cd desk AnyWord me me')
   leaves_sender s place is =
       let F : Pass → Call → Pass = λ p k. with_call p (send_or k (λ e t x b. Rests (other e)) k) in
-      told_by (sender_word e) place (λ _. 0) s.mover s.here (λ _. SendLeavesBy me s.mover e (rest me.1)) (λ _ me'. LeavesSender me me') is
+      stored_by (sender_word e) place (λ _. 0) s.mover s.here (λ _. SendLeavesBy me s.mover e (rest me.1)) (λ _ me'. LeavesSender me me') is
       (leaves cd desk z n id me s.mover e s.caller s.end s.side s.buffer s.call s.slots)
       (λ y me' t₀. becomes me s.mover (place_of me) s.here (λ p. F p p.call) _ (rest me.1) me' (ap (F s.mover.pass) (sym s.call)) t₀)
 
-  pub leaves_receiver : (s : ReceiveEnds me e) (place : ℕ) → place ≡ place_in (receiver_word e) → Allows (LinkRule cd desk z) n id me place (λ _. 0) (λ _ me'. LeavesReceiver me me' × GoesOn cd desk me me')
+  pub leaves_receiver : (s : ReceiveEnds me e) (place : ℕ) → place ≡ place_in (receiver_word e) → Allows (LinkRule cd desk z) n id me place (λ _. 0) (λ _ me'. LeavesReceiver me me' × GoesOn cd desk AnyWord me me')
   leaves_receiver s place is =
       let F : Pass → Call → Pass = λ p k. with_call p (receive_or k (λ e t x b message. Rests e) k) in
-      told_by (receiver_word e) place (λ _. 0) s.mover s.here (λ _ m'. m' ≡ (with_pass me.0 s.mover (with_call s.mover.pass (Rests e)) m'.0.copy, rest me.1)) (λ _ me'. LeavesReceiver me me') is
+      stored_by (receiver_word e) place (λ _. 0) s.mover s.here (λ _ m'. m' ≡ (with_pass me.0 s.mover (with_call s.mover.pass (Rests e)) m'.0.copy, rest me.1)) (λ _ me'. LeavesReceiver me me') is
       (leaves_take cd desk z n id me s.mover e s.caller s.end s.side s.buffer s.message s.call s.slots)
       (λ y me' t₀. becomes me s.mover (place_of me) s.here (λ p. F p p.call) _ (rest me.1) me' (ap (F s.mover.pass) (sym s.call)) t₀)
 
-  pub take_loads_era : (s : WorkAt me e (work.Take take_stage.Turn)) → Allows (LinkRule cd desk z) n id me 16 (λ y. y) (λ y me'. TakeLoadsEra me y me' × GoesOn cd desk me me')
+  pub take_loads_era : (s : WorkAt me e (work.Take take_stage.Turn)) → Allows (LinkRule cd desk z) n id me 16 (λ y. y) (λ y me'. TakeLoadsEra me y me' × GoesOn cd desk (HasWord 16 y) me me')
   take_loads_era s = told_by 1 16 (λ y. y) s.mover s.here (TakeLoadsEraBy me s.mover e s.caller (record { follows = s.follows; work = work.Take take_stage.Turn }) s.side s.buffer s.message) (λ y me'. TakeLoadsEra me y me') refl
       (takes_era cd desk z n id me s.mover e s.caller s.follows s.side s.buffer s.message s.call)
       (λ y me' t₀. (t₀.0, t₀.1, becomes me s.mover (place_of me) s.here (with_receive (λ x caller q. after_take_era t₀.0 caller q)) _ me.1 me' (ap (receive_to (λ x caller q. after_take_era t₀.0 caller q) s.mover.pass) (sym s.call)) t₀.2))
 
-  pub take_looks : (s : WorkAt me e (work.Take take_stage.Era)) (place : ℕ) → place ≡ place_in (forward_word e) → me.0.sizes ≡ z → Allows (LinkRule cd desk z) n id me place (λ y. y) (λ y me'. TakeLooks me y me' × GoesOn cd desk me me')
+  pub take_looks : (s : WorkAt me e (work.Take take_stage.Era)) (place : ℕ) → place ≡ place_in (forward_word e) → me.0.sizes ≡ z → Allows (LinkRule cd desk z) n id me place (λ y. y) (λ y me'. TakeLooks me y me' × GoesOn cd desk (HasWord place y) me me')
   take_looks s place is sized = told_by (forward_word e) place (λ y. y) s.mover s.here (TakeLooksBy me s.mover (sizes_at z e) e s.caller (record { follows = s.follows; work = work.Take take_stage.Era }) s.side s.buffer s.message) (λ y me'. TakeLooks me y me') is
       (takes_look cd desk z n id me s.mover e s.caller s.follows s.side s.buffer s.message s.call)
       (λ y me' t₀. let t = t₀ in
@@ -204,7 +212,7 @@ module _ {D : Type 0} (cd : Coded D) (desk : DeskMeaning D) (z : LinkSizes) (n i
       (t.0, t.1, t.2, t.3, becomes me s.mover (place_of me) s.here (with_receive (λ x caller q. take_look_turn x.handed t.0 caller q)) _ me.1 me' (ap (receive_to (λ x caller q. take_look_turn x.handed t.0 caller q) s.mover.pass) (sym s.call)) t.4))
 
   pub take_loads_entry : (s : WorkAt me e (work.Take take_stage.Look)) (count place : ℕ) → place ≡ place_in (entry_number z e ring.Forward count) → me.0.sizes ≡ z → handed_by me ≡ count
-      → Allows (LinkRule cd desk z) n id me place (λ y. y) (λ y me'. TakeTakesBuffer (y % 4294967296) me me' × GoesOn cd desk me me')
+      → Allows (LinkRule cd desk z) n id me place (λ y. y) (λ y me'. TakeTakesBuffer (y % 4294967296) me me' × GoesOn cd desk (HasWord place y) me me')
   take_loads_entry s count place is sized at =
       let F : ℕ → List ℕ → Pass → Call → Pass = λ buffer message p k. with_call p (receive_or k (λ e t x b old. Receives e (under_way_or t (λ caller r. turn.Taken caller (record r { work = work.Take take_stage.Buffer })) t) x buffer message) k) in
       let h = work_handed me e (work.Take take_stage.Look) s in
@@ -224,7 +232,7 @@ module _ {D : Type 0} (cd : Coded D) (desk : DeskMeaning D) (z : LinkSizes) (n i
   }) (with_call p (Receives e (turn.Leaving c (end.Dead era)) x b message))
 
   pub take_hands : (s : WorkAt me e (work.Take take_stage.Buffer)) → me.0.sizes ≡ z → me.1 ≡ (buffer_slot me.0.sizes.to_host.capacity e s.buffer, Buffer s.message) ∷ rest me.1
-      → Allows (LinkRule cd desk z) n id me 16 (λ y. y) (λ y me'. TakeHands me y me' × GoesOn cd desk me me')
+      → Allows (LinkRule cd desk z) n id me 16 (λ y. y) (λ y me'. TakeHands me y me' × GoesOn cd desk (HasWord 16 y) me me')
   take_hands s sized slots =
       told_by 1 16 (λ y. y) s.mover s.here (TakeHandsBy me s.mover e s.caller s.follows s.side s.buffer s.message) (λ y me'. TakeHands me y me') refl
       (hands cd desk z n id me s.mover e s.caller s.follows s.side s.buffer z.to_host.capacity s.message s.call refl
@@ -251,18 +259,18 @@ module _ {D : Type 0} (cd : Coded D) (desk : DeskMeaning D) (z : LinkSizes) (n i
           )
 
   pub give_stores_entry : (k : ℕ) (s : WorkAt me e (work.Give k give_stage.Turn)) (count place new : ℕ) → place ≡ place_in (entry_number z e ring.Return count) → me.0.sizes ≡ z → return_count (sizes_by me) s.side.returned ≡ count → new ≡ held_buffer s.side.hands k + 0 * 4294967296
-      → Allows (LinkRule cd desk z) n id me place (λ _. new) (λ _ me'. GiveStoresEntry me me' × GoesOn cd desk me me')
+      → Allows (LinkRule cd desk z) n id me place (λ _. new) (λ _ me'. GiveStoresEntry me me' × GoesOn cd desk AnyWord me me')
   give_stores_entry k s count place new is sized at new_is =
       let next : ReceiverSide → ℕ → Receiving → Turn Receiving = λ x caller r. turn.Taken caller (record r { work = with_entry r.work }) in
-      told_by (entry_number z e ring.Return count) place (λ _. new) s.mover s.here (λ _ me'. me' ≡ (with_pass me.0 s.mover (with_call s.mover.pass (Receives e (turn.Taken s.caller (record { follows = s.follows; work = work.Give k give_stage.Entry })) s.side s.buffer s.message)) me'.0.copy, me.1)) (λ _. GiveStoresEntry me) is
+      stored_by (entry_number z e ring.Return count) place (λ _. new) s.mover s.here (λ _ me'. me' ≡ (with_pass me.0 s.mover (with_call s.mover.pass (Receives e (turn.Taken s.caller (record { follows = s.follows; work = work.Give k give_stage.Entry })) s.side s.buffer s.message)) me'.0.copy, me.1)) (λ _. GiveStoresEntry me) is
       (gives_entry cd desk z n id me s.mover e s.caller s.follows k s.side s.buffer count new s.message s.call
           (sym at ∙ ap (λ (x : RingSizes). return_count x s.side.returned) (work_sizes z me e (work.Give k give_stage.Turn) s sized)) new_is)
       (λ y me' t₀. becomes me s.mover (place_of me) s.here (with_receive next) _ me.1 me' (ap (receive_to next s.mover.pass) (sym s.call)) t₀)
 
   pub give_publishes : (k : ℕ) (s : WorkAt me e (work.Give k give_stage.Entry)) (count place new : ℕ) → place ≡ place_in (return_word e) → me.0.sizes ≡ z → return_count (sizes_by me) s.side.returned + 1 ≡ count → new ≡ count % 65536
-      → Allows (LinkRule cd desk z) n id me place (λ _. new) (λ _ me'. GivePublishes me me' × GoesOn cd desk me me')
+      → Allows (LinkRule cd desk z) n id me place (λ _. new) (λ _ me'. GivePublishes me me' × GoesOn cd desk AnyWord me me')
   give_publishes k s count place new is sized at new_is =
-      told_by (return_word e) place (λ _. new) s.mover s.here
+      stored_by (return_word e) place (λ _. new) s.mover s.here
           (λ _ me'. me' ≡ (with_pass me.0 s.mover (with_call_and_hands s.mover.pass (Receives e (turn.Leaving s.caller (end.Gave k)) (record { handed = s.side.handed; returned = s.side.returned + 1; hands = hands_without s.side.hands k }) s.buffer s.message) (hands_but s.mover.pass.hands k)) me'.0.copy, me.1)) (λ _. GivePublishes me) is
       (gives_back cd desk z n id me s.mover e s.caller s.follows k s.side s.buffer new s.message s.call
           (new_is ∙ (ap (λ (u : ℕ). u % 65536) (sym at) ∙ ap (λ (x : RingSizes). (return_count x s.side.returned + 1) % 65536) (work_sizes z me e (work.Give k give_stage.Entry) s sized))))
@@ -275,13 +283,13 @@ module _ {D : Type 0} (cd : Coded D) (desk : DeskMeaning D) (z : LinkSizes) (n i
       let next : ReceiverSide → ℕ → Receiving → Turn Receiving = λ x caller r. cond (is_live_in t₀.0 r.follows) (turn.Leaving caller t₀.2) (turn.Leaving caller (end.Dead t₀.0)) in
       (t₀.0, t₀.1, t₀.2, becomes me s.mover (place_of me) s.here (with_receive next) _ me.1 me' (ap (receive_to next s.mover.pass) (sym s.call)) t₀.3)
 
-  pub bind_loads_era : (address : ℕ) (s : WorkAt me e (work.Bind address)) → Allows (LinkRule cd desk z) n id me 16 (λ y. y) (λ y me'. BindLoadsEra me y me' × GoesOn cd desk me me')
+  pub bind_loads_era : (address : ℕ) (s : WorkAt me e (work.Bind address)) → Allows (LinkRule cd desk z) n id me 16 (λ y. y) (λ y me'. BindLoadsEra me y me' × GoesOn cd desk (HasWord 16 y) me me')
   bind_loads_era address s = told_by 1 16 (λ y. y) s.mover s.here
       (λ y me'. (era : Era) × (y ≡ era_word era) × (ended : CallEnd) × (me' ≡ (with_pass me.0 s.mover (with_call s.mover.pass (Receives e (cond (is_live_in era s.follows) (turn.Leaving s.caller ended) (turn.Leaving s.caller (end.Dead era))) s.side s.buffer s.message)) me'.0.copy, me.1))) (BindLoadsEra me) refl
       (binds cd desk z (work.Bind address) (λ u. desk.bound u.lane.desk address (length u.lane.lane.takers)) (λ u. desk_end end.Bound (desk.bind_answer u.lane.desk address (length u.lane.lane.takers))) s.follows s.caller refl (λ u era. refl) n id me s.mover e s.side s.buffer s.message s.call)
       (bind_told (work.Bind address) s)
 
-  pub unbind_loads_era : (address : ℕ) (s : WorkAt me e (work.Unbind address)) → Allows (LinkRule cd desk z) n id me 16 (λ y. y) (λ y me'. BindLoadsEra me y me' × GoesOn cd desk me me')
+  pub unbind_loads_era : (address : ℕ) (s : WorkAt me e (work.Unbind address)) → Allows (LinkRule cd desk z) n id me 16 (λ y. y) (λ y me'. BindLoadsEra me y me' × GoesOn cd desk (HasWord 16 y) me me')
   unbind_loads_era address s = told_by 1 16 (λ y. y) s.mover s.here
       (λ y me'. (era : Era) × (y ≡ era_word era) × (ended : CallEnd) × (me' ≡ (with_pass me.0 s.mover (with_call s.mover.pass (Receives e (cond (is_live_in era s.follows) (turn.Leaving s.caller ended) (turn.Leaving s.caller (end.Dead era))) s.side s.buffer s.message)) me'.0.copy, me.1))) (BindLoadsEra me) refl
       (binds cd desk z (work.Unbind address) (λ u. desk.unbound u.lane.desk address) (λ u. desk_end end.Unbound (desk.unbind_answer u.lane.desk address)) s.follows s.caller refl (λ u era. refl) n id me s.mover e s.side s.buffer s.message s.call)

@@ -2,7 +2,7 @@
 -- those of a split virtqueue, VIRTIO 1.2 sections 2.7.6 and 2.7.8).
 use Rattle.lane_model.specs.declared.calls.CallEnd.{CallEnd}
 use Rattle.ring_core.specs.RingSteps.{held_buffer, hands_without}
-use Rattle.std.specs.Prelude.{◌≡◌, ◌≢◌, ℕ, ◌+◌, ◌%◌, ◌==◌, ◌<◌, ◌≤◌, if◌then◌else◌, List, [], ◌∷◌, ◌++◌, length, Some, None, filter, not, ◌⊎◌}
+use Rattle.std.specs.Prelude.{◌≡◌, ◌≢◌, ℕ, ◌+◌, ◌%◌, ◌==◌, ◌<◌, ◌≤◌, if◌then◌else◌, List, [], ◌∷◌, ◌++◌, length, Some, None, filter, not, ◌⊎◌, slice_index}
 use base.Stored.{Coded}
 use Rattle.atomic_table.specs.Table.{rest}
 use Rattle.rp_base.specs.declared.kinds.End.{End}
@@ -57,28 +57,38 @@ use Rattle.link_words.specs.Deeds.{Deed, Steps, after_deed, MayDo, IsSoundState}
 use Rattle.link_words.specs.Parts.{AreNear}
 use Rattle.link_words.specs.Passes.{Manages, HasNumber, with_call, place_of_number}
 use Rattle.link_words.specs.Rule.{IsCallOf}
-use Rattle.link_words.specs.Words.{other, era_word, sizes_at, sender_word, receiver_word, sender_slot, receiver_slot, buffer_slot}
+use Rattle.link_words.specs.Words.{other, era_word, sizes_at, words_of, sender_word, receiver_word, forward_word, return_word, sender_slot, receiver_slot, buffer_slot}
+use Rattle.link_words.specs.Layouts.{layout}
 
--- the step of a seat is this deed of the ring form, by the pass of this number: in some sound state, in which the pass was in its call, the deed
--- may be done, and in the state after it the pass is in its next call. Where the manager has a copy of the state, and none of its callers
+-- the word at this place of the table is this number, in a state of the ring form
+abbrev pub HasWord : {D : Type 0} → ℕ → ℕ → LaneLink (RingState D) → Type 0
+HasWord place n m = n ≡ slice_index (layout (words_of 0 [] m)) place
+
+-- whatever the word is that the step stores
+abbrev pub AnyWord : {D : Type 0} → LaneLink (RingState D) → Type 0
+AnyWord m = Unit {0}
+
+-- the step of a seat is this deed of the ring form, by the pass of this number: in some sound state, in which the word was what was found and the
+-- pass was in its call, the deed may be done, and in the state after it the pass is in its next call. Where the manager has a copy of the state, and none of its callers
 -- is out, that state is the copy's, and the copy follows
-pub record IsStepOf {D : Type 0} (coded : Coded D) (desk : DeskMeaning D) (d : Deed) (number : ℕ) (call next : Call) (me me' : SeatState) : Type 0 where
+pub record IsStepOf {D : Type 0} (coded : Coded D) (desk : DeskMeaning D) (Reads : LaneLink (RingState D) → Type 0) (d : Deed) (number : ℕ) (call next : Call) (me me' : SeatState) : Type 0 where
   pub state : LaneLink (RingState D)
   pub sound : IsSoundState desk state
+  pub read : Reads state
   pub may : MayDo desk state d
   pub before : IsCallOf state 0 number call
   pub after : IsCallOf (after_deed desk state d) 0 number next
   pub copy : (k : LinkCopy) → Manages me.0 → me.0.out ≡ [] → me.0.copy ≡ Some k → (k ≡ copied coded state) × (me'.0.copy ≡ Some (copied coded (after_deed desk state d)))
 
 -- the step is a later one of the call of the pass that steps
-abbrev pub GoesOn : {D : Type 0} → Coded D → DeskMeaning D → SeatState → SeatState → Type 0
-GoesOn coded desk me me' = let k = place_of me in
-    IsStepOf coded desk (Steps (number_at k me.0.passes) 0 None) (number_at k me.0.passes) (call_at k me.0.passes) (call_at k me'.0.passes) me me'
+abbrev pub GoesOn : {D : Type 0} → Coded D → DeskMeaning D → (LaneLink (RingState D) → Type 0) → SeatState → SeatState → Type 0
+GoesOn coded desk Reads me me' = let k = place_of me in
+    IsStepOf coded desk Reads (Steps (number_at k me.0.passes) 0 None) (number_at k me.0.passes) (call_at k me.0.passes) (call_at k me'.0.passes) me me'
 
 -- the step is the first one of what this caller wishes, in a call that follows this incarnation
-abbrev pub Begins : {D : Type 0} → Coded D → DeskMeaning D → ℕ → ℕ → Wish → SeatState → SeatState → Type 0
-Begins coded desk number follows wished me me' = let k = place_of_number number me.0.passes in
-    IsStepOf coded desk (Steps number follows (Some wished)) number (call_at k me.0.passes) (call_at k me'.0.passes) me me'
+abbrev pub Begins : {D : Type 0} → Coded D → DeskMeaning D → (LaneLink (RingState D) → Type 0) → ℕ → ℕ → Wish → SeatState → SeatState → Type 0
+Begins coded desk Reads number follows wished me me' = let k = place_of_number number me.0.passes in
+    IsStepOf coded desk Reads (Steps number follows (Some wished)) number (call_at k me.0.passes) (call_at k me'.0.passes) me me'
 
 -- the work of a call that has done its first step
 abbrev pub first_work : Wish → Work
@@ -259,6 +269,12 @@ BindLoadsEra me n me' = (era : Era) × (n ≡ era_word era) × (ended : CallEnd)
 abbrev pub LeavesReceiver : SeatState → SeatState → Type 0
 LeavesReceiver me me' = Becomes (λ p. with_call p (receive_or p.call (λ e t x b message. Rests e) p.call)) (place_of me) (rest me.1) me me'
 
+-- the index that is loaded for this
+abbrev pub index_number : IndexUse → End → ℕ
+index_number index.Room lane = return_word lane
+index_number index.OwnBuffer lane = return_word lane
+index_number index.Message lane = forward_word lane
+
 -- what a call is at when it loads an index for this
 abbrev pub MayLoadIndex : IndexUse → End → SeatState → Type 0
 MayLoadIndex index.Room lane me = SendAt me lane stage.Era
@@ -353,11 +369,11 @@ LeavesTurn lane_turn.Sender me me' = LeavesSender me me'
 LeavesTurn lane_turn.Receiver me me' = LeavesReceiver me me'
 
 -- step 1 of what the seat says that it begins
-abbrev pub TakesTurnAs : {D : Type 0} → Coded D → DeskMeaning D → Option_of Slot → SeatState → ℕ → SeatState → Type 0
-TakesTurnAs coded desk none me n me' = Unit {0}
-TakesTurnAs coded desk (some Empty) me n me' = Unit {0}
-TakesTurnAs coded desk (some (Sender x)) me n me' = Unit {0}
-TakesTurnAs coded desk (some (Receiver x)) me n me' = Unit {0}
-TakesTurnAs coded desk (some (Buffer x)) me n me' = Unit {0}
-TakesTurnAs coded desk (some (Caller x)) me n me' = Unit {0}
-TakesTurnAs coded desk (some (Start x)) me n me' = TakesTurn x.end x.caller x.follows x.wish me n me' × (n ≤ 65) × Begins coded desk x.caller x.follows x.wish me me'
+abbrev pub TakesTurnAs : {D : Type 0} → Coded D → DeskMeaning D → ℕ → Option_of Slot → SeatState → ℕ → SeatState → Type 0
+TakesTurnAs coded desk place none me n me' = Unit {0}
+TakesTurnAs coded desk place (some Empty) me n me' = Unit {0}
+TakesTurnAs coded desk place (some (Sender x)) me n me' = Unit {0}
+TakesTurnAs coded desk place (some (Receiver x)) me n me' = Unit {0}
+TakesTurnAs coded desk place (some (Buffer x)) me n me' = Unit {0}
+TakesTurnAs coded desk place (some (Caller x)) me n me' = Unit {0}
+TakesTurnAs coded desk place (some (Start x)) me n me' = TakesTurn x.end x.caller x.follows x.wish me n me' × (n ≤ 65) × Begins coded desk (HasWord place n) x.caller x.follows x.wish me me'

@@ -3,6 +3,7 @@
 
 mod codes;
 mod copies;
+pub mod laws;
 mod loads;
 mod moves;
 mod places;

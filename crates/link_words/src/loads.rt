@@ -1,7 +1,8 @@
 //! Loads of indexes, of ring entries and of the era.
 ghost use Rattle.std.specs.Prelude.{◌≡◌, ◌≤◌, ◌<◌};
-ghost use Rattle.link_words.specs.Steps.{GoesOn, MayLoadIndex, LoadsIndex, MayLoadEntry, LoadsEntry, MayLoadEra, LoadsEra};
-ghost use Rattle.link_words.specs.Words.{words_in, IsSized};
+ghost use Rattle.link_words.specs.Steps.{GoesOn, HasWord, index_number, MayLoadIndex, LoadsIndex, MayLoadEntry, LoadsEntry, MayLoadEra, LoadsEra};
+ghost use Rattle.link_words.specs.Words.{words_in, entry_number, IsSized};
+ghost use Rattle.link_words.specs.Layouts.{place_in};
 
 use crate::places::{ERA_PLACE, entry_place, forward_place, return_place};
 use crate::plays::{
@@ -48,7 +49,7 @@ pub fn load_index<D: Desk>(
     requires call { MayLoadIndex index lane seat.old.me }
     ensures same { (seat.new.table_id ≡ seat.old.table_id) × (seat.new.id ≡ seat.old.id) }
     ensures told { LoadsIndex index seat.old.me result seat.new.me }
-    ensures step { GoesOn D.row.coded D.meaning seat.old.me seat.new.me }
+    ensures step { GoesOn D.row.coded D.meaning (HasWord (place_in (index_number index lane)) result) seat.old.me seat.new.me }
 {
     match index {
         IndexUse::Room => table.load::<TellsSendLooks<D>>(seat, return_place(lane)),
@@ -72,7 +73,7 @@ pub fn load_entry<D: Desk>(
     requires call { MayLoadEntry ring lane count seat.old.me }
     ensures same { (seat.new.table_id ≡ seat.old.table_id) × (seat.new.id ≡ seat.old.id) }
     ensures told { LoadsEntry ring seat.old.me result seat.new.me }
-    ensures step { GoesOn D.row.coded D.meaning seat.old.me seat.new.me }
+    ensures step { GoesOn D.row.coded D.meaning (HasWord (place_in (entry_number sizes.now lane ring count)) result) seat.old.me seat.new.me }
 {
     let word = entry_place(sizes, lane, ring, count);
     match ring {
@@ -88,7 +89,7 @@ pub fn load_era<D: Desk>(table: &LinkTable<D>, seat: &mut LinkSeat, era: EraUse)
     requires call { MayLoadEra era seat.old.me }
     ensures same { (seat.new.table_id ≡ seat.old.table_id) × (seat.new.id ≡ seat.old.id) }
     ensures told { LoadsEra era seat.old.me result seat.new.me }
-    ensures step { GoesOn D.row.coded D.meaning seat.old.me seat.new.me }
+    ensures step { GoesOn D.row.coded D.meaning (HasWord 16 result) seat.old.me seat.new.me }
 {
     match era {
         EraUse::Send => table.load::<TellsSendLoadsEra<D>>(seat, ERA_PLACE),

@@ -1,6 +1,6 @@
 //! Stores of ring entries and of indexes.
 ghost use Rattle.std.specs.Prelude.{◌≡◌, ◌≤◌};
-ghost use Rattle.link_words.specs.Steps.{GoesOn, MayStoreEntry, StoresEntry, MayPublish, PublishesIndex};
+ghost use Rattle.link_words.specs.Steps.{GoesOn, AnyWord, MayStoreEntry, StoresEntry, MayPublish, PublishesIndex};
 ghost use Rattle.link_words.specs.Words.{words_in, IsSized};
 
 use crate::places::{entry_place, forward_place, return_place};
@@ -20,7 +20,7 @@ pub fn store_entry<D: Desk>(table: &LinkTable<D>, sizes: &LinkSizes, seat: &mut 
     requires call { MayStoreEntry ring lane count entry seat.old.me }
     ensures same { (seat.new.table_id ≡ seat.old.table_id) × (seat.new.id ≡ seat.old.id) }
     ensures told { StoresEntry ring seat.old.me seat.new.me }
-    ensures step { GoesOn D.row.coded D.meaning seat.old.me seat.new.me }
+    ensures step { GoesOn D.row.coded D.meaning AnyWord seat.old.me seat.new.me }
 {
     let word = entry_place(sizes, lane, ring, count);
     let new = entry.id as u64 + entry.len as u64 * 4_294_967_296;
@@ -38,7 +38,7 @@ pub fn publish_index<D: Desk>(table: &LinkTable<D>, seat: &mut LinkSeat, lane: E
     requires call { MayPublish ring lane count seat.old.me }
     ensures same { (seat.new.table_id ≡ seat.old.table_id) × (seat.new.id ≡ seat.old.id) }
     ensures told { PublishesIndex ring seat.old.me seat.new.me }
-    ensures step { GoesOn D.row.coded D.meaning seat.old.me seat.new.me }
+    ensures step { GoesOn D.row.coded D.meaning AnyWord seat.old.me seat.new.me }
 {
     match ring {
         Ring::Forward => {
