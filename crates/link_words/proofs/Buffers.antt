@@ -44,7 +44,7 @@ use Rattle.link_words.proofs.Frames.{words_seen, homes_seen, same_lane, same_she
 use Rattle.link_words.proofs.Kept.{send_deed, send_may}
 use Rattle.link_words.proofs.LaneSteps.{no_call, others_send, here_sends, lane_moves}
 use Rattle.link_words.proofs.Sends.{has_of, true-false, at_zero}
-use Rattle.link_words.proofs.Exact.{StepBy, step_by, ReadsAt, read_by}
+use Rattle.link_words.proofs.Exact.{StepBy, ReadsAt, read_by}
 use Rattle.link_words.proofs.Parts.{rings_in, sizes_in, buffers_in}
 
 pub rings_to : {D : Type 0} (m : LaneLink (RingState D)) (e : End) → HasSoundRings m → IsSoundRings (lane_to m e)

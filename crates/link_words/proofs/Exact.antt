@@ -143,6 +143,11 @@ module _ (me : SeatState) (o : Mover me.0) (k : ℕ) (place : o.place ≡ k) whe
 -- a word that was found is the one at its place of the table
 pub read_there : {D : Type 0} (cd : Coded D) (desk : DeskMeaning D) (i place n : ℕ) → place ≡ place_in i → (d : Deed) (number : ℕ) (call next : Call) (me me' : SeatState) → IsStepOf cd desk (ReadsAt i n) d number call next me me' → IsStepOf cd desk (HasWord place n) d number call next me me'
 read_there cd desk i place n is d number call next me me' s = record {
-  state = s.state; sound = s.sound; may = s.may; before = s.before; after = s.after; copy = s.copy;
+  state = s.state;
+  sound = s.sound;
+  may = s.may;
+  before = s.before;
+  after = s.after;
+  copy = s.copy;
   read = s.read ∙ (sym (found_apart 10 (words_of 0 [] s.state) i) ∙ ap (λ (k : ℕ). get_or (layout (words_of 0 [] s.state)) k 0) (sym is));
 }

@@ -1,11 +1,9 @@
 -- The later steps of a give: the return entry, and the return index; and step 2 of a binding or an unbinding.
-use Rattle.std.proofs.Common.{◌≡◌, ◌≢◌, ℕ, suc, ◌+◌, ◌*◌, ◌%◌, ◌<◌, ◌≤◌, Bool, true, false, cond, eqb, not, ◌&&◌, List, [], ◌∷◌, ◌++◌, map, length, get_or, set, refl, sym, ap, ◌∙◌, subst, arith, ne_eqb}
-use Rattle.std.specs.Prelude.{Some, None, filter, if◌then◌else◌}
+use Rattle.std.proofs.Common.{◌≡◌, ◌≢◌, ℕ, ◌+◌, ◌*◌, ◌%◌, ◌<◌, Bool, true, false, cond, eqb, not, ◌&&◌, List, [], ◌∷◌, length, get_or, set, refl, sym, ap, ◌∙◌, subst, arith, ne_eqb}
+use Rattle.std.specs.Prelude.{Some, None}
 use Rattle.std.proofs.lemmas.Bool.{eqb-true}
-use Rattle.std.proofs.lemmas.List.{map-set, length-map}
 use Rattle.std.proofs.Math.Nat.{mod-lt, mod-add-mod}
-use mathlib.Core.Option.{some, none}
-use mathlib.Core.Option.{Option as Option_of}
+use mathlib.Core.Option.{some}
 use lib.ListN.{get_elem?}
 use Rattle.atomic_table.specs.Table.{State, Me, Act, keeps, Valid, carried_after, stepped, Allows}
 use base.Stored.{Coded}
@@ -25,8 +23,6 @@ use Rattle.lane_model.specs.declared.stages.Work.TheVariants as work
 use Rattle.lane_model.specs.declared.states.Holding.{Holding}
 use Rattle.lane_model.specs.Desks.{DeskMeaning}
 use Rattle.lane_model.specs.Lanes.{holder, has_call, is_live_in, without}
-use Rattle.ring_core.specs.declared.states.Hand.{Hand}
-use Rattle.ring_core.specs.declared.states.RingSizes.{RingSizes}
 use Rattle.ring_core.specs.declared.states.RingState.{RingState}
 use Rattle.ring_core.specs.Owners.{receiver_is_out, work_is_out}
 use Rattle.ring_core.specs.RingSteps.{ring_form, next_index, held_buffer, hands_without}
@@ -42,15 +38,15 @@ use Rattle.link_words.specs.declared.rule.Slot.{Slot}
 use Rattle.link_words.specs.declared.rule.View.{View}
 use Rattle.link_words.specs.Calls.{SeatState}
 use Rattle.link_words.specs.Codes.{copied}
-use Rattle.link_words.specs.Deeds.{Steps, after_deed, MayDo}
+use Rattle.link_words.specs.Deeds.{Steps, after_deed}
 use Rattle.link_words.specs.Histories.{hands_of}
 use Rattle.link_words.specs.Parts.{HoldsBuffers}
 use Rattle.link_words.specs.Passes.{Mover, with_pass, with_call, with_call_and_hands}
-use Rattle.link_words.specs.Rule.{IsCallOf, HandsOf, Shows, WordsRule}
+use Rattle.link_words.specs.Rule.{IsCallOf, Shows, WordsRule}
 use Rattle.link_words.specs.Steps.{hands_but, AnyWord}
 use Rattle.link_words.specs.Turns.{is_manager}
-use Rattle.link_words.specs.Words.{other, lane_to, with_lane, era_word, turn_word, entry_word, LaneWords, lane_words, words_at, home_if, lane_homes, homes_at, shelf_to, receiver_side, return_word, sizes_at, entries_before, entry_number}
-use Rattle.link_words.proofs.Buffers.{words_here, loaded, rings_to}
+use Rattle.link_words.specs.Words.{other, lane_to, with_lane, era_word, entry_word, LaneWords, lane_words, words_at, shelf_to, receiver_side, return_word, sizes_at, entries_before, entry_number}
+use Rattle.link_words.proofs.Buffers.{loaded, rings_to}
 use Rattle.link_words.proofs.Entries.{ahead, sizes_known}
 use Rattle.link_words.proofs.Exact.{StepBy, step_by, ReadsAt, read_by}
 use Rattle.link_words.proofs.Frames.{keepers_set}
@@ -84,6 +80,7 @@ hands_stay c k j (h ∷ hs) apart = go (eqb h.number k) (eqb h.caller c) refl (h
   where
     keeps_it : hands_of j (without hs k c) ≡ hands_of j hs → hands_of j (h ∷ without hs k c) ≡ hands_of j (h ∷ hs)
     keeps_it rec = ap (λ (l : List ℕ). cond (eqb h.caller j) (h.number ∷ l) l) rec
+
     go : (p q : Bool) → eqb h.caller c ≡ q → hands_of j (without hs k c) ≡ hands_of j hs → hands_of j (cond (not (p && q)) (h ∷ without hs k c) (without hs k c)) ≡ hands_of j (h ∷ hs)
     go true true nq rec = rec ∙ λ i. cond (sym (ne_eqb h.caller j (λ same. apart (sym (eqb-true h.caller c nq) ∙ same))) i) (h.number ∷ hands_of j hs) (hands_of j hs)
     go false true nq rec = keeps_it rec
@@ -113,7 +110,7 @@ module _ {D : Type 0} (cd : Coded D) (desk : DeskMeaning D) (z : LinkSizes) wher
       let stored : new ≡ entry_word entry = new_is ∙ ap (λ (u : ReceiverSide). held_buffer u.hands k + 0 * 4294967296) h.1.2 in
       let position : count % (sizes_at z e).entries ≡ j = λ i. at_count i % (sym known.0 i) in let en = known.0 in let be = known.2 in
       let word : entry_number z e ring.Return count ≡ 10 + (ahead e (lane_words (lane_to m (other e))) + (length s.rings.forward + j)) =
-          let w : 10 + (entries_before z e + ((sizes_at z e).entries + count % (sizes_at z e).entries)) ≡ 10 + (ahead e (lane_words (lane_to m (other e))) + (length s.rings.forward + j)) = omega (arith, position, en, be, fl) in w in
+      let w : 10 + (entries_before z e + ((sizes_at z e).entries + count % (sizes_at z e).entries)) ≡ 10 + (ahead e (lane_words (lane_to m (other e))) + (length s.rings.forward + j)) = omega (arith, position, en, be, fl) in w in
       let t' : Turn Receiving = turn.Taken c (record { follows = f; work = work.Give k give_stage.Entry }) in let w : Call = Receives e t' x b msg in let s' : RingState D = (ring_form desk).received_on s m.era in
       let has : has_call s₀.lane.receiver o.pass.number ≡ true = has_of s₀.lane.receiver o.pass.number (ap holder h.1.0 ∙ h.1.1) (ap is_manager h.1.0) in
       let may = receive_may desk m e o.pass.number 0 h.0 has in
@@ -126,7 +123,7 @@ module _ {D : Type 0} (cd : Coded D) (desk : DeskMeaning D) (z : LinkSizes) wher
             may
             deed
             (ap (set (words_at e (era_word m.era) (lane_words s) (lane_words (lane_to m (other e)))) (entry_number z e ring.Return count)) stored
-                ∙ returns_set e (era_word m.era) j (entry_number z e ring.Return count) entry (lane_words s) (lane_words (lane_to m (other e))) (omega (arith, low, rl)) word)
+            ∙ returns_set e (era_word m.era) j (entry_number z e ring.Return count) entry (lane_words s) (lane_words (lane_to m (other e))) (omega (arith, low, rl)) word)
             refl
             (record { long = q.long; full = q.full; home = q.home })
             mine
@@ -138,7 +135,7 @@ module _ {D : Type 0} (cd : Coded D) (desk : DeskMeaning D) (z : LinkSizes) wher
   pub gives_back : (n id : ℕ) (me : SeatState) (o : Mover me.0) (e : End) (c f k : ℕ) (x : ReceiverSide) (b new : ℕ) (msg : List ℕ) → o.pass.call ≡ Receives e (turn.Taken c (record { follows = f; work = work.Give k give_stage.Entry })) x b msg
       → new ≡ (return_count (sizes_at z e) x.returned + 1) % 65536
       → Allows (WordsRule cd desk z) n id me (return_word e) (λ _. new) (λ _ me'. (me' ≡ (with_pass me.0 o (with_call_and_hands o.pass (Receives e (turn.Leaving c (end.Gave k)) (record { handed = x.handed; returned = x.returned + 1; hands = hands_without x.hands k }) b msg) (hands_but o.pass.hands k)) me'.0.copy, me.1))
-          × StepBy cd desk AnyWord me o (Steps o.pass.number 0 None) me')
+      × StepBy cd desk AnyWord me o (Steps o.pass.number 0 None) me')
   gives_back n id me o e c f k x b new msg call new_is st (m, p, r₀) wide at _ =
       let t : Turn Receiving = turn.Taken c (record { follows = f; work = work.Give k give_stage.Entry }) in
       let h : IsCallOf m p o.pass.number (Receives e t x b msg) = subst (IsCallOf m p o.pass.number) call (r₀.turns.calls id o.place o.pass (me.0, at, o.here)) in
@@ -185,7 +182,7 @@ module _ {D : Type 0} (cd : Coded D) (desk : DeskMeaning D) (z : LinkSizes) wher
       let has : has_call s₀.lane.receiver o.pass.number ≡ true = has_of s₀.lane.receiver o.pass.number (ap holder h.1.0 ∙ h.1.1) (ap is_manager h.1.0) in
       let may = receive_may desk m e o.pass.number 0 h.0 has in
       let deed : with_lane m e s' ≡ after_deed desk m (Steps o.pass.number 0 None) =
-          ap (with_lane m e) (sym does) ∙ (ap (λ (u : RingState D). with_lane m e ((ring_form desk).received_on u m.era)) (sym is) ∙ receive_deed desk m e o.pass.number 0 h.0 (no_send desk m e o.pass.number r.sound has)) in
+      ap (with_lane m e) (sym does) ∙ (ap (λ (u : RingState D). with_lane m e ((ring_form desk).received_on u m.era)) (sym is) ∙ receive_deed desk m e o.pass.number 0 h.0 (no_send desk m e o.pass.number r.sound has)) in
       let mine : IsCallOf (with_lane m e s') 0 o.pass.number call = here_receives desk m e s' o.pass.number t' x b msg h.0 (refl, h.1.1, h.1.2, (λ out. absurd (true-false (sym out))), refl) in (
         _,
         lane_moves cd desk z st m r e s s' is 1 (get_or st.words 1 0) id me.1 me.0 o call keeps (Steps o.pass.number 0 None) (shelf_to r.shelves e) at
@@ -208,7 +205,7 @@ module _ {D : Type 0} (cd : Coded D) (desk : DeskMeaning D) (z : LinkSizes) wher
       })
       → (n id : ℕ) (me : SeatState) (o : Mover me.0) (e : End) (x : ReceiverSide) (b : ℕ) (msg : List ℕ) → o.pass.call ≡ Receives e (turn.Taken c (record { follows = f; work = w })) x b msg
       → Allows (WordsRule cd desk z) n id me 1 (λ y. y) (λ y me'. ((era : Era) × (y ≡ era_word era) × (ended : CallEnd) × (me' ≡ (with_pass me.0 o (with_call o.pass (Receives e (cond (is_live_in era f) (turn.Leaving c ended) (turn.Leaving c (end.Dead era))) x b msg)) me'.0.copy, me.1)))
-          × StepBy cd desk (ReadsAt 1 y) me o (Steps o.pass.number 0 None) me')
+      × StepBy cd desk (ReadsAt 1 y) me o (Steps o.pass.number 0 None) me')
   binds w desk_after end_after f c inside does n id me o e x b msg call st (m, p, r₀) wide at _ =
       let t : Turn Receiving = turn.Taken c (record { follows = f; work = w }) in
       let h : IsCallOf m p o.pass.number (Receives e t x b msg) = subst (IsCallOf m p o.pass.number) call (r₀.turns.calls id o.place o.pass (me.0, at, o.here)) in
@@ -217,14 +214,38 @@ module _ {D : Type 0} (cd : Coded D) (desk : DeskMeaning D) (z : LinkSizes) wher
       go : (live : Bool) → is_live_in m.era f ≡ live → IsCallOf m 0 o.pass.number (Receives e (turn.Taken c (record { follows = f; work = w })) x b msg) → Shows cd desk z st m 0 → get_or st.words 1 0 ≡ era_word m.era
           → (v : View) × (a : Act Slot) × Valid st.homes me.1 a × WordsRule cd desk z (stepped st 1 (get_or st.words 1 0) id me.1 v a)
           × (((era : Era) × (get_or st.words 1 0 ≡ era_word era) × (ended : CallEnd) × Path (Me Slot View) (v, carried_after me.1 a) (with_pass me.0 o (with_call o.pass (Receives e (cond (is_live_in era f) (turn.Leaving c ended) (turn.Leaving c (end.Dead era))) x b msg)) v.copy, me.1))
-            × StepBy cd desk (ReadsAt 1 (get_or st.words 1 0)) me o (Steps o.pass.number 0 None) (v, carried_after me.1 a))
+          × StepBy cd desk (ReadsAt 1 (get_or st.words 1 0)) me o (Steps o.pass.number 0 None) (v, carried_after me.1 a))
       go true is_live h r word =
           let all = binds_with st m r id me o e w f c x b msg (end_after (lane_to m e)) (desk_after (lane_to m e)) at h inside
-              (does (lane_to m e) m.era ∙ λ i. record { lane = cond (is_live i) (record (lane_to m e).lane { receiver = turn.Leaving c (end_after (lane_to m e)); desk = desk_after (lane_to m e) }) (record (lane_to m e).lane { receiver = turn.Leaving c (end.Dead m.era) }); rings = (lane_to m e).rings }) in
-          (all.0, keeps, tt, all.1, ((m.era, word, end_after (lane_to m e),
-              (λ i. (all.2 i, me.1)) ∙ λ i. (with_pass me.0 o (with_call o.pass (Receives e (cond (sym is_live i) (turn.Leaving c (end_after (lane_to m e))) (turn.Leaving c (end.Dead m.era))) x b msg)) all.0.copy, me.1)), all.3))
+          (does (lane_to m e) m.era ∙ λ i. record { lane = cond (is_live i) (record (lane_to m e).lane { receiver = turn.Leaving c (end_after (lane_to m e)); desk = desk_after (lane_to m e) }) (record (lane_to m e).lane { receiver = turn.Leaving c (end.Dead m.era) }); rings = (lane_to m e).rings }) in (
+            all.0,
+            keeps,
+            tt,
+            all.1,
+            (
+              (
+                m.era,
+                word,
+                end_after (lane_to m e),
+                (λ i. (all.2 i, me.1)) ∙ λ i. (with_pass me.0 o (with_call o.pass (Receives e (cond (sym is_live i) (turn.Leaving c (end_after (lane_to m e))) (turn.Leaving c (end.Dead m.era))) x b msg)) all.0.copy, me.1),
+              ),
+              all.3,
+            ),
+          )
       go false is_dead h r word =
           let all = binds_with st m r id me o e w f c x b msg (end.Dead m.era) (lane_to m e).lane.desk at h inside
-              (does (lane_to m e) m.era ∙ λ i. record { lane = cond (is_dead i) (record (lane_to m e).lane { receiver = turn.Leaving c (end_after (lane_to m e)); desk = desk_after (lane_to m e) }) (record (lane_to m e).lane { receiver = turn.Leaving c (end.Dead m.era) }); rings = (lane_to m e).rings }) in
-          (all.0, keeps, tt, all.1, ((m.era, word, end.Dead m.era,
-              (λ i. (all.2 i, me.1)) ∙ λ i. (with_pass me.0 o (with_call o.pass (Receives e (cond (sym is_dead i) (turn.Leaving c (end.Dead m.era)) (turn.Leaving c (end.Dead m.era))) x b msg)) all.0.copy, me.1)), all.3))
+          (does (lane_to m e) m.era ∙ λ i. record { lane = cond (is_dead i) (record (lane_to m e).lane { receiver = turn.Leaving c (end_after (lane_to m e)); desk = desk_after (lane_to m e) }) (record (lane_to m e).lane { receiver = turn.Leaving c (end.Dead m.era) }); rings = (lane_to m e).rings }) in (
+            all.0,
+            keeps,
+            tt,
+            all.1,
+            (
+              (
+                m.era,
+                word,
+                end.Dead m.era,
+                (λ i. (all.2 i, me.1)) ∙ λ i. (with_pass me.0 o (with_call o.pass (Receives e (cond (sym is_dead i) (turn.Leaving c (end.Dead m.era)) (turn.Leaving c (end.Dead m.era))) x b msg)) all.0.copy, me.1),
+              ),
+              all.3,
+            ),
+          )

@@ -42,7 +42,7 @@ use Rattle.link_words.proofs.Sends.{true-false, shelved_turn}
 use Rattle.link_words.proofs.Closes.{stays}
 use Rattle.link_words.proofs.Buffers.{homes_here}
 use Rattle.link_words.proofs.Held.{free_if, is_free}
-use Rattle.link_words.proofs.Exact.{StepBy, step_by, busy_by, ReadsAt, read_by}
+use Rattle.link_words.proofs.Exact.{StepBy, busy_by, ReadsAt, read_by}
 use Rattle.lane_model.specs.Soundness.{SoundLink, IsSoundTurn}
 use Rattle.link_words.proofs.Parts.{buffers_in}
 

@@ -48,7 +48,7 @@ use Rattle.link_words.specs.Passes.{Mover, with_pass, with_call}
 use Rattle.link_words.specs.Calls.{SeatState}
 use Rattle.link_words.specs.Steps.{take_look_turn}
 use Rattle.link_words.proofs.Tells.{TakeBeginsBy, TakeLoadsEraBy, TakeLooksBy}
-use Rattle.link_words.proofs.Exact.{StepBy, step_by, busy_by, ReadsAt, read_by}
+use Rattle.link_words.proofs.Exact.{StepBy, busy_by, ReadsAt, read_by}
 use Rattle.link_words.proofs.Kept.{no_send, receive_deed, receive_may}
 use Rattle.link_words.proofs.LaneSteps.{no_call, lane_moves}
 use Rattle.link_words.proofs.Sends.{has_of, true-false}

@@ -63,7 +63,7 @@ use Rattle.link_words.specs.declared.rule.Event.TheVariants.{Take}
 use Rattle.link_words.proofs.LaneSteps.{lane_moves_with}
 use Rattle.link_words.proofs.Sends.{live_now, some_number, has_of, true-false}
 use Rattle.link_words.proofs.Buffers.{rings_to, homes_here, loaded, first_is}
-use Rattle.link_words.proofs.Exact.{StepBy, step_by, ReadsAt, read_by}
+use Rattle.link_words.proofs.Exact.{StepBy, ReadsAt, read_by}
 use Rattle.link_words.proofs.Parts.{rings_in, buffers_in}
 
 -- the lane, with the receiver's turn written out

@@ -6,8 +6,8 @@ ghost use Rattle.link_words.specs.Layouts.{place_in};
 
 use crate::places::{ERA_PLACE, entry_place, forward_place, return_place};
 use crate::plays::{
-    TellsBindLoadsEra, TellsSendLoadsEntry, TellsSendLoadsEra, TellsSendLooks, TellsSendTakesOwn, TellsTakeHands,
-    TellsTakeLoadsEntry, TellsTakeLoadsEra, TellsTakeLooks,
+    TellsBindLoadsEra, TellsSendLoadsEntry, TellsSendLoadsEra, TellsSendLooks, TellsSendTakesOwn,
+    TellsTakeHands, TellsTakeLoadsEntry, TellsTakeLoadsEra, TellsTakeLooks,
 };
 use crate::rule::{LinkSeat, LinkSizes, LinkTable, Ring};
 use lane_model::Desk;

@@ -14,7 +14,15 @@ use vring_layout::UsedWord;
 
 /// Step 5 of a send, in the forward ring, and step 2 of a give, in the return ring: the entry of this count names the buffer.
 #[inline(always)]
-pub fn store_entry<D: Desk>(table: &LinkTable<D>, sizes: &LinkSizes, seat: &mut LinkSeat, lane: End, ring: Ring, count: u64, entry: UsedWord)
+pub fn store_entry<D: Desk>(
+    table: &LinkTable<D>,
+    sizes: &LinkSizes,
+    seat: &mut LinkSeat,
+    lane: End,
+    ring: Ring,
+    count: u64,
+    entry: UsedWord,
+)
     requires table { (seat.old.table_id ≡ table.now.table_id) × (words_in table.now.key ≤ table.now.table_id.words) × (seat.old.me.0.sizes ≡ table.now.key) }
     requires sizes { (sizes.now ≡ table.now.key) × IsSized sizes.now }
     requires call { MayStoreEntry ring lane count entry seat.old.me }
@@ -33,7 +41,13 @@ pub fn store_entry<D: Desk>(table: &LinkTable<D>, sizes: &LinkSizes, seat: &mut 
 /// Step 6 of a send, in the forward ring: the index is that of this count, the message is accepted, and its buffer is at home. Step 3
 /// of a give, in the return ring: the buffer is back.
 #[inline(always)]
-pub fn publish_index<D: Desk>(table: &LinkTable<D>, seat: &mut LinkSeat, lane: End, ring: Ring, count: u64)
+pub fn publish_index<D: Desk>(
+    table: &LinkTable<D>,
+    seat: &mut LinkSeat,
+    lane: End,
+    ring: Ring,
+    count: u64,
+)
     requires table { (seat.old.table_id ≡ table.now.table_id) × (words_in table.now.key ≤ table.now.table_id.words) × (seat.old.me.0.sizes ≡ table.now.key) }
     requires call { MayPublish ring lane count seat.old.me }
     ensures same { (seat.new.table_id ≡ seat.old.table_id) × (seat.new.id ≡ seat.old.id) }

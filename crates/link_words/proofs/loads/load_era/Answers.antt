@@ -22,7 +22,10 @@ load-requires-in-Hand g c =
 
 pub load-requires-in-Bind : goal.load-requires-in-Bind
 load-requires-in-Bind g c =
-    let s = subst (λ u. MayLoadEra u c.args.seat.now.me) c.in-Bind.is c.requires.call in let wide = c.requires.table.1 in let me = c.args.seat.now.me in
-    (c.requires.table.0, omega (arith, wide), ⊎_elim
-        (λ (w : WorkAt me s.0 (work.Bind s.1)). bind_loads_era g.row.D.coded g.D.Desk.meaning c.args.table.now.key _ _ me s.0 s.1 w)
-        (λ (w : WorkAt me s.0 (work.Unbind s.1)). unbind_loads_era g.row.D.coded g.D.Desk.meaning c.args.table.now.key _ _ me s.0 s.1 w) s.2)
+    let s = subst (λ u. MayLoadEra u c.args.seat.now.me) c.in-Bind.is c.requires.call in let wide = c.requires.table.1 in let me = c.args.seat.now.me in (
+      c.requires.table.0,
+      omega (arith, wide),
+      ⊎_elim
+          (λ (w : WorkAt me s.0 (work.Bind s.1)). bind_loads_era g.row.D.coded g.D.Desk.meaning c.args.table.now.key _ _ me s.0 s.1 w)
+          (λ (w : WorkAt me s.0 (work.Unbind s.1)). unbind_loads_era g.row.D.coded g.D.Desk.meaning c.args.table.now.key _ _ me s.0 s.1 w) s.2,
+    )

@@ -1,4 +1,4 @@
-use Rattle.std.proofs.Common.{◌≡◌, ℕ, ◌+◌, ◌*◌, ◌<◌, ◌≤◌, ◌⊎◌, arith, refl, sym, ap, ◌∙◌, subst, length, ⊎_elim}
+use Rattle.std.proofs.Common.{arith, refl, subst}
 use Rattle.link_words.specs.Steps.{MayPublish}
 use Rattle.link_words.proofs.Apart.{forward_low, return_low}
 use Rattle.link_words.proofs.Told.{send_publishes, give_publishes}
