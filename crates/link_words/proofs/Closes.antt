@@ -1,0 +1,185 @@
+-- The close is that of the ring form, made by any seat.
+use Rattle.std.proofs.Common.{◌≡◌, ℕ, ◌+◌, ◌*◌, Bool, true, false, cond, eqb, ◌&&◌, List, get_or, set, refl, sym, ap, ◌∙◌, subst, inl, ⊎_elim, arith, eq-eqb, ne_eqb}
+use Rattle.std.specs.Prelude.{Some}
+use mathlib.Core.Option.{some}
+use lib.ListN.{get_elem?}
+use lib.Seq.{set-get_or}
+use prog.Atomic.{either}
+use Rattle.atomic_table.specs.Table.{State, Act, keeps, stepped, Allows, Valid, carried_after}
+use Rattle.atomic_table.proofs.Lists.{exchanged, set_again}
+use Rattle.rp_base.specs.declared.kinds.Era.{Era}
+use Rattle.rp_base.specs.declared.kinds.End.{End}
+use Rattle.rp_base.specs.declared.kinds.End.TheVariants as side
+use Rattle.lane_model.specs.declared.lane_links.LaneLink.{LaneLink}
+use base.Stored.{Coded}
+use Rattle.lane_model.specs.Desks.{DeskMeaning}
+use Rattle.lane_model.specs.Lanes.{is_live_in}
+use Rattle.lane_model.specs.Recoveries.{link_after_close}
+use Rattle.ring_core.specs.declared.states.RingState.{RingState}
+use Rattle.link_words.specs.declared.rule.Slot.{Slot}
+use Rattle.link_words.specs.declared.rule.LinkSizes.{LinkSizes}
+use Rattle.link_words.specs.declared.rule.Call.{Call}
+use Rattle.link_words.specs.declared.rule.Call.TheVariants.{Idle, Sends, Rests, Reclaims, EndsHeld, Receives, EndsReceive, EndsSend, Reopens, HoldsAll}
+use Rattle.link_words.specs.declared.rule.Pass.{Pass}
+use Rattle.link_words.specs.declared.rule.View.{View}
+use Rattle.link_words.specs.Words.{lane_to, era_word, shelf_to}
+use Rattle.link_words.specs.Histories.{IsCurrent}
+use Rattle.link_words.proofs.Books.{history_shut, none_shut}
+use Rattle.link_words.specs.Deeds.{Closes, Deed, after_deed, MayDo, IsStill, AreManagers, IsSoundState}
+use Rattle.link_words.specs.Rule.{IsCallOf, HasCall, HistoryOf, HandsOf, Shows, WordsRule}
+use Rattle.link_words.specs.Parts.{has_for_manager, HoldsBuffers}
+use Rattle.link_words.specs.Codes.{copied}
+use Rattle.link_words.specs.Passes.{Mover, with_pass, with_call}
+use Rattle.link_words.specs.Calls.{SeatState}
+use Rattle.link_words.specs.Seats.{ClosesEra}
+use Rattle.link_words.proofs.Frames.{some_copy, each_set, numbers_set, keepers_set, manager_set}
+use Rattle.link_words.proofs.Kept.{deed_kept}
+use Rattle.link_words.proofs.Parts.{state_in, sizes_in, buffers_in, put_together, one_more}
+
+-- an era can be read off its word
+pub era_is : (i j : ℕ) (a b : Bool) → i * 2 + cond a 1 0 ≡ j * 2 + cond b 1 0 → (i ≡ j) × (a ≡ b)
+era_is i j true true e = ((let x : i * 2 + 1 ≡ j * 2 + 1 = e in omega arith), refl)
+era_is i j false false e = ((let x : i * 2 + 0 ≡ j * 2 + 0 = e in omega arith), refl)
+era_is i j true false e = absurd (let x : i * 2 + 1 ≡ j * 2 + 0 = e in omega arith)
+era_is i j false true e = absurd (let x : i * 2 + 0 ≡ j * 2 + 1 = e in omega arith)
+
+pub era_of_word : (a b : Era) → era_word a ≡ era_word b → a ≡ b
+era_of_word a b e = let is = era_is a.inc b.inc a.is_live b.is_live e in λ k. record { inc = is.0 k; is_live = is.1 k }
+
+true-false : true ≡ false → ⊥
+true-false e = absurd (cc)
+
+live_in : (era : Era) (inc : ℕ) → era ≡ record { inc = inc; is_live = true } → is_live_in era inc ≡ true
+live_in era inc is = ap (λ (x : Era). is_live_in x inc) is ∙ ap (λ (b : Bool). b && true) (eq-eqb inc inc refl)
+
+and_false : (b : Bool) → (b && false) ≡ false
+and_false true = refl
+and_false false = refl
+
+not_live_in : (inc found : ℕ) (live : Bool) → ((found ≡ inc) → live ≡ true → ⊥) → is_live_in (record { inc = found; is_live = live }) inc ≡ false
+not_live_in inc found false never = and_false (eqb found inc)
+not_live_in inc found true never = ap (λ (b : Bool). b && true) (ne_eqb found inc (λ same. never same refl))
+
+managers_shut : {D : Type 0} (m : LaneLink (RingState D)) (inc : ℕ) → AreManagers m → AreManagers (record m { era = record { inc = inc; is_live = false } })
+managers_shut m inc a = record { host_sender = a.host_sender; host_receiver = a.host_receiver; remote_sender = a.remote_sender; remote_receiver = a.remote_receiver }
+
+-- a change of the era alone, which shuts it
+shut_call : {D : Type 0} (m : LaneLink (RingState D)) (inc : ℕ) (k : ℕ) (call : Call) → m.era ≡ record { inc = inc; is_live = true } → IsCallOf m 0 k call → IsCallOf (record m { era = record { inc = inc; is_live = false } }) 0 k call
+shut_call m inc k Idle live has = has
+shut_call m inc k (Rests side.Host) live has = has
+shut_call m inc k (Rests side.Remote) live has = has
+shut_call m inc k (Reclaims side.Host x) live has = has
+shut_call m inc k (EndsHeld side.Host x) live has = (has.0, has.1, has.2, has.3, refl, has.5)
+shut_call m inc k (Reclaims side.Remote x) live has = has
+shut_call m inc k (EndsHeld side.Remote x) live has = (has.0, has.1, has.2, has.3, refl, has.5)
+shut_call m inc k (Sends side.Host t x buffer) live has = (has.0, has.1, subst (IsCurrent t) (ap (λ (x : Era). x.inc) live) has.2)
+shut_call m inc k (Sends side.Remote t x buffer) live has = (has.0, has.1, subst (IsCurrent t) (ap (λ (x : Era). x.inc) live) has.2)
+shut_call m inc k (Receives side.Host t x buffer msg) live has = has
+shut_call m inc k (EndsReceive side.Host t x buffer msg) live has = (has.0, has.1, refl)
+shut_call m inc k (Receives side.Remote t x buffer msg) live has = has
+shut_call m inc k (EndsReceive side.Remote t x buffer msg) live has = (has.0, has.1, refl)
+shut_call m inc k (EndsSend side.Host t x buffer) live has = (has.0, has.1, refl)
+shut_call m inc k (EndsSend side.Remote t x buffer) live has = (has.0, has.1, refl)
+shut_call m inc k (Reopens p i) live has = absurd (true-false (sym (ap (λ (x : Era). x.is_live) live) ∙ has.2.0))
+shut_call m inc k (HoldsAll a b) live has = (has.0, has.1, managers_shut m inc has.2, has.3, has.4)
+
+shut_hands : {D : Type 0} (m : LaneLink (RingState D)) (inc : ℕ) (q : Pass) → HandsOf m q → HandsOf (record m { era = record { inc = inc; is_live = false } }) q
+shut_hands m inc q has side.Host user = has side.Host user
+shut_hands m inc q has side.Remote user = has side.Remote user
+
+shut_shelved : {D : Type 0} (m : LaneLink (RingState D)) (inc : ℕ) (F : RingState D → End → Type 0) → ((e : End) → F (lane_to m e) e) → (e : End) → F (lane_to (record m { era = record { inc = inc; is_live = false } }) e) e
+shut_shelved m inc F each side.Host = each side.Host
+shut_shelved m inc F each side.Remote = each side.Remote
+
+module _ {D : Type 0} (cd : Coded D) (desk : DeskMeaning D) (z : LinkSizes) where
+  -- a deed that changes nothing, whatever a reopening has reset
+  pub stays_at : (st : State Slot View) (m : LaneLink (RingState D)) (p : ℕ) → Shows cd desk z st m p → (i n id : ℕ) (cs : List (ℕ × Slot)) (v : View) (o : Mover v) (call : Call) (d : Deed) → get_elem? st.views id ≡ some v → n ≡ get_or st.words i 0
+      → MayDo desk m d → m ≡ after_deed desk m d → IsCallOf m p o.pass.number call → ((i : End) → has_for_manager i call ≡ true → has_for_manager i o.pass.call ≡ true) → WordsRule cd desk z (stepped st i n id cs (with_pass v o (with_call o.pass call) (Some (copied cd m))) keeps)
+  stays_at st m p r i n id cs v o call d at found may deed has quiet =
+      let w = with_call o.pass call in let u = with_pass v o w (Some (copied cd m)) in let each = each_set st.views id v u o w at refl in (
+        m,
+        p,
+        put_together (ap (set st.words i) found ∙ (set-get_or st.words i 0 ∙ r.words_are))
+            r.shelves r.homes_are
+            (state_in r) (sizes_in r) (buffers_in r) (one_more desk m _ d r.reached may deed)
+            (record {
+              calls = each (HasCall m p) (HasCall m p) r.numbers.places r.turns.calls (λ j l q there apart had. had) has;
+              keepers = keepers_set st.views id v u o w at refl refl quiet r.turns.keepers;
+              still = r.turns.still;
+            })
+            (record {
+              own = each (HistoryOf m) (HistoryOf m) r.numbers.places r.histories.own (λ j l q there apart had. had) (r.histories.own id o.place o.pass (v, at, o.here));
+              hands = each (HandsOf m) (HandsOf m) r.numbers.places r.histories.hands (λ j l q there apart had. had) (r.histories.hands id o.place o.pass (v, at, o.here));
+            })
+            (record {
+              places = numbers_set st.views id v u o w at refl refl r.numbers.places;
+              manager = manager_set st.views id v u o w at refl cd m m refl refl refl refl (λ old. old) (λ j y apart there manages. refl) (λ n none was not. was not) (λ n none Q was not. was not) (λ old. old) (λ j y apart there manages old. old) (λ k same _. sym (some_copy (copied cd m) k same)) r.numbers.manager;
+              many = r.numbers.many;
+            }),
+      )
+
+  -- the same, where the view stays too
+  pub stays : (st : State Slot View) (m : LaneLink (RingState D)) (p : ℕ) → Shows cd desk z st m p → (i n id : ℕ) (cs : List (ℕ × Slot)) (v : View) (d : Deed) → get_elem? st.views id ≡ some v → n ≡ get_or st.words i 0
+      → MayDo desk m d → m ≡ after_deed desk m d → WordsRule cd desk z (stepped st i n id cs v keeps)
+  stays st m p r i n id cs v d at found may deed = subst (λ (views : List View). WordsRule cd desk z (record { words = set st.words i n; homes = st.homes; views = views })) (sym (set_again st.views id v at)) (
+    m,
+    p,
+    put_together (ap (set st.words i) found ∙ (set-get_or st.words i 0 ∙ r.words_are))
+        r.shelves r.homes_are
+        (state_in r) (sizes_in r) (buffers_in r) (one_more desk m _ d r.reached may deed)
+        (record {
+          calls = r.turns.calls;
+          keepers = r.turns.keepers;
+          still = r.turns.still;
+        })
+        (record {
+          own = r.histories.own;
+          hands = r.histories.hands;
+        })
+        (record {
+          places = r.numbers.places;
+          manager = r.numbers.manager;
+          many = r.numbers.many;
+        }),
+  )
+
+  pub closes : (n id : ℕ) (me : SeatState) (o : Mover me.0) (inc old new : ℕ) → old ≡ era_word (record { inc = inc; is_live = true }) → new ≡ era_word (record { inc = inc; is_live = false })
+      → Allows (WordsRule cd desk z) n id me 1 (λ y. either (eqb y old) new y) (ClosesEra me)
+  closes n id me o inc old new is_old is_new st (m, p, r₀) wide at _ =
+      let y : ℕ = get_or st.words 1 0 in let word : y ≡ era_word m.era = ap (λ (ws : List ℕ). get_or ws 1 0) r₀.words_are in
+      exchanged y old new (λ f. (w : View) × (a : Act Slot) × Valid st.homes me.1 a × WordsRule cd desk z (stepped st 1 f id me.1 w a) × ClosesEra me y (w, carried_after me.1 a))
+      (λ hit.
+      let era : m.era ≡ record { inc = inc; is_live = true } = era_of_word m.era (record { inc = inc; is_live = true }) (sym word ∙ (hit ∙ is_old)) in
+      let r : Shows cd desk z st m 0 = ⊎_elim (λ (none_reset : p ≡ 0). subst (Shows cd desk z st m) none_reset r₀) (λ (still : IsStill m). absurd (true-false (ap (λ (x : Era). x.is_live) (sym era) ∙ still.0))) r₀.turns.still in
+      let m' : LaneLink (RingState D) = record m { era = record { inc = inc; is_live = false } } in
+      let deed : m' ≡ link_after_close m inc = sym (ap (λ (b : Bool). cond b m' m) (live_in m.era inc era)) in
+      let u = record me.0 { copy = Some (copied cd m') } in let again = sym (set_again me.0.passes o.place o.pass o.here) in let each = each_set st.views id me.0 u o o.pass at again in (
+        u,
+        keeps,
+        tt,
+        (
+          m',
+          0,
+          put_together (λ k. set (r.words_are k) 1 (is_new k))
+              r.shelves r.homes_are
+              (subst (IsSoundState desk) (sym deed) (deed_kept desk m (Closes inc) tt (state_in r))) (sizes_in r) (shut_shelved m inc (λ s e. HoldsBuffers s (shelf_to r.shelves e)) (buffers_in r)) (one_more desk m _ (Closes inc) r.reached tt deed)
+              (record {
+                calls = each (HasCall m 0) (HasCall m' 0) r.numbers.places r.turns.calls (λ j l q there apart. shut_call m inc q.number q.call era) (shut_call m inc o.pass.number o.pass.call era (r.turns.calls id o.place o.pass (me.0, at, o.here)));
+                keepers = keepers_set st.views id me.0 u o o.pass at again refl (λ i k. k) r.turns.keepers;
+                still = inl refl;
+              })
+              (record {
+                own = each (HistoryOf m) (HistoryOf m') r.numbers.places r.histories.own (λ j l q there apart. history_shut m inc q.number q.first q.own (ap (λ (x : Era). x.inc) era)) (history_shut m inc o.pass.number o.pass.first o.pass.own (ap (λ (x : Era). x.inc) era) (r.histories.own id o.place o.pass (me.0, at, o.here)));
+                hands = each (HandsOf m) (HandsOf m') r.numbers.places r.histories.hands (λ j l q there apart. shut_hands m inc q) (shut_hands m inc o.pass (r.histories.hands id o.place o.pass (me.0, at, o.here)));
+              })
+              (record {
+                places = numbers_set st.views id me.0 u o o.pass at again refl r.numbers.places;
+                manager = manager_set st.views id me.0 u o o.pass at again cd m m' refl refl refl refl (λ old. old ∙ ap (λ (x : Era). x.inc) era) (λ j y apart there manages. ap (λ (x : Era). x.inc) (sym era)) (λ n none was not. none_shut m inc n (was not)) (λ n none Q was not. none_shut m inc n (was not)) (λ old _. refl) (λ j y apart there manages old. refl) (λ k same _. sym (some_copy (copied cd m') k same)) r.numbers.manager;
+                many = r.numbers.many;
+              }),
+        ),
+        (m.era, word, refl),
+      ))
+      (λ miss.
+      let other : is_live_in m.era inc ≡ false = not_live_in inc m.era.inc m.era.is_live (λ same live. miss (word ∙ ((λ k. era_word (record { inc = same k; is_live = live k })) ∙ sym is_old))) in
+      (me.0, keeps, tt, stays st m p r₀ 1 y id me.1 me.0 (Closes inc) at refl tt (sym (ap (λ (b : Bool). cond b (record m { era = record { inc = inc; is_live = false } }) m) other)), (m.era, word, refl)))

@@ -1,0 +1,116 @@
+-- The rule holds of a new table.
+use Rattle.link_words.specs.Histories.{NoneOf}
+use Rattle.std.proofs.Common.{◌≡◌, ℕ, zero, suc, List, [], ◌∷◌, ◌++◌, map, length, refl, sym, ap, ◌∙◌, subst, inl, arith, true, false}
+use mathlib.Core.Option.{some, some-injective, some-ne-none}
+use mathlib.Core.Option.{Option as Option_of}
+use Rattle.std.proofs.lemmas.List.{length-map}
+use mathlib.Core.Path.{Path}
+use Rattle.std.specs.Prelude.{Option, Some, None}
+use Rattle.link_words.specs.declared.copies.LinkCopy.{LinkCopy}
+use base.Stored.{Coded}
+use lib.ListN.{get_elem?}
+use Rattle.atomic_table.specs.Table.{opening}
+use Rattle.atomic_table.proofs.Lists.{some_there}
+use Rattle.rp_base.specs.declared.kinds.End.{End}
+use Rattle.rp_base.specs.declared.kinds.End.TheVariants as side
+use Rattle.rp_base.specs.Limits.{ring_capacity}
+use Rattle.lane_model.specs.declared.calls.LinkConfig.{LinkConfig}
+use Rattle.lane_model.specs.Desks.{DeskMeaning}
+use Rattle.lane_model.specs.Conditions.{IsConfig}
+use Rattle.lane_laws.proofs.SoundKept.{opened_sound}
+use Rattle.ring_core.specs.declared.states.RingState.{RingState}
+use Rattle.ring_core.specs.Rings.{sizes_of}
+use Rattle.ring_core.specs.RingLinks.{opened_ring_link}
+use Rattle.lane_laws.proofs.RingLinks.{opened_link_sound}
+use Rattle.link_words.specs.declared.rule.Slot.{Slot}
+use Rattle.link_words.specs.declared.rule.Slot.TheVariants.{Buffer, Sender, Receiver}
+use Rattle.link_words.specs.declared.rule.LinkSizes.{LinkSizes}
+use Rattle.link_words.specs.declared.rule.Call.TheVariants.{Idle}
+use Rattle.link_words.specs.declared.rule.Pass.{Pass}
+use Rattle.link_words.specs.declared.rule.View.{View}
+use Rattle.link_words.specs.Passes.{PassAt}
+use Rattle.link_words.specs.Words.{lane_to, words_of, shelf_to}
+use Rattle.link_words.proofs.Parts.{SendsAgree, TakesAt}
+use Rattle.link_words.specs.Rule.{HasCall, HistoryOf, HandsOf, WordsRule, first_view}
+use Rattle.link_words.specs.Parts.{HoldsBuffers, Knows}
+use Rattle.link_words.specs.Histories.{hands_of}
+use Rattle.link_words.proofs.Parts.{put_together}
+
+map_append : {A B : Type 0} (f : A → B) (xs ys : List A) → map f (xs ++ ys) ≡ map f xs ++ map f ys
+map_append f [] ys = refl
+map_append {B = B} f (x ∷ xs) ys = ap (λ (l : List B). f x ∷ l) (map_append f xs ys)
+
+new_shelf : {D : Type 0} (s : RingState D) (xs : List (List ℕ)) → length xs ≡ s.rings.sizes.capacity → length s.lane.lane.accepted ≡ 0 → HoldsBuffers s (map some (map Buffer xs))
+new_shelf s xs many none_accepted = record {
+  long = length-map (map Buffer xs) some ∙ (length-map xs Buffer ∙ many);
+  full = λ k from to other. absurd (omega (arith, to, none_accepted));
+  home = λ id low mine theirs. some_there (map Buffer xs) id (omega (arith, low, many, length-map xs Buffer));
+}
+
+none_some : (c : LinkCopy) → Path (Option LinkCopy) None (Some c) → ⊥
+none_some c e = absurd (cc)
+
+false-true : false ≡ true → ⊥
+false-true e = absurd (cc)
+
+-- the one view, and the one pass in it
+only : (z : LinkSizes) (i : ℕ) (v : View) → get_elem? (first_view z 64 ∷ []) i ≡ some v → (i ≡ 0) × (first_view z 64 ≡ v)
+only z zero v e = (refl, some-injective _ v e)
+only z (suc i) v e = absurd (some-ne-none v (sym e))
+
+first : (z : LinkSizes) (j l : ℕ) (q : Pass) → PassAt (first_view z 64 ∷ []) j l q → (j ≡ 0) × (l ≡ 0) × (record { number = 64; call = Idle; first = 0; own = []; hands = [] } ≡ q)
+first z j l q (v, ev, eq) = let a = only z j v ev in let b = pass l (subst (λ (x : View). get_elem? x.passes l ≡ some q) (sym a.1) eq) in (a.0, b.0, b.1)
+  where
+    pass : (k : ℕ) → get_elem? (record { number = 64; call = Idle; first = 0; own = []; hands = [] } ∷ []) k ≡ some q → (k ≡ 0) × (record { number = 64; call = Idle; first = 0; own = []; hands = [] } ≡ q)
+    pass zero e = (refl, some-injective _ q e)
+    pass (suc k) e = absurd (some-ne-none q (sym e))
+
+module _ {D : Type 0} (cd : Coded D) (desk : DeskMeaning D) where
+  pub opens_new : (config : LinkConfig) (host remote : D) (xs ys : List (List ℕ)) → IsConfig config → length xs ≡ ring_capacity config.num0 → length ys ≡ ring_capacity config.num1
+      → let z : LinkSizes = record { to_host = sizes_of config.num0 true; to_remote = sizes_of config.num1 false; first = config.first } in
+      WordsRule cd desk z (opening (words_of 0 [] (opened_ring_link config host remote))
+      (Sender (record { accepted = 0 }) ∷ Receiver (record { handed = 0; returned = 0; hands = [] }) ∷ Sender (record { accepted = 0 }) ∷ Receiver (record { handed = 0; returned = 0; hands = [] }) ∷ (map Buffer xs ++ map Buffer ys))
+      (first_view z 64))
+  opens_new config host remote xs ys is many0 many1 =
+      let z : LinkSizes = record { to_host = sizes_of config.num0 true; to_remote = sizes_of config.num1 false; first = config.first } in let m = opened_ring_link config host remote in (
+        m,
+        0,
+        put_together refl
+            (record { host = map some (map Buffer xs); remote = map some (map Buffer ys) }) (ap (λ (l : List (Option_of Slot)). some (Sender (record { accepted = 0 })) ∷ some (Receiver (record { handed = 0; returned = 0; hands = [] })) ∷ some (Sender (record { accepted = 0 })) ∷ some (Receiver (record { handed = 0; returned = 0; hands = [] })) ∷ l)
+            (map_append some (map Buffer xs) (map Buffer ys)))
+            (record { rings = opened_link_sound config host remote is; sound = opened_sound config host remote }) (refl, refl) shelf (record { start = m; run = []; by_run = refl })
+            (record {
+              calls = λ j l q there. subst (HasCall m 0) (first z j l q there).2 refl;
+              keepers = λ e i k j l p q ep eq _ _. ap (λ (x : Pass). x.number) (sym (first z i k p ep).2 ∙ (first z j l q eq).2);
+              still = inl refl;
+            })
+            (record {
+              own = λ j l q there. subst (HistoryOf m) (first z j l q there).2 (record { sent = λ i. none i; taken = λ i. none_taken i; read = λ i. tt; none_later = tt });
+              hands = λ j l q there. subst (HandsOf m) (first z j l q there).2 (λ e user. hand e);
+            })
+            (record {
+              places = λ i k j l p q ep eq _. let a = first z i k p ep in let b = first z j l q eq in (a.0 ∙ sym b.0, a.1 ∙ sym b.1);
+              manager = λ i v e manages. let a = only z i v e in subst (Knows cd m (first_view z 64 ∷ []) i) a.1 (record { users = refl; inc = refl; unused = λ n none not. nothing n; closed = λ never. absurd (false-true never); out = λ j l q there apart. absurd (apart ((first z j l q there).0 ∙ sym a.0)); copy = λ k never _. absurd (none_some k never) });
+              many = refl;
+            }),
+      )
+    where
+      nothing : (n : ℕ) → NoneOf (opened_ring_link config host remote) n
+      nothing n side.Host = (refl, refl)
+      nothing n side.Remote = (refl, refl)
+
+      none_taken : (i : End) → TakesAt (opened_ring_link config host remote) i 64 0 []
+      none_taken side.Host since = refl
+      none_taken side.Remote since = refl
+
+      none : (i : End) → SendsAgree (opened_ring_link config host remote) i 64 0 []
+      none side.Host since = refl
+      none side.Remote since = refl
+
+      shelf : (e : End) → HoldsBuffers (lane_to (opened_ring_link config host remote) e) (shelf_to (record { host = map some (map Buffer xs); remote = map some (map Buffer ys) }) e)
+      shelf side.Host = new_shelf (opened_ring_link config host remote).to_host xs many0 refl
+      shelf side.Remote = new_shelf (opened_ring_link config host remote).to_remote ys many1 refl
+
+      hand : (e : End) → hands_of 64 (lane_to (opened_ring_link config host remote) e).lane.lane.held ≡ []
+      hand side.Host = refl
+      hand side.Remote = refl

@@ -1,0 +1,287 @@
+-- A step of a seat on one lane that is a deed of the ring form keeps the rule.
+use Rattle.link_words.specs.Histories.{NoneOf}
+use Rattle.std.proofs.Common.{◌≡◌, ◌≢◌, ℕ, true, false, List, length, set, refl, sym, ap, ◌∙◌, subst, inl, ne_eqb}
+use Rattle.std.specs.Prelude.{Option, Some, None}
+use mathlib.Core.Option.{some}
+use mathlib.Core.Path.{Path}
+use mathlib.Core.Option.{Option as Option_of}
+use lib.ListN.{get_elem?}
+use Rattle.atomic_table.specs.Table.{State, Act, homes_after, stepped}
+use Rattle.rp_base.specs.declared.kinds.End.{End}
+use Rattle.rp_base.specs.declared.kinds.End.TheVariants as side
+use Rattle.lane_model.specs.declared.lane_links.LaneLink.{LaneLink}
+use Rattle.lane_model.specs.declared.stages.Turn.{Turn}
+use Rattle.lane_model.specs.declared.stages.Turn.TheVariants as turn
+use Rattle.lane_model.specs.declared.stages.Sending.{Sending}
+use base.Stored.{Coded}
+use Rattle.link_words.specs.Codes.{copied}
+use Rattle.lane_model.specs.Desks.{DeskMeaning}
+use Rattle.lane_model.specs.Lanes.{holder, has_call, message_at}
+use Rattle.lane_model.specs.Links.{end_of}
+use Rattle.ring_core.specs.declared.states.RingState.{RingState}
+use Rattle.ring_core.specs.Owners.{receiver_is_out}
+use Rattle.link_words.specs.declared.rule.Slot.{Slot}
+use Rattle.link_words.specs.declared.rule.SenderSide.{SenderSide}
+use Rattle.link_words.specs.declared.rule.LinkSizes.{LinkSizes}
+use Rattle.link_words.specs.declared.rule.Call.{Call}
+use Rattle.link_words.specs.declared.rule.Call.TheVariants.{Idle, Sends, Rests, Reclaims, EndsHeld, Receives, EndsReceive, EndsSend, Reopens, HoldsAll}
+use Rattle.link_words.specs.declared.rule.Pass.{Pass}
+use Rattle.link_words.specs.declared.rule.View.{View}
+use Rattle.rp_base.specs.declared.kinds.Era.{Era}
+use Rattle.link_words.specs.Passes.{PassAt, Mover, with_pass, with_call, with_call_and_hands}
+use Rattle.link_words.specs.Words.{other, lane_to, with_lane, era_word, lane_words, words_of, words_at, lane_homes, homes_at, homes_of, shelf_to, with_shelf, receiver_side}
+use Rattle.link_words.specs.declared.rule.Event.{Event}
+use Rattle.link_words.specs.Histories.{IsCurrent}
+use Rattle.link_words.specs.Rule.{IsHistory}
+use Rattle.link_words.specs.Deeds.{Deed, after_deed, MayDo, AreManagers, IsSoundState}
+use Rattle.link_words.specs.Rule.{HistoryOf, HandsOf, IsCallOf, HasCall, fresh_block, Shows, WordsRule}
+use Rattle.link_words.specs.Parts.{has_for_manager, AreKeepersApart, SendsAt, HoldsBuffers}
+use Rattle.link_words.specs.Histories.{hands_of}
+use Rattle.link_words.proofs.Frames.{some_copy, each_set, numbers_set, keepers_set, manager_set, each_lane, words_seen, homes_seen, same_lane, same_shelf}
+use Rattle.link_words.proofs.Books.{sent_same, taken_same, read_same, later, none_same}
+use Rattle.link_words.proofs.Kept.{deed_kept}
+use Rattle.link_words.proofs.Parts.{state_in, sizes_in, buffers_in, put_together, one_more}
+use Rattle.link_words.specs.Turns.{turns_of}
+
+abbrev option_or_zero : Option ℕ → ℕ
+option_or_zero None = 0
+option_or_zero (Some n) = n
+
+module _ {D : Type 0} (desk : DeskMeaning D) where
+  -- a turn of another is not this caller's
+  pub no_call : {C : Type 0} (t : Turn C) (a k : ℕ) → holder t ≡ Some a → a ≢ k → has_call t k ≡ false
+  no_call turn.Free a k held apart = refl
+  no_call (turn.Taken c x) a k held apart = ne_eqb c k (λ same. apart (sym (ap (λ (o : Option ℕ). option_or_zero o) held) ∙ same))
+  no_call (turn.Leaving c x) a k held apart = ne_eqb c k (λ same. apart (sym (ap (λ (o : Option ℕ). option_or_zero o) held) ∙ same))
+  no_call turn.Manager a k held apart = refl
+
+  number_of : Option ℕ → ℕ → ℕ
+  number_of None n = n
+  number_of (Some k) n = k
+
+  pub still_sender : (m : LaneLink (RingState D)) (e : End) → AreManagers m → (lane_to m e).lane.sender ≡ turn.Manager
+  still_sender m side.Host still = still.host_sender
+  still_sender m side.Remote still = still.remote_sender
+
+  -- two holders of one turn have one number
+  pub one_holder : {C : Type 0} (t : Turn C) (a b : ℕ) → holder t ≡ Some a → holder t ≡ Some b → a ≡ b
+  unfolding number_of
+  one_holder t a b x y = ap (λ (o : Option ℕ). number_of o a) (sym x ∙ y)
+
+  -- the calls of the others, where the sender's end of a lane moves
+  pub others_send : (m : LaneLink (RingState D)) (e : End) (s : RingState D) (t : Turn Sending) (number : ℕ) → (lane_to m e).lane.sender ≡ t → holder t ≡ Some number
+      → (s.lane.receiver ≡ (lane_to m e).lane.receiver) → (receiver_side s ≡ receiver_side (lane_to m e)) → (s.rings.taking ≡ (lane_to m e).rings.taking) → (receiver_is_out (lane_to m e).lane.receiver ≡ true → message_at s.lane.lane.accepted (length s.lane.lane.takers) ≡ message_at (lane_to m e).lane.lane.accepted (length (lane_to m e).lane.lane.takers))
+      → ((k : ℕ) → number ≢ k → has_call s.lane.sender k ≡ false)
+      → (k : ℕ) → number ≢ k → (call : Call) → IsCallOf m 0 k call → IsCallOf (with_lane m e s) 0 k call
+  others_send m side.Host s t number is mine receiver beside taking book after k apart Idle has = has
+  others_send m side.Host s t number is mine receiver beside taking book after k apart (Sends side.Host u x buffer) has =
+      absurd (apart (one_holder (lane_to m side.Host).lane.sender number k (ap holder is ∙ mine) (ap holder has.1.0 ∙ has.1.1)))
+  others_send m side.Host s t number is mine receiver beside taking book after k apart (Sends side.Remote u x buffer) has = has
+  others_send m side.Host s t number is mine receiver beside taking book after k apart (Receives side.Host u x buffer msg) has =
+      (has.0, (receiver ∙ has.1.0, has.1.1, has.1.2 ∙ sym beside, λ out. let o = has.1.3 out in (taking ∙ o.0, o.1 ∙ sym (book (ap receiver_is_out has.1.0 ∙ out))), has.1.4))
+  others_send m side.Host s t number is mine receiver beside taking book after k apart (EndsReceive side.Host u x buffer msg) has =
+      (has.0, (receiver ∙ has.1.0, has.1.1, has.1.2 ∙ sym beside, λ out. let o = has.1.3 out in (taking ∙ o.0, o.1 ∙ sym (book (ap receiver_is_out has.1.0 ∙ out))), has.1.4), has.2)
+  others_send m side.Host s t number is mine receiver beside taking book after k apart (Receives side.Remote u x buffer msg) has = has
+  others_send m side.Host s t number is mine receiver beside taking book after k apart (EndsReceive side.Remote u x buffer msg) has = has
+  others_send m side.Host s t number is mine receiver beside taking book after k apart (EndsSend side.Host u x buffer) has =
+      absurd (apart (one_holder (lane_to m side.Host).lane.sender number k (ap holder is ∙ mine) (ap holder has.1.0 ∙ has.1.1)))
+  others_send m side.Host s t number is mine receiver beside taking book after k apart (EndsSend side.Remote u x buffer) has = has
+  others_send m side.Host s t number is mine receiver beside taking book after k apart (Rests side.Remote) has = (has.0, after k apart, has.2)
+  others_send m side.Host s t number is mine receiver beside taking book after k apart (Rests side.Host) has = (has.0, has.1, ap (λ u. has_call u k) receiver ∙ has.2)
+  others_send m side.Host s t number is mine receiver beside taking book after k apart (Reclaims side.Host x) has = (has.0, receiver ∙ has.1, has.2 ∙ sym beside, has.3, has.4)
+  others_send m side.Host s t number is mine receiver beside taking book after k apart (Reclaims side.Remote x) has = (has.0, has.1, has.2, has.3, after k apart)
+  others_send m side.Host s t number is mine receiver beside taking book after k apart (EndsHeld side.Host x) has = (has.0, receiver ∙ has.1, has.2 ∙ sym beside, has.3, has.4, has.5)
+  others_send m side.Host s t number is mine receiver beside taking book after k apart (EndsHeld side.Remote x) has = (has.0, has.1, has.2, has.3, has.4, after k apart)
+  others_send m side.Host s t number is mine receiver beside taking book after k apart (Reopens p inc) has =
+      absurd (apart (one_holder (lane_to m side.Host).lane.sender number 64 (ap holder is ∙ mine) (ap holder (still_sender m side.Host has.2.1)) ∙ sym has.0))
+  others_send m side.Host s t number is mine receiver beside taking book after k apart (HoldsAll a b) has =
+      absurd (apart (one_holder (lane_to m side.Host).lane.sender number 64 (ap holder is ∙ mine) (ap holder (still_sender m side.Host has.2)) ∙ sym has.0))
+  others_send m side.Remote s t number is mine receiver beside taking book after k apart Idle has = has
+  others_send m side.Remote s t number is mine receiver beside taking book after k apart (Sends side.Remote u x buffer) has =
+      absurd (apart (one_holder (lane_to m side.Remote).lane.sender number k (ap holder is ∙ mine) (ap holder has.1.0 ∙ has.1.1)))
+  others_send m side.Remote s t number is mine receiver beside taking book after k apart (Sends side.Host u x buffer) has = has
+  others_send m side.Remote s t number is mine receiver beside taking book after k apart (Receives side.Remote u x buffer msg) has =
+      (has.0, (receiver ∙ has.1.0, has.1.1, has.1.2 ∙ sym beside, λ out. let o = has.1.3 out in (taking ∙ o.0, o.1 ∙ sym (book (ap receiver_is_out has.1.0 ∙ out))), has.1.4))
+  others_send m side.Remote s t number is mine receiver beside taking book after k apart (EndsReceive side.Remote u x buffer msg) has =
+      (has.0, (receiver ∙ has.1.0, has.1.1, has.1.2 ∙ sym beside, λ out. let o = has.1.3 out in (taking ∙ o.0, o.1 ∙ sym (book (ap receiver_is_out has.1.0 ∙ out))), has.1.4), has.2)
+  others_send m side.Remote s t number is mine receiver beside taking book after k apart (Receives side.Host u x buffer msg) has = has
+  others_send m side.Remote s t number is mine receiver beside taking book after k apart (EndsReceive side.Host u x buffer msg) has = has
+  others_send m side.Remote s t number is mine receiver beside taking book after k apart (EndsSend side.Remote u x buffer) has =
+      absurd (apart (one_holder (lane_to m side.Remote).lane.sender number k (ap holder is ∙ mine) (ap holder has.1.0 ∙ has.1.1)))
+  others_send m side.Remote s t number is mine receiver beside taking book after k apart (EndsSend side.Host u x buffer) has = has
+  others_send m side.Remote s t number is mine receiver beside taking book after k apart (Rests side.Host) has = (has.0, after k apart, has.2)
+  others_send m side.Remote s t number is mine receiver beside taking book after k apart (Rests side.Remote) has = (has.0, has.1, ap (λ u. has_call u k) receiver ∙ has.2)
+  others_send m side.Remote s t number is mine receiver beside taking book after k apart (Reclaims side.Remote x) has = (has.0, receiver ∙ has.1, has.2 ∙ sym beside, has.3, has.4)
+  others_send m side.Remote s t number is mine receiver beside taking book after k apart (Reclaims side.Host x) has = (has.0, has.1, has.2, has.3, after k apart)
+  others_send m side.Remote s t number is mine receiver beside taking book after k apart (EndsHeld side.Remote x) has = (has.0, receiver ∙ has.1, has.2 ∙ sym beside, has.3, has.4, has.5)
+  others_send m side.Remote s t number is mine receiver beside taking book after k apart (EndsHeld side.Host x) has = (has.0, has.1, has.2, has.3, has.4, after k apart)
+  others_send m side.Remote s t number is mine receiver beside taking book after k apart (Reopens p inc) has =
+      absurd (apart (one_holder (lane_to m side.Remote).lane.sender number 64 (ap holder is ∙ mine) (ap holder (still_sender m side.Remote has.2.1)) ∙ sym has.0))
+  others_send m side.Remote s t number is mine receiver beside taking book after k apart (HoldsAll a b) has =
+      absurd (apart (one_holder (lane_to m side.Remote).lane.sender number 64 (ap holder is ∙ mine) (ap holder (still_sender m side.Remote has.2)) ∙ sym has.0))
+
+  free_none : (k : ℕ) (u : Turn Sending) → turn.Free ≡ u → holder u ≡ Some k → ⊥
+  free_none k u is held = none_some k (ap holder is ∙ held)
+    where
+      none_some : (n : ℕ) → None ≡ Some n → ⊥
+      none_some n e = absurd (cc)
+
+  free_not : Path (Turn Sending) turn.Free turn.Manager → ⊥
+  free_not is = free_none 64 turn.Manager is refl
+
+  -- the calls of the others, where the sender's end of a lane moves
+  pub others_free_send : (m : LaneLink (RingState D)) (e : End) (s : RingState D) → (lane_to m e).lane.sender ≡ turn.Free
+      → (s.lane.receiver ≡ (lane_to m e).lane.receiver) → (receiver_side s ≡ receiver_side (lane_to m e)) → (s.rings.taking ≡ (lane_to m e).rings.taking) → (receiver_is_out (lane_to m e).lane.receiver ≡ true → message_at s.lane.lane.accepted (length s.lane.lane.takers) ≡ message_at (lane_to m e).lane.lane.accepted (length (lane_to m e).lane.lane.takers))
+      → (k : ℕ) → has_call s.lane.sender k ≡ false → (call : Call) → IsCallOf m 0 k call → IsCallOf (with_lane m e s) 0 k call
+  others_free_send m side.Host s free receiver beside taking book k after Idle has = has
+  others_free_send m side.Host s free receiver beside taking book k after (Sends side.Host u x buffer) has =
+      absurd (free_none k u (sym free ∙ has.1.0) has.1.1)
+  others_free_send m side.Host s free receiver beside taking book k after (Sends side.Remote u x buffer) has = has
+  others_free_send m side.Host s free receiver beside taking book k after (Receives side.Host u x buffer msg) has =
+      (has.0, (receiver ∙ has.1.0, has.1.1, has.1.2 ∙ sym beside, λ out. let o = has.1.3 out in (taking ∙ o.0, o.1 ∙ sym (book (ap receiver_is_out has.1.0 ∙ out))), has.1.4))
+  others_free_send m side.Host s free receiver beside taking book k after (EndsReceive side.Host u x buffer msg) has =
+      (has.0, (receiver ∙ has.1.0, has.1.1, has.1.2 ∙ sym beside, λ out. let o = has.1.3 out in (taking ∙ o.0, o.1 ∙ sym (book (ap receiver_is_out has.1.0 ∙ out))), has.1.4), has.2)
+  others_free_send m side.Host s free receiver beside taking book k after (Receives side.Remote u x buffer msg) has = has
+  others_free_send m side.Host s free receiver beside taking book k after (EndsReceive side.Remote u x buffer msg) has = has
+  others_free_send m side.Host s free receiver beside taking book k after (EndsSend side.Host u x buffer) has =
+      absurd (free_none k u (sym free ∙ has.1.0) has.1.1)
+  others_free_send m side.Host s free receiver beside taking book k after (EndsSend side.Remote u x buffer) has = has
+  others_free_send m side.Host s free receiver beside taking book k after (Rests side.Remote) has = (has.0, after, has.2)
+  others_free_send m side.Host s free receiver beside taking book k after (Rests side.Host) has = (has.0, has.1, ap (λ u. has_call u k) receiver ∙ has.2)
+  others_free_send m side.Host s free receiver beside taking book k after (Reclaims side.Host x) has = (has.0, receiver ∙ has.1, has.2 ∙ sym beside, has.3, has.4)
+  others_free_send m side.Host s free receiver beside taking book k after (Reclaims side.Remote x) has = (has.0, has.1, has.2, has.3, after)
+  others_free_send m side.Host s free receiver beside taking book k after (EndsHeld side.Host x) has = (has.0, receiver ∙ has.1, has.2 ∙ sym beside, has.3, has.4, has.5)
+  others_free_send m side.Host s free receiver beside taking book k after (EndsHeld side.Remote x) has = (has.0, has.1, has.2, has.3, has.4, after)
+  others_free_send m side.Host s free receiver beside taking book k after (Reopens p inc) has =
+      absurd (free_not (sym free ∙ still_sender m side.Host has.2.1))
+  others_free_send m side.Host s free receiver beside taking book k after (HoldsAll a b) has =
+      absurd (free_not (sym free ∙ still_sender m side.Host has.2))
+  others_free_send m side.Remote s free receiver beside taking book k after Idle has = has
+  others_free_send m side.Remote s free receiver beside taking book k after (Sends side.Remote u x buffer) has =
+      absurd (free_none k u (sym free ∙ has.1.0) has.1.1)
+  others_free_send m side.Remote s free receiver beside taking book k after (Sends side.Host u x buffer) has = has
+  others_free_send m side.Remote s free receiver beside taking book k after (Receives side.Remote u x buffer msg) has =
+      (has.0, (receiver ∙ has.1.0, has.1.1, has.1.2 ∙ sym beside, λ out. let o = has.1.3 out in (taking ∙ o.0, o.1 ∙ sym (book (ap receiver_is_out has.1.0 ∙ out))), has.1.4))
+  others_free_send m side.Remote s free receiver beside taking book k after (EndsReceive side.Remote u x buffer msg) has =
+      (has.0, (receiver ∙ has.1.0, has.1.1, has.1.2 ∙ sym beside, λ out. let o = has.1.3 out in (taking ∙ o.0, o.1 ∙ sym (book (ap receiver_is_out has.1.0 ∙ out))), has.1.4), has.2)
+  others_free_send m side.Remote s free receiver beside taking book k after (Receives side.Host u x buffer msg) has = has
+  others_free_send m side.Remote s free receiver beside taking book k after (EndsReceive side.Host u x buffer msg) has = has
+  others_free_send m side.Remote s free receiver beside taking book k after (EndsSend side.Remote u x buffer) has =
+      absurd (free_none k u (sym free ∙ has.1.0) has.1.1)
+  others_free_send m side.Remote s free receiver beside taking book k after (EndsSend side.Host u x buffer) has = has
+  others_free_send m side.Remote s free receiver beside taking book k after (Rests side.Host) has = (has.0, after, has.2)
+  others_free_send m side.Remote s free receiver beside taking book k after (Rests side.Remote) has = (has.0, has.1, ap (λ u. has_call u k) receiver ∙ has.2)
+  others_free_send m side.Remote s free receiver beside taking book k after (Reclaims side.Remote x) has = (has.0, receiver ∙ has.1, has.2 ∙ sym beside, has.3, has.4)
+  others_free_send m side.Remote s free receiver beside taking book k after (Reclaims side.Host x) has = (has.0, has.1, has.2, has.3, after)
+  others_free_send m side.Remote s free receiver beside taking book k after (EndsHeld side.Remote x) has = (has.0, receiver ∙ has.1, has.2 ∙ sym beside, has.3, has.4, has.5)
+  others_free_send m side.Remote s free receiver beside taking book k after (EndsHeld side.Host x) has = (has.0, has.1, has.2, has.3, has.4, after)
+  others_free_send m side.Remote s free receiver beside taking book k after (Reopens p inc) has =
+      absurd (free_not (sym free ∙ still_sender m side.Remote has.2.1))
+  others_free_send m side.Remote s free receiver beside taking book k after (HoldsAll a b) has =
+      absurd (free_not (sym free ∙ still_sender m side.Remote has.2))
+
+  -- the mover's call, by the lane
+  pub here_sends : (m : LaneLink (RingState D)) (e : End) (s : RingState D) (number : ℕ) (t : Turn Sending) (x : SenderSide) (buffer : ℕ) → end_of m.callers number ≡ Some (other e) → SendsAt (turns_of s) number t x buffer → IsCurrent t m.era.inc
+      → IsCallOf (with_lane m e s) 0 number (Sends e t x buffer)
+  here_sends m side.Host s number t x buffer user at now = (user, at, now)
+  here_sends m side.Remote s number t x buffer user at now = (user, at, now)
+
+  sizes_after : (z : LinkSizes) (m : LaneLink (RingState D)) (e : End) (s : RingState D) → s.rings.sizes ≡ (lane_to m e).rings.sizes → (m.to_host.rings.sizes ≡ z.to_host) × (m.to_remote.rings.sizes ≡ z.to_remote)
+      → ((with_lane m e s).to_host.rings.sizes ≡ z.to_host) × ((with_lane m e s).to_remote.rings.sizes ≡ z.to_remote)
+  sizes_after z m side.Host s same old = (same ∙ old.0, old.1)
+  sizes_after z m side.Remote s same old = (old.0, same ∙ old.1)
+
+  -- the callers and the era, where one lane changes
+  callers_same : (m : LaneLink (RingState D)) (e : End) (s : RingState D) → (with_lane m e s).callers ≡ m.callers
+  callers_same m side.Host s = refl
+  callers_same m side.Remote s = refl
+
+  era_same : (m : LaneLink (RingState D)) (e : End) (s : RingState D) → (with_lane m e s).era ≡ m.era
+  era_same m side.Host s = refl
+  era_same m side.Remote s = refl
+
+  -- a history that reads the same books
+  history_kept : (m : LaneLink (RingState D)) (e : End) (s : RingState D) → s.lane.lane.accepted ≡ (lane_to m e).lane.lane.accepted → s.lane.lane.takers ≡ (lane_to m e).lane.lane.takers → (number first : ℕ) (own : List Event) → IsHistory m number first own → IsHistory (with_lane m e s) number first own
+  history_kept m e s book handed number first own has = record { sent = sent_same m e s book number first own has.sent; taken = taken_same m e s handed number first own has.taken; read = read_same m e s book own has.read; none_later = later m e s number first own has.none_later }
+
+  -- hands, where a lane has what the caller holds as it was
+  pub hands_kept : (m : LaneLink (RingState D)) (e : End) (s : RingState D) (q : Pass) → (hands_of q.number (lane_to m e).lane.lane.held ≡ q.hands → hands_of q.number s.lane.lane.held ≡ q.hands) → HandsOf m q → HandsOf (with_lane m e s) q
+  hands_kept m side.Host s q stays has side.Host user = stays (has side.Host user)
+  hands_kept m side.Host s q stays has side.Remote user = has side.Remote user
+  hands_kept m side.Remote s q stays has side.Host user = has side.Host user
+  hands_kept m side.Remote s q stays has side.Remote user = stays (has side.Remote user)
+
+module _ {D : Type 0} (cd : Coded D) (desk : DeskMeaning D) where
+  -- the table after a step on one lane is the one that the ring form shows after the deed
+  pub lane_moves_with : (z : LinkSizes) (st : State Slot View) (m : LaneLink (RingState D)) (r : Shows cd desk z st m 0) (e : End) (s s' : RingState D) → lane_to m e ≡ s
+      → (i n id : ℕ) (cs : List (ℕ × Slot)) (v : View) (o : Mover v) (w : Pass) (a : Act Slot) (d : Deed) (l' : List (Option_of Slot)) → get_elem? st.views id ≡ some v
+      → MayDo desk m d → with_lane m e s' ≡ after_deed desk m d
+      → set (words_at e (era_word m.era) (lane_words s) (lane_words (lane_to m (other e)))) i n ≡ words_at e (era_word m.era) (lane_words s') (lane_words (lane_to m (other e)))
+      → homes_after (homes_at e (lane_homes s (shelf_to r.shelves e)) (lane_homes (lane_to m (other e)) (shelf_to r.shelves (other e)))) cs a ≡ homes_at e (lane_homes s' l') (lane_homes (lane_to m (other e)) (shelf_to r.shelves (other e)))
+      → HoldsBuffers s' l' → IsCallOf (with_lane m e s') 0 w.number w.call → ((j l : ℕ) (q : Pass) → PassAt st.views j l q → o.pass.number ≢ q.number → IsCallOf m 0 q.number q.call → IsCallOf (with_lane m e s') 0 q.number q.call)
+      → w.number ≡ o.pass.number → s'.rings.sizes ≡ s.rings.sizes
+      → HistoryOf (with_lane m e s') w → ((q : Pass) → o.pass.number ≢ q.number → HistoryOf m q → HistoryOf (with_lane m e s') q)
+      → HandsOf (with_lane m e s') w → ((q : Pass) → o.pass.number ≢ q.number → HandsOf m q → HandsOf (with_lane m e s') q) → ((n : ℕ) → end_of m.callers n ≡ None → NoneOf m n → NoneOf (with_lane m e s') n) → AreKeepersApart (set st.views id (with_pass v o w (Some (copied cd (with_lane m e s')))))
+      → WordsRule cd desk z (stepped st i n id cs (with_pass v o w (Some (copied cd (with_lane m e s')))) a)
+  lane_moves_with z st m r e s s' is i n id cs v o w a d l' at may deed words homes shelved mine others number sizes history histories hand hands fresh keepers =
+      let each = each_set st.views id v (with_pass v o w (Some (copied cd (with_lane m e s')))) o w at refl in (
+        with_lane m e s',
+        0,
+        put_together (ap (λ (ws : List ℕ). set ws i n)
+            (r.words_are ∙ (ap (λ (x : LaneLink (RingState D)). words_of 0 (fresh_block desk m) x) (sym (same_lane m e)) ∙ (words_seen (fresh_block desk m) m e (lane_to m e)
+            ∙ ap (λ (x : RingState D). words_at e (era_word m.era) (lane_words x) (lane_words (lane_to m (other e)))) is)))
+            ∙ (words ∙ sym (words_seen (fresh_block desk (with_lane m e s')) m e s')))
+            (with_shelf r.shelves e l') (ap (λ (hs : List (Option_of Slot)). homes_after hs cs a)
+            (r.homes_are ∙ ((λ k. homes_of (sym (same_lane m e) k) (sym (same_shelf r.shelves e) k)) ∙ (homes_seen m r.shelves e (lane_to m e) (shelf_to r.shelves e)
+            ∙ ap (λ (x : RingState D). homes_at e (lane_homes x (shelf_to r.shelves e)) (lane_homes (lane_to m (other e)) (shelf_to r.shelves (other e)))) is)))
+            ∙ (homes ∙ sym (homes_seen m r.shelves e s' l')))
+            (subst (IsSoundState desk) (sym deed) (deed_kept desk m d may (state_in r))) (sizes_after desk z m e s' (sizes ∙ ap (λ (x : RingState D). x.rings.sizes) (sym is)) (sizes_in r)) (each_lane (λ _. HoldsBuffers) m r.shelves e s' l' shelved ((buffers_in r) (other e))) (one_more desk m _ d r.reached may deed)
+            (record {
+              calls = each (HasCall m 0) (HasCall (with_lane m e s') 0) r.numbers.places r.turns.calls others mine;
+              keepers = keepers;
+              still = inl refl;
+            })
+            (record {
+              own = each (HistoryOf m) (HistoryOf (with_lane m e s')) r.numbers.places r.histories.own (λ j l q there. histories q) history;
+              hands = each (HandsOf m) (HandsOf (with_lane m e s')) r.numbers.places r.histories.hands (λ j l q there. hands q) hand;
+            })
+            (record {
+              places = numbers_set st.views id v (with_pass v o w (Some (copied cd (with_lane m e s')))) o w at refl number r.numbers.places;
+              manager = manager_set st.views id v (with_pass v o w (Some (copied cd (with_lane m e s')))) o w at refl cd m (with_lane m e s') number (callers_same desk m e s') refl refl (λ old. old ∙ ap (λ (x : Era). x.inc) (sym (era_same desk m e s'))) (λ j y apart there manages. ap (λ (x : Era). x.inc) (era_same desk m e s'))
+                  (λ n none was not. fresh n none (was not)) (λ n none Q was not. fresh n none (was not))
+                  (λ old shut. ap (λ (x : Era). x.is_live) (era_same desk m e s') ∙ old shut) (λ j y apart there manages old. ap (λ (x : Era). x.is_live) (era_same desk m e s') ∙ old) (λ k same _. sym (some_copy (copied cd (with_lane m e s')) k same)) r.numbers.manager;
+              many = ap length (callers_same desk m e s') ∙ r.numbers.many;
+            }),
+      )
+
+  -- the same, where nothing is accepted and no step is of the own list
+  pub lane_moves_by : (z : LinkSizes) (st : State Slot View) (m : LaneLink (RingState D)) (r : Shows cd desk z st m 0) (e : End) (s s' : RingState D) → lane_to m e ≡ s
+      → (i n id : ℕ) (cs : List (ℕ × Slot)) (v : View) (o : Mover v) (call : Call) (hands : List ℕ) (a : Act Slot) (d : Deed) (l' : List (Option_of Slot)) → get_elem? st.views id ≡ some v
+      → MayDo desk m d → with_lane m e s' ≡ after_deed desk m d
+      → set (words_at e (era_word m.era) (lane_words s) (lane_words (lane_to m (other e)))) i n ≡ words_at e (era_word m.era) (lane_words s') (lane_words (lane_to m (other e)))
+      → homes_after (homes_at e (lane_homes s (shelf_to r.shelves e)) (lane_homes (lane_to m (other e)) (shelf_to r.shelves (other e)))) cs a ≡ homes_at e (lane_homes s' l') (lane_homes (lane_to m (other e)) (shelf_to r.shelves (other e)))
+      → HoldsBuffers s' l' → IsCallOf (with_lane m e s') 0 o.pass.number call → ((j l : ℕ) (q : Pass) → PassAt st.views j l q → o.pass.number ≢ q.number → IsCallOf m 0 q.number q.call → IsCallOf (with_lane m e s') 0 q.number q.call)
+      → s'.rings.sizes ≡ s.rings.sizes → s'.lane.lane.accepted ≡ s.lane.lane.accepted → s'.lane.lane.takers ≡ s.lane.lane.takers
+      → HandsOf (with_lane m e s') (with_call_and_hands o.pass call hands) → ((q : Pass) → o.pass.number ≢ q.number → HandsOf m q → HandsOf (with_lane m e s') q) → AreKeepersApart (set st.views id (with_pass v o (with_call_and_hands o.pass call hands) (Some (copied cd (with_lane m e s')))))
+      → WordsRule cd desk z (stepped st i n id cs (with_pass v o (with_call_and_hands o.pass call hands) (Some (copied cd (with_lane m e s')))) a)
+  lane_moves_by z st m r e s s' is i n id cs v o call hands a d l' at may deed words homes shelved mine others sizes book handed hand others_hands keepers =
+      let books : s'.lane.lane.accepted ≡ (lane_to m e).lane.lane.accepted = book ∙ ap (λ (x : RingState D). x.lane.lane.accepted) (sym is) in
+      let takers : s'.lane.lane.takers ≡ (lane_to m e).lane.lane.takers = handed ∙ ap (λ (x : RingState D). x.lane.lane.takers) (sym is) in
+      lane_moves_with z st m r e s s' is i n id cs v o (with_call_and_hands o.pass call hands) a d l' at may deed words homes shelved mine others refl sizes
+      (history_kept desk m e s' books takers o.pass.number o.pass.first o.pass.own (r.histories.own id o.place o.pass (v, at, o.here)))
+      (λ q apart has. history_kept desk m e s' books takers q.number q.first q.own has) hand others_hands (λ n none. none_same m e s' books takers n) keepers
+
+  -- by numbers, where nothing is accepted, no step is of the own list and nothing comes into a hand or leaves it
+  pub lane_moves : (z : LinkSizes) (st : State Slot View) (m : LaneLink (RingState D)) (r : Shows cd desk z st m 0) (e : End) (s s' : RingState D) → lane_to m e ≡ s
+      → (i n id : ℕ) (cs : List (ℕ × Slot)) (v : View) (o : Mover v) (call : Call) (a : Act Slot) (d : Deed) (l' : List (Option_of Slot)) → get_elem? st.views id ≡ some v
+      → MayDo desk m d → with_lane m e s' ≡ after_deed desk m d
+      → set (words_at e (era_word m.era) (lane_words s) (lane_words (lane_to m (other e)))) i n ≡ words_at e (era_word m.era) (lane_words s') (lane_words (lane_to m (other e)))
+      → homes_after (homes_at e (lane_homes s (shelf_to r.shelves e)) (lane_homes (lane_to m (other e)) (shelf_to r.shelves (other e)))) cs a ≡ homes_at e (lane_homes s' l') (lane_homes (lane_to m (other e)) (shelf_to r.shelves (other e)))
+      → HoldsBuffers s' l' → IsCallOf (with_lane m e s') 0 o.pass.number call → ((k : ℕ) → o.pass.number ≢ k → (c : Call) → IsCallOf m 0 k c → IsCallOf (with_lane m e s') 0 k c)
+      → s'.rings.sizes ≡ s.rings.sizes → s'.lane.lane.accepted ≡ s.lane.lane.accepted → s'.lane.lane.takers ≡ s.lane.lane.takers → s'.lane.lane.held ≡ s.lane.lane.held → ((i : End) → has_for_manager i call ≡ true → has_for_manager i o.pass.call ≡ true)
+      → WordsRule cd desk z (stepped st i n id cs (with_pass v o (with_call o.pass call) (Some (copied cd (with_lane m e s')))) a)
+  lane_moves z st m r e s s' is i n id cs v o call a d l' at may deed words homes shelved mine others sizes book handed held quiet =
+      let stays = λ (q : Pass) (has : HandsOf m q). hands_kept desk m e s' q (λ was. ap (hands_of q.number) (held ∙ ap (λ (x : RingState D). x.lane.lane.held) (sym is)) ∙ was) has in
+      lane_moves_by z st m r e s s' is i n id cs v o call o.pass.hands a d l' at may deed words homes shelved mine (λ j l q there apart has. others q.number apart q.call has) sizes book handed
+      (stays o.pass (r.histories.hands id o.place o.pass (v, at, o.here))) (λ q apart. stays q)
+      (keepers_set st.views id v (with_pass v o (with_call o.pass call) (Some (copied cd (with_lane m e s')))) o (with_call o.pass call) at refl refl quiet r.turns.keepers)

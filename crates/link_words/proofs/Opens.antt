@@ -1,0 +1,257 @@
+-- A reopening: words reset one by one, which are no steps of the ring form, and then its one step.
+use Rattle.std.proofs.Common.{◌≡◌, ◌≢◌, ℕ, zero, suc, ◌+◌, ◌<◌, Bool, true, false, List, [], ◌∷◌, ◌++◌, map, length, get_or, set, refl, sym, ap, ◌∙◌, subst, inl, inr, arith, length-append}
+use Rattle.std.proofs.lemmas.List.{length-map}
+use Rattle.std.specs.Prelude.{Option, Some}
+use mathlib.Core.Option.{some, some-injective, some-ne-none}
+use mathlib.Core.Option.{Option as Option_of}
+use lib.ListN.{get_elem?}
+use Rattle.atomic_table.specs.Table.{Act, keeps, stepped, Valid, carried_after, Allows}
+use Rattle.rp_base.specs.declared.kinds.End.{End}
+use Rattle.rp_base.specs.declared.kinds.End.TheVariants as side
+use Rattle.lane_model.specs.declared.lane_links.LaneLink.{LaneLink}
+use Rattle.lane_model.specs.declared.stages.Turn.{Turn}
+use Rattle.lane_model.specs.declared.stages.Turn.TheVariants as turn
+use base.Stored.{Coded}
+use Rattle.lane_model.specs.Desks.{DeskMeaning}
+use Rattle.lane_model.specs.Lanes.{holder, has_call}
+use Rattle.lane_model.specs.Links.{end_of}
+use Rattle.lane_model.specs.Recoveries.{link_after_reopen}
+use Rattle.ring_core.specs.declared.states.RingState.{RingState}
+use Rattle.ring_core.specs.RingSteps.{ring_form, holding_of}
+use Rattle.ring_core.specs.Owners.{sender_is_out, receiver_is_out}
+use Rattle.lane_laws.proofs.RingLinks.{reopen_kept}
+use Rattle.link_words.specs.declared.rule.Slot.{Slot}
+use Rattle.link_words.specs.declared.rule.Slot.TheVariants.{Sender, Receiver}
+use Rattle.link_words.specs.declared.rule.ReceiverSide.{ReceiverSide}
+use Rattle.link_words.specs.declared.rule.LinkSizes.{LinkSizes}
+use Rattle.link_words.specs.declared.rule.Call.{Call}
+use Rattle.link_words.specs.declared.rule.Call.TheVariants.{Idle, Sends, Rests, Reclaims, EndsHeld, Receives, EndsReceive, EndsSend, Reopens, HoldsAll}
+use Rattle.link_words.specs.declared.rule.Pass.{Pass}
+use Rattle.link_words.specs.declared.rule.View.{View}
+use Rattle.link_words.specs.Words.{lane_to, era_word, turn_word, entry_word, LaneWords, lane_words, entry_words_before, reset_block, reset_first, home_if, homes_of, Shelves, shelf_to, sender_side, receiver_side}
+use Rattle.link_words.specs.Fresh.{fresh_lane, fresh_of}
+use Rattle.link_words.proofs.Books.{history_opened, none_opened}
+use Rattle.link_words.specs.Deeds.{Nothing, Opens, MayDo, AreManagers, HoldsNothing, IsSoundState, link_after_opening}
+use Rattle.link_words.specs.Rule.{IsCallOf, HasCall, HistoryOf, HandsOf, fresh_block, WordsRule}
+use Rattle.link_words.specs.Parts.{has_for_manager, HoldsBuffers}
+use Rattle.link_words.specs.Histories.{hands_of}
+use Rattle.link_words.specs.declared.copies.LinkCopy.{LinkCopy}
+use Rattle.link_words.specs.Codes.{copied}
+use Rattle.link_words.specs.Passes.{Mover, with_pass, with_call}
+use Rattle.link_words.specs.Calls.{SeatState}
+use Rattle.link_words.proofs.Tells.{BeginsReopening}
+use Rattle.link_words.proofs.Closes.{stays, stays_at}
+use Rattle.link_words.proofs.Frames.{some_copy, each_set, numbers_set, keepers_set, manager_set}
+use Rattle.link_words.proofs.Kept.{deed_kept}
+use Rattle.link_words.proofs.Sends.{true-false, some_number}
+use Rattle.link_words.proofs.Parts.{state_in, sizes_in, buffers_in, put_together, one_more}
+
+reset_one : (p : ℕ) (fresh old : List ℕ) (x : ℕ) → length fresh ≡ length old → get_elem? fresh p ≡ some x → set (reset_first p fresh old) p x ≡ reset_first (suc p) fresh old
+reset_one zero [] old x same e = absurd (some-ne-none x (sym e))
+reset_one zero (f ∷ fs) [] x same e = refl
+reset_one zero (f ∷ fs) (o ∷ os) x same e = ap (λ (y : ℕ). y ∷ os) (sym (some-injective f x e))
+reset_one (suc p) [] old x same e = absurd (some-ne-none x (sym e))
+reset_one (suc p) (f ∷ fs) [] x same e = refl
+reset_one (suc p) (f ∷ fs) (o ∷ os) x same e = ap (λ (l : List ℕ). f ∷ l) (reset_one p fs os x (let l : suc (length fs) ≡ suc (length os) = same in omega arith) e)
+
+reset_all : (p : ℕ) (fresh old : List ℕ) → length fresh ≡ length old → p ≡ length fresh → reset_first p fresh old ≡ fresh
+reset_all zero [] [] same all = refl
+reset_all zero [] (o ∷ os) same all = absurd (omega arith)
+reset_all zero (f ∷ fs) old same all = absurd (omega arith)
+reset_all (suc p) [] old same all = absurd (omega arith)
+reset_all (suc p) (f ∷ fs) [] same all = absurd (omega arith)
+reset_all (suc p) (f ∷ fs) (o ∷ os) same all = ap (λ (l : List ℕ). f ∷ l) (reset_all p fs os (let l : suc (length fs) ≡ suc (length os) = same in omega arith) (let l : suc p ≡ suc (length fs) = all in omega arith))
+
+-- the words of a block are as many as the entries say
+block_long : (a b c d : LaneWords) → length a.forward ≡ length c.forward → length a.returns ≡ length c.returns → length b.forward ≡ length d.forward → length b.returns ≡ length d.returns → length (reset_block a b) ≡ length (reset_block c d)
+block_long a b c d p q u v =
+    let lengths = λ (x y : LaneWords). length-append (map entry_word x.forward) (map entry_word x.returns ++ entry_words_before y []) ∙ ap (λ (k : ℕ). length (map entry_word x.forward) + k)
+    (length-append (map entry_word x.returns) (entry_words_before y []) ∙ ap (λ (k : ℕ). length (map entry_word x.returns) + k)
+    (length-append (map entry_word y.forward) (map entry_word y.returns ++ []) ∙ ap (λ (k : ℕ). length (map entry_word y.forward) + k) (length-append (map entry_word y.returns) []))) in
+    let one = lengths a b in let two = lengths c d in
+    omega (
+      arith,
+      one,
+      two,
+      p,
+      q,
+      u,
+      v,
+      length-map a.forward entry_word,
+      length-map a.returns entry_word,
+      length-map b.forward entry_word,
+      length-map b.returns entry_word,
+      length-map c.forward entry_word,
+      length-map c.returns entry_word,
+      length-map d.forward entry_word,
+      length-map d.returns entry_word,
+    )
+
+-- a holder of a turn that is the manager's is the manager
+is_64 : {C : Type 0} (t u : Turn C) (number : ℕ) → t ≡ turn.Manager → t ≡ u → holder u ≡ Some number → 64 ≡ number
+is_64 t u number managers is held = some_number 64 number (ap holder (sym managers ∙ is) ∙ held)
+
+abbrev callers_of : {L : Type 0} → LaneLink L → List (Option End)
+callers_of m = m.callers
+
+-- while the manager has the four turns, the others are in no call
+still_call : {D : Type 0} (m m' : LaneLink (RingState D)) (p p' : ℕ) → AreManagers m → (k : ℕ) → 64 ≢ k → (call : Call) → (has_for_manager side.Host call ≡ true → ⊥) → (has_for_manager side.Remote call ≡ true → ⊥) → callers_of m ≡ callers_of m' → AreManagers m' → IsCallOf m p k call → IsCallOf m' p' k call
+still_call m m' p p' a k apart Idle nh nr same a' has = has
+still_call m m' p p' a k apart (Rests side.Host) nh nr same a' has = (ap (λ cs. end_of cs k) (sym same) ∙ has.0, ap (λ t. has_call t k) a'.remote_sender, ap (λ t. has_call t k) a'.host_receiver)
+still_call m m' p p' a k apart (Rests side.Remote) nh nr same a' has = (ap (λ cs. end_of cs k) (sym same) ∙ has.0, ap (λ t. has_call t k) a'.host_sender, ap (λ t. has_call t k) a'.remote_receiver)
+still_call m m' p p' a k apart (Reclaims side.Host x) nh nr same a' has = absurd (nh refl)
+still_call m m' p p' a k apart (Reclaims side.Remote x) nh nr same a' has = absurd (nr refl)
+still_call m m' p p' a k apart (EndsHeld side.Host x) nh nr same a' has = absurd (nh refl)
+still_call m m' p p' a k apart (EndsHeld side.Remote x) nh nr same a' has = absurd (nr refl)
+still_call m m' p p' a k apart (Sends side.Host t x b) nh nr same a' has = absurd (apart (is_64 m.to_host.lane.sender t k a.host_sender has.1.0 has.1.1))
+still_call m m' p p' a k apart (Sends side.Remote t x b) nh nr same a' has = absurd (apart (is_64 m.to_remote.lane.sender t k a.remote_sender has.1.0 has.1.1))
+still_call m m' p p' a k apart (Receives side.Host t x b msg) nh nr same a' has = absurd (apart (is_64 m.to_host.lane.receiver t k a.host_receiver has.1.0 has.1.1))
+still_call m m' p p' a k apart (EndsReceive side.Host t x b msg) nh nr same a' has = absurd (apart (is_64 m.to_host.lane.receiver t k a.host_receiver has.1.0 has.1.1))
+still_call m m' p p' a k apart (Receives side.Remote t x b msg) nh nr same a' has = absurd (apart (is_64 m.to_remote.lane.receiver t k a.remote_receiver has.1.0 has.1.1))
+still_call m m' p p' a k apart (EndsReceive side.Remote t x b msg) nh nr same a' has = absurd (apart (is_64 m.to_remote.lane.receiver t k a.remote_receiver has.1.0 has.1.1))
+still_call m m' p p' a k apart (EndsSend side.Host t x b) nh nr same a' has = absurd (apart (is_64 m.to_host.lane.sender t k a.host_sender has.1.0 has.1.1))
+still_call m m' p p' a k apart (EndsSend side.Remote t x b) nh nr same a' has = absurd (apart (is_64 m.to_remote.lane.sender t k a.remote_sender has.1.0 has.1.1))
+still_call m m' p p' a k apart (Reopens q inc) nh nr same a' has = absurd (apart (sym has.0))
+still_call m m' p p' a k apart (HoldsAll x y) nh nr same a' has = absurd (apart (sym has.0))
+
+-- the slots of the next incarnation: no buffer is out
+opened_shelf : {D : Type 0} (s s' : RingState D) (l : List (Option_of Slot)) → HoldsBuffers s l → s.lane.sender ≡ turn.Manager → s.lane.receiver ≡ turn.Manager
+    → s'.rings.sizes ≡ s.rings.sizes → length s'.lane.lane.accepted ≡ 0 → HoldsBuffers s' l
+opened_shelf s s' l q sender receiver sizes none_accepted = record {
+  long = q.long ∙ ap (λ x. x.capacity) (sym sizes);
+  full = λ k from to other. absurd (omega (arith, to, none_accepted));
+  home = λ j under mine theirs. q.home j (subst (λ (n : ℕ). j < n) (ap (λ x. x.capacity) sizes) under)
+      (λ out. absurd (true-false (sym out ∙ ap sender_is_out sender))) (λ out. absurd (true-false (sym out ∙ ap receiver_is_out receiver)));
+}
+
+-- nothing was held, and nothing is
+opened_hands : {D : Type 0} (desk : DeskMeaning D) (m : LaneLink (RingState D)) (q : Pass) → HoldsNothing m → HandsOf m q → HandsOf (link_after_opening desk m) q
+opened_hands desk m q bare has side.Host user = ap (hands_of q.number) (sym bare.0) ∙ has side.Host user
+opened_hands desk m q bare has side.Remote user = ap (hands_of q.number) (sym bare.1) ∙ has side.Remote user
+
+-- the manager's view after the opening
+abbrev pub opened_view : (v : View) → Mover v → Option LinkCopy → View
+opened_view v o k = record (with_pass v o (with_call o.pass (HoldsAll (record { handed = 0; returned = 0; hands = [] }) (record { handed = 0; returned = 0; hands = [] }))) k) { is_closed = false; inc = v.inc + 1; reclaims = [] }
+
+module _ {D : Type 0} (cd : Coded D) (desk : DeskMeaning D) (z : LinkSizes) where
+  fresh_is : (m : LaneLink (RingState D)) → (m.to_host.rings.sizes ≡ z.to_host) × (m.to_remote.rings.sizes ≡ z.to_remote) → fresh_block desk m ≡ fresh_of z
+  fresh_is m sizes = λ i. reset_block (fresh_lane (sizes.0 i)) (fresh_lane (sizes.1 i))
+
+  as_long : (m : LaneLink (RingState D)) → IsSoundState desk m → length (fresh_block desk m) ≡ length (reset_block (lane_words m.to_host) (lane_words m.to_remote))
+  as_long m k =
+      let opened = reopen_kept desk m k.rings in let now = k.rings in
+      block_long (lane_words (link_after_reopen (ring_form desk) m).to_host) (lane_words (link_after_reopen (ring_form desk) m).to_remote) (lane_words m.to_host) (lane_words m.to_remote)
+      (opened.to_host.sized.forward_long ∙ sym now.to_host.sized.forward_long) (opened.to_host.sized.returns_long ∙ sym now.to_host.sized.returns_long)
+      (opened.to_remote.sized.forward_long ∙ sym now.to_remote.sized.forward_long) (opened.to_remote.sized.returns_long ∙ sym now.to_remote.sized.returns_long)
+
+  homes_still : (m : LaneLink (RingState D)) (sh : Shelves) → AreManagers m → homes_of m sh ≡ homes_of (link_after_opening desk m) sh
+  homes_still m sh a = λ k. home_if (a.host_sender k) (Sender (sender_side m.to_host)) ∷ home_if (a.host_receiver k) (Receiver (receiver_side m.to_host))
+      ∷ home_if (a.remote_sender k) (Sender (sender_side m.to_remote)) ∷ home_if (a.remote_receiver k) (Receiver (receiver_side m.to_remote)) ∷ (sh.host ++ sh.remote)
+
+  opened_shelves : (m : LaneLink (RingState D)) (sh : Shelves) → ((e : End) → HoldsBuffers (lane_to m e) (shelf_to sh e)) → AreManagers m → (e : End) → HoldsBuffers (lane_to (link_after_opening desk m) e) (shelf_to sh e)
+  opened_shelves m sh old a side.Host = opened_shelf m.to_host (link_after_opening desk m).to_host sh.host (old side.Host) a.host_sender a.host_receiver refl refl
+  opened_shelves m sh old a side.Remote = opened_shelf m.to_remote (link_after_opening desk m).to_remote sh.remote (old side.Remote) a.remote_sender a.remote_receiver refl refl
+
+  -- the manager has the four turns, and its sides hold nothing: it loads the era
+  pub begins : (n id : ℕ) (me : SeatState) (o : Mover me.0) (host remote : ReceiverSide) → o.pass.call ≡ HoldsAll host remote → host.hands ≡ [] → remote.hands ≡ [] → Allows (WordsRule cd desk z) n id me 1 (λ y. y) (BeginsReopening me o)
+  begins n id me o host remote call bare_host bare_remote st (m, p, r) wide at _ =
+      go m.era.is_live refl (subst (IsCallOf m p o.pass.number) call (r.turns.calls id o.place o.pass (me.0, at, o.here))) (ap (λ (ws : List ℕ). get_or ws 1 0) r.words_are)
+    where
+      go : (live : Bool) → m.era.is_live ≡ live → IsCallOf m p o.pass.number (HoldsAll host remote) → get_or st.words 1 0 ≡ era_word m.era
+          → (w : View) × (a : Act Slot) × Valid st.homes me.1 a × WordsRule cd desk z (stepped st 1 (get_or st.words 1 0) id me.1 w a) × BeginsReopening me o (get_or st.words 1 0) (w, carried_after me.1 a)
+      go false shut h word = (
+        _,
+        keeps,
+        tt,
+        stays_at cd desk z st m p r 1 (get_or st.words 1 0) id me.1 me.0 o (Reopens 0 m.era.inc) Nothing at refl tt refl
+            (h.0, sym h.1, (shut, h.2), refl, (sym r.to_host.rings.holdings ∙ ap (map holding_of) (sym (ap (λ (x : ReceiverSide). x.hands) h.3) ∙ bare_host), sym r.to_remote.rings.holdings ∙ ap (map holding_of) (sym (ap (λ (x : ReceiverSide). x.hands) h.4) ∙ bare_remote))) (λ i k. ap (has_for_manager i) call ∙ refl),
+        (m.era, word, (λ _. refl), λ live. absurd (true-false (sym live ∙ shut))),
+      )
+      go true live h word = (
+        me.0,
+        keeps,
+        tt,
+        stays cd desk z st m p r 1 (get_or st.words 1 0) id me.1 me.0 Nothing at refl tt refl,
+        (m.era, word, (λ shut. absurd (true-false (sym live ∙ shut))), λ _. refl),
+      )
+
+  -- one word more is reset, whatever word comes next
+  pub resets : (n id : ℕ) (me : SeatState) (o : Mover me.0) (q inc i new : ℕ) → o.pass.call ≡ Reopens q inc → i ≡ 6 + q → get_elem? (fresh_of z) q ≡ some new
+      → Allows (WordsRule cd desk z) n id me i (λ _. new) (λ _ me'. me' ≡ (with_pass me.0 o (with_call o.pass (Reopens (suc q) inc)) me'.0.copy, me.1))
+  resets n id me o q inc i new call at_word is_fresh st (m, p, r) wide at _ =
+      let h : IsCallOf m p o.pass.number (Reopens q inc) = subst (IsCallOf m p o.pass.number) call (r.turns.calls id o.place o.pass (me.0, at, o.here)) in
+      let fresh = fresh_block desk m in let old = reset_block (lane_words m.to_host) (lane_words m.to_remote) in
+      let here : get_elem? fresh p ≡ some new = (λ k. get_elem? (fresh_is m (sizes_in r) k) (sym h.1 k)) ∙ is_fresh in
+      let six : i ≡ suc (suc (suc (suc (suc (suc p))))) = let same = h.1 in omega (arith, at_word, same) in
+      let front : List ℕ → List ℕ = λ l. 0 ∷ era_word m.era ∷ turn_word m.to_host.lane.sender ∷ turn_word m.to_host.lane.receiver ∷ turn_word m.to_remote.lane.sender ∷ turn_word m.to_remote.lane.receiver ∷ l in
+      let w : Call = Reopens (suc q) inc in let each = each_set st.views id me.0 (with_pass me.0 o (with_call o.pass w) (Some (copied cd m))) o (with_call o.pass w) at refl in (
+        _,
+        keeps,
+        tt,
+        (
+          m,
+          suc p,
+          put_together ((λ k. set (r.words_are k) (six k) new) ∙ ap front (reset_one p fresh old new (as_long m (state_in r)) here))
+              r.shelves r.homes_are
+              (state_in r) (sizes_in r) (buffers_in r) (one_more desk m _ Nothing r.reached tt refl)
+              (record {
+                calls = each (HasCall m p) (HasCall m (suc p)) r.numbers.places r.turns.calls
+                    (λ j l u there apart. still_call m m p (suc p) h.2.1 u.number (λ same. apart (h.0 ∙ same)) u.call (λ kept. apart (r.turns.keepers side.Host id o.place j l o.pass u (me.0, at, o.here) there (ap (has_for_manager side.Host) call) kept)) (λ kept. apart (r.turns.keepers side.Remote id o.place j l o.pass u (me.0, at, o.here) there (ap (has_for_manager side.Remote) call) kept)) refl h.2.1) (h.0, ap suc h.1, h.2, h.3, h.4);
+                keepers = keepers_set st.views id me.0 (with_pass me.0 o (with_call o.pass w) (Some (copied cd m))) o (with_call o.pass w) at refl refl (λ i k. ap (has_for_manager i) call) r.turns.keepers;
+                still = inr h.2;
+              })
+              (record {
+                own = each (HistoryOf m) (HistoryOf m) r.numbers.places r.histories.own (λ j l u there apart had. had) (r.histories.own id o.place o.pass (me.0, at, o.here));
+                hands = each (HandsOf m) (HandsOf m) r.numbers.places r.histories.hands (λ j l u there apart had. had) (r.histories.hands id o.place o.pass (me.0, at, o.here));
+              })
+              (record {
+                places = numbers_set st.views id me.0 (with_pass me.0 o (with_call o.pass w) (Some (copied cd m))) o (with_call o.pass w) at refl refl r.numbers.places;
+                manager = manager_set st.views id me.0 (with_pass me.0 o (with_call o.pass w) (Some (copied cd m))) o (with_call o.pass w) at refl cd m m refl refl refl refl (λ old. old) (λ j y apart there manages. refl) (λ n none was not. was not) (λ n none Q was not. was not) (λ old. old) (λ j y apart there manages old. old) (λ k same _. sym (some_copy (copied cd m) k same)) r.numbers.manager;
+                many = r.numbers.many;
+              }),
+        ),
+        refl,
+      )
+
+  -- the era is opened, where all is reset and nothing is held: the one step of the ring form
+  pub opens : (n id : ℕ) (me : SeatState) (o : Mover me.0) (q inc new : ℕ) → o.pass.call ≡ Reopens q inc → q ≡ length (fresh_of z)
+      → new ≡ era_word (record { inc = inc + 1; is_live = true })
+      → Allows (WordsRule cd desk z) n id me 1 (λ _. new) (λ _ me'. me' ≡ (opened_view me.0 o me'.0.copy, me.1))
+  opens n id me o q inc new call all new_is st (m, p, r) wide at _ =
+      let h : IsCallOf m p o.pass.number (Reopens q inc) = subst (IsCallOf m p o.pass.number) call (r.turns.calls id o.place o.pass (me.0, at, o.here)) in let a = h.2.1 in
+      let fresh = fresh_block desk m in let old = reset_block (lane_words m.to_host) (lane_words m.to_remote) in
+      let full : p ≡ length fresh = sym h.1 ∙ (all ∙ ap length (sym (fresh_is m (sizes_in r)))) in
+      let m' = link_after_opening desk m in let may : MayDo desk m Opens = (h.2, h.4) in
+      let word : new ≡ era_word m'.era = new_is ∙ ap (λ (k : ℕ). era_word (record { inc = k + 1; is_live = true })) (sym h.3) in
+      let w : Call = HoldsAll (record { handed = 0; returned = 0; hands = [] }) (record { handed = 0; returned = 0; hands = [] }) in let u = opened_view me.0 o (Some (copied cd m')) in let each = each_set st.views id me.0 u o (with_call o.pass w) at refl in (
+        u,
+        keeps,
+        tt,
+        (
+          m',
+          0,
+          put_together ((λ k. set (r.words_are k) 1 (word k))
+              ∙ (λ k. 0 ∷ era_word m'.era ∷ turn_word (a.host_sender k) ∷ turn_word (a.host_receiver k) ∷ turn_word (a.remote_sender k) ∷ turn_word (a.remote_receiver k) ∷ reset_all p fresh old (as_long m (state_in r)) full k))
+              r.shelves (r.homes_are ∙ (λ k. homes_still m r.shelves a k))
+              (deed_kept desk m Opens may (state_in r)) (sizes_in r) (opened_shelves m r.shelves (buffers_in r) a) (one_more desk m _ Opens r.reached may refl)
+              (record {
+                calls = each (HasCall m p) (HasCall m' 0) r.numbers.places r.turns.calls
+                    (λ j l u there apart. still_call m m' p 0 a u.number (λ same. apart (h.0 ∙ same)) u.call (λ kept. apart (r.turns.keepers side.Host id o.place j l o.pass u (me.0, at, o.here) there (ap (has_for_manager side.Host) call) kept)) (λ kept. apart (r.turns.keepers side.Remote id o.place j l o.pass u (me.0, at, o.here) there (ap (has_for_manager side.Remote) call) kept)) refl (record { host_sender = refl; host_receiver = refl; remote_sender = refl; remote_receiver = refl }))
+                    (h.0, refl, record { host_sender = refl; host_receiver = refl; remote_sender = refl; remote_receiver = refl }, refl, refl);
+                keepers = keepers_set st.views id me.0 u o (with_call o.pass w) at refl refl (λ i k. ap (has_for_manager i) call) r.turns.keepers;
+                still = inl refl;
+              })
+              (record {
+                own = each (HistoryOf m) (HistoryOf m') r.numbers.places r.histories.own (λ j l u there apart had. history_opened desk m u.number u.first u.own had) (history_opened desk m o.pass.number o.pass.first o.pass.own (r.histories.own id o.place o.pass (me.0, at, o.here)));
+                hands = each (HandsOf m) (HandsOf m') r.numbers.places r.histories.hands (λ j l u there apart. opened_hands desk m u h.4) (opened_hands desk m o.pass h.4 (r.histories.hands id o.place o.pass (me.0, at, o.here)));
+              })
+              (record {
+                places = numbers_set st.views id me.0 u o (with_call o.pass w) at refl refl r.numbers.places;
+                manager = manager_set st.views id me.0 u o (with_call o.pass w) at refl cd m m' refl refl refl refl (λ old. ap (λ (k : ℕ). k + 1) old)
+                    (λ j y apart there manages. absurd (apart (r.numbers.places j manages.0 id o.place manages.1 o.pass (y, there, manages.2) (me.0, at, o.here) (manages.3 ∙ sym h.0)).0)) (λ n none was not. none_opened desk m n) (λ n none Q was not. none_opened desk m n) (λ old never. absurd (true-false (sym never)))
+                    (λ j y apart there manages old. absurd (apart (r.numbers.places j manages.0 id o.place manages.1 o.pass (y, there, manages.2) (me.0, at, o.here) (manages.3 ∙ sym h.0)).0)) (λ k same _. sym (some_copy (copied cd m') k same)) r.numbers.manager;
+                many = r.numbers.many;
+              }),
+        ),
+        refl,
+      )

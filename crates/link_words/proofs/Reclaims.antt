@@ -1,0 +1,174 @@
+-- A send's leave, and the leave by which a reclaim ends a send from each of its steps: what was out comes home.
+use Rattle.std.proofs.Common.{◌≡◌, ℕ, ◌+◌, ◌<◌, Bool, true, false, cond, List, ◌∷◌, length, get_or, set, refl, sym, ap, ◌∙◌, subst, arith}
+use Rattle.std.specs.Prelude.{Some, None}
+use mathlib.Core.Option.{some}
+use mathlib.Core.Option.{Option as Option_of}
+use lib.ListN.{get_elem?}
+use Rattle.atomic_table.specs.Table.{State, Act, keeps, gives, chain, homes_after, Valid, carried_after, stepped, Allows, rest}
+use Rattle.rp_base.specs.declared.kinds.End.{End}
+use Rattle.rp_base.specs.declared.kinds.End.TheVariants as side
+use Rattle.lane_model.specs.declared.lane_links.LaneLink.{LaneLink}
+use Rattle.lane_model.specs.declared.stages.Turn.{Turn}
+use Rattle.lane_model.specs.declared.stages.Turn.TheVariants as turn
+use Rattle.lane_model.specs.declared.stages.Sending.{Sending}
+use Rattle.lane_model.specs.declared.calls.CallEnd.{CallEnd}
+use base.Stored.{Coded}
+use Rattle.lane_model.specs.Desks.{DeskMeaning}
+use Rattle.lane_model.specs.Lanes.{holder, has_call}
+use Rattle.lane_model.specs.Links.{end_of, link_of}
+use Rattle.lane_model.specs.Soundness.{SoundLink}
+use Rattle.ring_core.specs.declared.states.RingState.{RingState}
+use Rattle.ring_core.specs.Owners.{sender_is_out}
+use Rattle.ring_core.specs.RingSteps.{ring_form}
+use Rattle.ring_core.specs.SoundRings.{IsSoundRings}
+use Rattle.ring_core.proofs.OneOwner.{sending_is}
+use Rattle.ring_core.proofs.Owned.{source-below}
+use Rattle.link_words.specs.declared.rule.Slot.{Slot}
+use Rattle.link_words.specs.declared.rule.Slot.TheVariants.{Sender}
+use Rattle.link_words.specs.declared.rule.SenderSide.{SenderSide}
+use Rattle.link_words.specs.declared.rule.LinkSizes.{LinkSizes}
+use Rattle.link_words.specs.declared.rule.Call.{Call}
+use Rattle.link_words.specs.declared.rule.Call.TheVariants.{Rests, Sends, EndsSend}
+use Rattle.link_words.specs.declared.rule.View.{View}
+use Rattle.link_words.specs.Words.{other, lane_to, with_lane, era_word, lane_words, lane_homes, homes_at, shelf_to, sender_side, sender_word, sender_slot, buffer_slot, with_turn}
+use Rattle.link_words.specs.Turns.{is_manager}
+use Rattle.link_words.specs.Deeds.{Steps, EndsCall, Nothing, after_deed}
+use Rattle.link_words.specs.Rule.{IsCallOf, Shows, WordsRule}
+use Rattle.link_words.specs.Parts.{HoldsBuffers}
+use Rattle.link_words.specs.Codes.{copied}
+use Rattle.link_words.specs.Passes.{Mover, with_pass, with_call}
+use Rattle.link_words.specs.Calls.{SeatState}
+use Rattle.link_words.proofs.Tells.{SendLeavesBy, FindsClosedEra}
+use Rattle.link_words.proofs.Frames.{turn_set, side_set, buffer_set}
+use Rattle.link_words.proofs.Kept.{send_deed, send_may, end_deed}
+use Rattle.link_words.proofs.LaneSteps.{others_send, lane_moves}
+use Rattle.link_words.proofs.Sends.{has_of, true-false, at_zero, shelved_turn}
+use Rattle.link_words.proofs.Closes.{stays, stays_at}
+use Rattle.link_words.proofs.Buffers.{rings_to, first_is}
+use Rattle.link_words.proofs.Publishes.{shelved_home}
+use Rattle.link_words.proofs.Exact.{StepBy, step_by}
+use Rattle.link_words.proofs.Parts.{rings_in, buffers_in}
+use Rattle.link_words.specs.Steps.{AnyWord}
+
+rests_after : {D : Type 0} (m : LaneLink (RingState D)) (e : End) (s : RingState D) (number : ℕ) → end_of m.callers number ≡ Some (other e) → has_call s.lane.sender number ≡ false → has_call (lane_to m (other e)).lane.receiver number ≡ false
+    → IsCallOf (with_lane m e s) 0 number (Rests (other e))
+rests_after m side.Host s number user sends receives = (user, sends, receives)
+rests_after m side.Remote s number user sends receives = (user, sends, receives)
+
+module _ {D : Type 0} (cd : Coded D) (desk : DeskMeaning D) (z : LinkSizes) where
+  -- a caller that has the sender's turn is in no other call
+  no_receive : (m : LaneLink (RingState D)) (e : End) (number : ℕ) → SoundLink (link_of (ring_form desk) m) → has_call (lane_to m e).lane.sender number ≡ true → has_call (lane_to m (other e)).lane.receiver number ≡ false
+  no_receive m side.Host number sound has = sound.remotes number has
+  no_receive m side.Remote number sound has = sound.hosts number has
+
+  -- the last step of a send
+  pub leaves : (n id : ℕ) (me : SeatState) (o : Mover me.0) (e : End) (c : ℕ) (end : CallEnd) (x : SenderSide) (b : ℕ) → o.pass.call ≡ Sends e (turn.Leaving c end) x b → me.1 ≡ (sender_slot e, Sender x) ∷ rest me.1
+      → Allows (WordsRule cd desk z) n id me (sender_word e) (λ _. 0) (λ _ me'. SendLeavesBy me o e (rest me.1) me' × StepBy cd desk AnyWord me o (Steps o.pass.number 0 None) me')
+  leaves n id me o e c end x b call has_slot st (m, p, r₀) wide at _ =
+      let t : Turn Sending = turn.Leaving c end in
+      let h : IsCallOf m p o.pass.number (Sends e t x b) = subst (IsCallOf m p o.pass.number) call (r₀.turns.calls id o.place o.pass (me.0, at, o.here)) in
+      let r = at_zero cd desk z st m p e t h.1.0 refl r₀ in let s₀ = lane_to m e in let s = with_turn s₀ t in let is : s₀ ≡ s = λ k. with_turn s₀ (h.1.0 k) in
+      let has : has_call s₀.lane.sender o.pass.number ≡ true = has_of s₀.lane.sender o.pass.number (ap holder h.1.0 ∙ h.1.1) (ap is_manager h.1.0) in
+      let s' : RingState D = (ring_form desk).sent_on s m.era in let w : Call = Rests (other e) in
+      let may = send_may desk m e o.pass.number 0 h.0 has in
+      let deed : with_lane m e s' ≡ after_deed desk m (Steps o.pass.number 0 None) = ap (λ (u : RingState D). with_lane m e ((ring_form desk).sent_on u m.era)) (sym is) ∙ send_deed desk m e o.pass.number 0 h.0 has in
+      let mine : IsCallOf (with_lane m e s') 0 o.pass.number w = rests_after m e s' o.pass.number h.0 refl (no_receive m e o.pass.number r.sound has) in (
+        _,
+        gives,
+        tt,
+        lane_moves cd desk z st m r e s s' is (sender_word e) 0 id me.1 me.0 o w gives (Steps o.pass.number 0 None) (shelf_to r.shelves e) at
+            may
+            deed
+            (turn_set e (era_word m.era) 0 (lane_words s) (lane_words (lane_to m (other e))))
+            (ap (λ (cs : List (ℕ × Slot)). homes_after (homes_at e (lane_homes s (shelf_to r.shelves e)) (lane_homes (lane_to m (other e)) (shelf_to r.shelves (other e)))) cs gives) has_slot
+            ∙ (side_set e (some (Sender x)) (lane_homes s (shelf_to r.shelves e)) (lane_homes (lane_to m (other e)) (shelf_to r.shelves (other e)))
+            ∙ ap (λ (u : SenderSide). homes_at e (record (lane_homes s (shelf_to r.shelves e)) { sender = some (Sender u) }) (lane_homes (lane_to m (other e)) (shelf_to r.shelves (other e)))) h.1.2))
+            (shelved_turn cd desk z s turn.Free (shelf_to r.shelves e) refl (subst (λ (u : RingState D). HoldsBuffers u (shelf_to r.shelves e)) is ((buffers_in r) e)))
+            mine (others_send desk m e s' t o.pass.number h.1.0 h.1.1 refl refl refl (λ _. refl) (λ k apart. refl)) refl refl refl refl (λ i k. absurd (true-false (sym k))),
+        (refl, step_by cd desk z st m r id me o (with_call o.pass w) (Steps o.pass.number 0 None) (with_lane m e s') (rest me.1) at may deed mine),
+      )
+
+  -- part 1 of a reclaim of a caller that has the sender's turn: its seat loads the era, and no reopening is under way or comes
+  pub dooms : (n id : ℕ) (me : SeatState) (o : Mover me.0) (e : End) (t : Turn Sending) (x : SenderSide) (b : ℕ) → o.pass.call ≡ Sends e t x b → Allows (WordsRule cd desk z) n id me 1 (λ y. y) (FindsClosedEra me o e t x b)
+  dooms n id me o e t x b call st (m, p, r) wide at _ =
+      let h : IsCallOf m p o.pass.number (Sends e t x b) = subst (IsCallOf m p o.pass.number) call (r.turns.calls id o.place o.pass (me.0, at, o.here)) in
+      let word : get_or st.words 1 0 ≡ era_word m.era = ap (λ (ws : List ℕ). get_or ws 1 0) r.words_are in
+      go m.era.is_live refl h word
+    where
+      go : (live : Bool) → m.era.is_live ≡ live → IsCallOf m p o.pass.number (Sends e t x b) → get_or st.words 1 0 ≡ era_word m.era
+          → (w : View) × (a : Act Slot) × Valid st.homes me.1 a × WordsRule cd desk z (stepped st 1 (get_or st.words 1 0) id me.1 w a) × FindsClosedEra me o e t x b (get_or st.words 1 0) (w, carried_after me.1 a)
+      go false shut h word = (
+        _,
+        keeps,
+        tt,
+        stays_at cd desk z st m p r 1 (get_or st.words 1 0) id me.1 me.0 o (EndsSend e t x b) Nothing at refl tt refl (h.0, h.1, shut) (λ i k. absurd (true-false (sym k))),
+        (m.era, word, (λ _. refl), λ live. absurd (true-false (sym live ∙ shut))),
+      )
+      go true live h word = (
+        me.0,
+        keeps,
+        tt,
+        stays cd desk z st m p r 1 (get_or st.words 1 0) id me.1 me.0 Nothing at refl tt refl,
+        (m.era, word, (λ shut. absurd (true-false (sym live ∙ shut))), λ _. refl),
+      )
+
+  -- what both leaves of a reclaimed send share
+  module _ (st : State Slot View) (m : LaneLink (RingState D)) (r : Shows cd desk z st m 0) (e : End) (id number : ℕ) (me : SeatState) (o : Mover me.0) (t : Turn Sending) (x : SenderSide) (b : ℕ) where
+    ended : (at : get_elem? st.views id ≡ some me.0) (h : IsCallOf m 0 o.pass.number (EndsSend e t x b)) → is_manager t ≡ false → (a : Act Slot) (l' : List (Option_of Slot))
+        → homes_after (homes_at e (lane_homes (with_turn (lane_to m e) t) (shelf_to r.shelves e)) (lane_homes (lane_to m (other e)) (shelf_to r.shelves (other e)))) me.1 a
+        ≡ homes_at e (record (lane_homes (lane_to m e) l') { sender = some (Sender (sender_side (lane_to m e))) }) (lane_homes (lane_to m (other e)) (shelf_to r.shelves (other e)))
+        → HoldsBuffers (with_turn (lane_to m e) turn.Free) l'
+        → WordsRule cd desk z (stepped st (sender_word e) 0 id me.1 (with_pass me.0 o (with_call o.pass (Rests (other e))) (Some (copied cd (with_lane m e (with_turn (lane_to m e) turn.Free))))) a)
+    ended at h bare a l' homes shelved =
+        let s₀ = lane_to m e in let s = with_turn s₀ t in let is : s₀ ≡ s = λ k. with_turn s₀ (h.1.0 k) in
+        let has : has_call s₀.lane.sender o.pass.number ≡ true = has_of s₀.lane.sender o.pass.number (ap holder h.1.0 ∙ h.1.1) (ap is_manager h.1.0 ∙ bare) in
+        let freed : (ring_form desk).after_send_end s₀ o.pass.number ≡ with_turn s₀ turn.Free = ap (λ (y : Bool). with_turn s₀ (cond y turn.Free s₀.lane.sender)) has in
+        lane_moves cd desk z st m r e s (with_turn s₀ turn.Free) is (sender_word e) 0 id me.1 me.0 o (Rests (other e)) a (EndsCall (other e) o.pass.number) l' at
+        (h.2, h.0)
+        (ap (with_lane m e) (sym freed) ∙ end_deed desk m e o.pass.number r.sound has)
+        (turn_set e (era_word m.era) 0 (lane_words s) (lane_words (lane_to m (other e))))
+        homes shelved (rests_after m e (with_turn s₀ turn.Free) o.pass.number h.0 refl (no_receive m e o.pass.number r.sound has)) (others_send desk m e (with_turn s₀ turn.Free) t o.pass.number h.1.0 h.1.1 refl refl refl (λ _. refl) (λ k apart. refl)) refl refl refl refl (λ i k. absurd (true-false (sym k)))
+
+  -- part 3 of a reclaim of a send that has no buffer out
+  pub ends_bare : (n id : ℕ) (me : SeatState) (o : Mover me.0) (e : End) (t : Turn Sending) (x : SenderSide) (b : ℕ) → o.pass.call ≡ EndsSend e t x b → is_manager t ≡ false → sender_is_out t ≡ false → me.1 ≡ (sender_slot e, Sender x) ∷ rest me.1
+      → Allows (WordsRule cd desk z) n id me (sender_word e) (λ _. 0) (λ _. SendLeavesBy me o e (rest me.1))
+  ends_bare n id me o e t x b call bare inside has_slot st (m, p, r₀) wide at _ =
+      let h₀ : IsCallOf m p o.pass.number (EndsSend e t x b) = subst (IsCallOf m p o.pass.number) call (r₀.turns.calls id o.place o.pass (me.0, at, o.here)) in
+      let r = at_zero cd desk z st m p e t h₀.1.0 bare r₀ in let s₀ = lane_to m e in let hb = lane_homes (lane_to m (other e)) (shelf_to r.shelves (other e)) in (
+        _,
+        gives,
+        tt,
+        ended st m r e id o.pass.number me o t x b at h₀ bare gives (shelf_to r.shelves e)
+            (ap (λ (cs : List (ℕ × Slot)). homes_after (homes_at e (lane_homes (with_turn s₀ t) (shelf_to r.shelves e)) hb) cs gives) has_slot
+            ∙ (side_set e (some (Sender x)) (lane_homes (with_turn s₀ t) (shelf_to r.shelves e)) hb
+            ∙ ap (λ (u : SenderSide). homes_at e (record (lane_homes s₀ (shelf_to r.shelves e)) { sender = some (Sender u) }) hb) h₀.1.2))
+            (shelved_turn cd desk z s₀ turn.Free (shelf_to r.shelves e) (sym (ap sender_is_out h₀.1.0 ∙ inside)) ((buffers_in r) e)),
+        refl,
+      )
+
+  -- part 3 of a reclaim of a send between its steps 4 and 6: the buffer comes home too, whatever is in it
+  pub ends_out : (n id : ℕ) (me : SeatState) (o : Mover me.0) (e : End) (t : Turn Sending) (x : SenderSide) (b first : ℕ) (y : Slot) → o.pass.call ≡ EndsSend e t x b → is_manager t ≡ false → sender_is_out t ≡ true → first ≡ z.to_host.capacity
+      → me.1 ≡ (buffer_slot first e b, y) ∷ (sender_slot e, Sender x) ∷ rest (rest me.1)
+      → Allows (WordsRule cd desk z) n id me (sender_word e) (λ _. 0) (λ _. SendLeavesBy me o e (rest (rest me.1)))
+  ends_out n id me o e t x b first y call bare outside first_at has_slots st (m, p, r₀) wide at _ =
+      let h₀ : IsCallOf m p o.pass.number (EndsSend e t x b) = subst (IsCallOf m p o.pass.number) call (r₀.turns.calls id o.place o.pass (me.0, at, o.here)) in
+      let r = at_zero cd desk z st m p e t h₀.1.0 bare r₀ in let s₀ = lane_to m e in let hb = lane_homes (lane_to m (other e)) (shelf_to r.shelves (other e)) in
+      let sound : IsSoundRings s₀ = rings_to m e (rings_in r) in let out : sender_is_out s₀.lane.sender ≡ true = ap sender_is_out h₀.1.0 ∙ outside in let is_b : s₀.rings.sending ≡ b = h₀.1.3 outside in
+      let sends = sending_is s₀ sound out in let cap : s₀.lane.lane.capacity ≡ s₀.rings.sizes.capacity = sound.sized.lane in
+      let room : length s₀.lane.lane.accepted < s₀.lane.lane.returned + s₀.rings.sizes.capacity = omega (arith, sends.1, cap) in
+      let low : s₀.rings.sending < s₀.rings.sizes.capacity = subst (λ (k : ℕ). k < s₀.rings.sizes.capacity) (sym sends.0)
+      (source-below s₀.rings.sizes (length s₀.lane.lane.accepted) (length s₀.lane.lane.takers) s₀.lane.lane.returned s₀.rings.forward s₀.rings.returns s₀.rings.hands s₀.rings.aside sound.owned room) in
+      let near : b < length (shelf_to r.shelves e) = omega (arith, low, ((buffers_in r) e).long, is_b) in
+      let ha = lane_homes (with_turn s₀ t) (shelf_to r.shelves e) in let l' = set (shelf_to r.shelves e) b (some y) in (
+        _,
+        chain gives gives,
+        (tt, tt),
+        ended st m r e id o.pass.number me o t x b at h₀ bare (chain gives gives) l'
+            (ap (λ (cs : List (ℕ × Slot)). homes_after (homes_at e ha hb) cs (chain gives gives)) has_slots
+            ∙ (ap (λ (hs : List (Option_of Slot)). set hs (sender_slot e) (some (Sender x))) (buffer_set e first b (some y) ha hb near (first_is cd desk z st m r e first first_at))
+            ∙ (side_set e (some (Sender x)) (record ha { shelf = l' }) hb
+            ∙ ap (λ (u : SenderSide). homes_at e (record (lane_homes s₀ l') { sender = some (Sender u) }) hb) h₀.1.2)))
+            (subst (λ (k : ℕ). HoldsBuffers (with_turn s₀ turn.Free) (set (shelf_to r.shelves e) k (some y))) is_b
+            (shelved_home s₀ (with_turn s₀ turn.Free) (shelf_to r.shelves e) y sound out ((buffers_in r) e) refl refl refl refl refl (λ k to fresh. absurd (fresh to)) (λ k old. refl))),
+        refl,
+      )

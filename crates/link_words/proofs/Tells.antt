@@ -1,0 +1,99 @@
+-- What each step tells its seat: the view after, as a function of the one before and of what was found.
+use Rattle.lane_model.specs.declared.stages.Receiving.{Receiving}
+use Rattle.std.specs.Prelude.{◌≢◌, ◌%◌, ◌≤◌}
+use Rattle.ring_core.specs.declared.states.RingSizes.{RingSizes}
+use Rattle.ring_core.specs.Rings.{return_count}
+use Rattle.lane_model.specs.Receives.{after_take_era}
+use Rattle.std.specs.Prelude.{◌≡◌, true, false, ℕ, ◌+◌, List, [], ◌∷◌, ◌++◌}
+use Rattle.atomic_table.specs.Table.{rest}
+use Rattle.link_words.specs.Calls.{SeatState}
+use Rattle.link_words.specs.Steps.{look_turn, take_look_turn}
+use Rattle.rp_base.specs.declared.kinds.Era.{Era}
+use Rattle.rp_base.specs.declared.kinds.End.{End}
+use Rattle.lane_model.specs.declared.stages.Turn.{Turn}
+use Rattle.lane_model.specs.declared.stages.Turn.TheVariants as turn
+use Rattle.lane_model.specs.declared.stages.Sending.{Sending}
+use Rattle.lane_model.specs.declared.stages.SendStage.TheVariants as stage
+use Rattle.lane_model.specs.declared.calls.CallEnd.TheVariants as end
+use Rattle.lane_model.specs.declared.stages.Work.{Work}
+use Rattle.lane_model.specs.declared.stages.Work.TheVariants as work
+use Rattle.lane_model.specs.declared.stages.TakeStage.TheVariants as take_stage
+use Rattle.lane_model.specs.Lanes.{is_live_in}
+use Rattle.rp_base.specs.declared.kinds.Verdict.{Verdict}
+use Rattle.lane_model.specs.Sends.{after_send_era}
+use Rattle.link_words.specs.declared.rule.Slot.{Slot}
+use Rattle.link_words.specs.declared.rule.Slot.TheVariants.{Buffer, Receiver}
+use Rattle.link_words.specs.declared.rule.SenderSide.{SenderSide}
+use Rattle.link_words.specs.declared.rule.ReceiverSide.{ReceiverSide}
+use Rattle.link_words.specs.declared.rule.Call.TheVariants.{Sends, Rests, Receives, EndsSend, Reopens}
+use Rattle.link_words.specs.declared.rule.Event.TheVariants.{Publish, Take}
+use Rattle.link_words.specs.Passes.{Mover, with_call, with_pass}
+use Rattle.link_words.specs.Words.{receiver_slot, other, era_word, buffer_slot}
+
+-- step 2 of a send: the era that was found decides
+abbrev pub SendLoadsEraBy : (me : SeatState) → Mover me.0 → End → ℕ → Sending → SenderSide → ℕ → ℕ → SeatState → Type 0
+SendLoadsEraBy me o e c s x b n me' = (era : Era) × (n ≡ era_word era) × (me' ≡ (with_pass me.0 o (with_call o.pass (Sends e (after_send_era era c s) x b)) me'.0.copy, me.1))
+
+-- step 4 of a send: the buffer is out
+abbrev pub SendTakesBufferBy : (me : SeatState) → Mover me.0 → ℕ → End → ℕ → Sending → SenderSide → ℕ → SeatState → Type 0
+SendTakesBufferBy me o first e c s x id me' = (y : Slot) × (me' ≡ (with_pass me.0 o (with_call o.pass (Sends e (turn.Taken c (record s { stage = stage.Buffer })) x id)) me'.0.copy, (buffer_slot first e id, y) ∷ me.1))
+
+-- step 6 of a send: the message is in the book, and the buffer at home
+abbrev pub SendPublishesBy : (me : SeatState) → Mover me.0 → End → ℕ → ℕ → List ℕ → SenderSide → ℕ → SeatState → Type 0
+SendPublishesBy me o e c f message x b me' =
+    me' ≡ (with_pass me.0 o (record o.pass { call = Sends e (turn.Leaving c (end.Sent x.accepted)) (record { accepted = x.accepted + 1 }) b; own = Publish e f x.accepted message ∷ o.pass.own }) me'.0.copy, rest me.1)
+
+-- the turn is free, what was out is at home, and these slots are still out
+abbrev pub SendLeavesBy : (me : SeatState) → Mover me.0 → End → List (ℕ × Slot) → SeatState → Type 0
+SendLeavesBy me o e left me' = me' ≡ (with_pass me.0 o (with_call o.pass (Rests (other e))) me'.0.copy, left)
+
+-- part 1 of a reclaim, by the seat of the caller that has the sender's turn: the era that was found
+abbrev pub FindsClosedEra : (me : SeatState) → Mover me.0 → End → Turn Sending → SenderSide → ℕ → ℕ → SeatState → Type 0
+FindsClosedEra me o e t x b n me' = (era : Era) × (n ≡ era_word era) × (era.is_live ≡ false → me' ≡ (with_pass me.0 o (with_call o.pass (EndsSend e t x b)) me'.0.copy, me.1)) × (era.is_live ≡ true → me' ≡ me)
+
+-- the manager, which has the four turns and holds nothing, loads the era: a reopening begins where it is closed
+abbrev pub BeginsReopening : (me : SeatState) → Mover me.0 → ℕ → SeatState → Type 0
+BeginsReopening me o n me' = (era : Era) × (n ≡ era_word era) × (era.is_live ≡ false → me' ≡ (with_pass me.0 o (with_call o.pass (Reopens 0 era.inc)) me'.0.copy, me.1)) × (era.is_live ≡ true → me' ≡ me)
+
+-- step 4 of a take: the buffer is out, with its message
+abbrev pub TakeTakesBufferBy : (me : SeatState) → Mover me.0 → ℕ → End → ℕ → ℕ → ReceiverSide → ℕ → SeatState → Type 0
+TakeTakesBufferBy me o first e c f x id me' = (message : List ℕ)
+    × (me' ≡ (with_pass me.0 o (with_call o.pass (Receives e (turn.Taken c (record { follows = f; work = work.Take take_stage.Buffer })) x id message)) me'.0.copy, (buffer_slot first e id, Buffer message) ∷ me.1))
+
+-- step 5 of a take: the era that was found decides; the buffer's slot is at home either way
+abbrev pub TakeHandsBy : (me : SeatState) → Mover me.0 → End → ℕ → ℕ → ReceiverSide → ℕ → List ℕ → ℕ → SeatState → Type 0
+TakeHandsBy me o e c f x b message n me' = (era : Era) × (n ≡ era_word era)
+    × (is_live_in era f ≡ true → (v : Verdict) × (me' ≡ (
+      with_pass me.0 o (record o.pass {
+        call = Receives e (turn.Leaving c (end.Took x.handed v))
+            (record { handed = x.handed + 1; returned = x.returned; hands = x.hands ++ record { number = x.handed; caller = c; buffer = b } ∷ [] }) b message;
+        own = Take e f x.handed message ∷ o.pass.own;
+        hands = o.pass.hands ++ x.handed ∷ [];
+      }) me'.0.copy,
+      rest me.1,
+    )))
+    × (is_live_in era f ≡ false → me' ≡ (with_pass me.0 o (with_call o.pass (Receives e (turn.Leaving c (end.Dead era)) x b message)) me'.0.copy, rest me.1))
+
+-- step 3 of a send: the return index that was found tells how many buffers are back
+abbrev pub SendLooksBy : (me : SeatState) → Mover me.0 → RingSizes → End → ℕ → Sending → SenderSide → ℕ → ℕ → SeatState → Type 0
+SendLooksBy me o sizes e c s x b n me' = (returned : ℕ) × (book : ℕ) × (n ≡ return_count sizes returned % 65536) × (returned ≤ x.accepted) × (x.accepted ≤ returned + sizes.capacity)
+    × (me' ≡ (with_pass me.0 o (with_call o.pass (Sends e (look_turn x.accepted returned sizes.capacity book c s) x b)) me'.0.copy, me.1))
+
+-- step 5 of a send: the forward entry names the buffer
+abbrev pub SendStoresEntryBy : (me : SeatState) → Mover me.0 → End → ℕ → Sending → SenderSide → ℕ → SeatState → Type 0
+SendStoresEntryBy me o e c s x b me' = me' ≡ (with_pass me.0 o (with_call o.pass (Sends e (turn.Taken c (record s { stage = stage.Entry })) x b)) me'.0.copy, me.1)
+
+-- step 2 of a take: the era that was found decides
+abbrev pub TakeLoadsEraBy : (me : SeatState) → Mover me.0 → End → ℕ → Receiving → ReceiverSide → ℕ → List ℕ → ℕ → SeatState → Type 0
+TakeLoadsEraBy me o e c q x b message n me' = (era : Era) × (n ≡ era_word era) × (me' ≡ (with_pass me.0 o (with_call o.pass (Receives e (after_take_era era c q) x b message)) me'.0.copy, me.1))
+
+-- step 3 of a take: the forward index that was found tells how many messages there are
+abbrev pub TakeLooksBy : (me : SeatState) → Mover me.0 → RingSizes → End → ℕ → Receiving → ReceiverSide → ℕ → List ℕ → ℕ → SeatState → Type 0
+TakeLooksBy me o sizes e c q x b message n me' = (accepted : ℕ) × (n ≡ accepted % 65536) × (x.handed ≤ accepted) × (accepted ≤ x.handed + sizes.capacity)
+    × (me' ≡ (with_pass me.0 o (with_call o.pass (Receives e (take_look_turn x.handed accepted c q) x b message)) me'.0.copy, me.1))
+
+-- step 1 of a call that needs the receiver's turn
+abbrev pub TakeBeginsBy : (me : SeatState) → Mover me.0 → End → ℕ → Work → ℕ → SeatState → Type 0
+TakeBeginsBy me o e follows first n me' =
+    (n ≡ 0 → (x : ReceiverSide) × (me' ≡ (with_pass me.0 o (with_call o.pass (Receives e (turn.Taken o.pass.number (record { follows = follows; work = first })) x 0 [])) me'.0.copy, (receiver_slot e, Receiver x) ∷ me.1)))
+    × (n ≢ 0 → me' ≡ me)

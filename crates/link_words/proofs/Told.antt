@@ -1,0 +1,296 @@
+-- Each step of a send and of a take as its seat is told it, on the words of the table.
+use Rattle.std.proofs.Common.{◌≡◌, ℕ, ◌+◌, ◌-◌, ◌*◌, ◌%◌, ◌<◌, ◌≤◌, true, false, Bool, cond, List, [], ◌∷◌, ◌++◌, length, refl, sym, ap, ◌∙◌, subst, arith}
+use Rattle.std.specs.Prelude.{None, if◌then◌else◌}
+use Rattle.atomic_table.specs.Table.{Allows, rest}
+use base.Stored.{Coded}
+use Rattle.rp_base.specs.declared.kinds.End.{End}
+use Rattle.rp_base.specs.declared.kinds.End.TheVariants as side
+use Rattle.rp_base.specs.declared.kinds.Era.{Era}
+use Rattle.rp_base.specs.declared.kinds.Verdict.{Verdict}
+use Rattle.rp_base.specs.declared.kinds.Verdict.TheVariants as verdict
+use Rattle.lane_model.specs.declared.calls.CallEnd.TheVariants as end
+use Rattle.lane_model.specs.Lanes.{is_live_in}
+use Rattle.link_words.specs.declared.rule.Event.TheVariants.{Publish, Take}
+use Rattle.link_words.specs.declared.rule.Ring.TheVariants as ring
+use Rattle.lane_model.specs.declared.stages.GiveStage.TheVariants as give_stage
+use Rattle.lane_model.specs.declared.stages.SendStage.TheVariants as stage
+use Rattle.lane_model.specs.declared.stages.TakeStage.TheVariants as take_stage
+use Rattle.lane_model.specs.declared.stages.Turn.{Turn}
+use Rattle.lane_model.specs.declared.stages.Turn.TheVariants as turn
+use Rattle.lane_model.specs.declared.stages.Sending.{Sending}
+use Rattle.lane_model.specs.declared.stages.Receiving.{Receiving}
+use Rattle.lane_model.specs.declared.stages.Work.TheVariants as work
+use Rattle.lane_model.specs.Desks.{DeskMeaning}
+use Rattle.lane_model.specs.Sends.{after_send_era}
+use Rattle.lane_model.specs.Receives.{after_take_era, desk_end}
+use Rattle.ring_core.specs.declared.states.RingSizes.{RingSizes}
+use Rattle.ring_core.specs.Rings.{return_count, entry_length}
+use Rattle.link_words.specs.declared.rule.Call.{Call}
+use Rattle.link_words.specs.declared.rule.Call.TheVariants.{Sends, Receives, Rests}
+use Rattle.link_words.specs.declared.rule.LinkSizes.{LinkSizes}
+use Rattle.link_words.specs.declared.rule.Pass.{Pass}
+use Rattle.link_words.specs.declared.rule.ReceiverSide.{ReceiverSide}
+use Rattle.link_words.specs.declared.rule.SenderSide.{SenderSide}
+use Rattle.link_words.specs.declared.rule.Slot.{Slot}
+use Rattle.link_words.specs.declared.rule.Slot.TheVariants.{Buffer}
+use Rattle.link_words.specs.Calls.{SeatState, SendAt, WorkAt, SendEnds, ReceiveEnds, send_or, receive_or, under_way_or, with_send, with_receive, place_of, call_at, Becomes}
+use Rattle.link_words.specs.Deeds.{Steps}
+use Rattle.link_words.specs.Layouts.{place_in}
+use Rattle.link_words.specs.Parts.{AreNear}
+use Rattle.link_words.specs.Passes.{Mover, with_call, with_pass, with_call_and_hands}
+use Rattle.link_words.specs.Rule.{WordsRule, LinkRule}
+use Rattle.link_words.specs.Steps.{GoesOn, SendLoadsEra, SendLooks, SendTakesBuffer, SendStoresEntry, SendPublishes, LeavesSender, TakeLoadsEra, TakeLooks, TakeTakesBuffer, TakeHands, LeavesReceiver, look_turn, take_look_turn, sizes_by, accepted_by, handed_by, with_publish, with_handing, GiveStoresEntry, GivePublishes, BindLoadsEra, with_entry, with_given, given_or, hands_but, AnyWord, HasWord}
+use Rattle.link_words.specs.Words.{other, sizes_at, entries_before, entry_number, sender_word, receiver_word, forward_word, return_word, buffer_slot, era_word}
+use Rattle.link_words.proofs.Apart.{apart}
+use Rattle.link_words.proofs.Buffers.{pulls_own}
+use Rattle.link_words.proofs.Entries.{pulls_entry, forward_entry, sizes_known}
+use Rattle.link_words.proofs.Exact.{StepBy, call_is, becomes, step_told, ReadsAt, read_there}
+use Rattle.link_words.proofs.Looks.{sends_look, sends_entry}
+use Rattle.link_words.proofs.Publishes.{publishes}
+use Rattle.link_words.proofs.Reclaims.{leaves}
+use Rattle.link_words.proofs.Sends.{sends_era}
+use Rattle.link_words.proofs.TakeEnds.{leaves_take}
+use Rattle.link_words.proofs.TakeStarts.{takes_era, takes_look}
+use Rattle.link_words.proofs.Takes.{draws, hands}
+use Rattle.link_words.proofs.Tells.{SendLoadsEraBy, SendLooksBy, SendTakesBufferBy, SendStoresEntryBy, SendPublishesBy, SendLeavesBy, TakeLoadsEraBy, TakeLooksBy, TakeTakesBufferBy, TakeHandsBy}
+use Rattle.link_words.proofs.Gives.{gives_entry, gives_back, binds}
+use Rattle.ring_core.specs.RingSteps.{held_buffer, hands_without}
+use Rattle.lane_model.specs.declared.stages.Work.{Work}
+use Rattle.lane_model.specs.declared.calls.CallEnd.{CallEnd}
+
+abbrev send_to : (SenderSide → ℕ → Sending → Turn Sending) → Pass → Call → Pass
+send_to next p k = with_call p (send_or k (λ e t x b. Sends e (under_way_or t (next x) t) x b) k)
+
+abbrev receive_to : (ReceiverSide → ℕ → Receiving → Turn Receiving) → Pass → Call → Pass
+receive_to next p k = with_call p (receive_or k (λ e t x b message. Receives e (under_way_or t (next x) t) x b message) k)
+
+abbrev with_handing_of : Era → Verdict → Pass → Call → Pass
+with_handing_of era verdict p k = receive_or p (λ e t x b message. under_way_or p (λ caller r. if is_live_in era r.follows
+    then record p {
+      call = Receives e (turn.Leaving caller (end.Took x.handed verdict)) (record x { handed = x.handed + 1; hands = x.hands ++ record { number = x.handed; caller = caller; buffer = b } ∷ [] }) b message;
+      own = Take e r.follows x.handed message ∷ p.own;
+      hands = p.hands ++ x.handed ∷ [];
+    }
+    else with_call p (Receives e (turn.Leaving caller (end.Dead era)) x b message)) t) k
+
+abbrev given_to : Pass → Call → Pass
+given_to p k = receive_or p (λ e t x b message. under_way_or p (λ caller r. given_or p (λ number. record p {
+  call = Receives e (turn.Leaving caller (end.Gave number)) (record { handed = x.handed; returned = x.returned + 1; hands = hands_without x.hands number }) b message;
+  hands = hands_but p.hands number;
+}) r.work) t) k
+
+abbrev lane_in : Call → End
+lane_in k = send_or (receive_or side.Host (λ e t x b message. e) k) (λ e t x b. e) k
+
+-- the call of the pass that steps
+send_here : (me : SeatState) (e : End) (q : _) (s : SendAt me e q) → call_at (place_of me) me.0.passes ≡ Sends e (turn.Taken s.caller (record { follows = s.follows; message = s.message; stage = q })) s.side s.buffer
+send_here me e q s = sym (call_is me s.mover (place_of me) s.here) ∙ s.call
+
+work_here : (me : SeatState) (e : End) (w : _) (s : WorkAt me e w) → call_at (place_of me) me.0.passes ≡ Receives e (turn.Taken s.caller (record { follows = s.follows; work = w })) s.side s.buffer s.message
+work_here me e w s = sym (call_is me s.mover (place_of me) s.here) ∙ s.call
+
+pub send_accepted : (me : SeatState) (e : End) (q : _) (s : SendAt me e q) → accepted_by me ≡ s.side.accepted
+send_accepted me e q s = ap (λ (k : Call). send_or 0 (λ e t x b. x.accepted) k) (send_here me e q s)
+
+pub work_handed : (me : SeatState) (e : End) (w : _) (s : WorkAt me e w) → handed_by me ≡ s.side.handed
+work_handed me e w s = ap (λ (k : Call). receive_or 0 (λ e t x b message. x.handed) k) (work_here me e w s)
+
+pub send_sizes : (z : LinkSizes) (me : SeatState) (e : End) (q : _) (s : SendAt me e q) → me.0.sizes ≡ z → sizes_by me ≡ sizes_at z e
+send_sizes z me e q s sized = λ i. sizes_at (sized i) (ap lane_in (send_here me e q s) i)
+
+work_sizes : (z : LinkSizes) (me : SeatState) (e : End) (w : _) (s : WorkAt me e w) → me.0.sizes ≡ z → sizes_by me ≡ sizes_at z e
+work_sizes z me e w s sized = λ i. sizes_at (sized i) (ap lane_in (work_here me e w s) i)
+
+module _ {D : Type 0} (cd : Coded D) (desk : DeskMeaning D) (z : LinkSizes) (n id : ℕ) (me : SeatState) (e : End) where
+  -- a later step of a call at a store, on the word of the table, told by the place of the pass that steps
+  stored_by : (i place : ℕ) (f : ℕ → ℕ) (o : Mover me.0) → o.place ≡ place_of me → (T T' : ℕ → SeatState → Type 0) → place ≡ place_in i
+      → Allows (WordsRule cd desk z) n id me i f (λ y me'. T y me' × StepBy cd desk AnyWord me o (Steps o.pass.number 0 None) me') → ((y : ℕ) (me' : SeatState) → T y me' → T' y me')
+      → Allows (LinkRule cd desk z) n id me place f (λ y me'. T' y me' × GoesOn cd desk AnyWord me me')
+  stored_by i place f o here T T' is allows follows s kept long at wide =
+      let a = apart cd desk z n id me i place f (λ y me'. T y me' × StepBy cd desk AnyWord me o (Steps o.pass.number 0 None) me') is allows s kept long at wide in
+      (a.0, a.1, a.2, a.3, (follows _ _ a.4.0, step_told me o (place_of me) here cd desk AnyWord (λ k. Steps k 0 None) _ a.4.1))
+
+  -- the same at a load
+  told_by : (i place : ℕ) (f : ℕ → ℕ) (o : Mover me.0) → o.place ≡ place_of me → (T T' : ℕ → SeatState → Type 0) → place ≡ place_in i
+      → Allows (WordsRule cd desk z) n id me i f (λ y me'. T y me' × StepBy cd desk (ReadsAt i y) me o (Steps o.pass.number 0 None) me') → ((y : ℕ) (me' : SeatState) → T y me' → T' y me')
+      → Allows (LinkRule cd desk z) n id me place f (λ y me'. T' y me' × GoesOn cd desk (HasWord place y) me me')
+  told_by i place f o here T T' is allows follows s kept long at wide =
+      let a = apart cd desk z n id me i place f (λ y me'. T y me' × StepBy cd desk (ReadsAt i y) me o (Steps o.pass.number 0 None) me') is allows s kept long at wide in
+      (a.0, a.1, a.2, a.3, (follows _ _ a.4.0, read_there cd desk i place _ is _ _ _ _ me _ (step_told me o (place_of me) here cd desk (ReadsAt i _) (λ k. Steps k 0 None) _ a.4.1)))
+
+  pub send_loads_era : (s : SendAt me e stage.Turn) → Allows (LinkRule cd desk z) n id me 16 (λ y. y) (λ y me'. SendLoadsEra me y me' × GoesOn cd desk (HasWord 16 y) me me')
+  send_loads_era s = told_by 1 16 (λ y. y) s.mover s.here (SendLoadsEraBy me s.mover e s.caller (record { follows = s.follows; message = s.message; stage = stage.Turn }) s.side s.buffer) (λ y me'. SendLoadsEra me y me') refl
+      (sends_era cd desk z n id me s.mover e s.caller s.follows s.message s.side s.buffer s.call)
+      (λ y me' t₀. (t₀.0, t₀.1, becomes me s.mover (place_of me) s.here (with_send (λ x caller q. after_send_era t₀.0 caller q)) _ me.1 me' (ap (send_to (λ x caller q. after_send_era t₀.0 caller q) s.mover.pass) (sym s.call)) t₀.2))
+
+  pub send_looks : (s : SendAt me e stage.Era) (place : ℕ) → place ≡ place_in (return_word e) → me.0.sizes ≡ z → Allows (LinkRule cd desk z) n id me place (λ y. y) (λ y me'. SendLooks me y me' × GoesOn cd desk (HasWord place y) me me')
+  send_looks s place is sized = told_by (return_word e) place (λ y. y) s.mover s.here (SendLooksBy me s.mover (sizes_at z e) e s.caller (record { follows = s.follows; message = s.message; stage = stage.Era }) s.side s.buffer) (λ y me'. SendLooks me y me') is
+      (sends_look cd desk z n id me s.mover e s.caller s.follows s.message s.side s.buffer s.call)
+      (λ y me' t₀. let t = t₀ in
+      subst (λ (v : RingSizes × ℕ). (returned : ℕ) × (book : ℕ) × (y ≡ return_count v.0 returned % 65536) × AreNear v.0.capacity v.1 returned × Becomes (with_send (λ x caller q. look_turn x.accepted returned v.0.capacity book caller q)) (place_of me) me.1 me me')
+      (λ i. (sym (send_sizes z me e stage.Era s sized) i, sym (send_accepted me e stage.Era s) i))
+      (t.0, t.1, t.2, (t.3, t.4), becomes me s.mover (place_of me) s.here (with_send (λ x caller q. look_turn x.accepted t.0 (sizes_at z e).capacity t.1 caller q)) _ me.1 me' (ap (send_to (λ x caller q. look_turn x.accepted t.0 (sizes_at z e).capacity t.1 caller q) s.mover.pass) (sym s.call)) t.5))
+
+  -- a buffer goes out: the send's call, and its slot by the sizes that the view has
+  buffer_told : (s : SendAt me e stage.Look) (buffer : ℕ) (me' : SeatState) → me.0.sizes ≡ z
+      → (y : Slot) × (me' ≡ (with_pass me.0 s.mover (with_call s.mover.pass (Sends e (turn.Taken s.caller (record { follows = s.follows; message = s.message; stage = stage.Buffer })) s.side buffer)) me'.0.copy, (buffer_slot z.to_host.capacity e buffer, y) ∷ me.1))
+      → SendTakesBuffer buffer me me'
+  buffer_told s buffer me' sized t₀ =
+      let F : Pass → Call → Pass = λ p k. with_call p (send_or k (λ e t x b. Sends e (under_way_or t (λ caller q. turn.Taken caller (record q { stage = stage.Buffer })) t) x buffer) k) in
+      subst (λ (v : ℕ × End). (y : Slot) × Becomes (λ p. F p p.call) (place_of me) ((buffer_slot v.0 v.1 buffer, y) ∷ me.1) me me')
+      (λ i. ((sym sized i).to_host.capacity, sym (ap lane_in (send_here me e stage.Look s)) i))
+      (t₀.0, becomes me s.mover (place_of me) s.here (λ p. F p p.call) _ ((buffer_slot z.to_host.capacity e buffer, t₀.0) ∷ me.1) me' (ap (F s.mover.pass) (sym s.call)) t₀.1)
+
+  pub send_takes_own : (s : SendAt me e stage.Look) (i place : ℕ) → place ≡ place_in i → me.0.sizes ≡ z → accepted_by me < (sizes_by me).own
+      → Allows (LinkRule cd desk z) n id me place (λ y. y) (λ y me'. SendTakesBuffer (accepted_by me) me me' × GoesOn cd desk (HasWord place y) me me')
+  send_takes_own s i place is sized early =
+      let a = send_accepted me e stage.Look s in let o : (sizes_by me).own ≡ (sizes_at z e).own = ap (λ (x : RingSizes). x.own) (send_sizes z me e stage.Look s sized) in
+      told_by i place (λ y. y) s.mover s.here (λ _. SendTakesBufferBy me s.mover z.to_host.capacity e s.caller (record { follows = s.follows; message = s.message; stage = stage.Look }) s.side s.side.accepted) (λ y me'. SendTakesBuffer (accepted_by me) me me') is
+      (pulls_own cd desk z n id me s.mover e s.caller s.follows s.message s.side s.buffer i z.to_host.capacity (sizes_at z e).own s.call refl
+      (λ st m r. (sizes_known cd desk z e st m r).1) (omega (arith, early, a, o)))
+      (λ y me' t₀. subst (λ (b : ℕ). SendTakesBuffer b me me') (sym a) (buffer_told s s.side.accepted me' sized t₀))
+
+  pub send_loads_entry : (s : SendAt me e stage.Look) (count place : ℕ) → place ≡ place_in (entry_number z e ring.Return count) → me.0.sizes ≡ z → accepted_by me ≡ (sizes_by me).own + count
+      → Allows (LinkRule cd desk z) n id me place (λ y. y) (λ y me'. SendTakesBuffer (y % 4294967296) me me' × GoesOn cd desk (HasWord place y) me me')
+  send_loads_entry s count place is sized at =
+      let a = send_accepted me e stage.Look s in let o : (sizes_by me).own ≡ (sizes_at z e).own = ap (λ (x : RingSizes). x.own) (send_sizes z me e stage.Look s sized) in
+      let size = (sizes_at z e).entries in let late : (sizes_at z e).own ≤ s.side.accepted = omega (arith, at, a, o) in
+      let c : count ≡ s.side.accepted - (sizes_at z e).own = omega (arith, at, a, o) in
+      told_by (entry_number z e ring.Return count) place (λ y. y) s.mover s.here (λ y. SendTakesBufferBy me s.mover z.to_host.capacity e s.caller (record { follows = s.follows; message = s.message; stage = stage.Look }) s.side (y % 4294967296)) (λ y me'. SendTakesBuffer (y % 4294967296) me me') is
+      (pulls_entry cd desk z n id me s.mover e s.caller s.follows s.message s.side s.buffer (entry_number z e ring.Return count) z.to_host.capacity size (sizes_at z e).own (entries_before z e) s.call refl
+      (λ st m r. sizes_known cd desk z e st m r) late (ap (λ (k : ℕ). 10 + (entries_before z e + (size + k % size))) c))
+      (λ y me' t₀. buffer_told s (y % 4294967296) me' sized t₀)
+
+  pub send_stores_entry : (s : SendAt me e stage.Buffer) (count place new : ℕ) → place ≡ place_in (entry_number z e ring.Forward count) → s.side.accepted ≡ count → new ≡ s.buffer + entry_length (sizes_at z e) (length s.message) * 4294967296
+      → Allows (LinkRule cd desk z) n id me place (λ _. new) (λ _ me'. SendStoresEntry me me' × GoesOn cd desk AnyWord me me')
+  send_stores_entry s count place new is at new_is =
+      let size = (sizes_at z e).entries in let next : SenderSide → ℕ → Sending → Turn Sending = λ x caller q. turn.Taken caller (record q { stage = stage.Entry }) in
+      let zero_before : entry_number z e ring.Forward count ≡ 10 + (entries_before z e + s.side.accepted % size) = (let e0 : 10 + (entries_before z e + (0 + count % size)) ≡ 10 + (entries_before z e + count % size) = omega arith in e0) ∙ ap (λ (k : ℕ). 10 + (entries_before z e + k % size)) (sym at) in
+      stored_by (entry_number z e ring.Forward count) place (λ _. new) s.mover s.here (λ _. SendStoresEntryBy me s.mover e s.caller (record { follows = s.follows; message = s.message; stage = stage.Buffer }) s.side s.buffer) (λ _ me'. SendStoresEntry me me') is
+      (sends_entry cd desk z n id me s.mover e s.caller s.follows s.message s.side s.buffer (entry_number z e ring.Forward count) new (entries_before z e) s.call
+      (λ st m r. (sizes_known cd desk z e st m r).2) zero_before new_is)
+      (λ y me' t₀. becomes me s.mover (place_of me) s.here (with_send next) _ me.1 me' (ap (send_to next s.mover.pass) (sym s.call)) t₀)
+
+  pub send_publishes : (s : SendAt me e stage.Entry) (count place new : ℕ) → place ≡ place_in (forward_word e) → s.side.accepted + 1 ≡ count → new ≡ count % 65536 → me.0.sizes ≡ z
+      → me.1 ≡ (buffer_slot me.0.sizes.to_host.capacity e s.buffer, Buffer s.message) ∷ rest me.1
+      → Allows (LinkRule cd desk z) n id me place (λ _. new) (λ _ me'. SendPublishes me me' × GoesOn cd desk AnyWord me me')
+  send_publishes s count place new is at new_is sized slots =
+      let F : Pass → Call → Pass = λ p k. send_or p (λ e t x b. under_way_or p (λ caller q. record p {
+        call = Sends e (turn.Leaving caller (end.Sent x.accepted)) (record { accepted = x.accepted + 1 }) b;
+        own = Publish e q.follows x.accepted q.message ∷ p.own;
+      }) t) k in
+      stored_by (forward_word e) place (λ _. new) s.mover s.here (λ _. SendPublishesBy me s.mover e s.caller s.follows s.message s.side s.buffer) (λ _ me'. SendPublishes me me') is
+      (publishes cd desk z n id me s.mover e s.caller s.follows s.message s.side s.buffer z.to_host.capacity new s.call refl
+      (slots ∙ ap (λ (w : LinkSizes). (buffer_slot w.to_host.capacity e s.buffer, Buffer s.message) ∷ rest me.1) sized) (new_is ∙ ap (λ (k : ℕ). k % 65536) (sym at)))
+      (λ y me' t₀. becomes me s.mover (place_of me) s.here with_publish _ (rest me.1) me' (ap (F s.mover.pass) (sym s.call)) t₀)
+
+  pub leaves_sender : (s : SendEnds me e) (place : ℕ) → place ≡ place_in (sender_word e) → Allows (LinkRule cd desk z) n id me place (λ _. 0) (λ _ me'. LeavesSender me me' × GoesOn cd desk AnyWord me me')
+  leaves_sender s place is =
+      let F : Pass → Call → Pass = λ p k. with_call p (send_or k (λ e t x b. Rests (other e)) k) in
+      stored_by (sender_word e) place (λ _. 0) s.mover s.here (λ _. SendLeavesBy me s.mover e (rest me.1)) (λ _ me'. LeavesSender me me') is
+      (leaves cd desk z n id me s.mover e s.caller s.end s.side s.buffer s.call s.slots)
+      (λ y me' t₀. becomes me s.mover (place_of me) s.here (λ p. F p p.call) _ (rest me.1) me' (ap (F s.mover.pass) (sym s.call)) t₀)
+
+  pub leaves_receiver : (s : ReceiveEnds me e) (place : ℕ) → place ≡ place_in (receiver_word e) → Allows (LinkRule cd desk z) n id me place (λ _. 0) (λ _ me'. LeavesReceiver me me' × GoesOn cd desk AnyWord me me')
+  leaves_receiver s place is =
+      let F : Pass → Call → Pass = λ p k. with_call p (receive_or k (λ e t x b message. Rests e) k) in
+      stored_by (receiver_word e) place (λ _. 0) s.mover s.here (λ _ m'. m' ≡ (with_pass me.0 s.mover (with_call s.mover.pass (Rests e)) m'.0.copy, rest me.1)) (λ _ me'. LeavesReceiver me me') is
+      (leaves_take cd desk z n id me s.mover e s.caller s.end s.side s.buffer s.message s.call s.slots)
+      (λ y me' t₀. becomes me s.mover (place_of me) s.here (λ p. F p p.call) _ (rest me.1) me' (ap (F s.mover.pass) (sym s.call)) t₀)
+
+  pub take_loads_era : (s : WorkAt me e (work.Take take_stage.Turn)) → Allows (LinkRule cd desk z) n id me 16 (λ y. y) (λ y me'. TakeLoadsEra me y me' × GoesOn cd desk (HasWord 16 y) me me')
+  take_loads_era s = told_by 1 16 (λ y. y) s.mover s.here (TakeLoadsEraBy me s.mover e s.caller (record { follows = s.follows; work = work.Take take_stage.Turn }) s.side s.buffer s.message) (λ y me'. TakeLoadsEra me y me') refl
+      (takes_era cd desk z n id me s.mover e s.caller s.follows s.side s.buffer s.message s.call)
+      (λ y me' t₀. (t₀.0, t₀.1, becomes me s.mover (place_of me) s.here (with_receive (λ x caller q. after_take_era t₀.0 caller q)) _ me.1 me' (ap (receive_to (λ x caller q. after_take_era t₀.0 caller q) s.mover.pass) (sym s.call)) t₀.2))
+
+  pub take_looks : (s : WorkAt me e (work.Take take_stage.Era)) (place : ℕ) → place ≡ place_in (forward_word e) → me.0.sizes ≡ z → Allows (LinkRule cd desk z) n id me place (λ y. y) (λ y me'. TakeLooks me y me' × GoesOn cd desk (HasWord place y) me me')
+  take_looks s place is sized = told_by (forward_word e) place (λ y. y) s.mover s.here (TakeLooksBy me s.mover (sizes_at z e) e s.caller (record { follows = s.follows; work = work.Take take_stage.Era }) s.side s.buffer s.message) (λ y me'. TakeLooks me y me') is
+      (takes_look cd desk z n id me s.mover e s.caller s.follows s.side s.buffer s.message s.call)
+      (λ y me' t₀. let t = t₀ in
+      subst (λ (v : RingSizes × ℕ). (accepted : ℕ) × (y ≡ accepted % 65536) × (v.1 ≤ accepted) × (accepted ≤ v.1 + v.0.capacity) × Becomes (with_receive (λ x caller q. take_look_turn x.handed accepted caller q)) (place_of me) me.1 me me')
+      (λ i. (sym (work_sizes z me e (work.Take take_stage.Era) s sized) i, sym (work_handed me e (work.Take take_stage.Era) s) i))
+      (t.0, t.1, t.2, t.3, becomes me s.mover (place_of me) s.here (with_receive (λ x caller q. take_look_turn x.handed t.0 caller q)) _ me.1 me' (ap (receive_to (λ x caller q. take_look_turn x.handed t.0 caller q) s.mover.pass) (sym s.call)) t.4))
+
+  pub take_loads_entry : (s : WorkAt me e (work.Take take_stage.Look)) (count place : ℕ) → place ≡ place_in (entry_number z e ring.Forward count) → me.0.sizes ≡ z → handed_by me ≡ count
+      → Allows (LinkRule cd desk z) n id me place (λ y. y) (λ y me'. TakeTakesBuffer (y % 4294967296) me me' × GoesOn cd desk (HasWord place y) me me')
+  take_loads_entry s count place is sized at =
+      let F : ℕ → List ℕ → Pass → Call → Pass = λ buffer message p k. with_call p (receive_or k (λ e t x b old. Receives e (under_way_or t (λ caller r. turn.Taken caller (record r { work = work.Take take_stage.Buffer })) t) x buffer message) k) in
+      let h = work_handed me e (work.Take take_stage.Look) s in
+      told_by (entry_number z e ring.Forward count) place (λ y. y) s.mover s.here (λ y. TakeTakesBufferBy me s.mover z.to_host.capacity e s.caller s.follows s.side (y % 4294967296)) (λ y me'. TakeTakesBuffer (y % 4294967296) me me') is
+      (draws cd desk z n id me s.mover e s.caller s.follows s.side s.buffer (entry_number z e ring.Forward count) z.to_host.capacity s.message s.call refl (λ y. y % 4294967296)
+      (λ st m r side sound low. forward_entry cd desk z n e st m r count (sym at ∙ (h ∙ ap (λ (x : ReceiverSide). x.handed) side)) sound low))
+      (λ y me' t₀. let buffer : ℕ = y % 4294967296 in let t = t₀ in
+      subst (λ (v : ℕ × End). (message : List ℕ) × Becomes (λ p. F buffer message p p.call) (place_of me) ((buffer_slot v.0 v.1 buffer, Buffer message) ∷ me.1) me me')
+      (λ i. ((sym sized i).to_host.capacity, sym (ap lane_in (work_here me e (work.Take take_stage.Look) s)) i))
+      (t.0, becomes me s.mover (place_of me) s.here (λ p. F buffer t.0 p p.call) _ ((buffer_slot z.to_host.capacity e buffer, Buffer t.0) ∷ me.1) me' (ap (F buffer t.0 s.mover.pass) (sym s.call)) t.1))
+
+  abbrev handed_to : (live : Bool) (c : ℕ) (x : ReceiverSide) (b : ℕ) (message : List ℕ) (era : Era) (follows : ℕ) (verdict : Verdict) (p : Pass) → Pass
+  handed_to live c x b message era follows verdict p = cond live (record p {
+    call = Receives e (turn.Leaving c (end.Took x.handed verdict)) (record x { handed = x.handed + 1; hands = x.hands ++ record { number = x.handed; caller = c; buffer = b } ∷ [] }) b message;
+    own = Take e follows x.handed message ∷ p.own;
+    hands = p.hands ++ x.handed ∷ [];
+  }) (with_call p (Receives e (turn.Leaving c (end.Dead era)) x b message))
+
+  pub take_hands : (s : WorkAt me e (work.Take take_stage.Buffer)) → me.0.sizes ≡ z → me.1 ≡ (buffer_slot me.0.sizes.to_host.capacity e s.buffer, Buffer s.message) ∷ rest me.1
+      → Allows (LinkRule cd desk z) n id me 16 (λ y. y) (λ y me'. TakeHands me y me' × GoesOn cd desk (HasWord 16 y) me me')
+  take_hands s sized slots =
+      told_by 1 16 (λ y. y) s.mover s.here (TakeHandsBy me s.mover e s.caller s.follows s.side s.buffer s.message) (λ y me'. TakeHands me y me') refl
+      (hands cd desk z n id me s.mover e s.caller s.follows s.side s.buffer z.to_host.capacity s.message s.call refl
+      (slots ∙ ap (λ (w : LinkSizes). (buffer_slot w.to_host.capacity e s.buffer, Buffer s.message) ∷ rest me.1) sized))
+      (λ y me' t₀. hands_told s y me' t₀)
+    where
+      hands_told : (s : WorkAt me e (work.Take take_stage.Buffer)) (y : ℕ) (me' : SeatState) → TakeHandsBy me s.mover e s.caller s.follows s.side s.buffer s.message y me' → TakeHands me y me'
+      hands_told s y me' t₀ = go (is_live_in t₀.0 s.follows) refl
+        where
+          go : (live : Bool) → is_live_in t₀.0 s.follows ≡ live → TakeHands me y me'
+          go true live = let t = t₀.2 live in (
+            t₀.0,
+            t₀.1,
+            t.0,
+            becomes me s.mover (place_of me) s.here (with_handing t₀.0 t.0) _ (rest me.1) me'
+                (ap (λ (b : Bool). handed_to b s.caller s.side s.buffer s.message t₀.0 s.follows t.0 s.mover.pass) (sym live) ∙ ap (with_handing_of t₀.0 t.0 s.mover.pass) (sym s.call)) t.1,
+          )
+          go false dead = (
+            t₀.0,
+            t₀.1,
+            verdict.Malformed,
+            becomes me s.mover (place_of me) s.here (with_handing t₀.0 verdict.Malformed) _ (rest me.1) me'
+                (ap (λ (b : Bool). handed_to b s.caller s.side s.buffer s.message t₀.0 s.follows verdict.Malformed s.mover.pass) (sym dead) ∙ ap (with_handing_of t₀.0 verdict.Malformed s.mover.pass) (sym s.call)) (t₀.3 dead),
+          )
+
+  pub give_stores_entry : (k : ℕ) (s : WorkAt me e (work.Give k give_stage.Turn)) (count place new : ℕ) → place ≡ place_in (entry_number z e ring.Return count) → me.0.sizes ≡ z → return_count (sizes_by me) s.side.returned ≡ count → new ≡ held_buffer s.side.hands k + 0 * 4294967296
+      → Allows (LinkRule cd desk z) n id me place (λ _. new) (λ _ me'. GiveStoresEntry me me' × GoesOn cd desk AnyWord me me')
+  give_stores_entry k s count place new is sized at new_is =
+      let next : ReceiverSide → ℕ → Receiving → Turn Receiving = λ x caller r. turn.Taken caller (record r { work = with_entry r.work }) in
+      stored_by (entry_number z e ring.Return count) place (λ _. new) s.mover s.here (λ _ me'. me' ≡ (with_pass me.0 s.mover (with_call s.mover.pass (Receives e (turn.Taken s.caller (record { follows = s.follows; work = work.Give k give_stage.Entry })) s.side s.buffer s.message)) me'.0.copy, me.1)) (λ _. GiveStoresEntry me) is
+      (gives_entry cd desk z n id me s.mover e s.caller s.follows k s.side s.buffer count new s.message s.call
+      (sym at ∙ ap (λ (x : RingSizes). return_count x s.side.returned) (work_sizes z me e (work.Give k give_stage.Turn) s sized)) new_is)
+      (λ y me' t₀. becomes me s.mover (place_of me) s.here (with_receive next) _ me.1 me' (ap (receive_to next s.mover.pass) (sym s.call)) t₀)
+
+  pub give_publishes : (k : ℕ) (s : WorkAt me e (work.Give k give_stage.Entry)) (count place new : ℕ) → place ≡ place_in (return_word e) → me.0.sizes ≡ z → return_count (sizes_by me) s.side.returned + 1 ≡ count → new ≡ count % 65536
+      → Allows (LinkRule cd desk z) n id me place (λ _. new) (λ _ me'. GivePublishes me me' × GoesOn cd desk AnyWord me me')
+  give_publishes k s count place new is sized at new_is =
+      stored_by (return_word e) place (λ _. new) s.mover s.here
+      (λ _ me'. me' ≡ (with_pass me.0 s.mover (with_call_and_hands s.mover.pass (Receives e (turn.Leaving s.caller (end.Gave k)) (record { handed = s.side.handed; returned = s.side.returned + 1; hands = hands_without s.side.hands k }) s.buffer s.message) (hands_but s.mover.pass.hands k)) me'.0.copy, me.1)) (λ _. GivePublishes me) is
+      (gives_back cd desk z n id me s.mover e s.caller s.follows k s.side s.buffer new s.message s.call
+      (new_is ∙ (ap (λ (u : ℕ). u % 65536) (sym at) ∙ ap (λ (x : RingSizes). (return_count x s.side.returned + 1) % 65536) (work_sizes z me e (work.Give k give_stage.Entry) s sized))))
+      (λ y me' t₀. becomes me s.mover (place_of me) s.here with_given _ me.1 me' (ap (given_to s.mover.pass) (sym s.call)) t₀)
+
+  bind_told : (w : Work) (s : WorkAt me e w) (y : ℕ) (me' : SeatState)
+      → (era : Era) × (y ≡ era_word era) × (ended : CallEnd) × (me' ≡ (with_pass me.0 s.mover (with_call s.mover.pass (Receives e (cond (is_live_in era s.follows) (turn.Leaving s.caller ended) (turn.Leaving s.caller (end.Dead era))) s.side s.buffer s.message)) me'.0.copy, me.1))
+      → BindLoadsEra me y me'
+  bind_told w s y me' t₀ =
+      let next : ReceiverSide → ℕ → Receiving → Turn Receiving = λ x caller r. cond (is_live_in t₀.0 r.follows) (turn.Leaving caller t₀.2) (turn.Leaving caller (end.Dead t₀.0)) in
+      (t₀.0, t₀.1, t₀.2, becomes me s.mover (place_of me) s.here (with_receive next) _ me.1 me' (ap (receive_to next s.mover.pass) (sym s.call)) t₀.3)
+
+  pub bind_loads_era : (address : ℕ) (s : WorkAt me e (work.Bind address)) → Allows (LinkRule cd desk z) n id me 16 (λ y. y) (λ y me'. BindLoadsEra me y me' × GoesOn cd desk (HasWord 16 y) me me')
+  bind_loads_era address s = told_by 1 16 (λ y. y) s.mover s.here
+      (λ y me'. (era : Era) × (y ≡ era_word era) × (ended : CallEnd) × (me' ≡ (with_pass me.0 s.mover (with_call s.mover.pass (Receives e (cond (is_live_in era s.follows) (turn.Leaving s.caller ended) (turn.Leaving s.caller (end.Dead era))) s.side s.buffer s.message)) me'.0.copy, me.1))) (BindLoadsEra me) refl
+      (binds cd desk z (work.Bind address) (λ u. desk.bound u.lane.desk address (length u.lane.lane.takers)) (λ u. desk_end end.Bound (desk.bind_answer u.lane.desk address (length u.lane.lane.takers))) s.follows s.caller refl (λ u era. refl) n id me s.mover e s.side s.buffer s.message s.call)
+      (bind_told (work.Bind address) s)
+
+  pub unbind_loads_era : (address : ℕ) (s : WorkAt me e (work.Unbind address)) → Allows (LinkRule cd desk z) n id me 16 (λ y. y) (λ y me'. BindLoadsEra me y me' × GoesOn cd desk (HasWord 16 y) me me')
+  unbind_loads_era address s = told_by 1 16 (λ y. y) s.mover s.here
+      (λ y me'. (era : Era) × (y ≡ era_word era) × (ended : CallEnd) × (me' ≡ (with_pass me.0 s.mover (with_call s.mover.pass (Receives e (cond (is_live_in era s.follows) (turn.Leaving s.caller ended) (turn.Leaving s.caller (end.Dead era))) s.side s.buffer s.message)) me'.0.copy, me.1))) (BindLoadsEra me) refl
+      (binds cd desk z (work.Unbind address) (λ u. desk.unbound u.lane.desk address) (λ u. desk_end end.Unbound (desk.unbind_answer u.lane.desk address)) s.follows s.caller refl (λ u era. refl) n id me s.mover e s.side s.buffer s.message s.call)
+      (bind_told (work.Unbind address) s)

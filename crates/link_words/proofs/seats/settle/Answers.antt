@@ -1,0 +1,8 @@
+use Rattle.std.proofs.Common.{arith, refl}
+use Rattle.link_words.specs.Seats.{Settles}
+use Rattle.link_words.proofs.Apart.{apart}
+use Rattle.link_words.proofs.Endings.{settles}
+use Rattle.link_words.proofs.seats.settle.Goals as goal
+
+pub load-requires : goal.load-requires
+load-requires g c = let wide = c.requires.table.1 in (c.requires.table.0, omega (arith, wide), apart g.row.D.coded g.D.Desk.meaning c.args.table.now.key _ _ _ 0 0 (λ y. y) (λ y me'. Settles c.args.manager.now.me me') refl (settles g.row.D.coded g.D.Desk.meaning c.args.table.now.key _ _ _ c.requires.manager c.requires.back))

@@ -1,0 +1,101 @@
+-- The part on histories: what the books say of a pass is what its own list says (own).
+use Rattle.std.specs.Prelude.{◌≡◌, ℕ, suc, ◌==◌, ◌&&◌, ◌≤◌, ◌<◌, length, Bool, true, false, if◌then◌else◌, List, [], ◌∷◌, ◌++◌, Option, Some}
+use Rattle.rp_base.specs.declared.kinds.End.{End}
+use Rattle.rp_base.specs.declared.kinds.End.TheVariants as side
+use Rattle.lane_model.specs.declared.lane_links.LaneLink.{LaneLink}
+use Rattle.lane_model.specs.declared.states.BookEntry.{BookEntry}
+use Rattle.lane_model.specs.declared.states.Holding.{Holding}
+use Rattle.lane_model.specs.declared.stages.Sending.{Sending}
+use Rattle.lane_model.specs.declared.stages.SendStage.{SendStage}
+use Rattle.lane_model.specs.declared.stages.SendStage.TheVariants as stage
+use Rattle.lane_model.specs.declared.stages.Turn.{Turn}
+use Rattle.lane_model.specs.Lanes.{OfCall, message_at}
+use Rattle.lane_model.specs.Links.{end_of}
+use Rattle.ring_core.specs.declared.states.RingState.{RingState}
+use Rattle.link_words.specs.declared.rule.Event.{Event}
+use Rattle.link_words.specs.declared.rule.Event.TheVariants.{Publish, Take}
+use Rattle.link_words.specs.Words.{lane_to}
+
+-- the two ends are one
+abbrev pub same_end : End → End → Bool
+same_end side.Host side.Host = true
+same_end side.Host side.Remote = false
+same_end side.Remote side.Host = false
+same_end side.Remote side.Remote = true
+
+-- the entries of a caller in a book whose first has this number, with their numbers
+abbrev pub entries_by : ℕ → ℕ → List BookEntry → List (ℕ × List ℕ)
+entries_by caller number [] = []
+entries_by caller number (b ∷ bs) = if b.caller == caller then (number, b.message) ∷ entries_by caller (suc number) bs else entries_by caller (suc number) bs
+
+-- what a pass sent on the lane to this end in this incarnation, with the numbers
+abbrev pub sends_in : End → ℕ → List Event → List (ℕ × List ℕ)
+sends_in e inc [] = []
+sends_in e inc (Take lane i number message ∷ es) = sends_in e inc es
+sends_in e inc (Publish lane i number message ∷ es) = if same_end lane e && (i == inc) then sends_in e inc es ++ (number, message) ∷ [] else sends_in e inc es
+
+-- no step is of a later incarnation
+abbrev pub NoneLater : ℕ → List Event → Type 0
+NoneLater inc [] = Unit {0}
+NoneLater inc (Publish lane i number message ∷ es) = (i ≤ inc) × NoneLater inc es
+NoneLater inc (Take lane i number message ∷ es) = (i ≤ inc) × NoneLater inc es
+
+-- the numbers that a caller took, of takers whose first has this number
+abbrev pub takes_by : ℕ → ℕ → List ℕ → List ℕ
+takes_by caller number [] = []
+takes_by caller number (c ∷ cs) = if c == caller then number ∷ takes_by caller (suc number) cs else takes_by caller (suc number) cs
+
+-- what a pass took on the lane to this end in this incarnation
+abbrev pub takes_in : End → ℕ → List Event → List ℕ
+takes_in e inc [] = []
+takes_in e inc (Publish lane i number message ∷ es) = takes_in e inc es
+takes_in e inc (Take lane i number message ∷ es) = if same_end lane e && (i == inc) then takes_in e inc es ++ number ∷ [] else takes_in e inc es
+
+-- each message that was taken on this lane in this incarnation is the entry of its number
+abbrev pub ReadsIn : End → ℕ → List BookEntry → List Event → Type 0
+ReadsIn e inc book [] = Unit {0}
+ReadsIn e inc book (Publish lane i number message ∷ es) = ReadsIn e inc book es
+ReadsIn e inc book (Take lane i number message ∷ es) = (same_end lane e ≡ true → i ≡ inc → (number < length book) × (message ≡ message_at book number)) × ReadsIn e inc book es
+
+-- what the part on histories reads of a lane: the messages that were accepted, to whom each was handed, and who holds what
+pub record LaneBooks : Type 0 where
+  pub accepted : List BookEntry
+  pub takers : List ℕ
+  pub held : List Holding
+
+-- those of a lane of the ring form
+abbrev pub books_of : {D : Type 0} → RingState D → LaneBooks
+books_of s = record { accepted = s.lane.lane.accepted; takers = s.lane.lane.takers; held = s.lane.lane.held }
+
+-- the books of this incarnation and what a pass did agree, from its first incarnation on: the entries of its number are what it sent, the
+-- numbers handed to it are those that it took, and each message that it took is the entry of that number
+pub record HasHistory (inc : ℕ) (books : End → LaneBooks) (number first : ℕ) (own : List Event) : Type 0 where
+  pub sent : (e : End) → first ≤ inc → entries_by number 0 (books e).accepted ≡ sends_in e inc own
+  pub taken : (e : End) → first ≤ inc → takes_by number 0 (books e).takers ≡ takes_in e inc own
+  pub read : (e : End) → ReadsIn e inc (books e).accepted own
+  pub none_later : NoneLater inc own
+
+-- the numbers of what a caller holds, the oldest first
+abbrev pub hands_of : ℕ → List Holding → List ℕ
+hands_of number [] = []
+hands_of number (h ∷ hs) = if h.caller == number then h.number ∷ hands_of number hs else hands_of number hs
+
+-- a pass holds what the lane to its end says
+abbrev pub HasHands : List (Option End) → (End → LaneBooks) → ℕ → List ℕ → Type 0
+HasHands callers books number hands = (e : End) → end_of callers number ≡ Some e → hands_of number (books e).held ≡ hands
+
+-- a send that has found its incarnation live is of the current one
+abbrev pub is_past_era : SendStage → Bool
+is_past_era stage.Turn = false
+is_past_era stage.Era = true
+is_past_era stage.Look = true
+is_past_era stage.Buffer = true
+is_past_era stage.Entry = true
+
+-- so the send that has the turn, if any, follows this incarnation
+abbrev pub IsCurrent : Turn Sending → ℕ → Type 0
+IsCurrent t inc = OfCall t (λ caller s. is_past_era s.stage ≡ true → s.follows ≡ inc)
+
+-- the books of both lanes say nothing of this caller
+abbrev pub NoneOf : {D : Type 0} → LaneLink (RingState D) → ℕ → Type 0
+NoneOf m n = (e : End) → (entries_by n 0 (lane_to m e).lane.lane.accepted ≡ []) × (takes_by n 0 (lane_to m e).lane.lane.takers ≡ [])

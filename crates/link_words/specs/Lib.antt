@@ -1,0 +1,13 @@
+pub mod Words
+pub mod Layouts
+pub mod Passes
+pub mod Turns
+pub mod Histories
+pub mod Codes
+pub mod Deeds
+pub mod Parts
+pub mod Rule
+pub mod Fresh
+pub mod Calls
+pub mod Steps
+pub mod Seats

@@ -1,0 +1,45 @@
+-- What the steps tell that move, make and end callers, and those of the manager's own view (own).
+use Rattle.std.specs.Prelude.{not, ◌≡◌, ℕ, Some}
+use mathlib.Core.Option.{Option, some, none}
+use Rattle.rp_base.specs.declared.kinds.Era.{Era}
+use Rattle.rp_base.specs.declared.kinds.End.{End}
+use Rattle.link_words.specs.declared.copies.LinkCopy.{LinkCopy}
+use Rattle.link_words.specs.declared.rule.Slot.{Slot}
+use Rattle.link_words.specs.declared.rule.Slot.TheVariants.{Empty, Sender, Receiver, Buffer, Caller, Start}
+use Rattle.link_words.specs.declared.rule.View.{View}
+use Rattle.link_words.specs.Calls.{SeatState}
+use Rattle.link_words.specs.Passes.{with_new_caller, after_end_of, after_settle}
+use Rattle.link_words.specs.Words.{era_word}
+
+-- a caller is made on this end, which the manager carries
+abbrev pub EnlistsCaller : End → SeatState → SeatState → Type 0
+EnlistsCaller e me me' = me' ≡ (with_new_caller e me.0 me'.0.copy, me.1)
+
+-- the caller that a step names
+abbrev pub named_by : Option Slot → ℕ
+named_by none = 64
+named_by (some Empty) = 64
+named_by (some (Sender x)) = 64
+named_by (some (Receiver x)) = 64
+named_by (some (Buffer x)) = 64
+named_by (some (Caller n)) = n
+named_by (some (Start x)) = 64
+
+-- the number of a carried caller is free
+abbrev pub EndsCaller : ℕ → SeatState → SeatState → Type 0
+EndsCaller n me me' = me' ≡ (after_end_of n me.0 me'.0.copy, me.1)
+
+-- the view that knows whether this era is closed
+abbrev pub with_era : View → Era → View
+with_era v era = record v { is_closed = not era.is_live }
+
+abbrev pub LearnsEra : SeatState → ℕ → SeatState → Type 0
+LearnsEra me n me' = (era : Era) × (n ≡ era_word era) × (me' ≡ (with_era me.0 era, me.1))
+
+-- those that were out have come back, and the view has a copy again
+abbrev pub Settles : SeatState → SeatState → Type 0
+Settles me me' = (k : LinkCopy) × (me' ≡ (after_settle me.0 (Some k), me.1))
+
+-- one attempt to close the era: the era that was found
+abbrev pub ClosesEra : SeatState → ℕ → SeatState → Type 0
+ClosesEra me n me' = (era : Era) × (n ≡ era_word era) × (me' ≡ (record me.0 { copy = me'.0.copy }, me.1))

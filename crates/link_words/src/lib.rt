@@ -1,0 +1,31 @@
+// The words of a link that threads share: the layout of its table, the rule that they keep, and a function for each kind of step on a word.
+#![tactic(auto)]
+
+mod codes;
+mod copies;
+pub mod laws;
+mod loads;
+mod moves;
+mod places;
+mod plays;
+mod rule;
+mod seats;
+mod sides;
+mod slots;
+mod stores;
+mod turns;
+
+pub use codes::DeskCode;
+pub use copies::LinkCopy;
+pub use loads::{EraUse, IndexUse, load_entry, load_era, load_index};
+pub use rule::{
+    Call, CallStart, Event, LinkSeat, LinkSizes, LinkTable, LinkWords, Pass, ReceiverSide, Ring,
+    SenderSide, Slot, View,
+};
+pub use seats::{
+    close_era, end_carried, enlist_carried, join, learn_era, let_go, settle, split, take_in,
+};
+pub use sides::ReceiverState;
+pub use slots::copy_message;
+pub use stores::{publish_index, store_entry};
+pub use turns::{leave_turn, take_turn};

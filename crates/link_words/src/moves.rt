@@ -1,0 +1,116 @@
+//! How the steps of the manager's seat change views, and how seats are split and joined. These types are for the proofs alone.
+use crate::rule::{Slot, View};
+use atomic_table::{Join, Play, Split};
+
+/// A caller of the host is made, which the manager carries.
+pub struct EnlistsHost;
+
+impl Play<Slot, View> for EnlistsHost {
+    ghost use Rattle.rp_base.specs.declared.kinds.End.TheVariants as side;
+    ghost use Rattle.link_words.specs.Seats.{EnlistsCaller};
+
+    ghost then = { λ st m r m'. EnlistsCaller side.Host m m' };
+}
+
+/// A caller of the remote is made, which the manager carries.
+pub struct EnlistsRemote;
+
+impl Play<Slot, View> for EnlistsRemote {
+    ghost use Rattle.rp_base.specs.declared.kinds.End.TheVariants as side;
+    ghost use Rattle.link_words.specs.Seats.{EnlistsCaller};
+
+    ghost then = { λ st m r m'. EnlistsCaller side.Remote m m' };
+}
+
+/// The caller that the step names ends.
+pub struct TellsEndsCaller;
+
+impl Play<Slot, View> for TellsEndsCaller {
+    ghost use Rattle.link_words.specs.Seats.{EndsCaller, named_by};
+
+    ghost then = { λ st m r m'. EndsCaller (named_by st.said) m m' };
+}
+
+/// The manager loads the era.
+pub struct TellsLearnsEra;
+
+impl Play<Slot, View> for TellsLearnsEra {
+    ghost use Rattle.link_words.specs.Seats.{LearnsEra};
+
+    ghost then = { λ st m r m'. LearnsEra m r m' };
+}
+
+/// All callers that were out have come back.
+pub struct TellsSettles;
+
+impl Play<Slot, View> for TellsSettles {
+    ghost use Rattle.link_words.specs.Seats.{Settles};
+
+    ghost then = { λ st m r m'. Settles m m' };
+}
+
+/// One attempt to close the era.
+pub struct TellsClosesEra;
+
+impl Play<Slot, View> for TellsClosesEra {
+    ghost use Rattle.link_words.specs.Seats.{ClosesEra};
+
+    ghost then = { λ st m r m'. ClosesEra m r m' };
+}
+
+/// The last pass goes to a new seat.
+pub struct GoesOut;
+
+impl Split<View> for GoesOut {
+    ghost use Rattle.link_words.specs.Passes.{without_last, only_last};
+
+    ghost left = { without_last };
+
+    ghost right = { only_last };
+}
+
+/// A caller of the host is made, and goes to a new seat.
+pub struct MakesHost;
+
+impl Split<View> for MakesHost {
+    ghost use Rattle.rp_base.specs.declared.kinds.End.TheVariants as side;
+    ghost use Rattle.link_words.specs.Passes.{without_new, only_new};
+
+    ghost left = { without_new side.Host };
+
+    ghost right = { only_new side.Host };
+}
+
+/// A caller of the remote is made, and goes to a new seat.
+pub struct MakesRemote;
+
+impl Split<View> for MakesRemote {
+    ghost use Rattle.rp_base.specs.declared.kinds.End.TheVariants as side;
+    ghost use Rattle.link_words.specs.Passes.{without_new, only_new};
+
+    ghost left = { without_new side.Remote };
+
+    ghost right = { only_new side.Remote };
+}
+
+/// The passes of a seat come to the manager's.
+pub struct ComesBack;
+
+impl Join<View> for ComesBack {
+    ghost use Rattle.link_words.specs.Passes.{with_passes_from, spent_view};
+
+    ghost both = { with_passes_from };
+
+    ghost spent = { spent_view };
+}
+
+/// The pass of a seat ends.
+pub struct EndsReturned;
+
+impl Join<View> for EndsReturned {
+    ghost use Rattle.link_words.specs.Passes.{after_end_with, spent_view};
+
+    ghost both = { after_end_with };
+
+    ghost spent = { spent_view };
+}

@@ -1,0 +1,58 @@
+//! Turns are taken and left: the first and the last step of each call.
+ghost use Rattle.std.specs.Prelude.{◌≡◌, ◌≤◌, ◌<◌};
+ghost use Rattle.lane_model.specs.declared.recoveries.LaneTurn.TheVariants as lane_turn;
+ghost use Rattle.link_words.specs.Calls.{RestsAt};
+ghost use Rattle.link_words.specs.Steps.{GoesOn, Begins, HasWord, AnyWord, IsFit, turn_word_for, TakesTurn, EndsAt, LeavesTurn};
+ghost use Rattle.link_words.specs.Layouts.{place_in};
+ghost use Rattle.link_words.specs.Words.{words_in};
+
+use crate::places::{other, receiver_place, sender_place};
+use crate::plays::{TellsLeavesReceiver, TellsLeavesSender, TellsTakesTurn};
+use crate::rule::{CallStart, LinkSeat, LinkTable, Slot};
+use lane_model::{Desk, LaneTurn, Wish};
+use rp_base::End;
+
+/// The word of the turn that a caller of this end needs for what it wishes.
+#[inline(always)]
+fn wish_place(end: End, wish: &Wish) -> usize
+    ensures { result ≡ place_in (turn_word_for end wish.now) }
+{
+    match wish {
+        Wish::Send(_) => sender_place(other(end)),
+        Wish::Take => receiver_place(end),
+        Wish::Give(_) => receiver_place(end),
+        Wish::Bind(_) => receiver_place(end),
+        Wish::Unbind(_) => receiver_place(end),
+    }
+}
+
+/// Step 1 of what a caller wishes: one attempt to take the turn that it needs. The answer is the word of that turn as it was: 0
+/// where it was free, and the caller has it now; else the number of the one who has it, and 1.
+#[inline(always)]
+pub fn take_turn<D: Desk>(table: &LinkTable<D>, seat: &mut LinkSeat, start: CallStart) -> u64
+    requires table { (seat.old.table_id ≡ table.now.table_id) × (words_in table.now.key ≤ table.now.table_id.words) }
+    requires caller { (r : RestsAt seat.old.me start.end start.caller) × IsFit start.wish r.mover.pass.hands × (start.caller < 64) }
+    ensures same { (seat.new.table_id ≡ seat.old.table_id) × (seat.new.id ≡ seat.old.id) }
+    ensures told { TakesTurn start.end start.caller start.follows start.wish seat.old.me result seat.new.me }
+    ensures holder { result ≤ 65 }
+    ensures step { Begins D.row.coded D.meaning (HasWord (place_in (turn_word_for start.end start.wish)) result) start.caller start.follows start.wish seat.old.me seat.new.me }
+{
+    let word = wish_place(start.end, &start.wish);
+    let new = start.caller as u64 + 1;
+    table.compare_exchange_with::<TellsTakesTurn<D>>(seat, word, 0, new, &Slot::Start(start))
+}
+
+/// The last step of a call: its turn is free, and the side state is at home.
+#[inline(always)]
+pub fn leave_turn<D: Desk>(table: &LinkTable<D>, seat: &mut LinkSeat, lane: End, turn: LaneTurn)
+    requires table { (seat.old.table_id ≡ table.now.table_id) × (words_in table.now.key ≤ table.now.table_id.words) }
+    requires call { EndsAt turn seat.old.me lane }
+    ensures same { (seat.new.table_id ≡ seat.old.table_id) × (seat.new.id ≡ seat.old.id) }
+    ensures told { LeavesTurn turn seat.old.me seat.new.me }
+    ensures step { GoesOn D.row.coded D.meaning AnyWord seat.old.me seat.new.me }
+{
+    match turn {
+        LaneTurn::Sender => table.store::<TellsLeavesSender<D>>(seat, sender_place(lane), 0),
+        LaneTurn::Receiver => table.store::<TellsLeavesReceiver<D>>(seat, receiver_place(lane), 0),
+    }
+}
