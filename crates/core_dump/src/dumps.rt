@@ -26,7 +26,8 @@ pub struct Part<'a> {
 }
 
 /// The dump of a core's memory: a core image of the format ELF32 that has a loaded segment for each
-/// part. A reader of images finds the entry and the parts in it.
+/// part. A reader of images finds the entry and the parts in it. There are 1 to 1,024 parts, of
+/// 16,777,216 bytes at most together; none is empty, and none passes the last address.
 ///
 /// Errors: only for want of memory.
 #[tactic(auto, unfolding(crate::specs::Dumps::dump_of))]

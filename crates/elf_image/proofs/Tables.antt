@@ -1,6 +1,7 @@
 -- One header more of a table.
-use Rattle.std.proofs.Common.{◌≡◌, ℕ, ◌+◌, ◌-◌, ◌<◌, Bool, cond, suc, List, ◌∷◌, refl, ap, arith, map, Some}
+use Rattle.std.proofs.Common.{◌≡◌, ℕ, ◌+◌, ◌-◌, ◌<◌, ◌≤◌, ◌*◌, Bool, cond, suc, List, ◌∷◌, refl, ap, ◌∙◌, arith, map, Some}
 use Rattle.std.specs.List.{range_with_len, filter, find}
+use Rattle.elf_image.specs.Headers.{program_header}
 use Rattle.elf_image.specs.Segments.{numbered_header, loaded_from, is_loaded}
 use Rattle.elf_image.specs.Sections.{section_header_at, sections_from}
 use Rattle.elf_image.specs.declared.headers.FileHeader.{FileHeader}
@@ -28,3 +29,12 @@ pub find_more : (test : SectionHeader → Bool) (layout : Layout) (header : File
     → find test (sections_from layout header bytes i) ≡ cond found (Some read) (find test (sections_from layout header bytes (i + 1)))
 find_more test layout header bytes i read found below is passes =
     rw (passes, is) (ap (λ range. find test (map (section_header_at layout header bytes) range)) (range_more i header.section_count below))
+
+-- a program header that was read at the place of its number
+pub header_is : (layout : Layout) (header : FileHeader) (bytes : List ℕ) (i start : ℕ) (read : NumberedHeader) → read.index ≡ i → read.header ≡ program_header layout start bytes
+    → start ≡ header.program_table + layout.program_header_size * i → read ≡ numbered_header layout header bytes i
+header_is layout header bytes i start read index is at =
+    let place = header.program_table + layout.program_header_size * i in
+    let there : read.header ≡ program_header layout place bytes = is ∙ ap (λ at. program_header layout at bytes) at in
+    let same : ◌≡◌ {A = NumberedHeader} (record { index = read.index; header = read.header }) (record { index = i; header = program_header layout place bytes }) = cc in
+    same

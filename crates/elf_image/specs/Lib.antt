@@ -2,6 +2,7 @@ pub mod Layout
 pub mod Headers
 pub mod Faults
 pub mod Segments
+pub mod Tables
 pub mod SegmentsRead
 pub mod Sections
 pub mod Images

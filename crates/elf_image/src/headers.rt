@@ -3,7 +3,7 @@ ghost use Rattle.std.specs.Result.{result_err};
 ghost use Rattle.elf_image.specs.Layout.{layout_for, layout_of};
 ghost use Rattle.elf_image.specs.Headers.{file_header, program_header, section_header};
 ghost use Rattle.elf_image.specs.Images.{identification_fault, header_fault};
-ghost use Rattle.elf_image.specs.Segments.{numbered_header, is_loaded, is_wide, segment_fault};
+ghost use Rattle.elf_image.specs.Segments.{is_loaded, is_wide, segment_fault};
 ghost use Rattle.elf_image.specs.Sections.{has_sections, section_header_at};
 
 use crate::faults::ElfFault;
@@ -174,25 +174,6 @@ impl FileHeader {
         Ok(())
     }
 
-    /// Reads the program header of this number.
-    #[tactic(auto, unfolding(crate::specs::Headers::program_header))]
-    pub(crate) fn program_header(&self, bytes: &[u8], class: Class, index: u16) -> NumberedHeader
-        requires among { index < self.now.program_count }
-        requires table { self.now.program_table + (layout_for class).program_header_size * self.now.program_count ≤ length bytes.now }
-        ensures { result ≡ numbered_header (layout_for class) self.now bytes.now index }
-    {
-        let layout = class.layout();
-        let start = self.program_table as usize + layout.program_header_size * usize::from(index);
-        let header = ProgramHeader {
-            kind: layout.p_type.word(bytes, start),
-            offset: layout.p_offset.address(bytes, start),
-            physical_address: layout.p_paddr.address(bytes, start),
-            file_len: layout.p_filesz.address(bytes, start),
-            memory_len: layout.p_memsz.address(bytes, start),
-        };
-        NumberedHeader { index, header }
-    }
-
     /// Reads the section header of this number.
     #[tactic(auto, unfolding(crate::specs::Headers::section_header))]
     pub(crate) fn section_header(&self, bytes: &[u8], class: Class, index: u16) -> SectionHeader
@@ -212,6 +193,24 @@ impl FileHeader {
 }
 
 impl NumberedHeader {
+    /// Reads the program header that begins at a place of the image, and has this number.
+    #[tactic(auto, unfolding(crate::specs::Headers::program_header))]
+    pub(crate) fn read(bytes: &[u8], class: Class, start: usize, index: u16) -> NumberedHeader
+        requires { start + (layout_for class).program_header_size ≤ length bytes.now }
+        ensures index { result.index ≡ index }
+        ensures header { result.header ≡ program_header (layout_for class) start bytes.now }
+    {
+        let layout = class.layout();
+        let header = ProgramHeader {
+            kind: layout.p_type.word(bytes, start),
+            offset: layout.p_offset.address(bytes, start),
+            physical_address: layout.p_paddr.address(bytes, start),
+            file_len: layout.p_filesz.address(bytes, start),
+            memory_len: layout.p_memsz.address(bytes, start),
+        };
+        NumberedHeader { index, header }
+    }
+
     /// Whether the segment is loaded: a `PT_LOAD` with memory.
     pub(crate) fn is_loaded(&self) -> bool
         ensures { result ≡ is_loaded self.now }

@@ -15,6 +15,7 @@ pub(crate) struct LoadedHeaders<'a> {
     class: Class,
     header: FileHeader,
     next: u16,
+    start: usize,
 }
 
 impl<'a> Model for LoadedHeaders<'a> {
@@ -25,10 +26,11 @@ impl<'a> Model for LoadedHeaders<'a> {
 
     ghost use Rattle.elf_image.specs.Layout.{layout_for};
     ghost use Rattle.elf_image.specs.Segments.{loaded_from};
+    ghost use Rattle.elf_image.specs.Tables.{IsInTable};
 
     ghost view = { λ l. loaded_from (layout_for l.class) l.header l.bytes.now l.next };
 
-    ghost invariant = { λ l. l.header.program_table + (layout_for l.class).program_header_size * l.header.program_count ≤ length l.bytes.now };
+    ghost invariant = { λ l. IsInTable l.bytes.now (layout_for l.class) l.header l.next l.start };
 }
 
 impl<'a> LoadedHeaders<'a> {
@@ -42,6 +44,7 @@ impl<'a> LoadedHeaders<'a> {
             class,
             header,
             next: 0,
+            start: header.program_table as usize,
         }
     }
 }
@@ -57,10 +60,9 @@ impl Iterator for LoadedHeaders<'_> {
 
     fn next(&mut self) -> Option<NumberedHeader> {
         while self.next < self.header.program_count {
-            let numbered = self
-                .header
-                .program_header(self.bytes, self.class, self.next);
+            let numbered = NumberedHeader::read(self.bytes, self.class, self.start, self.next);
             self.next += 1;
+            self.start += self.class.layout().program_header_size;
             if numbered.is_loaded() {
                 return Some(numbered);
             }

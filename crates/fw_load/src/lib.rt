@@ -10,7 +10,7 @@ mod tables;
 mod traces;
 
 pub use faults::LoadFault;
-pub use loading::{Loaded, load};
+pub use loading::{Loaded, load, load_image};
 pub use mapped::bytes_at;
 pub use rings::RingPair;
 pub use traces::TraceAt;

@@ -1,4 +1,5 @@
 ghost use Rattle.std.specs.Prelude.{◌≡◌, ◌≢◌, None, Some, Ok, All, IfOk, IfErr, IfSome, OnOk};
+ghost use Rattle.elf_image.specs.Images.{GoodImage};
 ghost use Rattle.memory_pool.specs.Placements.{placement};
 ghost use Rattle.memory_pool.specs.Soundness.{SoundPlacement};
 ghost use Rattle.addr_translate.specs.Maps.{IsMapOf};
@@ -52,13 +53,31 @@ pub fn load(alloc: Global, image: &[u8], regions: &Regions) -> Result<Loaded, Lo
     ensures refused { IfErr result (λ refused. refused ≢ fault.NoMemory → load_fault image.now regions.now ≡ Some refused) }
 {
     let read = Image::read(image)?;
-    let section = read.section(".resource_table");
-    let table = read_table(image, section)?;
+    load_image(alloc, image, &read, regions)
+}
+
+/// Loads an image that was read from these bytes.
+///
+/// Errors: as those of [`load`] behind the test of the image.
+pub fn load_image(
+    alloc: Global,
+    bytes: &[u8],
+    image: &Image<'_>,
+    regions: &Regions,
+) -> Result<Loaded, LoadFault>
+    requires same { image.now ≡ bytes.now }
+    requires good { GoodImage bytes.now }
+    ensures loads { OnOk result (Loads bytes.now regions.now) }
+    ensures loaded { IfOk result (λ loaded. IsLoaded bytes.now regions.now loaded) }
+    ensures refused { IfErr result (λ refused. refused ≢ fault.NoMemory → load_fault bytes.now regions.now ≡ Some refused) }
+{
+    let section = image.section(".resource_table");
+    let table = read_table(bytes, section)?;
     let placed = place_entries(alloc, regions, &table)?;
     let map = Map::of(alloc, regions, &placed)?;
-    test_segments(&map, &read)?;
-    test_entry(&map, read.entry())?;
-    Ok(filled(alloc, &read, regions, section, &table, placed, map)?)
+    test_segments(&map, image)?;
+    test_entry(&map, image.entry())?;
+    Ok(filled(alloc, image, regions, section, &table, placed, map)?)
 }
 
 /// Fills the memory of an image that passed all tests.

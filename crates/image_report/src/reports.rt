@@ -8,7 +8,7 @@ ghost use Rattle.image_report.specs.Reports.{IsImageReport, fault_notice, image_
 
 use crate::tables::table_rows;
 use elf_image::{Image, Segments};
-use fw_load::{LoadFault, Loaded, load};
+use fw_load::{LoadFault, Loaded, load_image};
 use journal::{Notice, TableLine};
 use memory_pool::Regions;
 use rp_base::NoMemory;
@@ -35,7 +35,7 @@ pub fn report_image(alloc: Global, bytes: &[u8]) -> Result<ImageReport, NoMemory
         Err(fault) => return refuse(alloc, Notice::Fault(fault.number(), fault.index())),
     };
     let regions = Regions::standard(alloc)?;
-    match load(alloc, bytes, &regions) {
+    match load_image(alloc, bytes, &image, &regions) {
         Ok(loaded) => report_loaded(alloc, &image, &loaded),
         Err(fault) => refuse_load(alloc, fault),
     }

@@ -1,6 +1,7 @@
-use Rattle.std.proofs.Common.{◌≡◌, ◌+◌, ◌*◌, ◌-◌, ◌≤◌, length}
+use Rattle.std.proofs.Common.{◌≡◌, ◌-◌}
 use Rattle.elf_image.specs.Layout.{layout_for}
 use Rattle.elf_image.specs.Segments.{loaded_from}
+use Rattle.elf_image.specs.Tables.{IsInTable}
 use Rattle.elf_image.proofs.loaded.LoadedHeadersIterator.next.Given as goal
 
 abbrev pub invariant-loop-self : goal.invariant-loop-self
@@ -8,7 +9,7 @@ invariant-loop-self l =
     let now = l.self-inside in
     let initial = l.initial.self-inside in
     record {
-      table : now.header.program_table + (layout_for now.class).program_header_size * now.header.program_count ≤ length now.bytes.now;
+      table : IsInTable now.bytes.now (layout_for now.class) now.header now.next now.start;
       left : loaded_from (layout_for now.class) now.header now.bytes.now now.next ≡ loaded_from (layout_for initial.class) initial.header initial.bytes.now initial.next;
     }
 

@@ -1,4 +1,4 @@
-use Rattle.std.proofs.Common.{None, Some, refl}
+use Rattle.std.proofs.Common.{None, Some, refl, sym}
 use Rattle.std.proofs.lemmas.Result.{err_from_is_err_and}
 use Rattle.elf_image.specs.Images.{entry_of}
 use Rattle.addr_translate.specs.OrderedMaps.{AreApart}
@@ -6,22 +6,22 @@ use Rattle.fw_load.specs.Loading.{entry_unmapped}
 use Rattle.fw_load.specs.Memory.{place_at}
 use Rattle.fw_load.proofs.Places.{segments_have}
 use Rattle.fw_load.proofs.Refusals.{placed_by, tests_decide}
-use Rattle.fw_load.proofs.loading.load.Goals as goal
+use Rattle.fw_load.proofs.loading.load_image.Goals as goal
 
 pub test_segments-requires : goal.test_segments-requires
-test_segments-requires c = segments_have c.in_ok-read.read
+test_segments-requires c = segments_have c.args.image.now
 
 pub returns-in_err-test_segments-clause-refused : goal.returns-in_err-test_segments-clause-refused
 returns-in_err-test_segments-clause-refused c =
-    let image = c.args.image.now in
+    let image = c.args.bytes.now in
     let regions = c.args.regions.now in
     let placed = c.in_ok-placed.placed.blocks.items in
     let map = c.in_ok-map.map in
-    let read = c.in_ok-read.read in
+    let read = c.args.image.now in
     let apart : AreApart map.blocks = rw (← c.map.view_is) c.map.invariant.sound.apart in
-    let same = c.in_ok-read.ensures.image in
+    let same = c.requires.same in
     let is =
-    placed_by image regions placed read c.section-section.result c.in_ok-table.table same c.section-section.ensures.section c.in_ok-read.ensures.fault c.in_ok-table.ensures.fault
+    placed_by image regions placed read c.section-section.result c.in_ok-table.table same c.section-section.ensures.section (sym c.requires.good) c.in_ok-table.ensures.fault
     c.in_ok-table.ensures.table c.in_ok-placed.ensures.placed in
     let refused = c.in_err-test_segments.field-0.0 in
     let answer = err_from_is_err_and c.from_residual-in_err-test_segments.result c.from_residual-in_err-test_segments.ensures.1 in
@@ -30,15 +30,15 @@ returns-in_err-test_segments-clause-refused c =
 
 pub returns-in_err-test_entry-clause-refused : goal.returns-in_err-test_entry-clause-refused
 returns-in_err-test_entry-clause-refused c =
-    let image = c.args.image.now in
+    let image = c.args.bytes.now in
     let regions = c.args.regions.now in
     let placed = c.in_ok-placed.placed.blocks.items in
     let map = c.in_ok-map.map in
-    let read = c.in_ok-read.read in
+    let read = c.args.image.now in
     let apart : AreApart map.blocks = rw (← c.map.view_is) c.map.invariant.sound.apart in
-    let same = c.in_ok-read.ensures.image in
+    let same = c.requires.same in
     let is =
-    placed_by image regions placed read c.section-section.result c.in_ok-table.table same c.section-section.ensures.section c.in_ok-read.ensures.fault c.in_ok-table.ensures.fault
+    placed_by image regions placed read c.section-section.result c.in_ok-table.table same c.section-section.ensures.section (sym c.requires.good) c.in_ok-table.ensures.fault
     c.in_ok-table.ensures.table c.in_ok-placed.ensures.placed in
     let refused = c.in_err-test_entry.field-0.0 in
     let answer = err_from_is_err_and c.from_residual-in_err-test_entry.result c.from_residual-in_err-test_entry.ensures.1 in
@@ -47,14 +47,14 @@ returns-in_err-test_entry-clause-refused c =
 
 pub returns-clause-loads : goal.returns-clause-loads
 returns-clause-loads c =
-    let image = c.args.image.now in
+    let image = c.args.bytes.now in
     let regions = c.args.regions.now in
     let placed = c.in_ok-placed.placed.blocks.items in
     let map = c.in_ok-map.map in
-    let read = c.in_ok-read.read in
+    let read = c.args.image.now in
     let apart : AreApart map.blocks = rw (← c.map.view_is) c.map.invariant.sound.apart in
-    let same = c.in_ok-read.ensures.image in
+    let same = c.requires.same in
     let is =
-    placed_by image regions placed read c.section-section.result c.in_ok-table.table same c.section-section.ensures.section c.in_ok-read.ensures.fault c.in_ok-table.ensures.fault
+    placed_by image regions placed read c.section-section.result c.in_ok-table.table same c.section-section.ensures.section (sym c.requires.good) c.in_ok-table.ensures.fault
     c.in_ok-table.ensures.table c.in_ok-placed.ensures.placed in
     tests_decide image read regions placed map c.entry.result None None is same c.in_ok-map.ensures apart c.entry.ensures.entry c.in_ok-test_segments.ensures c.in_ok-test_entry.ensures
