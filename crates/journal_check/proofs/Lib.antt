@@ -4,3 +4,4 @@ pub mod BookFacts
 pub mod EndingFacts
 pub mod AuditFacts
 pub mod DeliveryFacts
+pub mod OneReading
