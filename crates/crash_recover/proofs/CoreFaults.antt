@@ -1,6 +1,6 @@
 -- Why a boot from a store is refused, and what it leaves.
 use Rattle.std.proofs.Common.{◌≡◌, ◌≢◌, ℕ, true, false, List, Option, Some, None, Result, Ok, Err, Vec, refl, ap, ◌∙◌, subst, eqb}
-use Rattle.std.specs.Prelude.{IfErr, OnOk, Contains}
+use Rattle.std.specs.Prelude.{IfErr, IsErrOf, OnOk, Contains}
 use Rattle.std.specs.List.{list_any}
 use Rattle.std.specs.Option.{option_map}
 use Rattle.std.specs.declared.alloc.Global.{Global}
@@ -9,6 +9,7 @@ use Rattle.std.proofs.lemmas.List.Folds.{list_any_at}
 use Rattle.rp_base.specs.Texts.{text_before_zero}
 use Rattle.rp_base.proofs.Zeros.{text_before_zero-is_clear}
 use Rattle.rp_io.specs.Images.{IsFetched}
+use Rattle.rp_io.specs.declared.faults.FetchFault.TheVariants as fetch
 use Rattle.fw_load.specs.Loading.{load_fault}
 use Rattle.fw_load.specs.declared.faults.LoadFault.{LoadFault}
 use Rattle.proc_state.specs.declared.answers.Power.{Power}
@@ -64,3 +65,18 @@ refused_from images core name image (Err (fault.Life why)) needs has refused = r
 refused_from images core name image (Err fault.RingsChanged) needs has refused = refused_by images core name image fault.RingsChanged needs has (refused (λ e. absurd (cc)))
 refused_from images core name image (Err (fault.CallerOut caller)) needs has refused = refused_by images core name image (fault.CallerOut caller) needs has (refused (λ e. absurd (cc)))
 refused_from images core name image (Err (fault.Reopen why)) needs has refused = refused_by images core name image (fault.Reopen why) needs has (refused (λ e. absurd (cc)))
+
+-- a load that is refused is no fault of a store
+load_alone : (found : Option LoadFault) (why : CoreFault) → option_map fault.Load found ≡ Some why → why ≡ fault.Fetch fetch.Failed → ⊥
+load_alone None why refused is = absurd (cc)
+load_alone (Some other) why refused is = absurd (cc)
+
+-- a boot of an image that is there asks no store
+pub asks_no_store : (core : CoreState) (image : List ℕ) (result : Result Power CoreFault) → needs_image core ≡ true
+    → IfErr result (λ why. why ≢ fault.NoMemory → boot_fault core image ≡ Some why) → IsErrOf result (fault.Fetch fetch.Failed) → ⊥
+asks_no_store core image (Ok power) needs refused is = absurd (cc)
+asks_no_store core image (Err why) needs refused is =
+    let fetched : why ≡ fault.Fetch fetch.Failed = cc in
+    let other : why ≢ fault.NoMemory = λ same. absurd (cc) in
+    let e : option_map fault.Load (load_fault image core.regions) ≡ Some why = rw needs at refused other in
+    load_alone (load_fault image core.regions) why e fetched

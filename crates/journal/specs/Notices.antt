@@ -21,7 +21,7 @@ cause_text cause.Value = codes "value"
 
 -- the words of each notice, with the values of its fields
 abbrev pub notice_words : Notice → List Word
-notice_words notice.Usage = Fixed (codes "usage: rproc run | check NAME | demo N | storm H R N K") ∷ []
+notice_words notice.Usage = Fixed (codes "usage: rproc run | check NAME | demo N | storm H R N K | audit") ∷ []
 notice_words notice.ReadFault = Fixed (codes "* read fault") ∷ []
 notice_words notice.StoreFault = Fixed (codes "* store fault") ∷ []
 notice_words notice.StepLimit = Fixed (codes "* step limit") ∷ []
@@ -38,6 +38,8 @@ notice_words notice.Loads = Fixed (codes "ok") ∷ []
 notice_words (notice.Demo sessions to_host to_remote) =
     Fixed (codes "demo") ∷ Number sessions ∷ Fixed (codes "sessions") ∷ Number sessions
     ∷ Fixed (codes "to-host") ∷ Number to_host ∷ Fixed (codes "to-remote") ∷ Number to_remote ∷ []
+notice_words (notice.Sound lines) = Fixed (codes "audit ok") ∷ Number lines ∷ []
+notice_words (notice.Broken line rule) = Fixed (codes "audit broken") ∷ Number line ∷ Number rule ∷ []
 
 -- the line of a notice
 unfoldable pub notice_line : Notice → List ℕ

@@ -259,7 +259,7 @@ pub fn push_notice(_alloc: Global, notice: &Notice, out: &mut Vec<u8>) -> Result
     match notice {
         Notice::Usage => text_line(
             out,
-            "usage: rproc run | check NAME | demo N | storm H R N K",
+            "usage: rproc run | check NAME | demo N | storm H R N K | audit",
         ),
         Notice::ReadFault => text_line(out, "* read fault"),
         Notice::StoreFault => text_line(out, "* store fault"),
@@ -283,6 +283,10 @@ pub fn push_notice(_alloc: Global, notice: &Notice, out: &mut Vec<u8>) -> Result
         Notice::Loads => text_line(out, "ok"),
         Notice::Demo(sessions, to_host, to_remote) => {
             demo_counts(out, u64::from(*sessions), *to_host, *to_remote)
+        }
+        Notice::Sound(lines) => word_number(out, "audit ok", *lines),
+        Notice::Broken(line_no, rule) => {
+            word_two_numbers(out, "audit broken", *line_no, u64::from(*rule))
         }
     }
 }

@@ -33,4 +33,8 @@ pub enum Notice {
     /// What a demo did: how many sessions it had, and how many messages their links accepted to the
     /// host and to the remote.
     Demo(u32, u64, u64),
+    /// No line of a transcript breaks a rule: how many lines it has.
+    Sound(u64),
+    /// The first line of a transcript that breaks a rule, from 1, and the least rule that it breaks.
+    Broken(u64, u8),
 }

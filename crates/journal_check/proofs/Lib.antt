@@ -5,3 +5,4 @@ pub mod EndingFacts
 pub mod AuditFacts
 pub mod DeliveryFacts
 pub mod OneReading
+pub mod Found

@@ -6,6 +6,7 @@ mod audits;
 mod books;
 mod endings;
 pub mod laws;
+mod limits;
 mod marks;
 mod readings;
 mod records;
@@ -13,3 +14,4 @@ mod sides;
 
 pub use answers::Audit;
 pub use audits::audit;
+pub use limits::TRANSCRIPT_MOST;

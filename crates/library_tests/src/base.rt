@@ -10,7 +10,10 @@ fn bytes_are_as_written(rt: HostRuntime) -> Result<(), Fail> {
     assert_eq!(rt; u64_at(&bytes, 1), 0xff08_0706_0504_0302);
     put_u16(&mut bytes, 0, 0xabcd);
     put_u32(&mut bytes, 3, 0x1234_5678);
-    assert_eq!(rt; bytes[..7], [0xcd, 0xab, 0x03, 0x78, 0x56, 0x34, 0x12]);
+    assert_eq!(rt;
+        &bytes[..7],
+        [0xcd, 0xab, 0x03, 0x78, 0x56, 0x34, 0x12].as_slice()
+    );
     let copied = Data::copy_of(rt.alloc(), &bytes[..2])?;
     assert_eq!(rt; copied.bytes(), [0xcd, 0xab].as_slice());
     let message = Message::of(&bytes[..2]).ok_or("two bytes")?;

@@ -10,6 +10,7 @@ ghost use Rattle.resource_table.specs.declared.TheConstants.{ENTRIES_MOST};
 ghost use Rattle.endpoint_map.specs.declared.endpoints.TheConstants.{ANY_ADDRESS, FIRST_DYNAMIC};
 ghost use Rattle.channel_bus.specs.declared.sides.TheConstants.{NAME_SERVICE};
 ghost use Rattle.lane_model.specs.declared.TheConstants.{MANAGER};
+ghost use Rattle.journal_check.specs.declared.limits.TheConstants.{TRANSCRIPT_MOST};
 
 /// The limits of links and messages: bytes of a message and of its payload, entries of a ring, buffers of a lane, messages of a book,
 /// callers, and the manager's number.
@@ -43,7 +44,8 @@ pub fn core_limits()
     ensures drivers { DRIVERS_MOST ≡ 16 }
 {}
 
-/// The limits of scripts: bytes, lines, links and cores together, steps of a run, bytes of a name, sessions of a demo.
+/// The limits of scripts: bytes, lines, links and cores together, steps of a run, bytes of a name, sessions of a demo; and the bytes of a
+/// transcript that is audited.
 pub fn script_limits()
     ensures bytes { SCRIPT_MOST ≡ 1048576 }
     ensures lines { SCRIPT_LINES_MOST ≡ 10000 }
@@ -51,4 +53,5 @@ pub fn script_limits()
     ensures steps { STEPS_MOST ≡ 4000000 }
     ensures name { NAME_MOST ≡ 31 }
     ensures sessions { SESSIONS_MOST ≡ 500 }
+    ensures transcript { TRANSCRIPT_MOST ≡ 16777216 }
 {}

@@ -14,6 +14,10 @@ not_run : (word : List ℕ) → begins_with_dash word ≡ true → bytes_eq word
 not_run [] dashed = absurd (true≢false (sym dashed))
 not_run (first ∷ more) dashed = rw (eqb-true first 45 dashed) refl
 
+not_audit : (word : List ℕ) → begins_with_dash word ≡ true → bytes_eq word (codes "audit") ≡ false
+not_audit [] dashed = absurd (true≢false (sym dashed))
+not_audit (first ∷ more) dashed = rw (eqb-true first 45 dashed) refl
+
 not_check : (word : List ℕ) → begins_with_dash word ≡ true → bytes_eq word (codes "check") ≡ false
 not_check [] dashed = absurd (true≢false (sym dashed))
 not_check (first ∷ more) dashed = rw (eqb-true first 45 dashed) refl
@@ -60,7 +64,7 @@ dashed_form [] dashed = refl
 dashed_form (word ∷ []) dashed = sym (go (begins_with_dash word) refl dashed)
   where
     go : (b : Bool) → begins_with_dash word ≡ b → (b || false) ≡ true → form_of (word ∷ []) ≡ other
-    go true is e = rw (not_run word is) refl
+    go true is e = rw (not_run word is, not_audit word is) refl
     go false is e = absurd (true≢false (sym e))
 dashed_form (word ∷ name ∷ []) dashed = sym (dashed_pair word name (begins_with_dash word) refl dashed)
 dashed_form (word ∷ name ∷ third ∷ more) dashed = refl

@@ -4,6 +4,12 @@ use Rattle.std.proofs.lemmas.Bool.{lt-ltb, cases_lt, false≢true, true≢false}
 use Rattle.std.proofs.lemmas.List.{length-take-le, take_all}
 use Rattle.std.specs.Io.KnownBytes.{Appends}
 use Rattle.rp_base.specs.declared.limits.TheConstants.{SCRIPT_MOST}
+use Rattle.journal_check.specs.declared.limits.TheConstants.{TRANSCRIPT_MOST}
+use Rattle.journal_check.specs.declared.answers.Audit.{Audit}
+use Rattle.journal_check.specs.declared.answers.Audit.TheVariants as verdict
+use Rattle.journal_check.specs.Lines.{lines_of}
+use Rattle.journal_check.specs.Audits.{IsAudit}
+use Rattle.journal_check.proofs.Found.{audit_found}
 use Rattle.std.specs.declared.alloc.Global.{Global}
 use Rattle.rp_io.specs.declared.faults.ReadFault.{ReadFault}
 use Rattle.rp_io.specs.declared.faults.ReadFault.TheVariants as read_fault
@@ -23,18 +29,18 @@ use Rattle.script_run.specs.declared.statuses.Stop.TheVariants as stop
 use Rattle.script_run.specs.declared.runs.RunFault.TheVariants as run_fault
 use Rattle.script_run.specs.Stores.{IsHeld, IsTold, Told, held}
 use Rattle.script_run.specs.Runs.{new_run, run_of}
-use Rattle.script_run.specs.Outputs.{Form, other, run, check, demo, Output, fails_in, usage_output, run_output, script_output, stop_output, transcript_output, report_output, store_fault_output}
+use Rattle.script_run.specs.Outputs.{Form, other, run, check, demo, audit, Output, audit_output, fails_in, too_long_output, usage_output, run_output, script_output, stop_output, transcript_output, report_output, store_fault_output}
 use Rattle.script_run.specs.Reports.{check_report, fetched_report}
 use Rattle.script_run.specs.Demos.{accepted_from, counted_output, demo_output, said_output}
 use Rattle.script_run.specs.Told.{RunWrites}
 use Rattle.script_run.proofs.Handed.{appends_nothing}
 use Rattle.script_run.proofs.Shelves.{any_held, any_told, held_failed, held_run}
-use Rattle.script_run.specs.Endings.{Devices, IsAsked, IsReadWell, IsFaultOutput, IsOutput, IsCourse, IsCutOutput, IsFinal, IsRunCourse, IsRunOutput, IsReportOutput, IsScriptOutput, IsStatusCourse, IsWellRun, OfScript, SourceAsksNone, TextAsksNone, EndsWell, RunEnds, Writes, Ends}
+use Rattle.script_run.specs.Endings.{AuditEnds, Devices, IsAsked, IsAuditOutput, IsReadWell, IsFaultOutput, IsOutput, IsCourse, IsCutOutput, IsFinal, IsRunCourse, IsRunOutput, IsReportOutput, IsScriptOutput, IsStatusCourse, IsWellRun, OfSource, SourceAsksNone, TextAsksNone, EndsWell, RunEnds, Writes, Ends}
 
 -- the status of its number
 pub status_back : (ended : Status) → status_of (status_number ended) ≡ Some ended
 status_back status.Done = refl
-status_back status.NoImage = refl
+status_back status.Unsound = refl
 status_back status.Usage = refl
 status_back status.ReadFault = refl
 status_back status.WriteFault = refl
@@ -47,7 +53,7 @@ status_back status.StoreFault = refl
 pub asked_course : (ended : Status) (form : Form) (before now : Devices) (output : Output)
     → IsAsked form before output → IsReadWell before now → IsCourse ended form before now output
 asked_course status.Done form before now output asked well = inl (asked, well)
-asked_course status.NoImage form before now output asked well = inl (asked, well)
+asked_course status.Unsound form before now output asked well = inl (asked, well)
 asked_course status.Usage form before now output asked well = inl (asked, well)
 asked_course status.ReadFault form before now output asked well = inl (asked, well)
 asked_course status.WriteFault form before now output asked well = inl (asked, well)
@@ -60,7 +66,7 @@ asked_course status.StoreFault form before now output asked well = inl (asked, w
 pub fault_course : (ended : Status) (form : Form) (before now : Devices) (output : Output)
     → ended ≢ status.NoMemory → IsFaultOutput form before now output → IsCourse ended form before now output
 fault_course status.Done form before now output found fault = inr fault
-fault_course status.NoImage form before now output found fault = inr fault
+fault_course status.Unsound form before now output found fault = inr fault
 fault_course status.Usage form before now output found fault = inr fault
 fault_course status.ReadFault form before now output found fault = inr fault
 fault_course status.WriteFault form before now output found fault = inr fault
@@ -73,7 +79,7 @@ fault_course status.StoreFault form before now output found fault = inr fault
 pub writes_whole : (ended : Status) (output : Output) (old new : Option (List ℕ)) (before now : ℕ)
     → IsFinal ended → output.status ≡ ended → Appends old new output.text → now ≡ before → Writes ended output old new before now
 writes_whole status.Done output old new before now final is appended same = (is, appended, same)
-writes_whole status.NoImage output old new before now final is appended same = (is, appended, same)
+writes_whole status.Unsound output old new before now final is appended same = (is, appended, same)
 writes_whole status.Usage output old new before now final is appended same = (is, appended, same)
 writes_whole status.ReadFault output old new before now final is appended same = (is, appended, same)
 writes_whole status.WriteFault output old new before now final is appended same = absurd final
@@ -113,12 +119,29 @@ some_report : (images : Option (List (List ℕ × List ℕ))) (name : List ℕ) 
 some_report None name = (report_output (fetched_report name (Err fetch_fault.Missing)), (Err fetch_fault.Missing, tt, refl))
 some_report (Some images) name = (report_output (check_report images name), refl)
 
+-- and of an audit
+some_verdict : (bytes : List ℕ) → (TRANSCRIPT_MOST < length bytes) ⊎ (length bytes ≤ TRANSCRIPT_MOST) → (output : Output) × IsAuditOutput bytes output
+some_verdict bytes (inl long) = (too_long_output, inl (long, refl))
+some_verdict bytes (inr fits) =
+    let found = audit_found (lines_of bytes) in
+    (audit_output found.0, inr (fits, (found.0, found.1, refl)))
+
+pub some_audit : (bytes : List ℕ) → (output : Output) × IsAuditOutput bytes output
+some_audit bytes = some_verdict bytes (cases_lt TRANSCRIPT_MOST (length bytes))
+
+some_transcript : (left : Option (List ℕ)) → (output : Output) × OfSource left (λ bytes. IsAuditOutput bytes output)
+some_transcript None =
+    let some = some_audit [] in
+    (some.0, ([], some.1))
+some_transcript (Some bytes) = some_audit bytes
+
 -- what the words ask for is some output
 some_asked : (form : Form) (before : Devices) → (output : Output) × IsAsked form before output
 some_asked other before = (usage_output, refl)
 some_asked run before = some_run before.left before.images
 some_asked (check name) before = some_report before.images name
 some_asked (demo sessions) before = (demo_output sessions, refl)
+some_asked audit before = some_transcript before.left
 
 -- memory ran out before anything was written
 pub ends_no_memory : (form : Form) (before now : Devices) → IsReadWell before now → now.written ≡ before.written → now.sink_faults ≡ before.sink_faults
@@ -179,7 +202,7 @@ read_held (Some left) images told bytes front is =
     subst (λ (said : Result (List Command) Refusal). IsScriptOutput images left (script_output told said)) (sym (read_same left bytes front)) (script_held images told left is)
 
 read_cut : (left : Option (List ℕ)) (images : Option (List (List ℕ × List ℕ))) (told : Told) (bytes : List ℕ) → IsFrontOf left (SCRIPT_MOST + 1) bytes → IsTold images told
-    → fails_in told (script_of bytes) ≡ true → OfScript left (λ text. IsCutOutput images text (script_output told (script_of bytes)))
+    → fails_in told (script_of bytes) ≡ true → OfSource left (λ text. IsCutOutput images text (script_output told (script_of bytes)))
 read_cut None images told bytes front is fails = (bytes, script_cut images told bytes is fails)
 read_cut (Some left) images told bytes front is fails =
     let same = read_same left bytes front in
@@ -199,7 +222,7 @@ module _ (before now : Devices) (told : Told) (bytes : List ℕ) (front : IsFron
   run_course : (ended : Status) → IsStatusCourse ended before.images told (fails_in told (script_of bytes)) before.store_faults now.store_faults
       → IsCourse ended run before now (script_output told (script_of bytes))
   run_course status.Done is = run_either is
-  run_course status.NoImage is = run_either is
+  run_course status.Unsound is = run_either is
   run_course status.Usage is = run_either is
   run_course status.ReadFault is = run_either is
   run_course status.WriteFault is = run_either is
@@ -217,10 +240,53 @@ ends_run ended before now bytes front source ends = record {
   written = ends.written;
 }
 
+-- a transcript of which all but the first byte too many was read has the same audit
+audit_long : (bytes : List ℕ) (output : Output) → TRANSCRIPT_MOST < length bytes → IsAuditOutput bytes output → output ≡ too_long_output
+audit_long bytes output long (inl refused) = refused.1
+audit_long bytes output long (inr audited) = absurd (omega (arith, long, audited.0))
+
+audit_cut : (left : List ℕ) (output : Output) → (TRANSCRIPT_MOST + 1 < length left) ⊎ (length left ≤ TRANSCRIPT_MOST + 1)
+    → IsAuditOutput (take (TRANSCRIPT_MOST + 1) left) output → IsAuditOutput left output
+audit_cut left output (inl long) is =
+    let len : length (take (TRANSCRIPT_MOST + 1) left) ≡ TRANSCRIPT_MOST + 1 = length-take-le (TRANSCRIPT_MOST + 1) left (omega (arith, long)) in
+    inl (omega (arith, long), audit_long (take (TRANSCRIPT_MOST + 1) left) output (omega (arith, len)) is)
+audit_cut left output (inr fits) is = subst (λ (bytes : List ℕ). IsAuditOutput bytes output) (take_all (TRANSCRIPT_MOST + 1) left fits) is
+
+audit_read : (left : Option (List ℕ)) (bytes : List ℕ) (output : Output) → IsFrontOf left (TRANSCRIPT_MOST + 1) bytes → IsAuditOutput bytes output
+    → OfSource left (λ text. IsAuditOutput text output)
+audit_read None bytes output front is = (bytes, is)
+audit_read (Some left) bytes output front is =
+    audit_cut left output (cases_lt (TRANSCRIPT_MOST + 1) (length left)) (subst (λ (text : List ℕ). IsAuditOutput text output) front is)
+
+-- a transcript that was read was audited
+pub ends_audit : (ended : Status) (before now : Devices) (bytes : List ℕ) → IsFrontOf before.left (TRANSCRIPT_MOST + 1) bytes → IsReadWell before now
+    → AuditEnds ended bytes before.written now.written before.sink_faults now.sink_faults → Ends ended audit before now
+ends_audit ended before now bytes front well ends =
+    ends_asked ended audit before now ends.output (audit_read before.left bytes ends.output front ends.is) well ends.written
+
+-- a line that is that of an audit was written
+pub audit_written : (ended : Status) (made : Output) (bytes : List ℕ) (answer : Audit) (old new : Option (List ℕ)) (before now : ℕ) → made.status ≡ (audit_output answer).status
+    → made.text ≡ (audit_output answer).text → length bytes ≤ TRANSCRIPT_MOST → IsAudit (lines_of bytes) answer → Writes ended made old new before now
+    → AuditEnds ended bytes old new before now
+audit_written ended made bytes answer old new before now status text fits is written =
+    let same : made ≡ audit_output answer =
+    ap (λ (s : Status). record { status = s; text = made.text }) status ∙ ap (λ (t : List ℕ). record { status = (audit_output answer).status; text = t }) text in
+    record {
+      output = audit_output answer;
+      is = inr (fits, (answer, is, refl));
+      written = subst (λ (output : Output). Writes ended output old new before now) same written;
+    }
+
+-- memory ran out in the audit
+pub unaudited_ends : (bytes : List ℕ) (old : Option (List ℕ)) (before : ℕ) → AuditEnds status.NoMemory bytes old old before before
+unaudited_ends bytes old before =
+    let some = some_audit bytes in
+    record { output = some.0; is = some.1; written = (front_of_none old some.0.text, refl) }
+
 -- a store that didn't fail, by the status
 well_status : (ended : Status) (images : Option (List (List ℕ × List ℕ))) (told : Told) (failed : Bool) (was then : ℕ) → IsWellRun images told was then → IsStatusCourse ended images told failed was then
 well_status status.Done images told failed was then is = inl is
-well_status status.NoImage images told failed was then is = inl is
+well_status status.Unsound images told failed was then is = inl is
 well_status status.Usage images told failed was then is = inl is
 well_status status.ReadFault images told failed was then is = inl is
 well_status status.WriteFault images told failed was then is = inl is
@@ -233,7 +299,7 @@ well_status status.StoreFault images told failed was then is = inl is
 final_status : (ended : Status) (images : Option (List (List ℕ × List ℕ))) (told : Told) (failed : Bool) (was then : ℕ) → IsFinal ended → IsRunCourse images told failed was then
     → IsStatusCourse ended images told failed was then
 final_status status.Done images told failed was then final is = is
-final_status status.NoImage images told failed was then final is = is
+final_status status.Unsound images told failed was then final is = is
 final_status status.Usage images told failed was then final is = is
 final_status status.ReadFault images told failed was then final is = is
 final_status status.WriteFault images told failed was then final is = is
@@ -309,6 +375,7 @@ well_of ended run before now output source store (inr (inl fault)) = absurd (sou
 well_of ended run before now output source store (inr (inr fault)) = absurd (store fault.1)
 well_of ended (check name) before now output source store (inr fault) = absurd (store fault.1)
 well_of ended (demo sessions) before now output source store (inr fault) = absurd fault
+well_of ended audit before now output source store (inr fault) = absurd (source fault.1)
 
 -- the status of a store that failed
 abbrev is_store_fault : Status → Bool
@@ -342,7 +409,7 @@ run_script_well None images output is = script_well images is.0 output is.1
 run_script_well (Some bytes) images output is = script_well images bytes output is
 
 -- nor does a report
-loads_well : (loads : Bool) → is_store_fault (cond loads status.Done status.NoImage) ≡ false
+loads_well : (loads : Bool) → is_store_fault (cond loads status.Done status.Unsound) ≡ false
 loads_well true = refl
 loads_well false = refl
 
@@ -363,18 +430,32 @@ demo_well : (sessions : ℕ) → is_store_fault (demo_output sessions).status �
 unfolding demo_output
 demo_well sessions = said_demo_well sessions (script_of (demo_text sessions))
 
+-- nor an audit
+verdict_well : (answer : Audit) → is_store_fault (audit_output answer).status ≡ false
+verdict_well (verdict.Sound lines) = refl
+verdict_well (verdict.Broken line rule) = refl
+
+audit_well : (bytes : List ℕ) (output : Output) → IsAuditOutput bytes output → is_store_fault output.status ≡ false
+audit_well bytes output (inl refused) = ap (λ (o : Output). is_store_fault o.status) refused.1
+audit_well bytes output (inr audited) = ap (λ (o : Output). is_store_fault o.status) audited.1.2 ∙ verdict_well audited.1.0
+
+transcript_well : (left : Option (List ℕ)) (output : Output) → OfSource left (λ bytes. IsAuditOutput bytes output) → is_store_fault output.status ≡ false
+transcript_well None output is = audit_well is.0 output is.1
+transcript_well (Some bytes) output is = audit_well bytes output is
+
 asked_well : (form : Form) (before : Devices) (output : Output) → IsAsked form before output → is_store_fault output.status ≡ false
 asked_well other before output is = ap (λ (o : Output). is_store_fault o.status) is
 asked_well run before output is = run_script_well before.left before.images output is
 asked_well (check name) before output is = report_well before.images name output is
 asked_well (demo sessions) before output is = ap (λ (o : Output). is_store_fault o.status) is ∙ demo_well sessions
+asked_well audit before output is = transcript_well before.left output is
 
 -- where no count rose, the program ends with the status of the output that is asked for, or memory ran out
 pub complete : (ended : Status) (form : Form) (before now : Devices)
     → ¬ (Rose before.source_faults now.source_faults) → ¬ (Rose before.store_faults now.store_faults) → ¬ (Rose before.sink_faults now.sink_faults)
     → Ends ended form before now → EndsWell ended form before
 complete status.Done form before now source store sink ends = (ends.output, well_of status.Done form before now ends.output source store ends.course, ends.written.0)
-complete status.NoImage form before now source store sink ends = (ends.output, well_of status.NoImage form before now ends.output source store ends.course, ends.written.0)
+complete status.Unsound form before now source store sink ends = (ends.output, well_of status.Unsound form before now ends.output source store ends.course, ends.written.0)
 complete status.Usage form before now source store sink ends = (ends.output, well_of status.Usage form before now ends.output source store ends.course, ends.written.0)
 complete status.ReadFault form before now source store sink ends = (ends.output, well_of status.ReadFault form before now ends.output source store ends.course, ends.written.0)
 complete status.WriteFault form before now source store sink ends = sink ends.written.1

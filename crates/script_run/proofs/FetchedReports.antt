@@ -17,8 +17,8 @@ use Rattle.script_run.specs.ImageReports.{made_output}
 -- a report that says the same has the same output
 made_same : (made : ImageReport) (report : Report) → IsImageReport made report → made_output made ≡ report_output report
 made_same made report is =
-    ap (λ (loads : Bool). record { status = cond loads status.Done status.NoImage; text = report_text made.notices.items }) is.loads
-    ∙ ap (λ (notices : List Notice). record { status = cond report.loads status.Done status.NoImage; text = report_text notices }) is.notices
+    ap (λ (loads : Bool). record { status = cond loads status.Done status.Unsound; text = report_text made.notices.items }) is.loads
+    ∙ ap (λ (notices : List Notice). record { status = cond report.loads status.Done status.Unsound; text = report_text notices }) is.notices
 
 module _ (images : Option (List (List ℕ × List ℕ))) (name word : List ℕ) (same : name ≡ word) (made : ImageReport) where
   -- the output of a report of this name

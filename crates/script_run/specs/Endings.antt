@@ -1,22 +1,27 @@
 -- How the program ends, by its words and by what its devices did (own).
-use Rattle.std.specs.Prelude.{◌≡◌, ◌⊎◌, ℕ, Bool, true, List, Option, Some, None, Result, Ok, Err}
+use Rattle.std.specs.Prelude.{◌≡◌, ◌⊎◌, ◌<◌, ◌≤◌, ◌+◌, ℕ, Bool, true, false, List, length, Option, Some, None, Result, Ok, Err}
 use Rattle.std.specs.Io.KnownBytes.{Appends}
 use Rattle.rp_io.specs.declared.faults.FetchFault.{FetchFault}
 use Rattle.rp_io.specs.Causes.{Rose}
 use Rattle.rp_io.specs.Contents.{AppendsFront}
+use Rattle.rp_base.specs.declared.limits.TheConstants.{SCRIPT_MOST}
+use Rattle.journal_check.specs.declared.limits.TheConstants.{TRANSCRIPT_MOST}
+use Rattle.journal_check.specs.declared.answers.Audit.{Audit}
+use Rattle.journal_check.specs.Lines.{lines_of}
+use Rattle.journal_check.specs.Audits.{IsAudit}
 use Rattle.script_run.specs.declared.statuses.Status.{Status}
 use Rattle.script_run.specs.declared.statuses.Status.TheVariants as status
 use Rattle.script_lang.specs.declared.commands.Command.{Command}
 use Rattle.script_lang.specs.Grammar.{Refusal, script_of}
 use Rattle.script_run.specs.Runs.{AsksNone, new_run}
 use Rattle.script_run.specs.Stores.{IsAnswer, IsHeld, IsTold, Told, held}
-use Rattle.script_run.specs.Outputs.{Form, other, run, check, demo, Output, usage_output, run_output, script_output, fails_in, report_output, read_fault_output, store_fault_output}
+use Rattle.script_run.specs.Outputs.{Form, other, run, check, demo, audit, Output, usage_output, run_output, script_output, fails_in, report_output, audit_output, too_long_output, read_fault_output, store_fault_output}
 use Rattle.script_run.specs.Reports.{fetched_report, check_report}
 use Rattle.script_run.specs.Demos.{demo_output}
 
 -- what the devices hold, where they tell it, and their counts of faults
 pub record Devices : Type 0 where
-  -- what the source of the script has left
+  -- what the source has left
   pub left : Option (List ℕ)
   -- the names and images of the store
   pub images : Option (List (List ℕ × List ℕ))
@@ -55,14 +60,14 @@ pub record IsCutOutput (images : Option (List (List ℕ × List ℕ))) (bytes : 
   pub fails : fails_in told (script_of bytes) ≡ true
   pub written : output ≡ run_output told bytes
 
--- this holds of the script that was read; of a source that doesn't tell, of some text
-abbrev pub OfScript : Option (List ℕ) → (List ℕ → Type 0) → Type 0
-OfScript None holds = (bytes : List ℕ) × holds bytes
-OfScript (Some bytes) holds = holds bytes
+-- this holds of the text that was read; of a source that doesn't tell, of some text
+abbrev pub OfSource : Option (List ℕ) → (List ℕ → Type 0) → Type 0
+OfSource None holds = (bytes : List ℕ) × holds bytes
+OfSource (Some bytes) holds = holds bytes
 
 -- the output of a script that was read, over a store that didn't fail
 abbrev pub IsRunOutput : Option (List ℕ) → Option (List (List ℕ × List ℕ)) → Output → Type 0
-IsRunOutput left images output = OfScript left (λ bytes. IsScriptOutput images bytes output)
+IsRunOutput left images output = OfSource left (λ bytes. IsScriptOutput images bytes output)
 
 -- the report of an image; of a store that doesn't tell, that of some answer
 abbrev pub IsReportOutput : Option (List (List ℕ × List ℕ)) → List ℕ → Output → Type 0
@@ -70,22 +75,31 @@ IsReportOutput None name output =
     (answer : Result (List ℕ) FetchFault) × IsAnswer answer × (output ≡ report_output (fetched_report name answer))
 IsReportOutput (Some images) name output = output ≡ report_output (check_report images name)
 
+-- the output of an audit of a transcript, which is refused where it is too long
+abbrev pub IsAuditOutput : List ℕ → Output → Type 0
+IsAuditOutput bytes output =
+    ((TRANSCRIPT_MOST < length bytes) × (output ≡ too_long_output))
+    ⊎ ((length bytes ≤ TRANSCRIPT_MOST) × ((answer : Audit) × IsAudit (lines_of bytes) answer × (output ≡ audit_output answer)))
+
 -- the output that the words ask for, over these devices
 abbrev pub IsAsked : Form → Devices → Output → Type 0
 IsAsked other before output = output ≡ usage_output
 IsAsked run before output = IsRunOutput before.left before.images output
 IsAsked (check name) before output = IsReportOutput before.images name output
 IsAsked (demo sessions) before output = output ≡ demo_output sessions
+IsAsked audit before output = OfSource before.left (λ bytes. IsAuditOutput bytes output)
 
 -- the line of the device that failed, where the words need it
 abbrev pub IsFaultOutput : Form → Devices → Devices → Output → Type 0
 IsFaultOutput other before now output = ⊥
 IsFaultOutput run before now output =
     ((output ≡ read_fault_output) × Rose before.source_faults now.source_faults × (now.store_faults ≡ before.store_faults))
-    ⊎ (OfScript before.left (λ bytes. IsCutOutput before.images bytes output) × Rose before.store_faults now.store_faults × (now.source_faults ≡ before.source_faults))
+    ⊎ (OfSource before.left (λ bytes. IsCutOutput before.images bytes output) × Rose before.store_faults now.store_faults × (now.source_faults ≡ before.source_faults))
 IsFaultOutput (check name) before now output =
     (output ≡ store_fault_output) × Rose before.store_faults now.store_faults × (now.source_faults ≡ before.source_faults)
 IsFaultOutput (demo sessions) before now output = ⊥
+IsFaultOutput audit before now output =
+    (output ≡ read_fault_output) × Rose before.source_faults now.source_faults × (now.store_faults ≡ before.store_faults)
 
 -- what is to be written: what the words ask for where the source and the store didn't fail, or the line of the one that did
 abbrev pub IsOutput : Form → Devices → Devices → Output → Type 0
@@ -136,6 +150,12 @@ abbrev pub RunAnswersAs : Option Status → Option (List (List ℕ × List ℕ))
 RunAnswersAs None images commands old new before now was then = ⊥
 RunAnswersAs (Some ended) images commands old new before now was then = RunEnds ended images (Ok commands) old new before now was then
 
+-- a transcript is audited, and the line of its audit written
+pub record AuditEnds (ended : Status) (bytes : List ℕ) (old new : Option (List ℕ)) (before now : ℕ) : Type 0 where
+  pub output : Output
+  pub is : IsAuditOutput bytes output
+  pub written : Writes ended output old new before now
+
 -- where no device failed, the program ends with the status of what the words ask for, unless memory ran out
 abbrev pub EndsWell : Status → Form → Devices → Type 0
 EndsWell status.WriteFault form before = ⊥
@@ -148,17 +168,29 @@ abbrev pub AnswersWell : Option Status → Form → Devices → Type 0
 AnswersWell None form before = ⊥
 AnswersWell (Some ended) form before = EndsWell ended form before
 
--- a script was run, to its end, to the most steps or to a fault of the store
-abbrev pub IsRunEnd : Status → Type 0
-IsRunEnd status.Done = Unit {0}
-IsRunEnd status.StepLimit = Unit {0}
-IsRunEnd status.StoreFault = Unit {0}
-IsRunEnd ended = ⊥
+-- the words have the source read
+abbrev pub reads_source : Form → Bool
+reads_source run = true
+reads_source audit = true
+reads_source form = false
+
+-- the most bytes that the words take from the source
+abbrev pub source_most : Form → ℕ
+source_most audit = TRANSCRIPT_MOST + 1
+source_most form = SCRIPT_MOST + 1
+
+-- a script was run, to its end, to the most steps or to a fault of the store; or a transcript was audited
+abbrev pub IsReadEnd : Status → Type 0
+IsReadEnd status.Done = Unit {0}
+IsReadEnd status.Unsound = Unit {0}
+IsReadEnd status.StepLimit = Unit {0}
+IsReadEnd status.StoreFault = Unit {0}
+IsReadEnd ended = ⊥
 
 -- the answer is the number of such a status
-abbrev pub IsRunAnswer : Option Status → Type 0
-IsRunAnswer None = ⊥
-IsRunAnswer (Some ended) = IsRunEnd ended
+abbrev pub IsReadAnswer : Option Status → Type 0
+IsReadAnswer None = ⊥
+IsReadAnswer (Some ended) = IsReadEnd ended
 
 -- a script, or a text that is none, asks the store for no image
 abbrev pub TextAsksNone : Result (List Command) Refusal → Type 0
@@ -176,3 +208,4 @@ NeedsNoStore other left = Unit {0}
 NeedsNoStore run left = SourceAsksNone left
 NeedsNoStore (check name) left = ⊥
 NeedsNoStore (demo sessions) left = Unit {0}
+NeedsNoStore audit left = Unit {0}

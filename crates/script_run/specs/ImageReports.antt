@@ -12,7 +12,7 @@ use Rattle.script_run.specs.Endings.{Ends}
 
 -- the output of a report
 abbrev pub made_output : ImageReport → Output
-made_output made = record { status = if made.loads then status.Done else status.NoImage; text = report_text made.notices.items }
+made_output made = record { status = if made.loads then status.Done else status.Unsound; text = report_text made.notices.items }
 
 -- why there is no report, by the count of the store's faults
 abbrev pub IsReportFault : ReportFault → ℕ → ℕ → Type 0

@@ -3,7 +3,10 @@ use Rattle.std.specs.Prelude.{ℕ, Bool, false, ◌&&◌, nat_le, List, [], ◌�
 use Rattle.word_kinds.specs.Spellings.{digits_from, name_of}
 use Rattle.image_maker.specs.declared.demo.TheConstants.{SESSIONS_MOST}
 use Rattle.script_lang.specs.declared.commands.Command.{Command}
-use Rattle.script_lang.specs.Grammar.{Refusal, script_of}
+use Rattle.script_lang.specs.Grammar.{Refusal, bad_line, script_of}
+use Rattle.word_kinds.specs.declared.causes.Cause.TheVariants as cause
+use Rattle.journal_check.specs.declared.answers.Audit.{Audit}
+use Rattle.journal_check.specs.declared.answers.Audit.TheVariants as verdict
 use Rattle.journal.specs.Lines.{transcript}
 use Rattle.journal.specs.declared.notices.Notice.TheVariants as notice
 use Rattle.journal.specs.Notices.{report_text}
@@ -21,6 +24,7 @@ pub data Form : Type 0 where
   run : Form
   check : List ℕ → Form
   demo : ℕ → Form
+  audit : Form
 
 -- `check` with a name; a word that is no name is none of the forms
 abbrev pub named_form : Option (List ℕ) → Form
@@ -42,10 +46,14 @@ argument_form word argument =
     if bytes_eq word (codes "check") then named_form (name_of argument)
     else (if bytes_eq word (codes "demo") then demo_form (argument_of argument) else other)
 
+-- what a word alone asks for
+abbrev pub word_form : List ℕ → Form
+word_form word = if bytes_eq word (codes "run") then run else (if bytes_eq word (codes "audit") then audit else other)
+
 -- what these words behind the program's name ask for
 abbrev pub form_of : List (List ℕ) → Form
 form_of [] = other
-form_of (word ∷ []) = if bytes_eq word (codes "run") then run else other
+form_of (word ∷ []) = word_form word
 form_of (word ∷ argument ∷ []) = argument_form word argument
 form_of (word ∷ argument ∷ third ∷ more) = other
 
@@ -75,10 +83,14 @@ output_behind lines last = record last { text = lines ++ last.text }
 abbrev pub transcript_output : Run → Output
 transcript_output ended = output_behind (transcript ended.events) (end_output ended)
 
+-- the line of a text that is refused, with its status
+abbrev pub refusal_output : Refusal → Output
+refusal_output refusal = record { status = status.Refused; text = report_text (notice.Refused refusal.line refusal.cause ∷ []) }
+
 -- the transcript of a script, or its refusal
 abbrev pub script_output : Told → Result (List Command) Refusal → Output
 script_output told (Ok commands) = transcript_output (run_of told commands)
-script_output told (Err refusal) = record { status = status.Refused; text = report_text (notice.Refused refusal.line refusal.cause ∷ []) }
+script_output told (Err refusal) = refusal_output refusal
 
 -- the output of the words `run`, by what the store tells and the bytes of the script
 unfoldable pub run_output : Told → List ℕ → Output
@@ -91,7 +103,16 @@ fails_in told (Err refusal) = false
 
 -- the lines of a report, with its status
 abbrev pub report_output : Report → Output
-report_output report = record { status = if report.loads then status.Done else status.NoImage; text = report_text report.notices }
+report_output report = record { status = if report.loads then status.Done else status.Unsound; text = report_text report.notices }
+
+-- the line of an audit, with its status
+abbrev pub audit_output : Audit → Output
+audit_output (verdict.Sound lines) = record { status = status.Done; text = report_text (notice.Sound lines ∷ []) }
+audit_output (verdict.Broken line rule) = record { status = status.Unsound; text = report_text (notice.Broken line rule ∷ []) }
+
+-- the line of a transcript that is too long, with its status
+abbrev pub too_long_output : Output
+too_long_output = refusal_output (bad_line 0 cause.Size)
 
 -- the usage line, with its status
 abbrev pub usage_output : Output

@@ -1,6 +1,7 @@
 // The top call of rproc: it runs a script over links and writes the transcript, or reports whether an image loads.
 #![tactic(auto)]
 
+mod audits;
 mod calls;
 mod channel_lists;
 mod core_calls;

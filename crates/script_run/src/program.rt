@@ -1,4 +1,4 @@
-ghost use Rattle.std.specs.Prelude.{◌≡◌, ◌≢◌, ◌≤◌, ◌+◌, Ok, length, map};
+ghost use Rattle.std.specs.Prelude.{◌≡◌, ◌≤◌, ◌+◌, Ok, length, map, true, false};
 ghost use Rattle.rp_base.specs.declared.limits.TheConstants.{SCRIPT_MOST};
 ghost use Rattle.rp_io.specs.Causes.{Rose};
 ghost use Rattle.std.specs.Io.KnownBytes.{IsAtEnd};
@@ -8,8 +8,9 @@ ghost use Rattle.script_run.specs.Outputs.{form_of};
 ghost use Rattle.script_run.specs.Runs.{AsksNone, new_run};
 ghost use Rattle.script_run.specs.Outputs.{run as run_form};
 ghost use Rattle.script_run.specs.Statuses.{status_of};
-ghost use Rattle.script_run.specs.Endings.{AnswersAs, AnswersWell, Devices, Ends, IsRunAnswer, IsRunEnd, NeedsNoStore, RunAnswersAs, RunEnds, SourceAsksNone, TextAsksNone};
+ghost use Rattle.script_run.specs.Endings.{AnswersAs, AnswersWell, Devices, Ends, IsReadAnswer, IsReadEnd, NeedsNoStore, RunAnswersAs, RunEnds, SourceAsksNone, TextAsksNone, reads_source, source_most};
 
+use crate::audits::audit_text;
 use crate::demos::demo;
 use crate::endings::{end_with, end_with_line};
 use crate::objects::Objects;
@@ -26,14 +27,16 @@ use std::alloc::Global;
 /// The program: it does what the words behind the program's name ask for, and answers the number with
 /// which the process ends. With the word `run` it reads a script from the source, runs it and writes
 /// the transcript; with `check NAME` it writes whether the image of that name loads; with `demo N` it
-/// runs the script of a demo over an empty store and writes how many messages its links accepted; all
-/// other words are answered by the usage line.
+/// runs the script of a demo over an empty store and writes how many messages its links accepted; with
+/// `audit` it reads a transcript from the source and writes whether its lines keep the rules; all other
+/// words are answered by the usage line.
 ///
 /// The number is 0 where the whole output is written; 1 where `check` found no such image, one too
-/// large, or one that doesn't load; 2 for other words; 3 where the source failed; 4 where the sink
-/// failed; 5 where memory ran out; 6 where the text is no script; 7 where the run was to take one step
-/// more than it may; and 8 where the store failed. With `run` it is 0 or 3 to 8, with `check` 0, 1, 4,
-/// 5 or 8, with `demo` 0, 4, 5 or 7, and for other words 2, 4 or 5.
+/// large, or one that doesn't load, or `audit` a line that breaks a rule; 2 for other words; 3 where the
+/// source failed; 4 where the sink failed; 5 where memory ran out; 6 where the text is no script, or a
+/// transcript that is too long; 7 where the run was to take one step more than it may; and 8 where the
+/// store failed. With `run` it is 0 or 3 to 8, with `check` 0, 1, 4, 5 or 8, with `demo` 0, 4, 5 or 7,
+/// with `audit` 0, 1 or 3 to 6, and for other words 2, 4 or 5.
 pub fn run_program<S: Source, F: FirmwareStore, K: Sink>(
     alloc: Global,
     words: &[&str],
@@ -70,9 +73,9 @@ pub fn run_program<S: Source, F: FirmwareStore, K: Sink>(
         } in
         ¬ Rose (S.faults script.old) (S.faults script.new) → ¬ Rose (F.faults store.old) (F.faults store.new) → ¬ Rose (K.faults out.old) (K.faults out.new)
         → AnswersWell (status_of result) form before }
-    ensures read { form_of (map (λ word. word.now) words.now) ≡ run_form → IsRunAnswer (status_of result) → IsAtEnd (S.left script.new) }
-    ensures taken { LosesFront (S.left script.old) (S.left script.new) (SCRIPT_MOST + 1) }
-    ensures unread { form_of (map (λ word. word.now) words.now) ≢ run_form → script.new ≡ script.old }
+    ensures read { reads_source (form_of (map (λ word. word.now) words.now)) ≡ true → IsReadAnswer (status_of result) → IsAtEnd (S.left script.new) }
+    ensures taken { LosesFront (S.left script.old) (S.left script.new) (source_most (form_of (map (λ word. word.now) words.now))) }
+    ensures unread { reads_source (form_of (map (λ word. word.now) words.now)) ≡ false → script.new ≡ script.old }
     ensures unasked { NeedsNoStore (form_of (map (λ word. word.now) words.now)) (S.left script.old) → store.new ≡ store.old }
 {
     answer(alloc, words, script, store, out).number()
@@ -104,9 +107,9 @@ fn answer<S: Source, F: FirmwareStore, K: Sink>(
           sink_faults = K.faults out.new;
         } in
         Ends result form before now }
-    ensures read { form_of (map (λ word. word.now) words.now) ≡ run_form → IsRunEnd result → IsAtEnd (S.left script.new) }
-    ensures taken { LosesFront (S.left script.old) (S.left script.new) (SCRIPT_MOST + 1) }
-    ensures unread { form_of (map (λ word. word.now) words.now) ≢ run_form → script.new ≡ script.old }
+    ensures read { reads_source (form_of (map (λ word. word.now) words.now)) ≡ true → IsReadEnd result → IsAtEnd (S.left script.new) }
+    ensures taken { LosesFront (S.left script.old) (S.left script.new) (source_most (form_of (map (λ word. word.now) words.now))) }
+    ensures unread { reads_source (form_of (map (λ word. word.now) words.now)) ≡ false → script.new ≡ script.old }
     ensures unasked { NeedsNoStore (form_of (map (λ word. word.now) words.now)) (S.left script.old) → store.new ≡ store.old }
 {
     let Ok(asked) = read_words(alloc, words) else {
@@ -116,6 +119,7 @@ fn answer<S: Source, F: FirmwareStore, K: Sink>(
         Asked::Run => run_text(alloc, script, store, out),
         Asked::Check(word, name) => check(alloc, word, name, store, out),
         Asked::Demo(sessions) => demo(alloc, sessions, out),
+        Asked::Audit => audit_text(alloc, script, out),
         Asked::Other => end_with(alloc, &[Notice::Usage], Status::Usage, out),
     }
 }
@@ -144,7 +148,7 @@ fn run_text<S: Source, F: FirmwareStore, K: Sink>(
           sink_faults = K.faults out.new;
         } in
         Ends result run_form before now }
-    ensures read { IsRunEnd result → IsAtEnd (S.left script.new) }
+    ensures read { IsReadEnd result → IsAtEnd (S.left script.new) }
     ensures taken { LosesFront (S.left script.old) (S.left script.new) (SCRIPT_MOST + 1) }
     ensures unasked { SourceAsksNone (S.left script.old) → store.new ≡ store.old }
 {
@@ -163,7 +167,7 @@ fn run_bytes<F: FirmwareStore, K: Sink>(
     out: &mut K,
 ) -> Status
     ensures ends { RunEnds result (F.images store.old) (script_of bytes.now) (K.written out.old) (K.written out.new) (K.faults out.old) (K.faults out.new) (F.faults store.old) (F.faults store.new) }
-    ensures fits { IsRunEnd result → length bytes.now ≤ SCRIPT_MOST }
+    ensures fits { IsReadEnd result → length bytes.now ≤ SCRIPT_MOST }
     ensures unasked { TextAsksNone (script_of bytes.now) → store.new ≡ store.old }
 {
     match parse(alloc, bytes) {

@@ -82,6 +82,6 @@ fn report_status(report: &ImageReport) -> Status
     if report.loads {
         Status::Done
     } else {
-        Status::NoImage
+        Status::Unsound
     }
 }

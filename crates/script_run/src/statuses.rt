@@ -3,17 +3,18 @@
 pub enum Status {
     /// The whole output is written.
     Done,
-    /// `check` found no such image, one too large, or one that doesn't load.
-    NoImage,
+    /// `check` found no such image, one too large, or one that doesn't load, or `audit` found a line
+    /// that breaks a rule.
+    Unsound,
     /// The words are none that the program takes.
     Usage,
-    /// The source of the script failed.
+    /// The source of the script or the transcript failed.
     ReadFault,
     /// The sink failed.
     WriteFault,
     /// Memory ran out.
     NoMemory,
-    /// The text is no script.
+    /// The text is no script, or longer than a transcript may be.
     Refused,
     /// The run was to take one step more than it may.
     StepLimit,
@@ -31,7 +32,7 @@ impl Status {
     {
         match self {
             Status::Done => 0,
-            Status::NoImage => 1,
+            Status::Unsound => 1,
             Status::Usage => 2,
             Status::ReadFault => 3,
             Status::WriteFault => 4,

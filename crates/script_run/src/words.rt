@@ -23,6 +23,8 @@ pub enum Asked<'a> {
     Check(&'a str, Name),
     /// `demo N`: to run the script of a demo of so many sessions, 1 to 500.
     Demo(u32),
+    /// `audit`: to tell whether the lines of a transcript keep the rules.
+    Audit,
 }
 
 /// What these words, those behind the name of the program, ask for. A word that begins with `-` asks
@@ -80,6 +82,7 @@ fn asked_by<'a>(job: &'a str, args: &[&'a str]) -> Asked<'a>
 {
     match args {
         [] if job == "run" => Asked::Run,
+        [] if job == "audit" => Asked::Audit,
         [name] if job == "check" => name_in_word(name),
         [number] if job == "demo" => sessions_in_word(number),
         _ => Asked::Other,

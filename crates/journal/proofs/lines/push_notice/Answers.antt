@@ -20,3 +20,7 @@ returns-in-TooLarge-clause-whole c = rw c.in-TooLarge.is c.word_name-in-TooLarge
 pub returns-in-Segment-clause-whole : goal.returns-in-Segment-clause-whole
 unfolding notice_line
 returns-in-Segment-clause-whole c = rw c.in-Segment.is (rw c.from-in-Segment.ensures at (rw c.from-in-Segment-2.ensures at c.segment.ensures.whole))
+
+pub returns-in-Broken-clause-whole : goal.returns-in-Broken-clause-whole
+unfolding notice_line
+returns-in-Broken-clause-whole c = rw c.in-Broken.is (rw c.from-in-Broken.ensures at c.word_two_numbers-in-Broken.ensures.whole)

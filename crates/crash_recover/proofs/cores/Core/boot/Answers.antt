@@ -2,7 +2,7 @@ use Rattle.std.proofs.Common.{◌≡◌, ◌<◌, true, sym, ◌∙◌, subst, a
 use Rattle.std.specs.Prelude.{Contains}
 use Rattle.rp_base.specs.declared.limits.TheConstants.{NAME_MOST}
 use Rattle.crash_recover.specs.CoreBoots.{IsImageIn, needs_image}
-use Rattle.crash_recover.proofs.CoreFaults.{boots_from, image_in, no_zero, refused_from}
+use Rattle.crash_recover.proofs.CoreFaults.{asks_no_store, boots_from, image_in, no_zero, refused_from}
 use Rattle.crash_recover.proofs.cores.Core.boot.Goals as goal
 
 pub unreachable-requires : goal.unreachable-requires
@@ -27,3 +27,8 @@ returns-clause-refused g c =
     let found : IsImageIn images c.args.name.now c.deref.result.now = subst (IsImageIn images c.args.name.now) (sym c.deref.ensures.value) (image_in images c.args.name.now c.in_ok-image.image c.in_ok-image.ensures.fetched) in
     let needs : needs_image c.args.self.now ≡ true = sym c.needs_image.ensures ∙ c.if-not-needs_image.false in
     refused_from images c.args.self.now c.args.name.now c.deref.result.now c.boot_image.result needs found c.boot_image.ensures.refused
+
+pub returns-clause-failed : goal.returns-clause-failed
+returns-clause-failed g c = λ fetched.
+    let needs : needs_image c.args.self.now ≡ true = sym c.needs_image.ensures ∙ c.if-not-needs_image.false in
+    absurd (asks_no_store c.args.self.now c.deref.result.now c.boot_image.result needs c.boot_image.ensures.refused fetched)

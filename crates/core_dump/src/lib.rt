@@ -1,0 +1,8 @@
+// The dump of a core's memory: an image of the format ELF32 that a reader of images reads back as the parts of the memory.
+#![tactic(auto)]
+
+mod dumps;
+#[cfg(test)]
+mod tests;
+
+pub use dumps::{Part, write_dump};
