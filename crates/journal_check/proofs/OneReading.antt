@@ -1,5 +1,5 @@
 -- A text has one audit.
-use Rattle.std.proofs.Common.{◌≡◌, ℕ, zero, suc, ◌+◌, ◌-◌, ◌<◌, ◌≤◌, ◌^◌, ◌%◌, ◌==◌, List, [], ◌∷◌, ◌++◌, length, get_or, take, reverse, codes, Option, Some, None, refl, sym, ap, ◌∙◌, subst, arith, ◌⊎◌, inl, inr, min, length-take}
+use Rattle.std.proofs.Common.{◌≡◌, ℕ, zero, suc, ◌+◌, ◌-◌, ◌<◌, ◌≤◌, ◌^◌, ◌%◌, ◌==◌, List, [], ◌∷◌, length, get_or, take, reverse, codes, Option, Some, None, refl, sym, ap, ◌∙◌, arith, ◌⊎◌, inl, inr, length-take}
 use Rattle.std.specs.Prelude.{slice_get, option_and_then, if◌then◌else◌}
 use Rattle.std.specs.Fmt.{decimal}
 use Rattle.std.proofs.lemmas.Option.{same_Some, slice_get_within}
@@ -22,7 +22,7 @@ use Rattle.journal_check.specs.declared.readings.Reading.{Reading}
 use Rattle.journal_check.specs.declared.readings.Reading.TheVariants as reading
 use Rattle.journal_check.specs.Readings.{IsEnding, IsReading, AreReadings}
 use Rattle.journal_check.specs.Rules.{least_rule}
-use Rattle.journal_check.specs.Audits.{rule_at, KeepsRules, IsAudit}
+use Rattle.journal_check.specs.Audits.{rule_at, IsAudit}
 use Rattle.journal_check.proofs.EndingFacts.{refusal_said, number_said}
 
 -- a byte that tells the endings apart
@@ -191,6 +191,7 @@ ordered lines k j rule other is also le =
   where
     same_or_less : (a b : ℕ) → a ≤ b → (a < b) ⊎ (a ≡ b)
     same_or_less a b le = grind arith
+
     by_order : (k < j) ⊎ (k ≡ j) → rule_at (length lines) also.readings (k - 1) ≡ Some rule → 0 < k → (k ≡ j) × (rule ≡ other)
     by_order (inl less) there some = let none = sym (also.verdict.1 (k - 1) (omega arith)) ∙ there in absurd (cc)
     by_order (inr same) there some = (same, same_Some rule other (sym there ∙ ap (λ n. rule_at (length lines) also.readings (n - 1)) same ∙ also.verdict.0))
@@ -202,7 +203,7 @@ one_audit lines (audit.Broken k rule) (audit.Sound n) is also = absurd (sound_or
 one_audit lines (audit.Broken k rule) (audit.Broken j other) is also = elim (either_way k j) [
   | inl le ↦ let same = ordered lines k j rule other is also le in λ i. audit.Broken (same.0 i) (same.1 i)
   | inr le ↦ let same = ordered lines j k other rule also is le in λ i. audit.Broken (sym same.0 i) (sym same.1 i)
-  ]
+]
   where
     either_way : (a b : ℕ) → (a ≤ b) ⊎ (b ≤ a)
     either_way a b = grind arith
