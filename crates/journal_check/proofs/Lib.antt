@@ -4,4 +4,5 @@ pub mod BookFacts
 pub mod EndingFacts
 pub mod AuditFacts
 pub mod DeliveryFacts
+pub mod OneReading
 pub mod Found
