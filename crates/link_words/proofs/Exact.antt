@@ -157,6 +157,11 @@ read_there cd desk i place n is d number call next me me' s = record {
 
 pub written_there : {D : Type 0} (cd : Coded D) (desk : DeskMeaning D) (i place n : ℕ) → place ≡ place_in i → (d : Deed) (number : ℕ) (call next : Call) (me me' : SeatState) → IsStepOf cd desk (WritesAt i n) d number call next me me' → IsStepOf cd desk (StoresWord place n) d number call next me me'
 written_there cd desk i place n is d number call next me me' s = record {
-  state = s.state; sound = s.sound; may = s.may; before = s.before; after = s.after; copy = s.copy;
+  state = s.state;
+  sound = s.sound;
+  may = s.may;
+  before = s.before;
+  after = s.after;
+  copy = s.copy;
   read = s.read ∙ (sym (found_apart 10 (words_of 0 [] (after_deed desk s.state d)) i) ∙ ap (λ (k : ℕ). get_or (layout (words_of 0 [] (after_deed desk s.state d))) k 0) (sym is));
 }

@@ -129,10 +129,13 @@ module _ {D : Type 0} (cd : Coded D) (desk : DeskMeaning D) (z : LinkSizes) wher
             (record { long = q.long; full = q.full; home = q.home })
             mine
             (others_receive desk m e s' t o.pass.number h.1.0 h.1.1 refl refl refl refl (λ i apart. no_call desk t' o.pass.number i h.1.1 apart)) refl refl refl refl (λ i l. absurd (true-false (sym l))),
-        (refl, write_by (entry_number z e ring.Return count) new cd desk z st m r id me o (with_call o.pass w) (Steps o.pass.number 0 None) (with_lane m e s') me.1
-            (stored ∙ (ap entry_word (sym (get_or-set_same s.rings.returns j entry (entry_of 0) (omega (arith, low, rl))))
-                ∙ (sym (return_found e (era_word m.era) j (entry_number z e ring.Return count) (lane_words s') (lane_words (lane_to m (other e))) (let l = length-set s.rings.returns j entry in omega (arith, low, rl, l)) word)
-                ∙ ap (λ (ws : List ℕ). get_or ws (entry_number z e ring.Return count) 0) (sym (words_seen [] m e s'))))) at may deed mine),
+        (
+          refl,
+          write_by (entry_number z e ring.Return count) new cd desk z st m r id me o (with_call o.pass w) (Steps o.pass.number 0 None) (with_lane m e s') me.1
+              (stored ∙ (ap entry_word (sym (get_or-set_same s.rings.returns j entry (entry_of 0) (omega (arith, low, rl))))
+              ∙ (sym (return_found e (era_word m.era) j (entry_number z e ring.Return count) (lane_words s') (lane_words (lane_to m (other e))) (let l = length-set s.rings.returns j entry in omega (arith, low, rl, l)) word)
+              ∙ ap (λ (ws : List ℕ). get_or ws (entry_number z e ring.Return count) 0) (sym (words_seen [] m e s'))))) at may deed mine,
+        ),
       )
 
   -- step 3 of a give: the return index tells that the buffer is back

@@ -215,8 +215,11 @@ module _ {D : Type 0} (cd : Coded D) (desk : DeskMeaning D) (z : LinkSizes) wher
             (record { long = q.long; full = λ k from to other. ap (get_elem? (shelf_to r.shelves e)) (stands k from to) ∙ q.full k from to other; home = q.home })
             mine
             (others_send desk m e s' t o.pass.number h.1.0 h.1.1 refl refl refl (λ _. refl) (λ k apart. no_call desk t' o.pass.number k h.1.1 apart)) refl refl refl refl (λ i k. absurd (true-false (sym k))),
-        (refl, write_by word new cd desk z st m r id me o (with_call o.pass w) (Steps o.pass.number 0 None) (with_lane m e s') me.1
-            (stored ∙ (ap entry_word (sym (get_or-set_same s.rings.forward j entry (entry_of 0) (omega (arith, low, fl))))
-                ∙ (sym (forward_found e (era_word m.era) j word (lane_words s') (lane_words (lane_to m (other e))) (let l = length-set s.rings.forward j entry in omega (arith, low, fl, l)) place)
-                ∙ ap (λ (ws : List ℕ). get_or ws word 0) (sym (words_seen [] m e s'))))) at may deed mine),
+        (
+          refl,
+          write_by word new cd desk z st m r id me o (with_call o.pass w) (Steps o.pass.number 0 None) (with_lane m e s') me.1
+              (stored ∙ (ap entry_word (sym (get_or-set_same s.rings.forward j entry (entry_of 0) (omega (arith, low, fl))))
+              ∙ (sym (forward_found e (era_word m.era) j word (lane_words s') (lane_words (lane_to m (other e))) (let l = length-set s.rings.forward j entry in omega (arith, low, fl, l)) place)
+              ∙ ap (λ (ws : List ℕ). get_or ws word 0) (sym (words_seen [] m e s'))))) at may deed mine,
+        ),
       )
