@@ -20,7 +20,7 @@ use Rattle.link_words.specs.declared.rule.Pass.{Pass}
 use Rattle.link_words.specs.Passes.{Manages, Mover, with_pass}
 use Rattle.link_words.specs.Rule.{IsCallOf, Shows}
 use Rattle.link_words.specs.Calls.{SeatState, call_at, number_at, with_pass_at, Becomes}
-use Rattle.link_words.specs.Steps.{IsStepOf, AnyWord, HasWord}
+use Rattle.link_words.specs.Steps.{IsStepOf, StoresWord, HasWord}
 use Rattle.link_words.specs.Deeds.{Deed, after_deed, MayDo}
 use Rattle.link_words.proofs.Parts.{state_in}
 use Rattle.link_words.specs.Words.{words_of}
@@ -54,17 +54,20 @@ module _ {D : Type 0} (c : Coded D) where
   }
 
 -- who knows the state by the manager's copy knows it after a step, which takes the copy by the deed though no desk is in it
-pub copy_after : {D : Type 0} (cd : Coded D) (desk : DeskMeaning D) (Reads : LaneLink (RingState D) → Type 0) (d : Deed) (number : ℕ) (before after : Call) (me me' : SeatState) → IsStepOf cd desk Reads d number before after me me' → (known : LaneLink (RingState D)) → Manages me.0 → me.0.out ≡ [] → me.0.copy ≡ Some (copied cd known)
+pub copy_after : {D : Type 0} (cd : Coded D) (desk : DeskMeaning D) (Reads : LaneLink (RingState D) → LaneLink (RingState D) → Type 0) (d : Deed) (number : ℕ) (before after : Call) (me me' : SeatState) → IsStepOf cd desk Reads d number before after me me' → (known : LaneLink (RingState D)) → Manages me.0 → me.0.out ≡ [] → me.0.copy ≡ Some (copied cd known)
     → me'.0.copy ≡ Some (copied cd (after_deed desk known d))
 copy_after cd desk Reads d number before after me me' step known manages none_out was =
     let c = step.copy (copied cd known) manages none_out was in c.1 ∙ ap (λ (s : LaneLink (RingState _)). Some (copied cd (after_deed desk s d))) (sym (copied_one cd known step.state c.0))
 
--- the word of this number was found to be this
-abbrev pub ReadsAt : {D : Type 0} → ℕ → ℕ → LaneLink (RingState D) → Type 0
-ReadsAt i n m = n ≡ get_or (words_of 0 [] m) i 0
+-- the word of this number was found to be this, before the step, or is this after it
+abbrev pub ReadsAt : {D : Type 0} → ℕ → ℕ → LaneLink (RingState D) → LaneLink (RingState D) → Type 0
+ReadsAt i n before after = n ≡ get_or (words_of 0 [] before) i 0
+
+abbrev pub WritesAt : {D : Type 0} → ℕ → ℕ → LaneLink (RingState D) → LaneLink (RingState D) → Type 0
+WritesAt i n before after = n ≡ get_or (words_of 0 [] after) i 0
 
 -- the step that a pass of the view makes
-abbrev pub StepBy : {D : Type 0} → Coded D → DeskMeaning D → (LaneLink (RingState D) → Type 0) → (me : SeatState) → Mover me.0 → Deed → SeatState → Type 0
+abbrev pub StepBy : {D : Type 0} → Coded D → DeskMeaning D → (LaneLink (RingState D) → LaneLink (RingState D) → Type 0) → (me : SeatState) → Mover me.0 → Deed → SeatState → Type 0
 StepBy cd desk Reads me o d me' = IsStepOf cd desk Reads d o.pass.number o.pass.call (call_at o.place me'.0.passes) me me'
 
 call_set : (ps : List Pass) (k : ℕ) (p w : Pass) → get_elem? ps k ≡ some p → call_at k (set ps k w) ≡ w.call
@@ -72,12 +75,12 @@ call_set [] k p w at = absurd (some-ne-none p (sym at))
 call_set (x ∷ xs) zero p w at = refl
 call_set (x ∷ xs) (suc k) p w at = call_set xs k p w at
 
-pub step_with : {D : Type 0} (Reads : LaneLink (RingState D) → Type 0) (cd : Coded D) (desk : DeskMeaning D) (z : LinkSizes) (st : State Slot View) (m : LaneLink (RingState D)) (r : Shows cd desk z st m 0) (id : ℕ) (me : SeatState) (o : Mover me.0) (w : Pass) (d : Deed) (m' : LaneLink (RingState D)) (slots : List (ℕ × Slot))
-    → get_elem? st.views id ≡ some me.0 → Reads m → MayDo desk m d → m' ≡ after_deed desk m d → IsCallOf m' 0 o.pass.number w.call → StepBy cd desk Reads me o d (with_pass me.0 o w (Some (copied cd m')), slots)
+pub step_with : {D : Type 0} (Reads : LaneLink (RingState D) → LaneLink (RingState D) → Type 0) (cd : Coded D) (desk : DeskMeaning D) (z : LinkSizes) (st : State Slot View) (m : LaneLink (RingState D)) (r : Shows cd desk z st m 0) (id : ℕ) (me : SeatState) (o : Mover me.0) (w : Pass) (d : Deed) (m' : LaneLink (RingState D)) (slots : List (ℕ × Slot))
+    → get_elem? st.views id ≡ some me.0 → Reads m m' → MayDo desk m d → m' ≡ after_deed desk m d → IsCallOf m' 0 o.pass.number w.call → StepBy cd desk Reads me o d (with_pass me.0 o w (Some (copied cd m')), slots)
 step_with Reads cd desk z st m r id me o w d m' slots at read may is mine = record {
   state = m;
   sound = state_in r;
-  read = read;
+  read = subst (Reads m) is read;
   may = may;
   before = r.turns.calls id o.place o.pass (me.0, at, o.here);
   after = subst (λ (x : LaneLink (RingState _)). IsCallOf x 0 o.pass.number (call_at o.place (set me.0.passes o.place w))) is (subst (IsCallOf m' 0 o.pass.number) (sym (call_set me.0.passes o.place o.pass w o.here)) mine);
@@ -85,9 +88,9 @@ step_with Reads cd desk z st m r id me o w d m' slots at read may is mine = reco
 }
 
 -- at a store
-pub step_by : {D : Type 0} (cd : Coded D) (desk : DeskMeaning D) (z : LinkSizes) (st : State Slot View) (m : LaneLink (RingState D)) (r : Shows cd desk z st m 0) (id : ℕ) (me : SeatState) (o : Mover me.0) (w : Pass) (d : Deed) (m' : LaneLink (RingState D)) (slots : List (ℕ × Slot))
-    → get_elem? st.views id ≡ some me.0 → MayDo desk m d → m' ≡ after_deed desk m d → IsCallOf m' 0 o.pass.number w.call → StepBy cd desk AnyWord me o d (with_pass me.0 o w (Some (copied cd m')), slots)
-step_by cd desk z st m r id me o w d m' slots at may is mine = step_with AnyWord cd desk z st m r id me o w d m' slots at tt may is mine
+pub write_by : {D : Type 0} (i n : ℕ) (cd : Coded D) (desk : DeskMeaning D) (z : LinkSizes) (st : State Slot View) (m : LaneLink (RingState D)) (r : Shows cd desk z st m 0) (id : ℕ) (me : SeatState) (o : Mover me.0) (w : Pass) (d : Deed) (m' : LaneLink (RingState D)) (slots : List (ℕ × Slot))
+    → n ≡ get_or (words_of 0 [] m') i 0 → get_elem? st.views id ≡ some me.0 → MayDo desk m d → m' ≡ after_deed desk m d → IsCallOf m' 0 o.pass.number w.call → StepBy cd desk (WritesAt i n) me o d (with_pass me.0 o w (Some (copied cd m')), slots)
+write_by i n cd desk z st m r id me o w d m' slots written at may is mine = step_with (WritesAt i n) cd desk z st m r id me o w d m' slots at written may is mine
 
 -- at a load, or an exchange
 pub read_by : {D : Type 0} (i : ℕ) (cd : Coded D) (desk : DeskMeaning D) (z : LinkSizes) (st : State Slot View) (m : LaneLink (RingState D)) (r : Shows cd desk z st m 0) (id : ℕ) (me : SeatState) (o : Mover me.0) (w : Pass) (d : Deed) (m' : LaneLink (RingState D)) (slots : List (ℕ × Slot))
@@ -137,7 +140,7 @@ module _ (me : SeatState) (o : Mover me.0) (k : ℕ) (place : o.place ≡ k) whe
   becomes f w slots me' is told = told ∙ λ i. (record me.0 { copy = me'.0.copy; passes = (ap (set me.0.passes o.place) is ∙ (passes_at f me.0.passes o.place o.pass o.here ∙ ap (λ (j : ℕ). with_pass_at f j me.0.passes) place)) i }, slots)
 
   -- and the step that it makes
-  pub step_told : {D : Type 0} (cd : Coded D) (desk : DeskMeaning D) (Reads : LaneLink (RingState D) → Type 0) (d : ℕ → Deed) (me' : SeatState) → StepBy cd desk Reads me o (d o.pass.number) me' → IsStepOf cd desk Reads (d (number_at k me.0.passes)) (number_at k me.0.passes) (call_at k me.0.passes) (call_at k me'.0.passes) me me'
+  pub step_told : {D : Type 0} (cd : Coded D) (desk : DeskMeaning D) (Reads : LaneLink (RingState D) → LaneLink (RingState D) → Type 0) (d : ℕ → Deed) (me' : SeatState) → StepBy cd desk Reads me o (d o.pass.number) me' → IsStepOf cd desk Reads (d (number_at k me.0.passes)) (number_at k me.0.passes) (call_at k me.0.passes) (call_at k me'.0.passes) me me'
   step_told cd desk Reads d me' step = subst (λ (t : ℕ × ℕ × Call). IsStepOf cd desk Reads (d t.0) t.0 t.2 (call_at t.1 me'.0.passes) me me') (λ i. (number_is i, place i, call_is i)) step
 
 -- a word that was found is the one at its place of the table
@@ -150,4 +153,15 @@ read_there cd desk i place n is d number call next me me' s = record {
   after = s.after;
   copy = s.copy;
   read = s.read ∙ (sym (found_apart 10 (words_of 0 [] s.state) i) ∙ ap (λ (k : ℕ). get_or (layout (words_of 0 [] s.state)) k 0) (sym is));
+}
+
+pub written_there : {D : Type 0} (cd : Coded D) (desk : DeskMeaning D) (i place n : ℕ) → place ≡ place_in i → (d : Deed) (number : ℕ) (call next : Call) (me me' : SeatState) → IsStepOf cd desk (WritesAt i n) d number call next me me' → IsStepOf cd desk (StoresWord place n) d number call next me me'
+written_there cd desk i place n is d number call next me me' s = record {
+  state = s.state;
+  sound = s.sound;
+  may = s.may;
+  before = s.before;
+  after = s.after;
+  copy = s.copy;
+  read = s.read ∙ (sym (found_apart 10 (words_of 0 [] (after_deed desk s.state d)) i) ∙ ap (λ (k : ℕ). get_or (layout (words_of 0 [] (after_deed desk s.state d))) k 0) (sym is));
 }

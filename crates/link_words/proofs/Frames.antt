@@ -21,7 +21,7 @@ use mathlib.Core.Path.{Path}
 use Rattle.link_words.specs.Codes.{copied}
 use Rattle.link_words.specs.declared.copies.LinkCopy.{LinkCopy}
 use Rattle.link_words.specs.Passes.{PassAt, EachPass, HasNumber, Manages, Mover}
-use Rattle.link_words.specs.Words.{other, lane_to, with_lane, era_word, LaneWords, lane_words, words_of, words_at, LaneHomes, homes_at, lane_homes, homes_of, Shelves, shelf_to, with_shelf, sender_word, sender_slot, buffer_slot}
+use Rattle.link_words.specs.Words.{other, lane_to, with_lane, era_word, LaneWords, lane_words, words_of, words_at, LaneHomes, homes_at, lane_homes, homes_of, Shelves, shelf_to, with_shelf, sender_word, sender_slot, buffer_slot, turn_word, receiver_word, forward_word, return_word}
 use Rattle.link_words.specs.Parts.{has_for_manager, AreKeepersApart, AreNumbersApart, Knows, ManagerKnows}
 
 -- one copy
@@ -190,3 +190,20 @@ pub buffer_set : (e : End) (first id : ℕ) (x : Option Slot) (a b : LaneHomes) 
 buffer_set side.Host first id x a b near long = ap (λ (l : List (Option Slot)). a.sender ∷ a.receiver ∷ b.sender ∷ b.receiver ∷ l) (set_left a.shelf b.shelf id x near)
 buffer_set side.Remote first id x a b near long = ap (λ (l : List (Option Slot)). b.sender ∷ b.receiver ∷ a.sender ∷ a.receiver ∷ l)
     (ap (λ (k : ℕ). set (b.shelf ++ a.shelf) (k + id) x) (long refl) ∙ set_add b.shelf a.shelf id x)
+
+-- a word of a lane, in the link
+pub sender_in : {D : Type 0} (m : LaneLink (RingState D)) (e : End) (s : RingState D) → turn_word s.lane.sender ≡ get_or (words_of 0 [] (with_lane m e s)) (sender_word e) 0
+sender_in m side.Host s = refl
+sender_in m side.Remote s = refl
+
+pub receiver_in : {D : Type 0} (m : LaneLink (RingState D)) (e : End) (s : RingState D) → turn_word s.lane.receiver ≡ get_or (words_of 0 [] (with_lane m e s)) (receiver_word e) 0
+receiver_in m side.Host s = refl
+receiver_in m side.Remote s = refl
+
+pub forward_in : {D : Type 0} (m : LaneLink (RingState D)) (e : End) (s : RingState D) → s.rings.forward_index ≡ get_or (words_of 0 [] (with_lane m e s)) (forward_word e) 0
+forward_in m side.Host s = refl
+forward_in m side.Remote s = refl
+
+pub return_in : {D : Type 0} (m : LaneLink (RingState D)) (e : End) (s : RingState D) → s.rings.return_index ≡ get_or (words_of 0 [] (with_lane m e s)) (return_word e) 0
+return_in m side.Host s = refl
+return_in m side.Remote s = refl

@@ -1,5 +1,5 @@
 -- The later steps of a give: the return entry, and the return index; and step 2 of a binding or an unbinding.
-use Rattle.std.proofs.Common.{◌≡◌, ◌≢◌, ℕ, ◌+◌, ◌*◌, ◌%◌, ◌<◌, Bool, true, false, cond, eqb, not, ◌&&◌, List, [], ◌∷◌, length, get_or, set, refl, sym, ap, ◌∙◌, subst, arith, ne_eqb}
+use Rattle.std.proofs.Common.{◌≡◌, ◌≢◌, ℕ, ◌+◌, ◌*◌, ◌%◌, ◌<◌, Bool, true, false, cond, eqb, not, ◌&&◌, List, [], ◌∷◌, length, get_or, set, refl, sym, ap, ◌∙◌, subst, arith, ne_eqb, length-set}
 use Rattle.std.specs.Prelude.{Some, None}
 use Rattle.std.proofs.lemmas.Bool.{eqb-true}
 use Rattle.std.proofs.Math.Nat.{mod-lt, mod-add-mod}
@@ -43,13 +43,13 @@ use Rattle.link_words.specs.Histories.{hands_of}
 use Rattle.link_words.specs.Parts.{HoldsBuffers}
 use Rattle.link_words.specs.Passes.{Mover, with_pass, with_call, with_call_and_hands}
 use Rattle.link_words.specs.Rule.{IsCallOf, Shows, WordsRule}
-use Rattle.link_words.specs.Steps.{hands_but, AnyWord}
+use Rattle.link_words.specs.Steps.{hands_but}
 use Rattle.link_words.specs.Turns.{is_manager}
 use Rattle.link_words.specs.Words.{other, lane_to, with_lane, era_word, entry_word, LaneWords, lane_words, words_at, shelf_to, receiver_side, return_word, sizes_at, entries_before, entry_number}
 use Rattle.link_words.proofs.Buffers.{loaded, rings_to}
-use Rattle.link_words.proofs.Entries.{ahead, sizes_known}
-use Rattle.link_words.proofs.Exact.{StepBy, step_by, ReadsAt, read_by}
-use Rattle.link_words.proofs.Frames.{keepers_set}
+use Rattle.link_words.proofs.Entries.{ahead, sizes_known, return_found}
+use Rattle.link_words.proofs.Exact.{StepBy, write_by, ReadsAt, read_by, WritesAt}
+use Rattle.link_words.proofs.Frames.{keepers_set, words_seen, return_in}
 use Rattle.link_words.proofs.Hands.{hands_here, hands_at}
 use Rattle.link_words.proofs.Kept.{no_send, receive_deed, receive_may}
 use Rattle.link_words.proofs.LaneSteps.{no_call, lane_moves, lane_moves_by, hands_kept}
@@ -59,6 +59,7 @@ use Rattle.link_words.proofs.Sends.{has_of, some_number, true-false}
 use mathlib.Core.Path.{Path}
 use Rattle.link_words.proofs.Held.{shelved_receiver}
 use Rattle.link_words.proofs.Takes.{with_receiver, others_receive, here_receives, at_zero'}
+use Rattle.std.proofs.lemmas.List.{get_or-set_same}
 
 -- without one holding of a caller, its hands lose that number
 hands_given : (c k : ℕ) (held : List Holding) → hands_of c (without held k c) ≡ hands_but (hands_of c held) k
@@ -95,7 +96,7 @@ module _ {D : Type 0} (cd : Coded D) (desk : DeskMeaning D) (z : LinkSizes) wher
   -- step 2 of a give: the return entry names the buffer in hand
   pub gives_entry : (n id : ℕ) (me : SeatState) (o : Mover me.0) (e : End) (c f k : ℕ) (x : ReceiverSide) (b count new : ℕ) (msg : List ℕ) → o.pass.call ≡ Receives e (turn.Taken c (record { follows = f; work = work.Give k give_stage.Turn })) x b msg
       → count ≡ return_count (sizes_at z e) x.returned → new ≡ held_buffer x.hands k + 0 * 4294967296
-      → Allows (WordsRule cd desk z) n id me (entry_number z e ring.Return count) (λ _. new) (λ _ me'. (me' ≡ (with_pass me.0 o (with_call o.pass (Receives e (turn.Taken c (record { follows = f; work = work.Give k give_stage.Entry })) x b msg)) me'.0.copy, me.1)) × StepBy cd desk AnyWord me o (Steps o.pass.number 0 None) me')
+      → Allows (WordsRule cd desk z) n id me (entry_number z e ring.Return count) (λ _. new) (λ _ me'. (me' ≡ (with_pass me.0 o (with_call o.pass (Receives e (turn.Taken c (record { follows = f; work = work.Give k give_stage.Entry })) x b msg)) me'.0.copy, me.1)) × StepBy cd desk (WritesAt (entry_number z e ring.Return count) new) me o (Steps o.pass.number 0 None) me')
   gives_entry n id me o e c f k x b count new msg call count_is new_is st (m, p, r₀) wide at _ =
       let t : Turn Receiving = turn.Taken c (record { follows = f; work = work.Give k give_stage.Turn }) in
       let h : IsCallOf m p o.pass.number (Receives e t x b msg) = subst (IsCallOf m p o.pass.number) call (r₀.turns.calls id o.place o.pass (me.0, at, o.here)) in
@@ -128,14 +129,20 @@ module _ {D : Type 0} (cd : Coded D) (desk : DeskMeaning D) (z : LinkSizes) wher
             (record { long = q.long; full = q.full; home = q.home })
             mine
             (others_receive desk m e s' t o.pass.number h.1.0 h.1.1 refl refl refl refl (λ i apart. no_call desk t' o.pass.number i h.1.1 apart)) refl refl refl refl (λ i l. absurd (true-false (sym l))),
-        (refl, step_by cd desk z st m r id me o (with_call o.pass w) (Steps o.pass.number 0 None) (with_lane m e s') me.1 at may deed mine),
+        (
+          refl,
+          write_by (entry_number z e ring.Return count) new cd desk z st m r id me o (with_call o.pass w) (Steps o.pass.number 0 None) (with_lane m e s') me.1
+              (stored ∙ (ap entry_word (sym (get_or-set_same s.rings.returns j entry (entry_of 0) (omega (arith, low, rl))))
+              ∙ (sym (return_found e (era_word m.era) j (entry_number z e ring.Return count) (lane_words s') (lane_words (lane_to m (other e))) (let l = length-set s.rings.returns j entry in omega (arith, low, rl, l)) word)
+              ∙ ap (λ (ws : List ℕ). get_or ws (entry_number z e ring.Return count) 0) (sym (words_seen [] m e s'))))) at may deed mine,
+        ),
       )
 
   -- step 3 of a give: the return index tells that the buffer is back
   pub gives_back : (n id : ℕ) (me : SeatState) (o : Mover me.0) (e : End) (c f k : ℕ) (x : ReceiverSide) (b new : ℕ) (msg : List ℕ) → o.pass.call ≡ Receives e (turn.Taken c (record { follows = f; work = work.Give k give_stage.Entry })) x b msg
       → new ≡ (return_count (sizes_at z e) x.returned + 1) % 65536
       → Allows (WordsRule cd desk z) n id me (return_word e) (λ _. new) (λ _ me'. (me' ≡ (with_pass me.0 o (with_call_and_hands o.pass (Receives e (turn.Leaving c (end.Gave k)) (record { handed = x.handed; returned = x.returned + 1; hands = hands_without x.hands k }) b msg) (hands_but o.pass.hands k)) me'.0.copy, me.1))
-      × StepBy cd desk AnyWord me o (Steps o.pass.number 0 None) me')
+      × StepBy cd desk (WritesAt (return_word e) new) me o (Steps o.pass.number 0 None) me')
   gives_back n id me o e c f k x b new msg call new_is st (m, p, r₀) wide at _ =
       let t : Turn Receiving = turn.Taken c (record { follows = f; work = work.Give k give_stage.Entry }) in
       let h : IsCallOf m p o.pass.number (Receives e t x b msg) = subst (IsCallOf m p o.pass.number) call (r₀.turns.calls id o.place o.pass (me.0, at, o.here)) in
@@ -168,7 +175,7 @@ module _ {D : Type 0} (cd : Coded D) (desk : DeskMeaning D) (z : LinkSizes) wher
             (hands_here m e s' pass h.0 ((λ i. hands_of (sym who i) (without s.lane.lane.held k c)) ∙ (hands_given c k s.lane.lane.held ∙ (λ i. hands_but (hands_of (who i) s.lane.lane.held) k) ∙ ap (λ (l : List ℕ). hands_but l k) held_now)))
             (λ u apart. hands_kept desk m e s' u (λ was. hands_stay c k u.number s.lane.lane.held (λ same_one. apart (sym who ∙ same_one)) ∙ (ap (λ (y : RingState D). hands_of u.number y.lane.lane.held) (sym is) ∙ was)))
             (keepers_set st.views id me.0 (with_pass me.0 o pass (Some (copied cd (with_lane m e s')))) o pass at refl refl (λ i l. absurd (true-false (sym l))) r.turns.keepers),
-        (refl, step_by cd desk z st m r id me o pass (Steps o.pass.number 0 None) (with_lane m e s') me.1 at may deed mine),
+        (refl, write_by (return_word e) new cd desk z st m r id me o pass (Steps o.pass.number 0 None) (with_lane m e s') me.1 (index ∙ return_in m e s') at may deed mine),
       )
 
   -- step 2 of a binding or an unbinding, where the call ends so and leaves this desk

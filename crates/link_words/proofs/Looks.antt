@@ -1,8 +1,8 @@
 -- steps 3 and 5 of a send: the look for room, and the forward entry, on either lane.
-use Rattle.std.proofs.Common.{◌≡◌, ℕ, zero, suc, ◌+◌, ◌*◌, ◌%◌, ◌<◌, ◌≤◌, Bool, true, false, cond, eqb, List, [], ◌∷◌, ◌++◌, map, length, get_or, set, refl, sym, ap, ◌∙◌, subst, arith}
+use Rattle.std.proofs.Common.{◌≡◌, ℕ, zero, suc, ◌+◌, ◌*◌, ◌%◌, ◌<◌, ◌≤◌, Bool, true, false, cond, eqb, List, [], ◌∷◌, ◌++◌, map, length, get_or, set, refl, sym, ap, ◌∙◌, subst, arith, length-set}
 use Rattle.std.specs.Prelude.{Some, None}
 use mathlib.Core.Option.{none}
-use Rattle.std.proofs.lemmas.List.{map-set, length-map}
+use Rattle.std.proofs.lemmas.List.{map-set, length-map, get_or-set_same}
 use lib.ListN.{get_elem?}
 use Rattle.std.proofs.Math.Nat.{mod-lt}
 use Rattle.atomic_table.specs.Table.{State, keeps, Allows}
@@ -21,7 +21,7 @@ use Rattle.lane_model.specs.Lanes.{holder, has_call}
 use Rattle.lane_model.specs.Sends.{after_send_look}
 use Rattle.ring_core.specs.declared.states.RingState.{RingState}
 use Rattle.ring_core.specs.declared.states.RingSizes.{RingSizes}
-use Rattle.ring_core.specs.Rings.{buffer_at, entry_length, return_count}
+use Rattle.ring_core.specs.Rings.{buffer_at, entry_length, return_count, entry_of}
 use Rattle.ring_core.specs.Owners.{sender_is_out}
 use Rattle.ring_core.specs.RingSteps.{ring_form}
 use Rattle.ring_core.specs.SoundRings.{IsSoundRings}
@@ -43,15 +43,16 @@ use Rattle.link_words.specs.Codes.{copied}
 use Rattle.link_words.specs.Passes.{Mover, with_pass, with_call}
 use Rattle.link_words.specs.Calls.{SeatState}
 use Rattle.link_words.proofs.Tells.{SendLooksBy, SendStoresEntryBy}
-use Rattle.link_words.specs.Steps.{look_turn, AnyWord}
+use Rattle.link_words.specs.Steps.{look_turn}
 use Rattle.link_words.proofs.Kept.{send_deed, send_may}
 use Rattle.link_words.proofs.LaneSteps.{no_call, others_send, here_sends, lane_moves}
 use Rattle.link_words.proofs.Sends.{has_of, true-false, at_zero, turn_only}
 use Rattle.link_words.proofs.Buffers.{words_here, loaded, rings_to}
-use Rattle.link_words.proofs.Entries.{ahead}
-use Rattle.link_words.proofs.Exact.{StepBy, step_by, ReadsAt, read_by}
+use Rattle.link_words.proofs.Entries.{ahead, forward_found}
+use Rattle.link_words.proofs.Exact.{StepBy, write_by, ReadsAt, read_by, WritesAt}
 use Rattle.link_words.proofs.Parts.{rings_in, sizes_in, buffers_in}
 use Rattle.link_words.specs.Words.{sizes_at}
+use Rattle.link_words.proofs.Frames.{words_seen}
 
 return_seen : (e : End) (era : ℕ) (a b : LaneWords) → get_or (words_at e era a b) (return_word e) 0 ≡ a.return_index
 return_seen side.Host era a b = refl
@@ -183,7 +184,7 @@ module _ {D : Type 0} (cd : Coded D) (desk : DeskMeaning D) (z : LinkSizes) wher
   pub sends_entry : (n id : ℕ) (me : SeatState) (o : Mover me.0) (e : End) (c f : ℕ) (message : List ℕ) (x : SenderSide) (b word new before : ℕ) → o.pass.call ≡ Sends e (turn.Taken c (record { follows = f; message = message; stage = stage.Buffer })) x b
       → ((st : State Slot View) (m : LaneLink (RingState D)) → Shows cd desk z st m 0 → ahead e (lane_words (lane_to m (other e))) ≡ before)
       → word ≡ 10 + (before + x.accepted % (sizes_at z e).entries) → new ≡ b + entry_length (sizes_at z e) (length message) * 4294967296
-      → Allows (WordsRule cd desk z) n id me word (λ _. new) (λ _ me'. SendStoresEntryBy me o e c (record { follows = f; message = message; stage = stage.Buffer }) x b me' × StepBy cd desk AnyWord me o (Steps o.pass.number 0 None) me')
+      → Allows (WordsRule cd desk z) n id me word (λ _. new) (λ _ me'. SendStoresEntryBy me o e c (record { follows = f; message = message; stage = stage.Buffer }) x b me' × StepBy cd desk (WritesAt word new) me o (Steps o.pass.number 0 None) me')
   sends_entry n id me o e c f message x b word new before call before_is at_word new_is st (m, p, r₀) wide at _ =
       let sending : Sending = record { follows = f; message = message; stage = stage.Buffer } in let t : Turn Sending = turn.Taken c sending in
       let h : IsCallOf m p o.pass.number (Sends e t x b) = subst (IsCallOf m p o.pass.number) call (r₀.turns.calls id o.place o.pass (me.0, at, o.here)) in
@@ -214,5 +215,11 @@ module _ {D : Type 0} (cd : Coded D) (desk : DeskMeaning D) (z : LinkSizes) wher
             (record { long = q.long; full = λ k from to other. ap (get_elem? (shelf_to r.shelves e)) (stands k from to) ∙ q.full k from to other; home = q.home })
             mine
             (others_send desk m e s' t o.pass.number h.1.0 h.1.1 refl refl refl (λ _. refl) (λ k apart. no_call desk t' o.pass.number k h.1.1 apart)) refl refl refl refl (λ i k. absurd (true-false (sym k))),
-        (refl, step_by cd desk z st m r id me o (with_call o.pass w) (Steps o.pass.number 0 None) (with_lane m e s') me.1 at may deed mine),
+        (
+          refl,
+          write_by word new cd desk z st m r id me o (with_call o.pass w) (Steps o.pass.number 0 None) (with_lane m e s') me.1
+              (stored ∙ (ap entry_word (sym (get_or-set_same s.rings.forward j entry (entry_of 0) (omega (arith, low, fl))))
+              ∙ (sym (forward_found e (era_word m.era) j word (lane_words s') (lane_words (lane_to m (other e))) (let l = length-set s.rings.forward j entry in omega (arith, low, fl, l)) place)
+              ∙ ap (λ (ws : List ℕ). get_or ws word 0) (sym (words_seen [] m e s'))))) at may deed mine,
+        ),
       )

@@ -43,15 +43,14 @@ use Rattle.link_words.specs.Codes.{copied}
 use Rattle.link_words.specs.Passes.{Mover, with_pass}
 use Rattle.link_words.specs.Calls.{SeatState}
 use Rattle.link_words.proofs.Tells.{SendPublishesBy}
-use Rattle.link_words.proofs.Frames.{buffer_set, keepers_set}
+use Rattle.link_words.proofs.Frames.{buffer_set, keepers_set, forward_in}
 use Rattle.link_words.proofs.Kept.{send_deed, send_may}
 use Rattle.link_words.proofs.LaneSteps.{no_call, others_send, here_sends, hands_kept, lane_moves_with}
 use Rattle.link_words.proofs.Sends.{has_of, some_number, true-false, at_zero}
 use Rattle.link_words.proofs.Books.{history_published, history_other, none_published, not_used}
 use Rattle.link_words.proofs.Buffers.{rings_to, index_set, first_is}
-use Rattle.link_words.proofs.Exact.{StepBy, step_by}
+use Rattle.link_words.proofs.Exact.{StepBy, write_by, WritesAt}
 use Rattle.link_words.proofs.Parts.{rings_in, buffers_in}
-use Rattle.link_words.specs.Steps.{AnyWord}
 
 -- one message more leaves those before it
 message_before : (book : List BookEntry) (entry : BookEntry) (k : ℕ) → k < length book → message_at (book ++ entry ∷ []) k ≡ message_at book k
@@ -102,7 +101,7 @@ shelved_home {D} s s' l y sound out q sizes forward taking receiver takers newer
 module _ {D : Type 0} (cd : Coded D) (desk : DeskMeaning D) (z : LinkSizes) where
   pub publishes : (n id : ℕ) (me : SeatState) (o : Mover me.0) (e : End) (c f : ℕ) (message : List ℕ) (x : SenderSide) (b first new : ℕ) → o.pass.call ≡ Sends e (turn.Taken c (record { follows = f; message = message; stage = stage.Entry })) x b → first ≡ z.to_host.capacity
       → me.1 ≡ (buffer_slot first e b, Buffer message) ∷ rest me.1 → new ≡ (x.accepted + 1) % 65536
-      → Allows (WordsRule cd desk z) n id me (forward_word e) (λ _. new) (λ _ me'. SendPublishesBy me o e c f message x b me' × StepBy cd desk AnyWord me o (Steps o.pass.number 0 None) me')
+      → Allows (WordsRule cd desk z) n id me (forward_word e) (λ _. new) (λ _ me'. SendPublishesBy me o e c f message x b me' × StepBy cd desk (WritesAt (forward_word e) new) me o (Steps o.pass.number 0 None) me')
   publishes n id me o e c f message x b first new call first_at has_slot new_is st (m, p, r₀) wide at _ =
       let sending : Sending = record { follows = f; message = message; stage = stage.Entry } in let t : Turn Sending = turn.Taken c sending in
       let h : IsCallOf m p o.pass.number (Sends e t x b) = subst (IsCallOf m p o.pass.number) call (r₀.turns.calls id o.place o.pass (me.0, at, o.here)) in
@@ -145,5 +144,5 @@ module _ {D : Type 0} (cd : Coded D) (desk : DeskMeaning D) (z : LinkSizes) wher
             (λ u apart. hands_kept desk m e s' u (λ was. ap (λ (y : RingState D). hands_of u.number y.lane.lane.held) (sym is) ∙ was))
             (λ n none. none_published m e s' entry (sym (ap (λ (y : RingState D). y.lane.lane.accepted ++ entry ∷ []) is)) (sym (ap (λ (y : RingState D). y.lane.lane.takers) is)) n (λ same. not_used m.callers o.pass.number n (other e) h.0 none (sym who ∙ same)))
             (keepers_set st.views id me.0 (with_pass me.0 o w (Some (copied cd (with_lane m e s')))) o w at refl refl (λ i k. absurd (true-false (sym k))) r.turns.keepers),
-        (refl, step_by cd desk z st m r id me o w (Steps o.pass.number 0 None) (with_lane m e s') (rest me.1) at may deed mine),
+        (refl, write_by (forward_word e) new cd desk z st m r id me o w (Steps o.pass.number 0 None) (with_lane m e s') (rest me.1) (index ∙ forward_in m e s') at may deed mine),
       )

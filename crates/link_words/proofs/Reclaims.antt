@@ -39,16 +39,15 @@ use Rattle.link_words.specs.Codes.{copied}
 use Rattle.link_words.specs.Passes.{Mover, with_pass, with_call}
 use Rattle.link_words.specs.Calls.{SeatState}
 use Rattle.link_words.proofs.Tells.{SendLeavesBy, FindsClosedEra}
-use Rattle.link_words.proofs.Frames.{turn_set, side_set, buffer_set}
+use Rattle.link_words.proofs.Frames.{turn_set, side_set, buffer_set, sender_in}
 use Rattle.link_words.proofs.Kept.{send_deed, send_may, end_deed}
 use Rattle.link_words.proofs.LaneSteps.{others_send, lane_moves}
 use Rattle.link_words.proofs.Sends.{has_of, true-false, at_zero, shelved_turn}
 use Rattle.link_words.proofs.Closes.{stays, stays_at}
 use Rattle.link_words.proofs.Buffers.{rings_to, first_is}
 use Rattle.link_words.proofs.Publishes.{shelved_home}
-use Rattle.link_words.proofs.Exact.{StepBy, step_by}
+use Rattle.link_words.proofs.Exact.{StepBy, write_by, WritesAt}
 use Rattle.link_words.proofs.Parts.{rings_in, buffers_in}
-use Rattle.link_words.specs.Steps.{AnyWord}
 
 rests_after : {D : Type 0} (m : LaneLink (RingState D)) (e : End) (s : RingState D) (number : ℕ) → end_of m.callers number ≡ Some (other e) → has_call s.lane.sender number ≡ false → has_call (lane_to m (other e)).lane.receiver number ≡ false
     → IsCallOf (with_lane m e s) 0 number (Rests (other e))
@@ -63,7 +62,7 @@ module _ {D : Type 0} (cd : Coded D) (desk : DeskMeaning D) (z : LinkSizes) wher
 
   -- the last step of a send
   pub leaves : (n id : ℕ) (me : SeatState) (o : Mover me.0) (e : End) (c : ℕ) (end : CallEnd) (x : SenderSide) (b : ℕ) → o.pass.call ≡ Sends e (turn.Leaving c end) x b → me.1 ≡ (sender_slot e, Sender x) ∷ rest me.1
-      → Allows (WordsRule cd desk z) n id me (sender_word e) (λ _. 0) (λ _ me'. SendLeavesBy me o e (rest me.1) me' × StepBy cd desk AnyWord me o (Steps o.pass.number 0 None) me')
+      → Allows (WordsRule cd desk z) n id me (sender_word e) (λ _. 0) (λ _ me'. SendLeavesBy me o e (rest me.1) me' × StepBy cd desk (WritesAt (sender_word e) 0) me o (Steps o.pass.number 0 None) me')
   leaves n id me o e c end x b call has_slot st (m, p, r₀) wide at _ =
       let t : Turn Sending = turn.Leaving c end in
       let h : IsCallOf m p o.pass.number (Sends e t x b) = subst (IsCallOf m p o.pass.number) call (r₀.turns.calls id o.place o.pass (me.0, at, o.here)) in
@@ -85,7 +84,7 @@ module _ {D : Type 0} (cd : Coded D) (desk : DeskMeaning D) (z : LinkSizes) wher
             ∙ ap (λ (u : SenderSide). homes_at e (record (lane_homes s (shelf_to r.shelves e)) { sender = some (Sender u) }) (lane_homes (lane_to m (other e)) (shelf_to r.shelves (other e)))) h.1.2))
             (shelved_turn cd desk z s turn.Free (shelf_to r.shelves e) refl (subst (λ (u : RingState D). HoldsBuffers u (shelf_to r.shelves e)) is ((buffers_in r) e)))
             mine (others_send desk m e s' t o.pass.number h.1.0 h.1.1 refl refl refl (λ _. refl) (λ k apart. refl)) refl refl refl refl (λ i k. absurd (true-false (sym k))),
-        (refl, step_by cd desk z st m r id me o (with_call o.pass w) (Steps o.pass.number 0 None) (with_lane m e s') (rest me.1) at may deed mine),
+        (refl, write_by (sender_word e) 0 cd desk z st m r id me o (with_call o.pass w) (Steps o.pass.number 0 None) (with_lane m e s') (rest me.1) (sender_in m e s') at may deed mine),
       )
 
   -- part 1 of a reclaim of a caller that has the sender's turn: its seat loads the era, and no reopening is under way or comes

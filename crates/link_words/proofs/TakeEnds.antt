@@ -33,20 +33,19 @@ use Rattle.link_words.specs.Calls.{SeatState}
 use Rattle.link_words.proofs.Kept.{no_send, receive_deed, receive_may, end_receive_deed}
 use Rattle.link_words.proofs.LaneSteps.{lane_moves, lane_moves_by, hands_kept}
 use Rattle.link_words.proofs.Sends.{has_of, true-false}
-use Rattle.link_words.proofs.Frames.{keepers_set}
+use Rattle.link_words.proofs.Frames.{keepers_set, receiver_in}
 use Rattle.link_words.proofs.Hands.{hands_none, hands_others, hands_here}
 use Rattle.link_words.proofs.Closes.{stays, stays_at}
 use Rattle.link_words.proofs.Takes.{with_receiver, receiver_turn_set, receiver_side_set, others_receive, receive_rests, at_zero'}
 use Rattle.link_words.specs.Words.{receiver_word}
 use Rattle.link_words.proofs.Held.{shelved_receiver}
-use Rattle.link_words.proofs.Exact.{StepBy, step_by}
+use Rattle.link_words.proofs.Exact.{StepBy, write_by, WritesAt}
 use Rattle.link_words.proofs.Parts.{buffers_in}
-use Rattle.link_words.specs.Steps.{AnyWord}
 
 module _ {D : Type 0} (cd : Coded D) (desk : DeskMeaning D) (z : LinkSizes) where
   -- the last step of a call that has the receiver's turn
   pub leaves_take : (n id : ℕ) (me : SeatState) (o : Mover me.0) (e : End) (c : ℕ) (end : CallEnd) (x : ReceiverSide) (b : ℕ) (msg : List ℕ) → o.pass.call ≡ Receives e (turn.Leaving c end) x b msg → me.1 ≡ (receiver_slot e, Receiver x) ∷ rest me.1
-      → Allows (WordsRule cd desk z) n id me (receiver_word e) (λ _. 0) (λ _ me'. (me' ≡ (with_pass me.0 o (with_call o.pass (Rests e)) me'.0.copy, rest me.1)) × StepBy cd desk AnyWord me o (Steps o.pass.number 0 None) me')
+      → Allows (WordsRule cd desk z) n id me (receiver_word e) (λ _. 0) (λ _ me'. (me' ≡ (with_pass me.0 o (with_call o.pass (Rests e)) me'.0.copy, rest me.1)) × StepBy cd desk (WritesAt (receiver_word e) 0) me o (Steps o.pass.number 0 None) me')
   leaves_take n id me o e c end x b msg call has_slot st (m, p, r₀) wide at _ =
       let t : Turn Receiving = turn.Leaving c end in
       let h : IsCallOf m p o.pass.number (Receives e t x b msg) = subst (IsCallOf m p o.pass.number) call (r₀.turns.calls id o.place o.pass (me.0, at, o.here)) in
@@ -68,7 +67,7 @@ module _ {D : Type 0} (cd : Coded D) (desk : DeskMeaning D) (z : LinkSizes) wher
             ∙ (receiver_side_set e (some (Receiver x)) ha hb ∙ ap (λ (u : ReceiverSide). homes_at e (record ha { receiver = some (Receiver u) }) hb) h.1.2))
             (shelved_receiver s₀ s' (shelf_to r.shelves e) (ap receiver_is_out h.1.0) refl refl refl refl refl refl refl ((buffers_in r) e))
             mine (others_receive desk m e s' t o.pass.number h.1.0 h.1.1 refl refl refl refl (λ k apart. refl)) refl refl refl refl (λ i k. absurd (true-false (sym k))),
-        (refl, step_by cd desk z st m r id me o (with_call o.pass (Rests e)) (Steps o.pass.number 0 None) (with_lane m e s') (rest me.1) at may deed mine),
+        (refl, write_by (receiver_word e) 0 cd desk z st m r id me o (with_call o.pass (Rests e)) (Steps o.pass.number 0 None) (with_lane m e s') (rest me.1) (receiver_in m e s') at may deed mine),
       )
 
   -- part 1 of a reclaim of a caller that has the receiver's turn

@@ -39,12 +39,12 @@ use Rattle.link_words.specs.Layouts.{place_in}
 use Rattle.link_words.specs.Parts.{AreNear}
 use Rattle.link_words.specs.Passes.{Mover, with_call, with_pass, with_call_and_hands}
 use Rattle.link_words.specs.Rule.{WordsRule, LinkRule}
-use Rattle.link_words.specs.Steps.{GoesOn, SendLoadsEra, SendLooks, SendTakesBuffer, SendStoresEntry, SendPublishes, LeavesSender, TakeLoadsEra, TakeLooks, TakeTakesBuffer, TakeHands, LeavesReceiver, look_turn, take_look_turn, sizes_by, accepted_by, handed_by, with_publish, with_handing, GiveStoresEntry, GivePublishes, BindLoadsEra, with_entry, with_given, given_or, hands_but, AnyWord, HasWord}
+use Rattle.link_words.specs.Steps.{GoesOn, SendLoadsEra, SendLooks, SendTakesBuffer, SendStoresEntry, SendPublishes, LeavesSender, TakeLoadsEra, TakeLooks, TakeTakesBuffer, TakeHands, LeavesReceiver, look_turn, take_look_turn, sizes_by, accepted_by, handed_by, with_publish, with_handing, GiveStoresEntry, GivePublishes, BindLoadsEra, with_entry, with_given, given_or, hands_but, StoresWord, HasWord}
 use Rattle.link_words.specs.Words.{other, sizes_at, entries_before, entry_number, sender_word, receiver_word, forward_word, return_word, buffer_slot, era_word}
 use Rattle.link_words.proofs.Apart.{apart}
 use Rattle.link_words.proofs.Buffers.{pulls_own}
 use Rattle.link_words.proofs.Entries.{pulls_entry, forward_entry, sizes_known}
-use Rattle.link_words.proofs.Exact.{StepBy, call_is, becomes, step_told, ReadsAt, read_there}
+use Rattle.link_words.proofs.Exact.{StepBy, call_is, becomes, step_told, ReadsAt, read_there, WritesAt, written_there}
 use Rattle.link_words.proofs.Looks.{sends_look, sends_entry}
 use Rattle.link_words.proofs.Publishes.{publishes}
 use Rattle.link_words.proofs.Reclaims.{leaves}
@@ -103,12 +103,12 @@ work_sizes z me e w s sized = λ i. sizes_at (sized i) (ap lane_in (work_here me
 
 module _ {D : Type 0} (cd : Coded D) (desk : DeskMeaning D) (z : LinkSizes) (n id : ℕ) (me : SeatState) (e : End) where
   -- a later step of a call at a store, on the word of the table, told by the place of the pass that steps
-  stored_by : (i place : ℕ) (f : ℕ → ℕ) (o : Mover me.0) → o.place ≡ place_of me → (T T' : ℕ → SeatState → Type 0) → place ≡ place_in i
-      → Allows (WordsRule cd desk z) n id me i f (λ y me'. T y me' × StepBy cd desk AnyWord me o (Steps o.pass.number 0 None) me') → ((y : ℕ) (me' : SeatState) → T y me' → T' y me')
-      → Allows (LinkRule cd desk z) n id me place f (λ y me'. T' y me' × GoesOn cd desk AnyWord me me')
-  stored_by i place f o here T T' is allows follows s kept long at wide =
-      let a = apart cd desk z n id me i place f (λ y me'. T y me' × StepBy cd desk AnyWord me o (Steps o.pass.number 0 None) me') is allows s kept long at wide in
-      (a.0, a.1, a.2, a.3, (follows _ _ a.4.0, step_told me o (place_of me) here cd desk AnyWord (λ k. Steps k 0 None) _ a.4.1))
+  stored_by : (i place new : ℕ) (o : Mover me.0) → o.place ≡ place_of me → (T T' : ℕ → SeatState → Type 0) → place ≡ place_in i
+      → Allows (WordsRule cd desk z) n id me i (λ _. new) (λ y me'. T y me' × StepBy cd desk (WritesAt i new) me o (Steps o.pass.number 0 None) me') → ((y : ℕ) (me' : SeatState) → T y me' → T' y me')
+      → Allows (LinkRule cd desk z) n id me place (λ _. new) (λ y me'. T' y me' × GoesOn cd desk (StoresWord place new) me me')
+  stored_by i place new o here T T' is allows follows s kept long at wide =
+      let a = apart cd desk z n id me i place (λ _. new) (λ y me'. T y me' × StepBy cd desk (WritesAt i new) me o (Steps o.pass.number 0 None) me') is allows s kept long at wide in
+      (a.0, a.1, a.2, a.3, (follows _ _ a.4.0, written_there cd desk i place new is _ _ _ _ me _ (step_told me o (place_of me) here cd desk (WritesAt i new) (λ k. Steps k 0 None) _ a.4.1)))
 
   -- the same at a load
   told_by : (i place : ℕ) (f : ℕ → ℕ) (o : Mover me.0) → o.place ≡ place_of me → (T T' : ℕ → SeatState → Type 0) → place ≡ place_in i
@@ -162,39 +162,39 @@ module _ {D : Type 0} (cd : Coded D) (desk : DeskMeaning D) (z : LinkSizes) (n i
       (λ y me' t₀. buffer_told s (y % 4294967296) me' sized t₀)
 
   pub send_stores_entry : (s : SendAt me e stage.Buffer) (count place new : ℕ) → place ≡ place_in (entry_number z e ring.Forward count) → s.side.accepted ≡ count → new ≡ s.buffer + entry_length (sizes_at z e) (length s.message) * 4294967296
-      → Allows (LinkRule cd desk z) n id me place (λ _. new) (λ _ me'. SendStoresEntry me me' × GoesOn cd desk AnyWord me me')
+      → Allows (LinkRule cd desk z) n id me place (λ _. new) (λ _ me'. SendStoresEntry me me' × GoesOn cd desk (StoresWord place new) me me')
   send_stores_entry s count place new is at new_is =
       let size = (sizes_at z e).entries in let next : SenderSide → ℕ → Sending → Turn Sending = λ x caller q. turn.Taken caller (record q { stage = stage.Entry }) in
       let zero_before : entry_number z e ring.Forward count ≡ 10 + (entries_before z e + s.side.accepted % size) = (let e0 : 10 + (entries_before z e + (0 + count % size)) ≡ 10 + (entries_before z e + count % size) = omega arith in e0) ∙ ap (λ (k : ℕ). 10 + (entries_before z e + k % size)) (sym at) in
-      stored_by (entry_number z e ring.Forward count) place (λ _. new) s.mover s.here (λ _. SendStoresEntryBy me s.mover e s.caller (record { follows = s.follows; message = s.message; stage = stage.Buffer }) s.side s.buffer) (λ _ me'. SendStoresEntry me me') is
+      stored_by (entry_number z e ring.Forward count) place new s.mover s.here (λ _. SendStoresEntryBy me s.mover e s.caller (record { follows = s.follows; message = s.message; stage = stage.Buffer }) s.side s.buffer) (λ _ me'. SendStoresEntry me me') is
       (sends_entry cd desk z n id me s.mover e s.caller s.follows s.message s.side s.buffer (entry_number z e ring.Forward count) new (entries_before z e) s.call
       (λ st m r. (sizes_known cd desk z e st m r).2) zero_before new_is)
       (λ y me' t₀. becomes me s.mover (place_of me) s.here (with_send next) _ me.1 me' (ap (send_to next s.mover.pass) (sym s.call)) t₀)
 
   pub send_publishes : (s : SendAt me e stage.Entry) (count place new : ℕ) → place ≡ place_in (forward_word e) → s.side.accepted + 1 ≡ count → new ≡ count % 65536 → me.0.sizes ≡ z
       → me.1 ≡ (buffer_slot me.0.sizes.to_host.capacity e s.buffer, Buffer s.message) ∷ rest me.1
-      → Allows (LinkRule cd desk z) n id me place (λ _. new) (λ _ me'. SendPublishes me me' × GoesOn cd desk AnyWord me me')
+      → Allows (LinkRule cd desk z) n id me place (λ _. new) (λ _ me'. SendPublishes me me' × GoesOn cd desk (StoresWord place new) me me')
   send_publishes s count place new is at new_is sized slots =
       let F : Pass → Call → Pass = λ p k. send_or p (λ e t x b. under_way_or p (λ caller q. record p {
         call = Sends e (turn.Leaving caller (end.Sent x.accepted)) (record { accepted = x.accepted + 1 }) b;
         own = Publish e q.follows x.accepted q.message ∷ p.own;
       }) t) k in
-      stored_by (forward_word e) place (λ _. new) s.mover s.here (λ _. SendPublishesBy me s.mover e s.caller s.follows s.message s.side s.buffer) (λ _ me'. SendPublishes me me') is
+      stored_by (forward_word e) place new s.mover s.here (λ _. SendPublishesBy me s.mover e s.caller s.follows s.message s.side s.buffer) (λ _ me'. SendPublishes me me') is
       (publishes cd desk z n id me s.mover e s.caller s.follows s.message s.side s.buffer z.to_host.capacity new s.call refl
       (slots ∙ ap (λ (w : LinkSizes). (buffer_slot w.to_host.capacity e s.buffer, Buffer s.message) ∷ rest me.1) sized) (new_is ∙ ap (λ (k : ℕ). k % 65536) (sym at)))
       (λ y me' t₀. becomes me s.mover (place_of me) s.here with_publish _ (rest me.1) me' (ap (F s.mover.pass) (sym s.call)) t₀)
 
-  pub leaves_sender : (s : SendEnds me e) (place : ℕ) → place ≡ place_in (sender_word e) → Allows (LinkRule cd desk z) n id me place (λ _. 0) (λ _ me'. LeavesSender me me' × GoesOn cd desk AnyWord me me')
+  pub leaves_sender : (s : SendEnds me e) (place : ℕ) → place ≡ place_in (sender_word e) → Allows (LinkRule cd desk z) n id me place (λ _. 0) (λ _ me'. LeavesSender me me' × GoesOn cd desk (StoresWord place 0) me me')
   leaves_sender s place is =
       let F : Pass → Call → Pass = λ p k. with_call p (send_or k (λ e t x b. Rests (other e)) k) in
-      stored_by (sender_word e) place (λ _. 0) s.mover s.here (λ _. SendLeavesBy me s.mover e (rest me.1)) (λ _ me'. LeavesSender me me') is
+      stored_by (sender_word e) place 0 s.mover s.here (λ _. SendLeavesBy me s.mover e (rest me.1)) (λ _ me'. LeavesSender me me') is
       (leaves cd desk z n id me s.mover e s.caller s.end s.side s.buffer s.call s.slots)
       (λ y me' t₀. becomes me s.mover (place_of me) s.here (λ p. F p p.call) _ (rest me.1) me' (ap (F s.mover.pass) (sym s.call)) t₀)
 
-  pub leaves_receiver : (s : ReceiveEnds me e) (place : ℕ) → place ≡ place_in (receiver_word e) → Allows (LinkRule cd desk z) n id me place (λ _. 0) (λ _ me'. LeavesReceiver me me' × GoesOn cd desk AnyWord me me')
+  pub leaves_receiver : (s : ReceiveEnds me e) (place : ℕ) → place ≡ place_in (receiver_word e) → Allows (LinkRule cd desk z) n id me place (λ _. 0) (λ _ me'. LeavesReceiver me me' × GoesOn cd desk (StoresWord place 0) me me')
   leaves_receiver s place is =
       let F : Pass → Call → Pass = λ p k. with_call p (receive_or k (λ e t x b message. Rests e) k) in
-      stored_by (receiver_word e) place (λ _. 0) s.mover s.here (λ _ m'. m' ≡ (with_pass me.0 s.mover (with_call s.mover.pass (Rests e)) m'.0.copy, rest me.1)) (λ _ me'. LeavesReceiver me me') is
+      stored_by (receiver_word e) place 0 s.mover s.here (λ _ m'. m' ≡ (with_pass me.0 s.mover (with_call s.mover.pass (Rests e)) m'.0.copy, rest me.1)) (λ _ me'. LeavesReceiver me me') is
       (leaves_take cd desk z n id me s.mover e s.caller s.end s.side s.buffer s.message s.call s.slots)
       (λ y me' t₀. becomes me s.mover (place_of me) s.here (λ p. F p p.call) _ (rest me.1) me' (ap (F s.mover.pass) (sym s.call)) t₀)
 
@@ -259,18 +259,18 @@ module _ {D : Type 0} (cd : Coded D) (desk : DeskMeaning D) (z : LinkSizes) (n i
           )
 
   pub give_stores_entry : (k : ℕ) (s : WorkAt me e (work.Give k give_stage.Turn)) (count place new : ℕ) → place ≡ place_in (entry_number z e ring.Return count) → me.0.sizes ≡ z → return_count (sizes_by me) s.side.returned ≡ count → new ≡ held_buffer s.side.hands k + 0 * 4294967296
-      → Allows (LinkRule cd desk z) n id me place (λ _. new) (λ _ me'. GiveStoresEntry me me' × GoesOn cd desk AnyWord me me')
+      → Allows (LinkRule cd desk z) n id me place (λ _. new) (λ _ me'. GiveStoresEntry me me' × GoesOn cd desk (StoresWord place new) me me')
   give_stores_entry k s count place new is sized at new_is =
       let next : ReceiverSide → ℕ → Receiving → Turn Receiving = λ x caller r. turn.Taken caller (record r { work = with_entry r.work }) in
-      stored_by (entry_number z e ring.Return count) place (λ _. new) s.mover s.here (λ _ me'. me' ≡ (with_pass me.0 s.mover (with_call s.mover.pass (Receives e (turn.Taken s.caller (record { follows = s.follows; work = work.Give k give_stage.Entry })) s.side s.buffer s.message)) me'.0.copy, me.1)) (λ _. GiveStoresEntry me) is
+      stored_by (entry_number z e ring.Return count) place new s.mover s.here (λ _ me'. me' ≡ (with_pass me.0 s.mover (with_call s.mover.pass (Receives e (turn.Taken s.caller (record { follows = s.follows; work = work.Give k give_stage.Entry })) s.side s.buffer s.message)) me'.0.copy, me.1)) (λ _. GiveStoresEntry me) is
       (gives_entry cd desk z n id me s.mover e s.caller s.follows k s.side s.buffer count new s.message s.call
       (sym at ∙ ap (λ (x : RingSizes). return_count x s.side.returned) (work_sizes z me e (work.Give k give_stage.Turn) s sized)) new_is)
       (λ y me' t₀. becomes me s.mover (place_of me) s.here (with_receive next) _ me.1 me' (ap (receive_to next s.mover.pass) (sym s.call)) t₀)
 
   pub give_publishes : (k : ℕ) (s : WorkAt me e (work.Give k give_stage.Entry)) (count place new : ℕ) → place ≡ place_in (return_word e) → me.0.sizes ≡ z → return_count (sizes_by me) s.side.returned + 1 ≡ count → new ≡ count % 65536
-      → Allows (LinkRule cd desk z) n id me place (λ _. new) (λ _ me'. GivePublishes me me' × GoesOn cd desk AnyWord me me')
+      → Allows (LinkRule cd desk z) n id me place (λ _. new) (λ _ me'. GivePublishes me me' × GoesOn cd desk (StoresWord place new) me me')
   give_publishes k s count place new is sized at new_is =
-      stored_by (return_word e) place (λ _. new) s.mover s.here
+      stored_by (return_word e) place new s.mover s.here
       (λ _ me'. me' ≡ (with_pass me.0 s.mover (with_call_and_hands s.mover.pass (Receives e (turn.Leaving s.caller (end.Gave k)) (record { handed = s.side.handed; returned = s.side.returned + 1; hands = hands_without s.side.hands k }) s.buffer s.message) (hands_but s.mover.pass.hands k)) me'.0.copy, me.1)) (λ _. GivePublishes me) is
       (gives_back cd desk z n id me s.mover e s.caller s.follows k s.side s.buffer new s.message s.call
       (new_is ∙ (ap (λ (u : ℕ). u % 65536) (sym at) ∙ ap (λ (x : RingSizes). (return_count x s.side.returned + 1) % 65536) (work_sizes z me e (work.Give k give_stage.Entry) s sized))))

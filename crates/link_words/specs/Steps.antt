@@ -60,33 +60,33 @@ use Rattle.link_words.specs.Rule.{IsCallOf}
 use Rattle.link_words.specs.Words.{other, era_word, sizes_at, words_of, sender_word, receiver_word, forward_word, return_word, sender_slot, receiver_slot, buffer_slot}
 use Rattle.link_words.specs.Layouts.{layout}
 
--- the word at this place of the table is this number, in a state of the ring form
-abbrev pub HasWord : {D : Type 0} → ℕ → ℕ → LaneLink (RingState D) → Type 0
-HasWord place n m = n ≡ slice_index (layout (words_of 0 [] m)) place
+-- in the state before the step, the word at this place of the table is the number that was found
+abbrev pub HasWord : {D : Type 0} → ℕ → ℕ → LaneLink (RingState D) → LaneLink (RingState D) → Type 0
+HasWord place n before after = n ≡ slice_index (layout (words_of 0 [] before)) place
 
--- whatever the word is that the step stores
-abbrev pub AnyWord : {D : Type 0} → LaneLink (RingState D) → Type 0
-AnyWord m = Unit {0}
+-- in the state after the step, it is the number that was stored
+abbrev pub StoresWord : {D : Type 0} → ℕ → ℕ → LaneLink (RingState D) → LaneLink (RingState D) → Type 0
+StoresWord place n before after = n ≡ slice_index (layout (words_of 0 [] after)) place
 
 -- the step of a seat is this deed of the ring form, by the pass of this number: in some sound state, in which the word was what was found and the
 -- pass was in its call, the deed may be done, and in the state after it the pass is in its next call. Where the manager has a copy of the state, and none of its callers
 -- is out, that state is the copy's, and the copy follows
-pub record IsStepOf {D : Type 0} (coded : Coded D) (desk : DeskMeaning D) (Reads : LaneLink (RingState D) → Type 0) (d : Deed) (number : ℕ) (call next : Call) (me me' : SeatState) : Type 0 where
+pub record IsStepOf {D : Type 0} (coded : Coded D) (desk : DeskMeaning D) (Reads : LaneLink (RingState D) → LaneLink (RingState D) → Type 0) (d : Deed) (number : ℕ) (call next : Call) (me me' : SeatState) : Type 0 where
   pub state : LaneLink (RingState D)
   pub sound : IsSoundState desk state
-  pub read : Reads state
+  pub read : Reads state (after_deed desk state d)
   pub may : MayDo desk state d
   pub before : IsCallOf state 0 number call
   pub after : IsCallOf (after_deed desk state d) 0 number next
   pub copy : (k : LinkCopy) → Manages me.0 → me.0.out ≡ [] → me.0.copy ≡ Some k → (k ≡ copied coded state) × (me'.0.copy ≡ Some (copied coded (after_deed desk state d)))
 
 -- the step is a later one of the call of the pass that steps
-abbrev pub GoesOn : {D : Type 0} → Coded D → DeskMeaning D → (LaneLink (RingState D) → Type 0) → SeatState → SeatState → Type 0
+abbrev pub GoesOn : {D : Type 0} → Coded D → DeskMeaning D → (LaneLink (RingState D) → LaneLink (RingState D) → Type 0) → SeatState → SeatState → Type 0
 GoesOn coded desk Reads me me' = let k = place_of me in
     IsStepOf coded desk Reads (Steps (number_at k me.0.passes) 0 None) (number_at k me.0.passes) (call_at k me.0.passes) (call_at k me'.0.passes) me me'
 
 -- the step is the first one of what this caller wishes, in a call that follows this incarnation
-abbrev pub Begins : {D : Type 0} → Coded D → DeskMeaning D → (LaneLink (RingState D) → Type 0) → ℕ → ℕ → Wish → SeatState → SeatState → Type 0
+abbrev pub Begins : {D : Type 0} → Coded D → DeskMeaning D → (LaneLink (RingState D) → LaneLink (RingState D) → Type 0) → ℕ → ℕ → Wish → SeatState → SeatState → Type 0
 Begins coded desk Reads number follows wished me me' = let k = place_of_number number me.0.passes in
     IsStepOf coded desk Reads (Steps number follows (Some wished)) number (call_at k me.0.passes) (call_at k me'.0.passes) me me'
 
@@ -274,6 +274,16 @@ abbrev pub index_number : IndexUse → End → ℕ
 index_number index.Room lane = return_word lane
 index_number index.OwnBuffer lane = return_word lane
 index_number index.Message lane = forward_word lane
+
+-- the index of a ring of a lane
+abbrev pub ring_index : Ring → End → ℕ
+ring_index ring.Forward lane = forward_word lane
+ring_index ring.Return lane = return_word lane
+
+-- a turn of a lane
+abbrev pub turn_number : LaneTurn → End → ℕ
+turn_number lane_turn.Sender lane = sender_word lane
+turn_number lane_turn.Receiver lane = receiver_word lane
 
 -- what a call is at when it loads an index for this
 abbrev pub MayLoadIndex : IndexUse → End → SeatState → Type 0

@@ -20,6 +20,13 @@ ghost use Rattle.link_words.specs.Layouts.{layout};
 ghost use Rattle.link_words.specs.Parts.{AreNear};
 ghost use Rattle.link_words.specs.Rule.{Shows, LinkRule, first_view};
 ghost use Rattle.link_words.specs.Words.{lane_to, sizes_at, words_of};
+ghost use Rattle.std.specs.Prelude.{Some};
+ghost use Rattle.link_words.specs.declared.rule.Call.{Call};
+ghost use Rattle.link_words.specs.Calls.{SeatState};
+ghost use Rattle.link_words.specs.Codes.{copied};
+ghost use Rattle.link_words.specs.Deeds.{Deed, after_deed};
+ghost use Rattle.link_words.specs.Passes.{Manages};
+ghost use Rattle.link_words.specs.Steps.{IsStepOf, HasWord, StoresWord};
 
 use lane_model::Desk;
 
@@ -39,4 +46,14 @@ pub fn shown_state<D: Desk>()
         → (e : End) (id : ℕ) → length (owner (lane_to m e) id) ≡ once_below id (lane_to m e).rings.sizes.capacity }
     ensures near { (z : LinkSizes) (s : State Slot View) (m : LaneLink (RingState D)) (p : ℕ) → Shows D.row.coded D.meaning z s m p
         → (e : End) → AreNear (sizes_at z e).capacity (length (lane_to m e).lane.lane.accepted) (lane_to m e).lane.lane.returned }
+{}
+
+/// A manager that carries all its callers and knows the state by its copy knows the state after a step of one of them.
+pub fn copy_follows<D: Desk>()
+    ensures found { (place n : ℕ) (d : Deed) (number : ℕ) (call next : Call) (me me' : SeatState)
+        → IsStepOf D.row.coded D.meaning (HasWord place n) d number call next me me' → (known : LaneLink (RingState D)) → Manages me.0 → me.0.out ≡ []
+        → me.0.copy ≡ Some (copied D.row.coded known) → me'.0.copy ≡ Some (copied D.row.coded (after_deed D.meaning known d)) }
+    ensures stored { (place n : ℕ) (d : Deed) (number : ℕ) (call next : Call) (me me' : SeatState)
+        → IsStepOf D.row.coded D.meaning (StoresWord place n) d number call next me me' → (known : LaneLink (RingState D)) → Manages me.0 → me.0.out ≡ []
+        → me.0.copy ≡ Some (copied D.row.coded known) → me'.0.copy ≡ Some (copied D.row.coded (after_deed D.meaning known d)) }
 {}

@@ -21,9 +21,9 @@ pub struct TellsLeavesSender<D> {
 }
 
 impl<D: Desk> Play<Slot, View> for TellsLeavesSender<D> {
-    ghost use Rattle.link_words.specs.Steps.{GoesOn, AnyWord, LeavesSender};
+    ghost use Rattle.link_words.specs.Steps.{GoesOn, StoresWord, LeavesSender};
 
-    ghost then = { λ st m r m'. LeavesSender m m' × GoesOn D.row.coded D.meaning AnyWord m m' };
+    ghost then = { λ st m r m'. LeavesSender m m' × GoesOn D.row.coded D.meaning (StoresWord st.word r) m m' };
 }
 
 /// The last step of a call that has the receiver's turn.
@@ -32,9 +32,9 @@ pub struct TellsLeavesReceiver<D> {
 }
 
 impl<D: Desk> Play<Slot, View> for TellsLeavesReceiver<D> {
-    ghost use Rattle.link_words.specs.Steps.{GoesOn, AnyWord, LeavesReceiver};
+    ghost use Rattle.link_words.specs.Steps.{GoesOn, StoresWord, LeavesReceiver};
 
-    ghost then = { λ st m r m'. LeavesReceiver m m' × GoesOn D.row.coded D.meaning AnyWord m m' };
+    ghost then = { λ st m r m'. LeavesReceiver m m' × GoesOn D.row.coded D.meaning (StoresWord st.word r) m m' };
 }
 
 /// Step 2 of a send.
@@ -88,9 +88,9 @@ pub struct TellsSendStoresEntry<D> {
 }
 
 impl<D: Desk> Play<Slot, View> for TellsSendStoresEntry<D> {
-    ghost use Rattle.link_words.specs.Steps.{GoesOn, AnyWord, SendStoresEntry};
+    ghost use Rattle.link_words.specs.Steps.{GoesOn, StoresWord, SendStoresEntry};
 
-    ghost then = { λ st m r m'. SendStoresEntry m m' × GoesOn D.row.coded D.meaning AnyWord m m' };
+    ghost then = { λ st m r m'. SendStoresEntry m m' × GoesOn D.row.coded D.meaning (StoresWord st.word r) m m' };
 }
 
 /// Step 6 of a send.
@@ -99,9 +99,9 @@ pub struct TellsSendPublishes<D> {
 }
 
 impl<D: Desk> Play<Slot, View> for TellsSendPublishes<D> {
-    ghost use Rattle.link_words.specs.Steps.{GoesOn, AnyWord, SendPublishes};
+    ghost use Rattle.link_words.specs.Steps.{GoesOn, StoresWord, SendPublishes};
 
-    ghost then = { λ st m r m'. SendPublishes m m' × GoesOn D.row.coded D.meaning AnyWord m m' };
+    ghost then = { λ st m r m'. SendPublishes m m' × GoesOn D.row.coded D.meaning (StoresWord st.word r) m m' };
 }
 
 /// Step 2 of a take.
@@ -155,9 +155,9 @@ pub struct TellsGiveStoresEntry<D> {
 }
 
 impl<D: Desk> Play<Slot, View> for TellsGiveStoresEntry<D> {
-    ghost use Rattle.link_words.specs.Steps.{GoesOn, AnyWord, GiveStoresEntry};
+    ghost use Rattle.link_words.specs.Steps.{GoesOn, StoresWord, GiveStoresEntry};
 
-    ghost then = { λ st m r m'. GiveStoresEntry m m' × GoesOn D.row.coded D.meaning AnyWord m m' };
+    ghost then = { λ st m r m'. GiveStoresEntry m m' × GoesOn D.row.coded D.meaning (StoresWord st.word r) m m' };
 }
 
 /// Step 3 of a give.
@@ -166,9 +166,9 @@ pub struct TellsGivePublishes<D> {
 }
 
 impl<D: Desk> Play<Slot, View> for TellsGivePublishes<D> {
-    ghost use Rattle.link_words.specs.Steps.{GoesOn, AnyWord, GivePublishes};
+    ghost use Rattle.link_words.specs.Steps.{GoesOn, StoresWord, GivePublishes};
 
-    ghost then = { λ st m r m'. GivePublishes m m' × GoesOn D.row.coded D.meaning AnyWord m m' };
+    ghost then = { λ st m r m'. GivePublishes m m' × GoesOn D.row.coded D.meaning (StoresWord st.word r) m m' };
 }
 
 /// Step 2 of a binding or an unbinding.

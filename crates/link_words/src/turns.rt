@@ -2,7 +2,7 @@
 ghost use Rattle.std.specs.Prelude.{◌≡◌, ◌≤◌, ◌<◌};
 ghost use Rattle.lane_model.specs.declared.recoveries.LaneTurn.TheVariants as lane_turn;
 ghost use Rattle.link_words.specs.Calls.{RestsAt};
-ghost use Rattle.link_words.specs.Steps.{GoesOn, Begins, HasWord, AnyWord, IsFit, turn_word_for, TakesTurn, EndsAt, LeavesTurn};
+ghost use Rattle.link_words.specs.Steps.{GoesOn, Begins, HasWord, StoresWord, turn_number, IsFit, turn_word_for, TakesTurn, EndsAt, LeavesTurn};
 ghost use Rattle.link_words.specs.Layouts.{place_in};
 ghost use Rattle.link_words.specs.Words.{words_in};
 
@@ -49,7 +49,7 @@ pub fn leave_turn<D: Desk>(table: &LinkTable<D>, seat: &mut LinkSeat, lane: End,
     requires call { EndsAt turn seat.old.me lane }
     ensures same { (seat.new.table_id ≡ seat.old.table_id) × (seat.new.id ≡ seat.old.id) }
     ensures told { LeavesTurn turn seat.old.me seat.new.me }
-    ensures step { GoesOn D.row.coded D.meaning AnyWord seat.old.me seat.new.me }
+    ensures step { GoesOn D.row.coded D.meaning (StoresWord (place_in (turn_number turn lane)) 0) seat.old.me seat.new.me }
 {
     match turn {
         LaneTurn::Sender => table.store::<TellsLeavesSender<D>>(seat, sender_place(lane), 0),
