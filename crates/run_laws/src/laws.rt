@@ -1,6 +1,6 @@
 //! Laws of runs: over a store of images, and of the links that they leave. Each is the contract of an empty function, and speaks of definitions alone.
 
-ghost use Rattle.std.specs.Prelude.{◌≡◌, List, Option, Some, false, Contains, IfSome};
+ghost use Rattle.std.specs.Prelude.{◌≡◌, ℕ, List, Option, Some, false, Contains, IfSome};
 ghost use Rattle.script_lang.specs.declared.commands.Command.{Command};
 ghost use Rattle.script_lang.specs.Runnable.{AreRunnable, IsRunnable};
 ghost use Rattle.lane_model.specs.Soundness.{SoundLink};
