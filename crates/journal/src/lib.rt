@@ -2,14 +2,12 @@
 #![tactic(auto)]
 
 mod events;
-mod form_events;
-mod forms;
+mod fields;
 pub mod laws;
 mod lines;
 mod notices;
 mod readers;
-mod shapes;
-mod table_shapes;
+mod table;
 mod tables;
 
 pub use events::Event;
