@@ -13,17 +13,6 @@ DATE = "November 28, 2026"
 LINK = re.compile(r"\[([^\]]*)\]\([^)]*\)")
 # A sentence ends here, where the next begins with a capital letter or a word in code.
 SENTENCE = re.compile(r"(?<=[a-z0-9)`'][.:]) (?=[A-Z`])")
-EXIT = [
-    ("0", "The whole output was written."),
-    ("1", "Of check: there is no such image, or it is too large, or it doesn't load. Of audit: a line breaks a rule."),
-    ("2", "The words are none of the forms."),
-    ("3", "Standard input failed."),
-    ("4", "Standard output failed; what there is of it is a prefix of the output."),
-    ("5", "Memory ran out; what there is of the output is a prefix of it."),
-    ("6", "The text is no script, or the transcript is too long."),
-    ("7", "The run was to take one step more than 4,000,000."),
-    ("8", "The folder of images failed."),
-]
 COMMAND = """.Dd {date}
 .Dt RPROC 1
 .Os
@@ -148,7 +137,9 @@ def file_format(page, name, about, other):
 
 
 def command():
-    statuses = "\n".join(f".It {number}\n{sentences(text)}" for number, text in EXIT)
+    """The manual page of the program; its statuses are those of docs/FAULTS.md."""
+    rows = re.findall(r"^\| (\d) \|[^|]*\| (.*?) \|", dict(sections("FAULTS.md"))["How the program ends"], flags=re.M)
+    statuses = "\n".join(f".It {number}\n{sentences(text)}" for number, text in rows)
     return COMMAND.format(date=DATE, statuses=statuses).encode()
 
 
