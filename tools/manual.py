@@ -1,0 +1,174 @@
+"""The manual pages, made from the pages of docs/. Used by tools/made.
+
+A page of docs/ is paragraphs, tables, lists and blocks of text; a table's first column is what its rows are found by.
+"""
+import re
+import textwrap
+from pathlib import Path
+
+from highlight import commands, recipe_lines
+
+TOP = Path(__file__).resolve().parent.parent
+DATE = "November 28, 2026"
+LINK = re.compile(r"\[([^\]]*)\]\([^)]*\)")
+# A sentence ends here, where the next begins with a capital letter or a word in code.
+SENTENCE = re.compile(r"(?<=[a-z0-9)`'][.:]) (?=[A-Z`])")
+EXIT = [
+    ("0", "The whole output was written."),
+    ("1", "Of check: there is no such image, or it is too large, or it doesn't load. Of audit: a line breaks a rule."),
+    ("2", "The words are none of the forms."),
+    ("3", "Standard input failed."),
+    ("4", "Standard output failed; what there is of it is a prefix of the output."),
+    ("5", "Memory ran out; what there is of the output is a prefix of it."),
+    ("6", "The text is no script, or the transcript is too long."),
+    ("7", "The run was to take one step more than 4,000,000."),
+    ("8", "The folder of images failed."),
+]
+COMMAND = """.Dd {date}
+.Dt RPROC 1
+.Os
+.Sh NAME
+.Nm rproc
+.Nd boots cores from images and carries messages between both sides
+.Sh SYNOPSIS
+.Nm
+.Cm run
+.Nm
+.Cm check
+.Ar name
+.Nm
+.Cm demo
+.Ar sessions
+.Nm
+.Cm audit
+.Sh DESCRIPTION
+.Nm
+runs remote cores and the links to them, by the word behind its name.
+.Bl -tag -width check
+.It Cm run
+reads a script from standard input, see
+.Xr rproc-script 5 ,
+and writes its transcript, see
+.Xr rproc-transcript 5 .
+.It Cm check Ar name
+says whether the image of that name in the folder
+.Pa firmware
+loads into the standard regions, and where.
+.It Cm demo Ar sessions
+runs the script of a demo of 1 to 500 sessions, and tells how many messages
+its links accepted.
+.It Cm audit
+reads a transcript from standard input and says whether its lines keep the
+rules of transcripts.
+.El
+.Sh FILES
+.Bl -tag -width firmware
+.It Pa firmware
+the folder of images, where the program is started
+.El
+.Sh EXIT STATUS
+.Bl -tag -width 9
+{statuses}
+.El
+.Sh EXAMPLES
+A message to the host:
+.Bd -literal -offset indent
+$ printf 'link L 4 4 16\\encaller L host\\encaller L remote\\en' > two.script
+$ printf 'send L 1 1024 7 6869\\entake L 0\\en' >> two.script
+$ rproc run < two.script
+L open 1
+L caller 0 host
+L caller 1 remote
+L 1 sent 0
+L 0 took 0 from 1024 dropped 7 6869
+.Ed
+.Sh SEE ALSO
+.Xr rproc-script 5 ,
+.Xr rproc-transcript 5
+"""
+
+
+def plain(text):
+    """Text of a page as that of a manual: code in bold, links by their words."""
+    text = LINK.sub(r"\1", text).replace("\\|", "|").replace("\\", "\\e")
+    pieces = text.split("`")
+    return "".join(f"\\fB{it}\\fR" if at % 2 else it for at, it in enumerate(pieces))
+
+
+def sentences(text):
+    """Each sentence on a line of its own, none of which begins like a request."""
+    lines = []
+    for it in SENTENCE.split(text.strip()):
+        lines += textwrap.wrap(plain(it), 78, break_long_words=False, break_on_hyphens=False)
+    return "\n".join(f"\\&{it}" if it.startswith((".", "'")) else it for it in lines)
+
+
+def table(rows):
+    """A table as a list by its first column."""
+    lines = [".Bl -tag -width Ds"]
+    for row in rows:
+        cells = [it.strip() for it in re.split(r"(?<!\\)\|", row.strip()[1:-1])]
+        # With a column between, as that of a status, it stands behind the first.
+        head = f"{plain(cells[0])} ({cells[1]})" if len(cells) > 2 else plain(cells[0])
+        lines += [f".It {head}", sentences(cells[-1]) or "\\&"]
+    return "\n".join([*lines, ".El"])
+
+
+def parts(text):
+    """The body of a section in mdoc."""
+    made = []
+    for block in re.split(r"\n\s*\n", text.strip()):
+        lines = block.splitlines()
+        if lines[0].startswith("|"):
+            made.append(table(lines[2:]))
+        elif lines[0].startswith("- "):
+            items = [f".It\n{sentences(it)}" for it in re.split(r"(?:^|\n)- ", block) if it]
+            made.append("\n".join([".Bl -bullet", *items, ".El"]))
+        elif lines[0].startswith("    "):
+            shown = "\n".join(it[4:].replace("\\", "\\e") for it in lines)
+            made.append(f".Bd -literal -offset indent\n{shown}\n.Ed")
+        else:
+            made.append((".Pp\n" if made else "") + sentences(" ".join(lines)))
+    return "\n".join(made)
+
+
+def sections(page):
+    """The titles of a page with their bodies; the first is that of the page."""
+    found = re.split(r"^#+ (.*)$", (TOP / "docs" / page).read_text(), flags=re.M)
+    return list(zip(found[1::2], found[2::2]))
+
+
+def file_format(page, name, about, other):
+    """The manual page of a format, from a page of docs/."""
+    (_, head), *rest = sections(page)
+    made = [f".Dd {DATE}\n.Dt {name.upper()} 5\n.Os\n.Sh NAME\n.Nm {name}\n.Nd {about}\n.Sh DESCRIPTION", parts(head)]
+    made += [f".Ss {title}\n{parts(body)}" for title, body in rest]
+    made.append(f".Sh SEE ALSO\n.Xr rproc 1 ,\n.Xr {other} 5")
+    return "\n".join(made).encode() + b"\n"
+
+
+def command():
+    statuses = "\n".join(f".It {number}\n{sentences(text)}" for number, text in EXIT)
+    return COMMAND.format(date=DATE, statuses=statuses).encode()
+
+
+def script():
+    return file_format("SCRIPTS.md", "rproc-script", "commands that rproc runs", "rproc-transcript")
+
+
+def transcript():
+    return file_format("TRANSCRIPT.md", "rproc-transcript", "lines that rproc writes", "rproc-script")
+
+
+def first_words(page):
+    """The words in code with which the first column of a page's tables begins."""
+    found = set()
+    for line in (TOP / "docs" / page).read_text().splitlines():
+        if line.startswith("| `"):
+            found.update(it.split()[0] for it in re.findall(r"`([^`]+)`", line.split(" | ")[0]))
+    return found
+
+
+def untold_commands():
+    """The keywords of the grammar that no table of docs/SCRIPTS.md has."""
+    return sorted({*commands(), *recipe_lines()} - first_words("SCRIPTS.md") - {"image", "end"})
