@@ -5,7 +5,7 @@ use std::marker::Model;
 
 /// A buffer that a caller has taken and not yet given back. It has to be given back or reclaimed:
 /// one that is dropped stays held, and its link cannot be reopened any more. Contracts see its lane,
-/// its caller, and the number and the bytes of its message.
+/// its caller, the number of its message, and the number of the buffer and the bytes in it.
 #[derive(Drop)]
 pub struct Held {
     lane: u8,
@@ -19,13 +19,19 @@ impl Model for Held {
 
     ghost Value = { HeldBuffer };
 
-    ghost view = { λ h. record { lane = h.lane; caller = h.caller; number = h.number; message = h.buffer.message } };
+    ghost view = { λ h. record {
+      lane = h.lane;
+      caller = h.caller;
+      number = h.number;
+      buffer = h.buffer.id;
+      message = h.buffer.message;
+    } };
 }
 
 impl Held {
     /// The buffer of message `number` of `lane`, in the hands of `caller`.
     pub fn of(lane: u8, caller: CallerNo, number: u64, buffer: Buffer) -> Held
-        ensures { result ≡ record { lane = lane; caller = caller; number = number; message = buffer.message } }
+        ensures { result ≡ record { lane = lane; caller = caller; number = number; buffer = buffer.id; message = buffer.message } }
     {
         Held {
             lane,
@@ -37,7 +43,7 @@ impl Held {
 
     /// The lane, the caller, the number of the message, and the buffer with the message in it.
     pub fn into_parts(self) -> (u8, CallerNo, u64, Buffer)
-        ensures { self ≡ record { lane = result.0; caller = result.1; number = result.2; message = result.3.message } }
+        ensures { self ≡ record { lane = result.0; caller = result.1; number = result.2; buffer = result.3.id; message = result.3.message } }
     {
         let Held {
             lane,
