@@ -1,0 +1,3 @@
+pub mod EndChanges
+pub mod ServiceChanges
+pub mod Generations
