@@ -21,7 +21,7 @@ second_false true b e is = e
 second_false false b e is = absurd (false≢true is)
 
 -- a ring that a device has
-ring_there : (bytes : List ℕ) (start ring : ℕ) → ring < ring_count bytes start → ring_of bytes start ring ≡ vring_at bytes (vring_start start ring)
+pub ring_there : (bytes : List ℕ) (start ring : ℕ) → ring < ring_count bytes start → ring_of bytes start ring ≡ vring_at bytes (vring_start start ring)
 ring_there bytes start ring below = let e : nat_lt ring (ring_count bytes start) ≡ true = lt-ltb _ _ below in rw e refl
 
 sound_ring_at : (bytes : List ℕ) (index start ring : ℕ) → rings_fault bytes index start ≡ None → ring < ring_count bytes start → IsSoundRing (ring_of bytes start ring)

@@ -4,3 +4,8 @@ pub mod Meetings
 pub mod Sound
 pub mod Writes
 pub mod Devices
+pub mod Agreement
+pub mod KeptEntries
+pub mod FixedEntries
+pub mod SameTables
+pub mod PatchedTables

@@ -130,6 +130,7 @@ entry_of_good bytes index good below =
 pub record IsSoundFix (bytes : List ℕ) (fix : Fix) : Type 0 where
   pub among : fix.entry < entry_count bytes
   pub room : HasRoom bytes (start_of bytes fix.entry) fix
+  pub takes : takes_fix fix (entry_at bytes (start_of bytes fix.entry)) ≡ true
 
 pub sound_fix : (bytes : List ℕ) (fix : Fix) → IsSoundTable bytes → is_fix_of (entries_of bytes) fix ≡ true → IsSoundFix bytes fix
 sound_fix bytes fix sound names =
@@ -144,6 +145,7 @@ sound_fix bytes fix sound names =
           record {
             among = among;
             room = room_of_type (type_at bytes (start_of bytes fix.entry)) bytes (start_of bytes fix.entry) fix (sound.entry fix.entry among).whole takes;
+            takes = takes;
           }
       | inr w ↦ absurd (false≢true (sym (ap (is_taken fix) w.1) ∙ names))
     ]

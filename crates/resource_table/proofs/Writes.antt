@@ -63,7 +63,7 @@ with_number-other width at value bytes place within (inr behind) =
     ∙ ap (λ k. get_or bytes k 0) back
 
 -- what lies in a table lies in it after a write
-still_within : (write : Write) (more : List Write) (bytes : List ℕ) → All (LiesIn (length bytes)) (write ∷ more)
+pub still_within : (write : Write) (more : List Write) (bytes : List ℕ) → All (LiesIn (length bytes)) (write ∷ more)
     → All (LiesIn (length (with_number write.width write.at write.value bytes))) more
 still_within write more bytes within =
     let len = length-with_number write.width write.at write.value bytes (All-head (LiesIn (length bytes)) write more within) in
@@ -84,10 +84,10 @@ written-other (write ∷ more) bytes place within leaves =
     written-other more (with_number write.width write.at write.value bytes) place (still_within write more bytes within) (All-tail (LeavesPlace place) write more leaves)
     ∙ with_number-other write.width write.at write.value bytes place (All-head (LiesIn (length bytes)) write more within) (All-head (LeavesPlace place) write more leaves)
 
-two_within : (len : ℕ) (a b : Write) → LiesIn len a → LiesIn len b → All (LiesIn len) (a ∷ b ∷ [])
+pub two_within : (len : ℕ) (a b : Write) → LiesIn len a → LiesIn len b → All (LiesIn len) (a ∷ b ∷ [])
 two_within len a b ha hb = All-cons (LiesIn len) a (b ∷ []) ha (All-cons (LiesIn len) b [] hb (All-nil (LiesIn len)))
 
-three_within : (len : ℕ) (a b c : Write) → LiesIn len a → LiesIn len b → LiesIn len c → All (LiesIn len) (a ∷ b ∷ c ∷ [])
+pub three_within : (len : ℕ) (a b c : Write) → LiesIn len a → LiesIn len b → LiesIn len c → All (LiesIn len) (a ∷ b ∷ c ∷ [])
 three_within len a b c ha hb hc = All-cons (LiesIn len) a (b ∷ c ∷ []) ha (two_within len b c hb hc)
 
 -- what a fix writes lies in the table, where there is room for it

@@ -3,6 +3,7 @@ ghost use Rattle.std.specs.List.{flat_map, range_with_len};
 ghost use Rattle.rp_base.specs.Fields.{with_number};
 ghost use Rattle.resource_table.specs.Entries.{entries_of, entry_count};
 ghost use Rattle.resource_table.specs.Tables.{GoodTable};
+ghost use Rattle.resource_table.specs.PatchedEntries.{IsSmallFix};
 ghost use Rattle.resource_table.specs.Patches.{is_fix_of, patched_of, after_writes, fix_writes, device_writes, rpmsg_writes, ring_writes, carveout_writes};
 
 use crate::entries::ring_start;
@@ -36,7 +37,8 @@ pub(crate) fn patch(bytes: &[u8], patched: &mut [u8], fixes: &[Fix])
     requires good { GoodTable bytes.now }
     requires fixes { All (λ fix. IsTrue (is_fix_of (entries_of bytes.now) fix)) fixes.now }
     requires copy { patched.old ≡ bytes.now }
-    ensures { patched.new ≡ patched_of bytes.now fixes.now }
+    ensures patched { patched.new ≡ patched_of bytes.now fixes.now }
+    ensures small { All IsSmallFix fixes.now }
 {
     write_fixes(bytes, patched, fixes);
     write_rpmsg(bytes, patched);
@@ -47,25 +49,27 @@ fn write_fixes(bytes: &[u8], patched: &mut [u8], fixes: &[Fix])
     requires good { GoodTable bytes.now }
     requires fixes { All (λ fix. IsTrue (is_fix_of (entries_of bytes.now) fix)) fixes.now }
     requires same { length patched.old ≡ length bytes.now }
-    ensures { patched.new ≡ after_writes (flat_map (fix_writes bytes.now) fixes.now) patched.old }
+    ensures written { patched.new ≡ after_writes (flat_map (fix_writes bytes.now) fixes.now) patched.old }
+    ensures small { All IsSmallFix fixes.now }
 {
     for fix in fixes {
-        write_fix(bytes, patched, fix);
+        write_fix(bytes, patched, *fix);
     }
 }
 
 /// Writes a fix of a good table into a copy of it.
-fn write_fix(bytes: &[u8], patched: &mut [u8], fix: &Fix)
+fn write_fix(bytes: &[u8], patched: &mut [u8], fix: Fix)
     requires good { GoodTable bytes.now }
-    requires fix { is_fix_of (entries_of bytes.now) fix.now ≡ true }
+    requires fix { is_fix_of (entries_of bytes.now) fix ≡ true }
     requires same { length patched.old ≡ length bytes.now }
-    ensures { patched.new ≡ after_writes (fix_writes bytes.now fix.now) patched.old }
+    ensures written { patched.new ≡ after_writes (fix_writes bytes.now fix) patched.old }
+    ensures small { IsSmallFix fix }
 {
     let start = entry_start(bytes, fix.entry);
     if fix.rings {
-        write_ring(patched, ring_start(start, fix.ring), fix);
+        write_ring(patched, ring_start(start, fix.ring), &fix);
     } else {
-        write_carveout(patched, start, fix);
+        write_carveout(patched, start, &fix);
     }
 }
 

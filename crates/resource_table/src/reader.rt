@@ -32,6 +32,7 @@ impl<'a> Table<'a> {
     ghost use Rattle.resource_table.specs.Entries.{entries_of};
     ghost use Rattle.resource_table.specs.Tables.{GoodTable, IsSoundEntry, table_fault};
     ghost use Rattle.resource_table.specs.Patches.{is_fix_of, patched_of, patch_writes, LeavesPlace};
+    ghost use Rattle.resource_table.specs.PatchedEntries.{patched_entries};
 
     #[tactic(auto, using(crate::proofs::Sound::sound_header))]
     /// Reads a table. The error is the first of the tests that fails.
@@ -67,10 +68,13 @@ impl<'a> Table<'a> {
 
     /// The bytes of the table with the places of carveouts and rings written into them, each fix in
     /// turn, and with the device for RPMsg set up: it agrees to the name service where the firmware
-    /// offers it, and its driver is ready. Every other byte is as it was.
+    /// offers it, and its driver is ready. Every other byte is as it was. It is a good table, whose
+    /// entries are those of the table with the fixes in their fields and that device set up.
     pub fn patched(&self, alloc: Global, fixes: &[Fix]) -> Result<Vec<u8>, NoMemory>
         requires { All (λ fix. IsTrue (is_fix_of (entries_of self.now) fix)) fixes.now }
         ensures patched { IfOk result (λ patched. patched.items ≡ patched_of self.now fixes.now) }
+        ensures good { IfOk result (λ patched. GoodTable patched.items) }
+        ensures entries { IfOk result (λ patched. entries_of patched.items ≡ patched_entries fixes.now (entries_of self.now)) }
         ensures length { IfOk result (λ patched. length patched.items ≡ length self.now) }
         ensures others { IfOk result (λ patched. (place : ℕ) → All (LeavesPlace place) (patch_writes self.now fixes.now)
             → slice_index patched.items place ≡ slice_index self.now place) }
