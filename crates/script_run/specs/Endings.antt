@@ -31,6 +31,17 @@ pub record Devices : Type 0 where
   pub store_faults : ℕ
   pub sink_faults : ℕ
 
+-- the source, the store and the sink: what each holds, with its count of faults
+abbrev pub devices : Option (List ℕ) → ℕ → Option (List (List ℕ × List ℕ)) → ℕ → Option (List ℕ) → ℕ → Devices
+devices left source_faults images store_faults written sink_faults = record {
+  left = left;
+  images = images;
+  written = written;
+  source_faults = source_faults;
+  store_faults = store_faults;
+  sink_faults = sink_faults;
+}
+
 -- neither the source nor the store failed
 pub record IsReadWell (before now : Devices) : Type 0 where
   pub source : now.source_faults ≡ before.source_faults

@@ -4,7 +4,7 @@ ghost use Rattle.rp_io.specs.Contents.{LosesFront};
 ghost use Rattle.journal_check.specs.declared.limits.TheConstants.{TRANSCRIPT_MOST};
 ghost use Rattle.journal.specs.Notices.{report_text};
 ghost use Rattle.script_run.specs.Outputs.{audit as audit_form, audit_output};
-ghost use Rattle.script_run.specs.Endings.{AuditEnds, Ends, IsFinal, IsReadEnd};
+ghost use Rattle.script_run.specs.Endings.{AuditEnds, Ends, IsFinal, IsReadEnd, devices};
 
 use crate::endings::{end_with, end_with_line};
 use crate::statuses::Status;
@@ -23,8 +23,8 @@ pub(crate) fn audit_text<S: Source, K: Sink>(
 ) -> Status
     ensures ends { (images : Option (List (List ℕ × List ℕ))) (store : ℕ) →
         Ends result audit_form
-        (record { left = S.left transcript.old; images = images; written = K.written out.old; source_faults = S.faults transcript.old; store_faults = store; sink_faults = K.faults out.old })
-        (record { left = S.left transcript.new; images = images; written = K.written out.new; source_faults = S.faults transcript.new; store_faults = store; sink_faults = K.faults out.new }) }
+        (devices (S.left transcript.old) (S.faults transcript.old) images store (K.written out.old) (K.faults out.old))
+        (devices (S.left transcript.new) (S.faults transcript.new) images store (K.written out.new) (K.faults out.new)) }
     ensures read { IsReadEnd result → IsAtEnd (S.left transcript.new) }
     ensures taken { LosesFront (S.left transcript.old) (S.left transcript.new) (TRANSCRIPT_MOST + 1) }
 {

@@ -8,7 +8,7 @@ ghost use Rattle.script_run.specs.Outputs.{form_of};
 ghost use Rattle.script_run.specs.Runs.{AsksNone, new_run};
 ghost use Rattle.script_run.specs.Outputs.{run as run_form};
 ghost use Rattle.script_run.specs.Statuses.{status_of};
-ghost use Rattle.script_run.specs.Endings.{AnswersAs, AnswersWell, Devices, Ends, IsReadAnswer, IsReadEnd, NeedsNoStore, RunAnswersAs, RunEnds, SourceAsksNone, TextAsksNone, reads_source, source_most};
+ghost use Rattle.script_run.specs.Endings.{AnswersAs, AnswersWell, Ends, IsReadAnswer, IsReadEnd, NeedsNoStore, RunAnswersAs, RunEnds, SourceAsksNone, TextAsksNone, devices, reads_source, source_most};
 
 use crate::audits::audit_text;
 use crate::demos::demo;
@@ -45,32 +45,11 @@ pub fn run_program<S: Source, F: FirmwareStore, K: Sink>(
     out: &mut K,
 ) -> u8
     ensures answer { let form = form_of (map (λ word. word.now) words.now) in
-        let before : Devices = record {
-          left = S.left script.old;
-          images = F.images store.old;
-          written = K.written out.old;
-          source_faults = S.faults script.old;
-          store_faults = F.faults store.old;
-          sink_faults = K.faults out.old;
-        } in
-        let now : Devices = record {
-          left = S.left script.new;
-          images = F.images store.new;
-          written = K.written out.new;
-          source_faults = S.faults script.new;
-          store_faults = F.faults store.new;
-          sink_faults = K.faults out.new;
-        } in
+        let before = devices (S.left script.old) (S.faults script.old) (F.images store.old) (F.faults store.old) (K.written out.old) (K.faults out.old) in
+        let now = devices (S.left script.new) (S.faults script.new) (F.images store.new) (F.faults store.new) (K.written out.new) (K.faults out.new) in
         AnswersAs (status_of result) form before now }
     ensures complete { let form = form_of (map (λ word. word.now) words.now) in
-        let before : Devices = record {
-          left = S.left script.old;
-          images = F.images store.old;
-          written = K.written out.old;
-          source_faults = S.faults script.old;
-          store_faults = F.faults store.old;
-          sink_faults = K.faults out.old;
-        } in
+        let before = devices (S.left script.old) (S.faults script.old) (F.images store.old) (F.faults store.old) (K.written out.old) (K.faults out.old) in
         ¬ Rose (S.faults script.old) (S.faults script.new) → ¬ Rose (F.faults store.old) (F.faults store.new) → ¬ Rose (K.faults out.old) (K.faults out.new)
         → AnswersWell (status_of result) form before }
     ensures read { reads_source (form_of (map (λ word. word.now) words.now)) ≡ true → IsReadAnswer (status_of result) → IsAtEnd (S.left script.new) }
@@ -90,22 +69,8 @@ fn answer<S: Source, F: FirmwareStore, K: Sink>(
     out: &mut K,
 ) -> Status
     ensures ends { let form = form_of (map (λ word. word.now) words.now) in
-        let before : Devices = record {
-          left = S.left script.old;
-          images = F.images store.old;
-          written = K.written out.old;
-          source_faults = S.faults script.old;
-          store_faults = F.faults store.old;
-          sink_faults = K.faults out.old;
-        } in
-        let now : Devices = record {
-          left = S.left script.new;
-          images = F.images store.new;
-          written = K.written out.new;
-          source_faults = S.faults script.new;
-          store_faults = F.faults store.new;
-          sink_faults = K.faults out.new;
-        } in
+        let before = devices (S.left script.old) (S.faults script.old) (F.images store.old) (F.faults store.old) (K.written out.old) (K.faults out.old) in
+        let now = devices (S.left script.new) (S.faults script.new) (F.images store.new) (F.faults store.new) (K.written out.new) (K.faults out.new) in
         Ends result form before now }
     ensures read { reads_source (form_of (map (λ word. word.now) words.now)) ≡ true → IsReadEnd result → IsAtEnd (S.left script.new) }
     ensures taken { LosesFront (S.left script.old) (S.left script.new) (source_most (form_of (map (λ word. word.now) words.now))) }
@@ -131,22 +96,8 @@ fn run_text<S: Source, F: FirmwareStore, K: Sink>(
     store: &mut F,
     out: &mut K,
 ) -> Status
-    ensures ends { let before : Devices = record {
-      left = S.left script.old;
-      images = F.images store.old;
-      written = K.written out.old;
-      source_faults = S.faults script.old;
-      store_faults = F.faults store.old;
-      sink_faults = K.faults out.old;
-    } in
-        let now : Devices = record {
-          left = S.left script.new;
-          images = F.images store.new;
-          written = K.written out.new;
-          source_faults = S.faults script.new;
-          store_faults = F.faults store.new;
-          sink_faults = K.faults out.new;
-        } in
+    ensures ends { let before = devices (S.left script.old) (S.faults script.old) (F.images store.old) (F.faults store.old) (K.written out.old) (K.faults out.old) in
+        let now = devices (S.left script.new) (S.faults script.new) (F.images store.new) (F.faults store.new) (K.written out.new) (K.faults out.new) in
         Ends result run_form before now }
     ensures read { IsReadEnd result → IsAtEnd (S.left script.new) }
     ensures taken { LosesFront (S.left script.old) (S.left script.new) (SCRIPT_MOST + 1) }

@@ -1,7 +1,7 @@
 use Rattle.std.proofs.Common.{List, ℕ, Err, refl, sym, ap, subst}
 use Rattle.rp_io.specs.declared.faults.ReadFault.{ReadFault}
 use Rattle.script_run.specs.Outputs.{Output, audit as audit_form, read_fault_output}
-use Rattle.script_run.specs.Endings.{AuditEnds, Devices, Writes}
+use Rattle.script_run.specs.Endings.{AuditEnds, Writes, devices}
 use Rattle.script_run.proofs.Ends.{ends_audit, ends_fault, ends_no_memory, memory_well, read_well}
 use Rattle.script_run.proofs.FaultLines.{read_fault_line}
 use Rattle.script_run.proofs.audits.audit_text.Goals as goal
@@ -10,22 +10,8 @@ pub returns-in-Ok-clause-ends : goal.returns-in-Ok-clause-ends
 returns-in-Ok-clause-ends g c images store =
     let source = g.S.Source in
     let sink = g.K.Sink in
-    let before : Devices = record {
-      left = source.left c.args.transcript.now;
-      images = images;
-      written = sink.written c.args.out.now;
-      source_faults = source.faults c.args.transcript.now;
-      store_faults = store;
-      sink_faults = sink.faults c.args.out.now;
-    } in
-    let now : Devices = record {
-      left = source.left c.read_front.new.source;
-      images = images;
-      written = sink.written c.audit_bytes.new.out;
-      source_faults = source.faults c.read_front.new.source;
-      store_faults = store;
-      sink_faults = sink.faults c.audit_bytes.new.out;
-    } in
+    let before = devices (source.left c.args.transcript.now) (source.faults c.args.transcript.now) images store (sink.written c.args.out.now) (sink.faults c.args.out.now) in
+    let now = devices (source.left c.read_front.new.source) (source.faults c.read_front.new.source) images store (sink.written c.audit_bytes.new.out) (sink.faults c.audit_bytes.new.out) in
     ends_audit c.audit_bytes.result before now c.in-Ok.bytes.items c.in-Ok.ensures.bytes
     (record { source = c.in-Ok.ensures.same (read_well c.in-Ok.bytes); store = refl })
     (subst (λ (bytes : List ℕ). AuditEnds c.audit_bytes.result bytes before.written now.written before.sink_faults now.sink_faults)
@@ -35,22 +21,8 @@ pub returns-in-Err-Failed-clause-ends : goal.returns-in-Err-Failed-clause-ends
 returns-in-Err-Failed-clause-ends g c images store =
     let source = g.S.Source in
     let sink = g.K.Sink in
-    let before : Devices = record {
-      left = source.left c.args.transcript.now;
-      images = images;
-      written = sink.written c.args.out.now;
-      source_faults = source.faults c.args.transcript.now;
-      store_faults = store;
-      sink_faults = sink.faults c.args.out.now;
-    } in
-    let now : Devices = record {
-      left = source.left c.read_front.new.source;
-      images = images;
-      written = sink.written c.end_with_line.new.out;
-      source_faults = source.faults c.read_front.new.source;
-      store_faults = store;
-      sink_faults = sink.faults c.end_with_line.new.out;
-    } in
+    let before = devices (source.left c.args.transcript.now) (source.faults c.args.transcript.now) images store (sink.written c.args.out.now) (sink.faults c.args.out.now) in
+    let now = devices (source.left c.read_front.new.source) (source.faults c.read_front.new.source) images store (sink.written c.end_with_line.new.out) (sink.faults c.end_with_line.new.out) in
     ends_fault c.end_with_line.result audit_form before now read_fault_output c.end_with_line.ensures.found
     (refl, c.in-Err-Failed.ensures.failed (ap (λ (fault : ReadFault). Err fault) c.in-Err-Failed.field-0-is), refl)
     (subst (λ (output : Output). Writes c.end_with_line.result output before.written now.written before.sink_faults now.sink_faults) (sym read_fault_line) c.end_with_line.ensures.written)
@@ -59,21 +31,7 @@ pub returns-in-Err-NoMemory-clause-ends : goal.returns-in-Err-NoMemory-clause-en
 returns-in-Err-NoMemory-clause-ends g c images store =
     let source = g.S.Source in
     let sink = g.K.Sink in
-    let before : Devices = record {
-      left = source.left c.args.transcript.now;
-      images = images;
-      written = sink.written c.args.out.now;
-      source_faults = source.faults c.args.transcript.now;
-      store_faults = store;
-      sink_faults = sink.faults c.args.out.now;
-    } in
-    let now : Devices = record {
-      left = source.left c.read_front.new.source;
-      images = images;
-      written = sink.written c.args.out.now;
-      source_faults = source.faults c.read_front.new.source;
-      store_faults = store;
-      sink_faults = sink.faults c.args.out.now;
-    } in
+    let before = devices (source.left c.args.transcript.now) (source.faults c.args.transcript.now) images store (sink.written c.args.out.now) (sink.faults c.args.out.now) in
+    let now = devices (source.left c.read_front.new.source) (source.faults c.read_front.new.source) images store (sink.written c.args.out.now) (sink.faults c.args.out.now) in
     ends_no_memory audit_form before now
     (record { source = c.in-Err-NoMemory.ensures.same (memory_well c.in-Err-NoMemory.field-0 c.in-Err-NoMemory.field-0-is); store = refl }) refl refl

@@ -2,7 +2,7 @@ use Rattle.std.proofs.Common.{Option, map, sym, ap, subst, ◌∙◌}
 use Rattle.script_run.specs.declared.statuses.Status.{Status}
 use Rattle.script_run.specs.Statuses.{status_of}
 use Rattle.script_run.specs.Outputs.{form_of}
-use Rattle.script_run.specs.Endings.{AnswersWell, Devices}
+use Rattle.script_run.specs.Endings.{AnswersWell, devices}
 use Rattle.script_run.proofs.Ends.{complete, status_back}
 use Rattle.script_run.proofs.program.run_program.Goals as goal
 
@@ -12,21 +12,7 @@ returns-clause-complete g c sources stores sinks =
     let store = g.F.FirmwareStore in
     let sink = g.K.Sink in
     let form = form_of (map (λ word. word.now) c.args.words.now) in
-    let before : Devices = record {
-      left = source.left c.args.script.now;
-      images = store.images c.args.store.now;
-      written = sink.written c.args.out.now;
-      source_faults = source.faults c.args.script.now;
-      store_faults = store.faults c.args.store.now;
-      sink_faults = sink.faults c.args.out.now;
-    } in
-    let now : Devices = record {
-      left = source.left c.answer.new.script;
-      images = store.images c.answer.new.store;
-      written = sink.written c.answer.new.out;
-      source_faults = source.faults c.answer.new.script;
-      store_faults = store.faults c.answer.new.store;
-      sink_faults = sink.faults c.answer.new.out;
-    } in
+    let before = devices (source.left c.args.script.now) (source.faults c.args.script.now) (store.images c.args.store.now) (store.faults c.args.store.now) (sink.written c.args.out.now) (sink.faults c.args.out.now) in
+    let now = devices (source.left c.answer.new.script) (source.faults c.answer.new.script) (store.images c.answer.new.store) (store.faults c.answer.new.store) (sink.written c.answer.new.out) (sink.faults c.answer.new.out) in
     subst (λ (ended : Option Status). AnswersWell ended form before) (sym (ap status_of c.number.ensures ∙ status_back c.answer.result))
     (complete c.answer.result form before now sources stores sinks c.answer.ensures.ends)

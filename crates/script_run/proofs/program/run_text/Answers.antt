@@ -2,7 +2,7 @@ use Rattle.std.proofs.Common.{List, ℕ, inl, Err, refl, sym, ap, subst}
 use Rattle.rp_io.specs.declared.faults.ReadFault.{ReadFault}
 use Rattle.script_lang.specs.Grammar.{script_of}
 use Rattle.script_run.specs.Outputs.{Output, run as run_form, read_fault_output}
-use Rattle.script_run.specs.Endings.{Devices, RunEnds, TextAsksNone, Writes}
+use Rattle.script_run.specs.Endings.{RunEnds, TextAsksNone, Writes, devices}
 use Rattle.script_run.proofs.Ends.{ends_fault, ends_no_memory, ends_run, memory_well, read_asks, read_well}
 use Rattle.script_run.proofs.FaultLines.{read_fault_line}
 use Rattle.script_run.proofs.program.run_text.Goals as goal
@@ -12,22 +12,8 @@ returns-in-Ok-clause-ends g c =
     let source = g.S.Source in
     let store = g.F.FirmwareStore in
     let sink = g.K.Sink in
-    let before : Devices = record {
-      left = source.left c.args.script.now;
-      images = store.images c.args.store.now;
-      written = sink.written c.args.out.now;
-      source_faults = source.faults c.args.script.now;
-      store_faults = store.faults c.args.store.now;
-      sink_faults = sink.faults c.args.out.now;
-    } in
-    let now : Devices = record {
-      left = source.left c.read_front.new.source;
-      images = store.images c.run_bytes.new.store;
-      written = sink.written c.run_bytes.new.out;
-      source_faults = source.faults c.read_front.new.source;
-      store_faults = store.faults c.run_bytes.new.store;
-      sink_faults = sink.faults c.run_bytes.new.out;
-    } in
+    let before = devices (source.left c.args.script.now) (source.faults c.args.script.now) (store.images c.args.store.now) (store.faults c.args.store.now) (sink.written c.args.out.now) (sink.faults c.args.out.now) in
+    let now = devices (source.left c.read_front.new.source) (source.faults c.read_front.new.source) (store.images c.run_bytes.new.store) (store.faults c.run_bytes.new.store) (sink.written c.run_bytes.new.out) (sink.faults c.run_bytes.new.out) in
     ends_run c.run_bytes.result before now c.in-Ok.bytes.items c.in-Ok.ensures.bytes
     (c.in-Ok.ensures.same (read_well c.in-Ok.bytes))
     (subst (λ (bytes : List ℕ). RunEnds c.run_bytes.result before.images (script_of bytes) before.written now.written before.sink_faults now.sink_faults before.store_faults now.store_faults)
@@ -38,22 +24,8 @@ returns-in-Err-Failed-clause-ends g c =
     let source = g.S.Source in
     let store = g.F.FirmwareStore in
     let sink = g.K.Sink in
-    let before : Devices = record {
-      left = source.left c.args.script.now;
-      images = store.images c.args.store.now;
-      written = sink.written c.args.out.now;
-      source_faults = source.faults c.args.script.now;
-      store_faults = store.faults c.args.store.now;
-      sink_faults = sink.faults c.args.out.now;
-    } in
-    let now : Devices = record {
-      left = source.left c.read_front.new.source;
-      images = store.images c.args.store.now;
-      written = sink.written c.end_with_line.new.out;
-      source_faults = source.faults c.read_front.new.source;
-      store_faults = store.faults c.args.store.now;
-      sink_faults = sink.faults c.end_with_line.new.out;
-    } in
+    let before = devices (source.left c.args.script.now) (source.faults c.args.script.now) (store.images c.args.store.now) (store.faults c.args.store.now) (sink.written c.args.out.now) (sink.faults c.args.out.now) in
+    let now = devices (source.left c.read_front.new.source) (source.faults c.read_front.new.source) (store.images c.args.store.now) (store.faults c.args.store.now) (sink.written c.end_with_line.new.out) (sink.faults c.end_with_line.new.out) in
     ends_fault c.end_with_line.result run_form before now read_fault_output c.end_with_line.ensures.found
     (inl (refl, c.in-Err-Failed.ensures.failed (ap (λ (fault : ReadFault). Err fault) c.in-Err-Failed.field-0-is), refl))
     (subst (λ (output : Output). Writes c.end_with_line.result output before.written now.written before.sink_faults now.sink_faults) (sym read_fault_line) c.end_with_line.ensures.written)
@@ -63,22 +35,8 @@ returns-in-Err-NoMemory-clause-ends g c =
     let source = g.S.Source in
     let store = g.F.FirmwareStore in
     let sink = g.K.Sink in
-    let before : Devices = record {
-      left = source.left c.args.script.now;
-      images = store.images c.args.store.now;
-      written = sink.written c.args.out.now;
-      source_faults = source.faults c.args.script.now;
-      store_faults = store.faults c.args.store.now;
-      sink_faults = sink.faults c.args.out.now;
-    } in
-    let now : Devices = record {
-      left = source.left c.read_front.new.source;
-      images = store.images c.args.store.now;
-      written = sink.written c.args.out.now;
-      source_faults = source.faults c.read_front.new.source;
-      store_faults = store.faults c.args.store.now;
-      sink_faults = sink.faults c.args.out.now;
-    } in
+    let before = devices (source.left c.args.script.now) (source.faults c.args.script.now) (store.images c.args.store.now) (store.faults c.args.store.now) (sink.written c.args.out.now) (sink.faults c.args.out.now) in
+    let now = devices (source.left c.read_front.new.source) (source.faults c.read_front.new.source) (store.images c.args.store.now) (store.faults c.args.store.now) (sink.written c.args.out.now) (sink.faults c.args.out.now) in
     ends_no_memory run_form before now
     (record { source = c.in-Err-NoMemory.ensures.same (memory_well c.in-Err-NoMemory.field-0 c.in-Err-NoMemory.field-0-is); store = refl }) refl refl
 

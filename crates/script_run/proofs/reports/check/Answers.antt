@@ -1,7 +1,7 @@
 use Rattle.std.proofs.Common.{refl, sym, subst}
 use Rattle.script_run.specs.declared.reports.ReportFault.{ReportFault}
 use Rattle.script_run.specs.Outputs.{Output, check, store_fault_output}
-use Rattle.script_run.specs.Endings.{Devices, Writes}
+use Rattle.script_run.specs.Endings.{Writes, devices}
 use Rattle.script_run.specs.ImageReports.{IsReportFault}
 use Rattle.script_run.proofs.Ends.{ends_fault, ends_no_memory}
 use Rattle.script_run.proofs.FaultLines.{store_fault_line}
@@ -11,22 +11,8 @@ pub returns-in-Err-Store : goal.returns-in-Err-Store
 returns-in-Err-Store g c left left_now images_now source =
     let store = g.F.FirmwareStore in
     let sink = g.K.Sink in
-    let before : Devices = record {
-      left = left;
-      images = store.images c.args.store.now;
-      written = sink.written c.args.out.now;
-      source_faults = source;
-      store_faults = store.faults c.args.store.now;
-      sink_faults = sink.faults c.args.out.now;
-    } in
-    let now : Devices = record {
-      left = left_now;
-      images = images_now;
-      written = sink.written c.end_with_line.new.out;
-      source_faults = source;
-      store_faults = store.faults c.fetch_report.new.store;
-      sink_faults = sink.faults c.end_with_line.new.out;
-    } in
+    let before = devices left source (store.images c.args.store.now) (store.faults c.args.store.now) (sink.written c.args.out.now) (sink.faults c.args.out.now) in
+    let now = devices left_now source images_now (store.faults c.fetch_report.new.store) (sink.written c.end_with_line.new.out) (sink.faults c.end_with_line.new.out) in
     ends_fault c.end_with_line.result (check c.args.name) before now store_fault_output c.end_with_line.ensures.found
     (refl, subst (λ (fault : ReportFault). IsReportFault fault before.store_faults now.store_faults) c.in-Err-Store.field-0-is c.in-Err-Store.ensures.fault, refl)
     (subst (λ (output : Output). Writes c.end_with_line.result output before.written now.written before.sink_faults now.sink_faults) (sym store_fault_line) c.end_with_line.ensures.written)
@@ -35,21 +21,7 @@ pub returns-in-Err-NoMemory : goal.returns-in-Err-NoMemory
 returns-in-Err-NoMemory g c left left_now images_now source =
     let store = g.F.FirmwareStore in
     let sink = g.K.Sink in
-    let before : Devices = record {
-      left = left;
-      images = store.images c.args.store.now;
-      written = sink.written c.args.out.now;
-      source_faults = source;
-      store_faults = store.faults c.args.store.now;
-      sink_faults = sink.faults c.args.out.now;
-    } in
-    let now : Devices = record {
-      left = left_now;
-      images = images_now;
-      written = sink.written c.args.out.now;
-      source_faults = source;
-      store_faults = store.faults c.fetch_report.new.store;
-      sink_faults = sink.faults c.args.out.now;
-    } in
+    let before = devices left source (store.images c.args.store.now) (store.faults c.args.store.now) (sink.written c.args.out.now) (sink.faults c.args.out.now) in
+    let now = devices left_now source images_now (store.faults c.fetch_report.new.store) (sink.written c.args.out.now) (sink.faults c.args.out.now) in
     ends_no_memory (check c.args.name) before now
     (record { source = refl; store = subst (λ (fault : ReportFault). IsReportFault fault before.store_faults now.store_faults) c.in-Err-NoMemory.field-0-is c.in-Err-NoMemory.ensures.fault }) refl refl
