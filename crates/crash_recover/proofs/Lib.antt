@@ -1,8 +1,7 @@
 pub mod Loads
 pub mod CoreBenches
 pub mod CoreLoads
-pub mod CoreFaults
+pub mod Names
 pub mod RecordRuns
 pub mod CoreTurnWalks
 pub mod DriveSteps
-pub mod Recovered

@@ -31,7 +31,7 @@ forms =
     form.Fault ∷ form.FaultAt ∷ form.CrashedMmufault ∷ form.CrashedWatchdog ∷ form.CrashedFatal ∷ form.AlreadyCrashed ∷ form.Recovery ∷ form.State ∷
     form.WorkerFault ∷ form.Idle ∷ form.Paused ∷ form.Stopped ∷ form.NotRunning ∷ form.NotLoaded ∷ form.TableCarveout ∷ form.TableDevmem ∷
     form.TableTrace ∷ form.TableTraceUnavailable ∷ form.TableSkipped ∷ form.TableVdev ∷ form.TableVring ∷ form.Trace ∷ form.NoTrace ∷ form.Mem ∷
-    form.Unmapped ∷ form.InCall ∷ form.NoCall ∷ form.NotHeld ∷ form.TooLong ∷ form.Begun ∷ form.At ∷ form.Sent ∷ form.Gave ∷ form.Bound ∷
+    form.Unmapped ∷ form.Attached ∷ form.Detached ∷ form.InCall ∷ form.NoCall ∷ form.NotHeld ∷ form.TooLong ∷ form.Begun ∷ form.At ∷ form.Sent ∷ form.Gave ∷ form.Bound ∷
     form.Unbound ∷ form.Busy ∷ form.Dead ∷ form.NoBuffer ∷ form.BookFull ∷ form.Empty ∷ form.AddressTaken ∷ form.EndpointsFull ∷ form.NotBound ∷
     form.TookFromTo ∷ form.TookFromDropped ∷ form.TookMalformed ∷ form.TookNs ∷ form.TookNsMalformed ∷ form.WrongSide ∷ []
 
@@ -68,6 +68,8 @@ kinds form.Driver = OfName ∷ OfText (codes "driver") ∷ OfName ∷ OfDriver �
 kinds form.DriverTaken = OfName ∷ OfText (codes "driver-taken") ∷ OfName ∷ []
 kinds form.DriversFull = OfName ∷ OfText (codes "drivers-full") ∷ []
 kinds form.Running = OfName ∷ OfText (codes "running") ∷ OfNumber ∷ []
+kinds form.Attached = OfName ∷ OfText (codes "attached") ∷ OfNumber ∷ []
+kinds form.Detached = OfName ∷ OfText (codes "detached") ∷ []
 kinds form.Users = OfName ∷ OfText (codes "users") ∷ OfNumber ∷ []
 kinds form.Missing = OfName ∷ OfText (codes "missing") ∷ OfName ∷ []
 kinds form.TooLarge = OfName ∷ OfText (codes "too-large") ∷ OfName ∷ []
@@ -227,6 +229,8 @@ event_in form.Driver at = event.Driver (name_in (at 0)) (name_in (at 2)) (driver
 event_in form.DriverTaken at = event.DriverTaken (name_in (at 0)) (name_in (at 2))
 event_in form.DriversFull at = event.DriversFull (name_in (at 0))
 event_in form.Running at = event.Running (name_in (at 0)) (number_in (at 2))
+event_in form.Attached at = event.Attached (name_in (at 0)) (number_in (at 2))
+event_in form.Detached at = event.Detached (name_in (at 0))
 event_in form.Users at = event.Users (name_in (at 0)) (number_in (at 2))
 event_in form.Missing at = event.Missing (name_in (at 0)) (name_in (at 2))
 event_in form.TooLarge at = event.TooLarge (name_in (at 0)) (name_in (at 2))

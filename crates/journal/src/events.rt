@@ -304,6 +304,15 @@ pub enum Event {
         name: Name,
         inc: u64,
     },
+    /// The core is attached, in this incarnation.
+    Attached {
+        name: Name,
+        inc: u64,
+    },
+    /// The core is detached.
+    Detached {
+        name: Name,
+    },
     /// How many users the core has.
     Users {
         name: Name,
@@ -369,7 +378,7 @@ pub enum Event {
     Stopped {
         name: Name,
     },
-    /// The core doesn't run.
+    /// The core is neither running nor attached.
     NotRunning {
         name: Name,
     },

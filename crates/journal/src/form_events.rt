@@ -153,6 +153,13 @@ pub(crate) fn event_in(alloc: Global, form: Form, words: &[&[u8]]) -> Result<Eve
             name: name_at(words, 0),
             inc: decimal_at(words, 2),
         }),
+        Form::Attached => Ok(Event::Attached {
+            name: name_at(words, 0),
+            inc: decimal_at(words, 2),
+        }),
+        Form::Detached => Ok(Event::Detached {
+            name: name_at(words, 0),
+        }),
         Form::Users => Ok(Event::Users {
             name: name_at(words, 0),
             users: decimal_at(words, 2),

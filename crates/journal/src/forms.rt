@@ -38,6 +38,8 @@ pub(crate) enum Form {
     DriverTaken,
     DriversFull,
     Running,
+    Attached,
+    Detached,
     Users,
     Missing,
     TooLarge,
@@ -94,7 +96,7 @@ pub(crate) enum Form {
 
 /// All forms. Those that begin with `*` come first, and those with a number in the second place
 /// last, since a name may be any other fixed word.
-const FORMS: [Form; 83] = [
+const FORMS: [Form; 85] = [
     Form::Unknown,
     Form::ObjectsFull,
     Form::Image,
@@ -154,6 +156,8 @@ const FORMS: [Form; 83] = [
     Form::NoTrace,
     Form::Mem,
     Form::Unmapped,
+    Form::Attached,
+    Form::Detached,
     Form::InCall,
     Form::NoCall,
     Form::NotHeld,
@@ -248,6 +252,8 @@ fn slots(form: Form) -> &'static [Slot<'static>]
         Form::DriverTaken => &[Slot::Name, Slot::Text("driver-taken"), Slot::Name],
         Form::DriversFull => &[Slot::Name, Slot::Text("drivers-full")],
         Form::Running => &[Slot::Name, Slot::Text("running"), Slot::Number],
+        Form::Attached => &[Slot::Name, Slot::Text("attached"), Slot::Number],
+        Form::Detached => &[Slot::Name, Slot::Text("detached")],
         Form::Users => &[Slot::Name, Slot::Text("users"), Slot::Number],
         Form::Missing => &[Slot::Name, Slot::Text("missing"), Slot::Name],
         Form::TooLarge => &[Slot::Name, Slot::Text("too-large"), Slot::Name],

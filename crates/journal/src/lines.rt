@@ -202,6 +202,8 @@ pub fn line(_alloc: Global, event: &Event, out: &mut Vec<u8>) -> Result<(), NoMe
         } => name_word_name(out, x, "driver-taken", driver),
         Event::DriversFull { name: x } => name_word(out, x, "drivers-full"),
         Event::Running { name: x, inc } => name_word_number(out, x, "running", *inc),
+        Event::Attached { name: x, inc } => name_word_number(out, x, "attached", *inc),
+        Event::Detached { name: x } => name_word(out, x, "detached"),
         Event::Users { name: x, users } => name_word_number(out, x, "users", *users),
         Event::Missing { name: x, image } => name_word_name(out, x, "missing", image),
         Event::TooLarge { name: x, image } => name_word_name(out, x, "too-large", image),

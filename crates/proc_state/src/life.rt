@@ -1,5 +1,7 @@
-ghost use Rattle.std.specs.Prelude.{◌≡◌, ◌≤◌, ◌+◌, ◌==◌, ℕ, true, Ok, if◌then◌else◌};
-ghost use Rattle.proc_state.specs.Lives.{AreIn, IsReachable, first_start, is_up, life_after_boot, life_after_crash, life_after_detach, life_after_handover, life_after_recovery, life_after_shutdown, most, new_life, with_user, without_user};
+ghost use Rattle.std.specs.Prelude.{◌≡◌, ◌≤◌, ◌+◌, ◌==◌, ℕ, true, Ok, OnOk, if◌then◌else◌};
+ghost use Rattle.rp_base.specs.declared.kinds.LifeState.TheVariants as state;
+ghost use Rattle.proc_state.specs.Lives.{AreIn, IsReachable, first_start, is_offline, is_up, life_after_boot, life_after_crash, life_after_detach, life_after_handover, life_after_recovery, life_after_shutdown, most, new_life, with_user, without_user};
+ghost use Rattle.proc_state.specs.declared.answers.Left.TheVariants as left;
 ghost use Rattle.proc_state.specs.declared.answers.Power.TheVariants as power;
 
 use crate::answers::{Left, LifeFault, Power, Report};
@@ -38,6 +40,18 @@ impl Life {
             users: 0,
             incarnation: 0,
             recovery: true,
+        }
+    }
+
+    /// The same life once more, to try what a call makes of it.
+    pub fn copy(&self) -> Life
+        ensures { result ≡ self.now }
+    {
+        Life {
+            state: self.state,
+            users: self.users,
+            incarnation: self.incarnation,
+            recovery: self.recovery,
         }
     }
 
@@ -93,6 +107,7 @@ impl Life {
     pub fn handover(&mut self) -> Result<(), LifeFault>
         ensures left { self.new ≡ (life_after_handover self.old).life }
         ensures answer { result ≡ (life_after_handover self.old).answer }
+        ensures detached { OnOk result ((self.new.state ≡ state.Detached) × (self.new.users ≡ self.old.users)) }
     {
         if self.state != LifeState::Offline {
             return Err(LifeFault::NotOffline);
@@ -109,6 +124,8 @@ impl Life {
     pub fn boot(&mut self) -> Result<Power, LifeFault>
         ensures left { self.new ≡ (life_after_boot self.old).life }
         ensures answer { result ≡ (life_after_boot self.old).answer }
+        ensures first { result ≡ Ok power.First → (is_up self.new.state ≡ true) × (1 ≤ self.new.incarnation) }
+        ensures counted { (users : ℕ) → result ≡ Ok (power.Counted users) → (self.new.state ≡ self.old.state) × (1 ≤ self.new.users) }
     {
         match self.state {
             LifeState::Offline => self.start(LifeState::Running),
@@ -122,6 +139,7 @@ impl Life {
         requires up { is_up state ≡ true }
         ensures left { self.new ≡ (first_start state 1 power.First self.old).life }
         ensures answer { result ≡ (first_start state 1 power.First self.old).answer }
+        ensures first { result ≡ Ok power.First → (self.new.state ≡ state) × (1 ≤ self.new.incarnation) }
     {
         self.incarnation = next_incarnation(self.incarnation)?;
         self.state = state;
@@ -146,6 +164,8 @@ impl Life {
     pub fn shutdown(&mut self) -> Result<Left, LifeFault>
         ensures left { self.new ≡ (life_after_shutdown self.old).life }
         ensures answer { result ≡ (life_after_shutdown self.old).answer }
+        ensures last { result ≡ Ok left.Last → self.new.state ≡ state.Offline }
+        ensures more { (users : ℕ) → result ≡ Ok (left.Users users) → (self.new.state ≡ self.old.state) × (1 ≤ self.new.users) }
     {
         if !self.is_up() {
             return Err(LifeFault::NotPowered);
@@ -160,6 +180,9 @@ impl Life {
     pub fn detach(&mut self) -> Result<Left, LifeFault>
         ensures left { self.new ≡ (life_after_detach self.old).life }
         ensures answer { result ≡ (life_after_detach self.old).answer }
+        ensures last { result ≡ Ok left.Last → self.new.state ≡ state.Detached }
+        ensures more { (users : ℕ) → result ≡ Ok (left.Users users) → (self.new.state ≡ self.old.state) × (1 ≤ self.new.users) }
+        ensures attached { OnOk result (self.old.state ≡ state.Attached) }
     {
         if self.state != LifeState::Attached {
             return Err(LifeFault::NotAttached);
@@ -173,6 +196,7 @@ impl Life {
         requires at_none { (users : ℕ) → AreIn at_none 0 users }
         ensures left { self.new ≡ (without_user at_none self.old).life }
         ensures answer { Ok result ≡ (without_user at_none self.old).answer }
+        ensures more { (users : ℕ) → result ≡ left.Users users → (self.new.state ≡ self.old.state) × (1 ≤ self.new.users) }
     {
         self.users -= 1;
         if self.users == 0 {
@@ -189,6 +213,8 @@ impl Life {
     pub fn crash(&mut self) -> Result<Report, LifeFault>
         ensures left { self.new ≡ (life_after_crash self.old).life }
         ensures answer { result ≡ (life_after_crash self.old).answer }
+        ensures loaded { is_offline self.new.state ≡ is_offline self.old.state }
+        ensures users { self.new.users ≡ self.old.users }
     {
         match self.state {
             LifeState::Offline | LifeState::Detached => Err(LifeFault::NotPowered),
@@ -209,6 +235,8 @@ impl Life {
     pub fn recover(&mut self) -> Result<(), LifeFault>
         ensures left { self.new ≡ (life_after_recovery self.old).life }
         ensures answer { result ≡ (life_after_recovery self.old).answer }
+        ensures running { OnOk result (self.new.state ≡ state.Running) }
+        ensures users { self.new.users ≡ self.old.users }
     {
         if self.state != LifeState::Crashed {
             return Err(LifeFault::NotCrashed);

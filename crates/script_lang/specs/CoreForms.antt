@@ -16,7 +16,9 @@ abbrev pub core_keyword : CoreForm → List ℕ
 core_keyword core.Core = codes "core"
 core_keyword core.Region = codes "region"
 core_keyword core.Boot = codes "boot"
+core_keyword core.Handover = codes "handover"
 core_keyword core.Shutdown = codes "shutdown"
+core_keyword core.Detach = codes "detach"
 core_keyword core.State = codes "state"
 core_keyword core.Table = codes "table"
 core_keyword core.Trace = codes "trace"
@@ -32,7 +34,9 @@ abbrev pub core_kinds : CoreForm → List Kind
 core_kinds core.Core = kind.Keyword ∷ kind.Name ∷ kind.RegionSet ∷ kind.Book ∷ []
 core_kinds core.Region = kind.Keyword ∷ kind.Name ∷ kind.RegionKind ∷ kind.Number ∷ kind.Number ∷ kind.Number ∷ []
 core_kinds core.Boot = kind.Keyword ∷ kind.Name ∷ kind.Name ∷ []
+core_kinds core.Handover = kind.Keyword ∷ kind.Name ∷ kind.Name ∷ []
 core_kinds core.Shutdown = kind.Keyword ∷ kind.Name ∷ []
+core_kinds core.Detach = kind.Keyword ∷ kind.Name ∷ []
 core_kinds core.State = kind.Keyword ∷ kind.Name ∷ []
 core_kinds core.Table = kind.Keyword ∷ kind.Name ∷ []
 core_kinds core.Trace = kind.Keyword ∷ kind.Name ∷ kind.Number ∷ []
@@ -52,7 +56,9 @@ abbrev pub core_command : CoreForm → List (List ℕ) → Command
 core_command core.Core w = command.Core (name_at w 1) (region_set_at w 2) (number_at w 3)
 core_command core.Region w = command.Region (name_at w 1) (region_kind_at w 2) (number_at w 3) (number_at w 4) (number_at w 5)
 core_command core.Boot w = command.Boot (name_at w 1) (name_at w 2)
+core_command core.Handover w = command.Handover (name_at w 1) (name_at w 2)
 core_command core.Shutdown w = command.Shutdown (name_at w 1)
+core_command core.Detach w = command.Detach (name_at w 1)
 core_command core.State w = command.State (name_at w 1)
 core_command core.Table w = command.Table (name_at w 1)
 core_command core.Trace w = command.Trace (name_at w 1) (number_at w 2)

@@ -13,7 +13,6 @@ pub mod LinkCommands
 pub mod CoreEffects
 pub mod CoreLives
 pub mod CoreDrives
-pub mod CoreRestarts
 pub mod CoreViews
 pub mod CoreLinks
 pub mod CoreCommands

@@ -23,7 +23,8 @@ use Rattle.script_lang.specs.declared.commands.RegionSet.{RegionSet}
 use Rattle.script_lang.specs.declared.commands.RegionSet.TheVariants as regions
 use Rattle.memory_pool.specs.declared.regions.Region.{Region}
 use Rattle.memory_pool.specs.Regions.{standard_regions}
-use Rattle.crash_recover.specs.Cores.{new_core}
+use Rattle.proc_state.specs.Lives.{is_offline}
+use Rattle.crash_recover.specs.Cores.{CoreState, new_core}
 use Rattle.crash_recover.specs.CoreBoots.{needs_image}
 use Rattle.crash_recover.specs.CoreRecoveries.{recovery_fault}
 use Rattle.endpoint_map.specs.Bindings.{no_bindings}
@@ -84,7 +85,9 @@ command_name (command.Reopen name) = name
 command_name (command.Core name regions book) = name
 command_name (command.Region name kind da pa len) = name
 command_name (command.Boot name image) = name
+command_name (command.Handover name image) = name
 command_name (command.Shutdown name) = name
+command_name (command.Detach name) = name
 command_name (command.State name) = name
 command_name (command.Table name) = name
 command_name (command.Trace name index) = name
@@ -237,7 +240,9 @@ image_wanted (command.Reopen name) = None
 image_wanted (command.Core name regions book) = None
 image_wanted (command.Region name kind da pa len) = None
 image_wanted (command.Boot name image) = None
+image_wanted (command.Handover name image) = None
 image_wanted (command.Shutdown name) = None
+image_wanted (command.Detach name) = None
 image_wanted (command.State name) = None
 image_wanted (command.Table name) = None
 image_wanted (command.Trace name index) = None
@@ -284,12 +289,16 @@ core_named objects name = if is_some (place_of objects.links name) then None els
 abbrev pub outside_image : List ImageState → List ℕ → Option (List ℕ)
 outside_image images name = if has_image images name then None else (if is_utf8 name then Some name else None)
 
--- the image for which a boot asks the store: one that the core needs and the script didn't make
-abbrev pub boot_asks : List ImageState → List ℕ → Option NamedCoreState → Option (List ℕ)
-boot_asks images image None = None
-boot_asks images image (Some named) = if needs_image named.core then outside_image images image else None
+-- the image for which a boot or a handover asks the store: one that the core needs for it and the script didn't make
+abbrev pub start_asks : (CoreState → Bool) → List ImageState → List ℕ → Option NamedCoreState → Option (List ℕ)
+start_asks needs images image None = None
+start_asks needs images image (Some named) = if needs named.core then outside_image images image else None
 
--- the image for which a recovery asks the store: the one that was booted, which the script didn't make
+-- whether a handover needs an image: the core is offline
+abbrev pub takes_over : CoreState → Bool
+takes_over core = is_offline core.life.state
+
+-- the image for which a recovery asks the store: the one that was booted or handed over, which the script didn't make
 abbrev pub recovery_asks : List ImageState → Option NamedCoreState → Option (List ℕ)
 recovery_asks images None = None
 recovery_asks images (Some named) =
@@ -297,7 +306,8 @@ recovery_asks images (Some named) =
 
 -- the image for which a command asks the store
 abbrev pub asked_name : ObjectsState → Command → Option (List ℕ)
-asked_name objects (command.Boot name image) = boot_asks objects.images image (core_named objects name)
+asked_name objects (command.Boot name image) = start_asks needs_image objects.images image (core_named objects name)
+asked_name objects (command.Handover name image) = start_asks takes_over objects.images image (core_named objects name)
 asked_name objects (command.Recover name) = recovery_asks objects.images (core_named objects name)
 asked_name objects other = None
 

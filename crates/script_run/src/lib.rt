@@ -8,7 +8,6 @@ mod core_calls;
 mod core_drives;
 mod core_links;
 mod core_lives;
-mod core_restarts;
 mod core_views;
 mod cores;
 mod demos;

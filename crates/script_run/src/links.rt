@@ -125,7 +125,9 @@ impl NamedBench {
             | Command::Drive { .. }
             | Command::Quiet { .. }
             | Command::Boot { .. }
+            | Command::Handover { .. }
             | Command::Shutdown { .. }
+            | Command::Detach { .. }
             | Command::State { .. }
             | Command::Table { .. }
             | Command::Trace { .. }

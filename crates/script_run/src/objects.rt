@@ -16,7 +16,7 @@ use crash_recover::{Bench, Core};
 use journal::Event;
 use lane_model::LinkConfig;
 use memory_pool::Regions;
-use rp_base::{Name, NoMemory, OBJECTS_MOST};
+use rp_base::{LifeState, Name, NoMemory, OBJECTS_MOST};
 use script_lang::{Command, Recipe, RegionSet};
 use std::alloc::Global;
 use std::marker::Model;
@@ -84,6 +84,14 @@ impl Objects {
             Command::Boot { name, image } => {
                 let named = self.core_named(name.bytes())?;
                 if named.core.needs_image() {
+                    outside_image(self.images.as_slice(), image.bytes())
+                } else {
+                    None
+                }
+            }
+            Command::Handover { name, image } => {
+                let named = self.core_named(name.bytes())?;
+                if named.core.life().state() == LifeState::Offline {
                     outside_image(self.images.as_slice(), image.bytes())
                 } else {
                     None
@@ -381,7 +389,9 @@ fn command_name(command: &Command) -> &Name
         | Command::Core { name, .. }
         | Command::Region { name, .. }
         | Command::Boot { name, .. }
+        | Command::Handover { name, .. }
         | Command::Shutdown { name }
+        | Command::Detach { name }
         | Command::State { name }
         | Command::Table { name }
         | Command::Trace { name, .. }
