@@ -5,8 +5,8 @@ use Rattle.word_kinds.specs.Rows.{AreGood, word_in, row_read, row_words, are_fix
 use Rattle.rp_base.specs.declared.kinds.CrashKind.TheVariants as crash
 use Rattle.journal.specs.declared.events.Event.{Event}
 use Rattle.journal.specs.declared.events.Event.TheVariants as event
-use Rattle.journal.specs.declared.forms.Form.{Form}
-use Rattle.journal.specs.declared.forms.Form.TheVariants as form
+use Rattle.journal.specs.declared.table.Form.{Form}
+use Rattle.journal.specs.declared.table.Form.TheVariants as form
 use Rattle.journal.specs.declared.tables.TableLine.TheVariants as entry
 use Rattle.journal.specs.Lines.{words_of}
 use Rattle.journal.specs.Forms.{forms, kinds, event_in}
@@ -72,6 +72,11 @@ form_of (event.Trace x a b) = form.Trace
 form_of (event.NoTrace x a) = form.NoTrace
 form_of (event.Mem x a b) = form.Mem
 form_of (event.Unmapped x a b) = form.Unmapped
+form_of (event.NotCrashed x) = form.NotCrashed
+form_of (event.DumpTooLarge x a) = form.DumpTooLarge
+form_of (event.DumpsFull x) = form.DumpsFull
+form_of (event.Detached x) = form.Detached
+form_of (event.Attached x a) = form.Attached
 form_of (event.InCall x a) = form.InCall
 form_of (event.NoCall x a) = form.NoCall
 form_of (event.NotHeld x a b) = form.NotHeld
@@ -158,30 +163,35 @@ place form.Trace = 55
 place form.NoTrace = 56
 place form.Mem = 57
 place form.Unmapped = 58
-place form.InCall = 59
-place form.NoCall = 60
-place form.NotHeld = 61
-place form.TooLong = 62
-place form.Begun = 63
-place form.At = 64
-place form.Sent = 65
-place form.Gave = 66
-place form.Bound = 67
-place form.Unbound = 68
-place form.Busy = 69
-place form.Dead = 70
-place form.NoBuffer = 71
-place form.BookFull = 72
-place form.Empty = 73
-place form.AddressTaken = 74
-place form.EndpointsFull = 75
-place form.NotBound = 76
-place form.TookFromTo = 77
-place form.TookFromDropped = 78
-place form.TookMalformed = 79
-place form.TookNs = 80
-place form.TookNsMalformed = 81
-place form.WrongSide = 82
+place form.NotCrashed = 59
+place form.DumpTooLarge = 60
+place form.DumpsFull = 61
+place form.Detached = 62
+place form.Attached = 63
+place form.InCall = 64
+place form.NoCall = 65
+place form.NotHeld = 66
+place form.TooLong = 67
+place form.Begun = 68
+place form.At = 69
+place form.Sent = 70
+place form.Gave = 71
+place form.Bound = 72
+place form.Unbound = 73
+place form.Busy = 74
+place form.Dead = 75
+place form.NoBuffer = 76
+place form.BookFull = 77
+place form.Empty = 78
+place form.AddressTaken = 79
+place form.EndpointsFull = 80
+place form.NotBound = 81
+place form.TookFromTo = 82
+place form.TookFromDropped = 83
+place form.TookMalformed = 84
+place form.TookNs = 85
+place form.TookNsMalformed = 86
+place form.WrongSide = 87
 
 pub kinds_of_words : (e : Event) → kinds (form_of e) ≡ map kind_of (words_of e)
 kinds_of_words event.ObjectsFull = refl

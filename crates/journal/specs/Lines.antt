@@ -104,6 +104,11 @@ words_of (event.Trace x i text) = Name x ∷ Fixed (codes "trace") ∷ Number i 
 words_of (event.NoTrace x i) = Name x ∷ Fixed (codes "no-trace") ∷ Number i ∷ []
 words_of (event.Mem x da bytes) = Name x ∷ Fixed (codes "mem") ∷ Digits da ∷ Row 256 bytes ∷ []
 words_of (event.Unmapped x da len) = Name x ∷ Fixed (codes "unmapped") ∷ Digits da ∷ Number len ∷ []
+words_of (event.NotCrashed x) = Name x ∷ Fixed (codes "not-crashed") ∷ []
+words_of (event.DumpTooLarge x len) = Name x ∷ Fixed (codes "dump-too-large") ∷ Number len ∷ []
+words_of (event.DumpsFull x) = Name x ∷ Fixed (codes "dumps-full") ∷ []
+words_of (event.Detached x) = Name x ∷ Fixed (codes "detached") ∷ []
+words_of (event.Attached x i) = Name x ∷ Fixed (codes "attached") ∷ Number i ∷ []
 
 -- the line of an event
 unfoldable pub line : Event → List ℕ

@@ -405,4 +405,26 @@ pub enum Event {
         da: Da,
         len: u64,
     },
+    /// The core has not crashed, and must have.
+    NotCrashed {
+        name: Name,
+    },
+    /// The dump of the core's memory is longer than an image may be: its bytes.
+    DumpTooLarge {
+        name: Name,
+        len: u64,
+    },
+    /// As many dumps were kept as a script may keep.
+    DumpsFull {
+        name: Name,
+    },
+    /// The core is in the hands of another party, and has no users.
+    Detached {
+        name: Name,
+    },
+    /// The core, which another party has started, is attached to, in this incarnation.
+    Attached {
+        name: Name,
+        inc: u64,
+    },
 }
