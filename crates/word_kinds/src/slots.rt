@@ -68,7 +68,10 @@ fn fits(slot: &Slot, word: &[u8]) -> bool
 pub fn fit(slots: &[Slot], words: &[&[u8]]) -> bool
     ensures { result ≡ fit (map kind_in slots.now) (map (λ word. word.now) words.now) }
 {
-    if slots.len() != words.len() || !has_texts(slots, words) {
+    if slots.len() != words.len() {
+        return false;
+    }
+    if !has_texts(slots, words) {
         return false;
     }
     for (place, slot) in slots.iter().enumerate() {
