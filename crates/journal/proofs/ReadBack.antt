@@ -15,7 +15,7 @@ use Rattle.word_kinds.specs.Rows.{fit, text_at, row_read, word_in, all_apart}
 use Rattle.word_kinds.proofs.Rows.{words_back, row_back, form_found}
 use Rattle.word_kinds.proofs.Goods.{Small, good_from, words_small}
 use Rattle.journal.specs.declared.events.Event.{Event}
-use Rattle.journal.specs.declared.forms.Form.{Form}
+use Rattle.journal.specs.declared.table.Form.{Form}
 use Rattle.journal.specs.Lines.{words_of, line}
 use Rattle.journal.specs.Forms.{forms, kinds, event_in}
 use Rattle.journal.specs.Reading.{IsWritten, event_of}

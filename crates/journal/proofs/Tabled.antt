@@ -5,8 +5,8 @@ use Rattle.word_kinds.specs.Rows.{AreGood, word_in, row_read, row_words, are_fix
 use Rattle.rp_base.specs.declared.kinds.CrashKind.TheVariants as crash
 use Rattle.journal.specs.declared.events.Event.{Event}
 use Rattle.journal.specs.declared.events.Event.TheVariants as event
-use Rattle.journal.specs.declared.forms.Form.{Form}
-use Rattle.journal.specs.declared.forms.Form.TheVariants as form
+use Rattle.journal.specs.declared.table.Form.{Form}
+use Rattle.journal.specs.declared.table.Form.TheVariants as form
 use Rattle.journal.specs.declared.tables.TableLine.TheVariants as entry
 use Rattle.journal.specs.Lines.{words_of}
 use Rattle.journal.specs.Forms.{forms, kinds, event_in}
@@ -44,8 +44,6 @@ form_of (event.Driver x a b) = form.Driver
 form_of (event.DriverTaken x a) = form.DriverTaken
 form_of (event.DriversFull x) = form.DriversFull
 form_of (event.Running x a) = form.Running
-form_of (event.Attached x a) = form.Attached
-form_of (event.Detached x) = form.Detached
 form_of (event.Users x a) = form.Users
 form_of (event.Missing x a) = form.Missing
 form_of (event.TooLarge x a) = form.TooLarge
@@ -74,6 +72,11 @@ form_of (event.Trace x a b) = form.Trace
 form_of (event.NoTrace x a) = form.NoTrace
 form_of (event.Mem x a b) = form.Mem
 form_of (event.Unmapped x a b) = form.Unmapped
+form_of (event.NotCrashed x) = form.NotCrashed
+form_of (event.DumpTooLarge x a) = form.DumpTooLarge
+form_of (event.DumpsFull x) = form.DumpsFull
+form_of (event.Detached x) = form.Detached
+form_of (event.Attached x a) = form.Attached
 form_of (event.InCall x a) = form.InCall
 form_of (event.NoCall x a) = form.NoCall
 form_of (event.NotHeld x a b) = form.NotHeld
@@ -160,32 +163,35 @@ place form.Trace = 55
 place form.NoTrace = 56
 place form.Mem = 57
 place form.Unmapped = 58
-place form.Attached = 59
-place form.Detached = 60
-place form.InCall = 61
-place form.NoCall = 62
-place form.NotHeld = 63
-place form.TooLong = 64
-place form.Begun = 65
-place form.At = 66
-place form.Sent = 67
-place form.Gave = 68
-place form.Bound = 69
-place form.Unbound = 70
-place form.Busy = 71
-place form.Dead = 72
-place form.NoBuffer = 73
-place form.BookFull = 74
-place form.Empty = 75
-place form.AddressTaken = 76
-place form.EndpointsFull = 77
-place form.NotBound = 78
-place form.TookFromTo = 79
-place form.TookFromDropped = 80
-place form.TookMalformed = 81
-place form.TookNs = 82
-place form.TookNsMalformed = 83
-place form.WrongSide = 84
+place form.NotCrashed = 59
+place form.DumpTooLarge = 60
+place form.DumpsFull = 61
+place form.Detached = 62
+place form.Attached = 63
+place form.InCall = 64
+place form.NoCall = 65
+place form.NotHeld = 66
+place form.TooLong = 67
+place form.Begun = 68
+place form.At = 69
+place form.Sent = 70
+place form.Gave = 71
+place form.Bound = 72
+place form.Unbound = 73
+place form.Busy = 74
+place form.Dead = 75
+place form.NoBuffer = 76
+place form.BookFull = 77
+place form.Empty = 78
+place form.AddressTaken = 79
+place form.EndpointsFull = 80
+place form.NotBound = 81
+place form.TookFromTo = 82
+place form.TookFromDropped = 83
+place form.TookMalformed = 84
+place form.TookNs = 85
+place form.TookNsMalformed = 86
+place form.WrongSide = 87
 
 pub kinds_of_words : (e : Event) → kinds (form_of e) ≡ map kind_of (words_of e)
 kinds_of_words event.ObjectsFull = refl

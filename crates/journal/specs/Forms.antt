@@ -1,5 +1,5 @@
--- The forms of lines: the kinds of the words of each, and the event that the words say (own).
-use Rattle.std.specs.Prelude.{ℕ, ◌%◌, ◌^◌, Bool, false, List, [], ◌∷◌, Some, None, codes}
+-- The forms of lines: the event that the words of each say, and the kinds of these words (own).
+use Rattle.std.specs.Prelude.{ℕ, ◌%◌, ◌^◌, Bool, false, List, [], ◌∷◌, Some, None, map}
 use Rattle.rp_base.specs.declared.kinds.CrashKind.TheVariants as crash
 use Rattle.rp_base.specs.declared.kinds.DriverKind.{DriverKind}
 use Rattle.rp_base.specs.declared.kinds.DriverKind.TheVariants as driver
@@ -12,12 +12,13 @@ use Rattle.rp_base.specs.declared.kinds.NsKind.{NsKind}
 use Rattle.rp_base.specs.declared.kinds.NsKind.TheVariants as service
 use Rattle.rp_base.specs.declared.kinds.Switch.{Switch}
 use Rattle.rp_base.specs.declared.kinds.Switch.TheVariants as switch
-use Rattle.word_kinds.specs.Texts.{Word, Name, Number, Digits, Offset, Bytes, Row, Escaped, Trace, Lane, Bound, Dotted, Side, Open, Service, State, Driver, OnOff}
-use Rattle.word_kinds.specs.Readings.{LineKind, OfText, OfName, OfNumber, OfDigits, OfOffset, OfBytes, OfRow, OfEscaped, OfTrace, OfLane, OfBound, OfDotted, OfSide, OfOpen, OfService, OfState, OfDriver, OfSwitch}
+use Rattle.word_kinds.specs.Texts.{Word, Fixed, Name, Number, Digits, Offset, Bytes, Row, Escaped, Trace, Lane, Bound, Dotted, Side, Open, Service, State, Driver, OnOff}
+use Rattle.word_kinds.specs.Readings.{LineKind, kind_of}
+use Rattle.journal.specs.Lines.{words_of}
 use Rattle.journal.specs.declared.events.Event.{Event}
 use Rattle.journal.specs.declared.events.Event.TheVariants as event
-use Rattle.journal.specs.declared.forms.Form.{Form}
-use Rattle.journal.specs.declared.forms.Form.TheVariants as form
+use Rattle.journal.specs.declared.table.Form.{Form}
+use Rattle.journal.specs.declared.table.Form.TheVariants as form
 use Rattle.journal.specs.declared.tables.TableLine.TheVariants as entry
 
 -- all forms. Those that begin with `*` come first, and those with a number in the second place last, since a name may be any other
@@ -31,97 +32,9 @@ forms =
     form.Fault ∷ form.FaultAt ∷ form.CrashedMmufault ∷ form.CrashedWatchdog ∷ form.CrashedFatal ∷ form.AlreadyCrashed ∷ form.Recovery ∷ form.State ∷
     form.WorkerFault ∷ form.Idle ∷ form.Paused ∷ form.Stopped ∷ form.NotRunning ∷ form.NotLoaded ∷ form.TableCarveout ∷ form.TableDevmem ∷
     form.TableTrace ∷ form.TableTraceUnavailable ∷ form.TableSkipped ∷ form.TableVdev ∷ form.TableVring ∷ form.Trace ∷ form.NoTrace ∷ form.Mem ∷
-    form.Unmapped ∷ form.Attached ∷ form.Detached ∷ form.InCall ∷ form.NoCall ∷ form.NotHeld ∷ form.TooLong ∷ form.Begun ∷ form.At ∷ form.Sent ∷ form.Gave ∷ form.Bound ∷
+    form.Unmapped ∷ form.NotCrashed ∷ form.DumpTooLarge ∷ form.DumpsFull ∷ form.Detached ∷ form.Attached ∷ form.InCall ∷ form.NoCall ∷ form.NotHeld ∷ form.TooLong ∷ form.Begun ∷ form.At ∷ form.Sent ∷ form.Gave ∷ form.Bound ∷
     form.Unbound ∷ form.Busy ∷ form.Dead ∷ form.NoBuffer ∷ form.BookFull ∷ form.Empty ∷ form.AddressTaken ∷ form.EndpointsFull ∷ form.NotBound ∷
     form.TookFromTo ∷ form.TookFromDropped ∷ form.TookMalformed ∷ form.TookNs ∷ form.TookNsMalformed ∷ form.WrongSide ∷ []
-
--- the kinds of the words of a form
-abbrev pub kinds : Form → List LineKind
-kinds form.Unknown = OfText (codes "*") ∷ OfText (codes "unknown") ∷ OfName ∷ []
-kinds form.ObjectsFull = OfText (codes "*") ∷ OfText (codes "objects-full") ∷ []
-kinds form.Image = OfText (codes "*") ∷ OfText (codes "image") ∷ OfName ∷ OfNumber ∷ []
-kinds form.ImageExists = OfText (codes "*") ∷ OfText (codes "image-exists") ∷ OfName ∷ []
-kinds form.NoLink = OfName ∷ OfText (codes "no-link") ∷ []
-kinds form.Exists = OfName ∷ OfText (codes "exists") ∷ []
-kinds form.Open = OfName ∷ OfText (codes "open") ∷ OfNumber ∷ []
-kinds form.Closed = OfName ∷ OfText (codes "closed") ∷ OfNumber ∷ []
-kinds form.Already = OfName ∷ OfText (codes "already") ∷ OfNumber ∷ OfOpen ∷ []
-kinds form.StillOpen = OfName ∷ OfText (codes "still-open") ∷ OfNumber ∷ []
-kinds form.StillHeld = OfName ∷ OfText (codes "still-held") ∷ OfNumber ∷ OfNumber ∷ []
-kinds form.IncarnationsSpent = OfName ∷ OfText (codes "incarnations-spent") ∷ []
-kinds form.Reclaimed = OfName ∷ OfText (codes "reclaimed") ∷ OfNumber ∷ []
-kinds form.BusyTurn = OfName ∷ OfText (codes "busy") ∷ OfNumber ∷ []
-kinds form.Caller = OfName ∷ OfText (codes "caller") ∷ OfNumber ∷ OfSide ∷ []
-kinds form.CallersFull = OfName ∷ OfText (codes "callers-full") ∷ []
-kinds form.NoCaller = OfName ∷ OfText (codes "no-caller") ∷ OfNumber ∷ []
-kinds form.LaneAcceptedHandedReturned = OfName ∷ OfText (codes "lane") ∷ OfLane ∷ OfText (codes "accepted") ∷ OfNumber ∷ OfText (codes "handed") ∷ OfNumber ∷ OfText (codes "returned") ∷ OfNumber ∷ []
-kinds form.Pumped = OfName ∷ OfText (codes "pumped") ∷ OfNumber ∷ []
-kinds form.Ring = OfName ∷ OfText (codes "ring") ∷ OfLane ∷ OfNumber ∷ []
-kinds form.Dump = OfName ∷ OfText (codes "dump") ∷ OfOffset ∷ OfRow 16 ∷ []
-kinds form.StillTurn = OfName ∷ OfText (codes "still-turn") ∷ OfNumber ∷ []
-kinds form.ChannelWithout = OfName ∷ OfText (codes "channel") ∷ OfEscaped ∷ OfNumber ∷ OfText (codes "-") ∷ []
-kinds form.Channel = OfName ∷ OfText (codes "channel") ∷ OfEscaped ∷ OfNumber ∷ OfBound ∷ []
-kinds form.Offline = OfName ∷ OfText (codes "offline") ∷ []
-kinds form.NotOffline = OfName ∷ OfText (codes "not-offline") ∷ []
-kinds form.Region = OfName ∷ OfText (codes "region") ∷ OfNumber ∷ []
-kinds form.Driver = OfName ∷ OfText (codes "driver") ∷ OfName ∷ OfDriver ∷ []
-kinds form.DriverTaken = OfName ∷ OfText (codes "driver-taken") ∷ OfName ∷ []
-kinds form.DriversFull = OfName ∷ OfText (codes "drivers-full") ∷ []
-kinds form.Running = OfName ∷ OfText (codes "running") ∷ OfNumber ∷ []
-kinds form.Attached = OfName ∷ OfText (codes "attached") ∷ OfNumber ∷ []
-kinds form.Detached = OfName ∷ OfText (codes "detached") ∷ []
-kinds form.Users = OfName ∷ OfText (codes "users") ∷ OfNumber ∷ []
-kinds form.Missing = OfName ∷ OfText (codes "missing") ∷ OfName ∷ []
-kinds form.TooLarge = OfName ∷ OfText (codes "too-large") ∷ OfName ∷ []
-kinds form.Fault = OfName ∷ OfText (codes "fault") ∷ OfNumber ∷ []
-kinds form.FaultAt = OfName ∷ OfText (codes "fault") ∷ OfNumber ∷ OfNumber ∷ []
-kinds form.CrashedMmufault = OfName ∷ OfText (codes "crashed") ∷ OfText (codes "mmufault") ∷ []
-kinds form.CrashedWatchdog = OfName ∷ OfText (codes "crashed") ∷ OfText (codes "watchdog") ∷ []
-kinds form.CrashedFatal = OfName ∷ OfText (codes "crashed") ∷ OfText (codes "fatal") ∷ OfText (codes "error") ∷ []
-kinds form.AlreadyCrashed = OfName ∷ OfText (codes "already") ∷ []
-kinds form.Recovery = OfName ∷ OfText (codes "recovery") ∷ OfSwitch ∷ []
-kinds form.State = OfName ∷ OfText (codes "state") ∷ OfState ∷ OfText (codes "users") ∷ OfNumber ∷ OfText (codes "incarnation") ∷ OfNumber ∷ []
-kinds form.WorkerFault = OfName ∷ OfText (codes "worker") ∷ OfText (codes "fault") ∷ OfNumber ∷ []
-kinds form.Idle = OfName ∷ OfText (codes "idle") ∷ []
-kinds form.Paused = OfName ∷ OfText (codes "paused") ∷ []
-kinds form.Stopped = OfName ∷ OfText (codes "stopped") ∷ []
-kinds form.NotRunning = OfName ∷ OfText (codes "not-running") ∷ []
-kinds form.NotLoaded = OfName ∷ OfText (codes "not-loaded") ∷ []
-kinds form.TableCarveout = OfName ∷ OfText (codes "entry") ∷ OfNumber ∷ OfText (codes "carveout") ∷ OfDigits ∷ OfDigits ∷ OfDigits ∷ OfEscaped ∷ []
-kinds form.TableDevmem = OfName ∷ OfText (codes "entry") ∷ OfNumber ∷ OfText (codes "devmem") ∷ OfDigits ∷ OfDigits ∷ OfDigits ∷ OfEscaped ∷ []
-kinds form.TableTrace = OfName ∷ OfText (codes "entry") ∷ OfNumber ∷ OfText (codes "trace") ∷ OfDigits ∷ OfDigits ∷ OfEscaped ∷ []
-kinds form.TableTraceUnavailable = OfName ∷ OfText (codes "entry") ∷ OfNumber ∷ OfText (codes "trace") ∷ OfDigits ∷ OfDigits ∷ OfEscaped ∷ OfText (codes "unavailable") ∷ []
-kinds form.TableSkipped = OfName ∷ OfText (codes "entry") ∷ OfNumber ∷ OfText (codes "skipped") ∷ OfNumber ∷ []
-kinds form.TableVdev = OfName ∷ OfText (codes "entry") ∷ OfNumber ∷ OfText (codes "vdev") ∷ OfNumber ∷ OfText (codes "features") ∷ OfNumber ∷ OfText (codes "status") ∷ OfNumber ∷ []
-kinds form.TableVring = OfName ∷ OfText (codes "vring") ∷ OfDotted ∷ OfDigits ∷ OfNumber ∷ OfNumber ∷ OfNumber ∷ []
-kinds form.Trace = OfName ∷ OfText (codes "trace") ∷ OfNumber ∷ OfTrace ∷ []
-kinds form.NoTrace = OfName ∷ OfText (codes "no-trace") ∷ OfNumber ∷ []
-kinds form.Mem = OfName ∷ OfText (codes "mem") ∷ OfDigits ∷ OfRow 256 ∷ []
-kinds form.Unmapped = OfName ∷ OfText (codes "unmapped") ∷ OfDigits ∷ OfNumber ∷ []
-kinds form.InCall = OfName ∷ OfNumber ∷ OfText (codes "in-call") ∷ []
-kinds form.NoCall = OfName ∷ OfNumber ∷ OfText (codes "no-call") ∷ []
-kinds form.NotHeld = OfName ∷ OfNumber ∷ OfText (codes "not-held") ∷ OfNumber ∷ []
-kinds form.TooLong = OfName ∷ OfNumber ∷ OfText (codes "too-long") ∷ OfNumber ∷ []
-kinds form.Begun = OfName ∷ OfNumber ∷ OfText (codes "begun") ∷ []
-kinds form.At = OfName ∷ OfNumber ∷ OfText (codes "at") ∷ OfNumber ∷ []
-kinds form.Sent = OfName ∷ OfNumber ∷ OfText (codes "sent") ∷ OfNumber ∷ []
-kinds form.Gave = OfName ∷ OfNumber ∷ OfText (codes "gave") ∷ OfNumber ∷ []
-kinds form.Bound = OfName ∷ OfNumber ∷ OfText (codes "bound") ∷ OfBound ∷ []
-kinds form.Unbound = OfName ∷ OfNumber ∷ OfText (codes "unbound") ∷ OfBound ∷ []
-kinds form.Busy = OfName ∷ OfNumber ∷ OfText (codes "busy") ∷ OfNumber ∷ []
-kinds form.Dead = OfName ∷ OfNumber ∷ OfText (codes "dead") ∷ OfNumber ∷ OfOpen ∷ []
-kinds form.NoBuffer = OfName ∷ OfNumber ∷ OfText (codes "no-buffer") ∷ OfNumber ∷ OfNumber ∷ []
-kinds form.BookFull = OfName ∷ OfNumber ∷ OfText (codes "book-full") ∷ OfNumber ∷ []
-kinds form.Empty = OfName ∷ OfNumber ∷ OfText (codes "empty") ∷ OfNumber ∷ []
-kinds form.AddressTaken = OfName ∷ OfNumber ∷ OfText (codes "address-taken") ∷ OfNumber ∷ []
-kinds form.EndpointsFull = OfName ∷ OfNumber ∷ OfText (codes "endpoints-full") ∷ []
-kinds form.NotBound = OfName ∷ OfNumber ∷ OfText (codes "not-bound") ∷ OfNumber ∷ []
-kinds form.TookFromTo = OfName ∷ OfNumber ∷ OfText (codes "took") ∷ OfNumber ∷ OfText (codes "from") ∷ OfNumber ∷ OfText (codes "to") ∷ OfBound ∷ OfBytes ∷ []
-kinds form.TookFromDropped = OfName ∷ OfNumber ∷ OfText (codes "took") ∷ OfNumber ∷ OfText (codes "from") ∷ OfNumber ∷ OfText (codes "dropped") ∷ OfNumber ∷ OfBytes ∷ []
-kinds form.TookMalformed = OfName ∷ OfNumber ∷ OfText (codes "took") ∷ OfNumber ∷ OfText (codes "malformed") ∷ []
-kinds form.TookNs = OfName ∷ OfNumber ∷ OfText (codes "took") ∷ OfNumber ∷ OfText (codes "ns") ∷ OfService ∷ OfEscaped ∷ OfNumber ∷ []
-kinds form.TookNsMalformed = OfName ∷ OfNumber ∷ OfText (codes "took") ∷ OfNumber ∷ OfText (codes "ns") ∷ OfText (codes "malformed") ∷ []
-kinds form.WrongSide = OfName ∷ OfNumber ∷ OfText (codes "wrong-side") ∷ []
 
 -- what a word says
 abbrev pub name_in : Word → List ℕ
@@ -229,8 +142,6 @@ event_in form.Driver at = event.Driver (name_in (at 0)) (name_in (at 2)) (driver
 event_in form.DriverTaken at = event.DriverTaken (name_in (at 0)) (name_in (at 2))
 event_in form.DriversFull at = event.DriversFull (name_in (at 0))
 event_in form.Running at = event.Running (name_in (at 0)) (number_in (at 2))
-event_in form.Attached at = event.Attached (name_in (at 0)) (number_in (at 2))
-event_in form.Detached at = event.Detached (name_in (at 0))
 event_in form.Users at = event.Users (name_in (at 0)) (number_in (at 2))
 event_in form.Missing at = event.Missing (name_in (at 0)) (name_in (at 2))
 event_in form.TooLarge at = event.TooLarge (name_in (at 0)) (name_in (at 2))
@@ -259,6 +170,11 @@ event_in form.Trace at = event.Trace (name_in (at 0)) (number_in (at 2)) (trace_
 event_in form.NoTrace at = event.NoTrace (name_in (at 0)) (number_in (at 2))
 event_in form.Mem at = event.Mem (name_in (at 0)) (digits_in (at 2)) (row_in (at 3))
 event_in form.Unmapped at = event.Unmapped (name_in (at 0)) (digits_in (at 2)) (number_in (at 3))
+event_in form.NotCrashed at = event.NotCrashed (name_in (at 0))
+event_in form.DumpTooLarge at = event.DumpTooLarge (name_in (at 0)) (number_in (at 2))
+event_in form.DumpsFull at = event.DumpsFull (name_in (at 0))
+event_in form.Detached at = event.Detached (name_in (at 0))
+event_in form.Attached at = event.Attached (name_in (at 0)) (number_in (at 2))
 event_in form.InCall at = event.InCall (name_in (at 0)) (number_in (at 1))
 event_in form.NoCall at = event.NoCall (name_in (at 0)) (number_in (at 1))
 event_in form.NotHeld at = event.NotHeld (name_in (at 0)) (number_in (at 1)) (number_in (at 3))
@@ -283,3 +199,7 @@ event_in form.TookMalformed at = event.TookMalformed (name_in (at 0)) (number_in
 event_in form.TookNs at = event.TookNs (name_in (at 0)) (number_in (at 1)) (number_in (at 3)) (service_in (at 5)) (escaped_in (at 6)) (number_in (at 7))
 event_in form.TookNsMalformed at = event.TookNsMalformed (name_in (at 0)) (number_in (at 1)) (number_in (at 3))
 event_in form.WrongSide at = event.WrongSide (name_in (at 0)) (number_in (at 1))
+
+-- the kinds of the words of a form: those of its event, whatever this says
+abbrev pub kinds : Form → List LineKind
+kinds form = map kind_of (words_of (event_in form (λ place. Fixed [])))

@@ -83,8 +83,6 @@ words_of (event.Driver x name kind) = Name x ∷ Fixed (codes "driver") ∷ Name
 words_of (event.DriverTaken x name) = Name x ∷ Fixed (codes "driver-taken") ∷ Name name ∷ []
 words_of (event.DriversFull x) = Name x ∷ Fixed (codes "drivers-full") ∷ []
 words_of (event.Running x i) = Name x ∷ Fixed (codes "running") ∷ Number i ∷ []
-words_of (event.Attached x i) = Name x ∷ Fixed (codes "attached") ∷ Number i ∷ []
-words_of (event.Detached x) = Name x ∷ Fixed (codes "detached") ∷ []
 words_of (event.Users x users) = Name x ∷ Fixed (codes "users") ∷ Number users ∷ []
 words_of (event.Missing x name) = Name x ∷ Fixed (codes "missing") ∷ Name name ∷ []
 words_of (event.TooLarge x name) = Name x ∷ Fixed (codes "too-large") ∷ Name name ∷ []
@@ -106,6 +104,11 @@ words_of (event.Trace x i text) = Name x ∷ Fixed (codes "trace") ∷ Number i 
 words_of (event.NoTrace x i) = Name x ∷ Fixed (codes "no-trace") ∷ Number i ∷ []
 words_of (event.Mem x da bytes) = Name x ∷ Fixed (codes "mem") ∷ Digits da ∷ Row 256 bytes ∷ []
 words_of (event.Unmapped x da len) = Name x ∷ Fixed (codes "unmapped") ∷ Digits da ∷ Number len ∷ []
+words_of (event.NotCrashed x) = Name x ∷ Fixed (codes "not-crashed") ∷ []
+words_of (event.DumpTooLarge x len) = Name x ∷ Fixed (codes "dump-too-large") ∷ Number len ∷ []
+words_of (event.DumpsFull x) = Name x ∷ Fixed (codes "dumps-full") ∷ []
+words_of (event.Detached x) = Name x ∷ Fixed (codes "detached") ∷ []
+words_of (event.Attached x i) = Name x ∷ Fixed (codes "attached") ∷ Number i ∷ []
 
 -- the line of an event
 unfoldable pub line : Event → List ℕ

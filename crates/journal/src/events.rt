@@ -304,15 +304,6 @@ pub enum Event {
         name: Name,
         inc: u64,
     },
-    /// The core is attached, in this incarnation.
-    Attached {
-        name: Name,
-        inc: u64,
-    },
-    /// The core is detached.
-    Detached {
-        name: Name,
-    },
     /// How many users the core has.
     Users {
         name: Name,
@@ -413,5 +404,27 @@ pub enum Event {
         name: Name,
         da: Da,
         len: u64,
+    },
+    /// The core has not crashed, and must have.
+    NotCrashed {
+        name: Name,
+    },
+    /// The dump of the core's memory is longer than an image may be: its bytes.
+    DumpTooLarge {
+        name: Name,
+        len: u64,
+    },
+    /// As many dumps were kept as a script may keep.
+    DumpsFull {
+        name: Name,
+    },
+    /// The core is in the hands of another party, and has no users.
+    Detached {
+        name: Name,
+    },
+    /// The core, which another party has started, is attached to, in this incarnation.
+    Attached {
+        name: Name,
+        inc: u64,
     },
 }

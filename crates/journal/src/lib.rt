@@ -2,14 +2,12 @@
 #![tactic(auto)]
 
 mod events;
-mod form_events;
-mod forms;
 pub mod laws;
 mod lines;
 mod notices;
 mod readers;
-mod shapes;
-mod table_shapes;
+mod rows;
+mod table;
 mod tables;
 
 pub use events::Event;

@@ -6,9 +6,8 @@ ghost use Rattle.journal.specs.declared.events.Event.{Event};
 ghost use Rattle.journal.specs.declared.readers.LineFault.TheVariants as fault;
 
 use crate::events::Event;
-use crate::form_events::event_in;
-use crate::forms::form_of;
 use crate::lines::line;
+use crate::table::{event_in, form_of};
 use rp_base::NoMemory;
 use std::alloc::{AllocError, Global};
 use word_kinds::{WORDS_MOST, first_words};

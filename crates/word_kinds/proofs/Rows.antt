@@ -167,3 +167,12 @@ pub fit_more : {X Y : Type 0} (k : X → LineKind) (v : Y → List ℕ) (slots :
 fit_more k v slots words place slot word h l e f =
     ap (λ rest. fit (map k rest) (map v (drop place words))) (drop_more slots place slot h) ∙ ap (λ rest. fit (map k (get_or slots place slot ∷ drop (place + 1) slots)) (map v rest)) (drop_more words place word l)
     ∙ ap (λ x. fits (k x) (v (get_or words place word)) && fit_from k v slots words (place + 1)) (sym e) ∙ ap (λ y. fits (k slot) (v y) && fit_from k v slots words (place + 1)) (sym f)
+
+-- a word that may not stand in its place
+pub misfit : {X Y : Type 0} (k : X → LineKind) (v : Y → List ℕ) (slots : List X) (words : List Y) (place : ℕ) (d : X) (e : Y) → place < length slots → place < length words
+    → fits (k (get_or slots place d)) (v (get_or words place e)) ≡ false → fit (map k slots) (map v words) ≡ false
+misfit k v [] words place d e h l g = absurd (omega arith)
+misfit k v (first ∷ slots) [] place d e h l g = absurd (omega arith)
+misfit k v (first ∷ slots) (other ∷ words) zero d e h l g = ap (λ b. b && fit (map k slots) (map v words)) g
+misfit k v (first ∷ slots) (other ∷ words) (suc place) d e h l g =
+    ap (λ b. fits (k first) (v other) && b) (misfit k v slots words place d e (omega arith) (omega arith) g) ∙ nothing (fits (k first) (v other))

@@ -5,7 +5,7 @@ ghost use Rattle.word_kinds.specs.Texts.{hex_digit, hex_byte, eight_digits, four
 ghost use Rattle.word_kinds.specs.Lines.{line_of, word_of};
 ghost use Rattle.word_kinds.specs.Fronts.{IsFront};
 
-use rp_base::{DriverKind, End, Endpoint, LifeState, Name, NoMemory, NsKind, Switch};
+use rp_base::{Data, DriverKind, End, Endpoint, LifeState, Name, NoMemory, NsKind, Switch};
 use std::alloc::AllocError;
 
 /// A word of a line, with what is written there.
@@ -23,14 +23,14 @@ pub enum Piece<'a> {
     /// needs them.
     Offset(u64),
     /// Bytes as pairs of lower-case hexadecimal digits, or `-` where there is none.
-    Bytes(&'a [u8]),
+    Bytes(&'a Data),
     /// From one to so many bytes as pairs of lower-case hexadecimal digits.
-    Row(usize, &'a [u8]),
+    Row(usize, &'a Data),
     /// A name with `%` and two digits for each byte that doesn't print as it is, or `%` where it is
     /// empty.
-    Escaped(&'a [u8]),
+    Escaped(&'a Name),
     /// A text of any length, written as a name with escapes is.
-    Trace(&'a [u8]),
+    Trace(&'a Data),
     /// A lane: 0 or 1.
     Lane(u64),
     /// An address and the number of its binding.
@@ -57,38 +57,12 @@ pub fn push_line(out: &mut Vec<u8>, words: &[Piece]) -> Result<(), NoMemory>
     ensures whole { OnOk result (out.new.items ≡ out.old.items ++ line_of (map word_of words.now)) }
     ensures same { OnErr result (out.new.items ≡ out.old.items) }
 {
-    push_line_behind(out, &[], words)
-}
-
-/// Appends the line of the words in front and of those behind them. Where memory is wanting, the
-/// text stays as it was.
-pub fn push_line_behind(out: &mut Vec<u8>, front: &[Piece], words: &[Piece]) -> Result<(), NoMemory>
-    ensures whole { OnOk result (out.new.items ≡ out.old.items ++ line_of (map word_of front.now ++ map word_of words.now)) }
-    ensures same { OnErr result (out.new.items ≡ out.old.items) }
-{
     let len = out.len();
-    if push_behind(out, front, words).is_err() {
+    if push_words(out, words).is_err() {
         out.truncate(len);
         return Err(NoMemory);
     }
     Ok(())
-}
-
-#[tactic(auto, unfolding(crate::specs::Lines::line_of))]
-fn push_behind(out: &mut Vec<u8>, front: &[Piece], words: &[Piece]) -> Result<(), AllocError>
-    ensures whole { OnOk result (out.new.items ≡ out.old.items ++ line_of (map word_of front.now ++ map word_of words.now)) }
-    ensures front { IsFront out.old.items out.new.items }
-{
-    match front {
-        [] => push_words(out, words),
-        [first, more @ ..] => {
-            push_word(out, first)?;
-            push_more(out, more)?;
-            push_more(out, words)?;
-            out.push(b'\n')?;
-            Ok(())
-        }
-    }
 }
 
 #[tactic(auto, unfolding(crate::specs::Lines::line_of))]
@@ -138,10 +112,10 @@ fn push_word(out: &mut Vec<u8>, word: &Piece) -> Result<(), AllocError>
         Piece::Number(number) => push_number(out, *number),
         Piece::Digits(number) => push_digits(out, *number),
         Piece::Offset(number) => push_offset(out, *number),
-        Piece::Bytes(bytes) => push_hex(out, bytes),
-        Piece::Row(_, bytes) => push_hex(out, bytes),
-        Piece::Escaped(bytes) => push_escaped(out, bytes),
-        Piece::Trace(bytes) => push_escaped(out, bytes),
+        Piece::Bytes(bytes) => push_hex(out, bytes.bytes()),
+        Piece::Row(_, bytes) => push_hex(out, bytes.bytes()),
+        Piece::Escaped(name) => push_escaped(out, name.bytes()),
+        Piece::Trace(text) => push_escaped(out, text.bytes()),
         Piece::Lane(lane) => push_number(out, *lane),
         Piece::Bound(endpoint) => {
             push_dotted(out, u64::from(endpoint.address), endpoint.generation)

@@ -99,7 +99,7 @@ pub fn bytes_at(alloc: Global, words: &[&[u8]], place: usize) -> Result<Data, Al
 }
 
 /// The empty name.
-pub(crate) fn no_name() -> Name
+pub fn no_name() -> Name
     ensures { result ≡ [] }
 {
     match Name::of(b"") {

@@ -1,4 +1,4 @@
-ghost use Rattle.std.specs.Prelude.{◌≡◌, map};
+ghost use Rattle.std.specs.Prelude.{◌≡◌, false, length, map};
 ghost use Rattle.word_kinds.specs.Rows.{kind_in, fits, fit};
 
 use crate::digits::is_name;
@@ -71,8 +71,25 @@ pub fn fit(slots: &[Slot], words: &[&[u8]]) -> bool
     if slots.len() != words.len() {
         return false;
     }
+    if !has_texts(slots, words) {
+        return false;
+    }
     for (place, slot) in slots.iter().enumerate() {
         if !fits(slot, words[place]) {
+            return false;
+        }
+    }
+    true
+}
+
+/// Whether each fixed word stands in its place, which is sooner told than what may stand in the
+/// others.
+fn has_texts(slots: &[Slot], words: &[&[u8]]) -> bool
+    requires { length slots.now ≡ length words.now }
+    ensures { result ≡ false → fit (map kind_in slots.now) (map (λ word. word.now) words.now) ≡ false }
+{
+    for (place, slot) in slots.iter().enumerate() {
+        if matches!(slot, Slot::Text(_)) && !fits(slot, words[place]) {
             return false;
         }
     }
