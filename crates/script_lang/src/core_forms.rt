@@ -24,6 +24,7 @@ pub(crate) enum CoreForm {
     Recovery,
     Driver,
     Drive,
+    Dump,
 }
 
 /// The first word of a command of a core.
@@ -46,6 +47,7 @@ pub(crate) fn core_keyword(form: CoreForm) -> &'static str
         CoreForm::Recovery => "recovery",
         CoreForm::Driver => "driver",
         CoreForm::Drive => "drive",
+        CoreForm::Dump => "dump",
     }
 }
 
@@ -63,7 +65,7 @@ pub(crate) fn core_kinds(form: CoreForm) -> &'static [Kind]
             Kind::Number,
             Kind::Number,
         ],
-        CoreForm::Boot | CoreForm::Handover => &[Kind::Keyword, Kind::Name, Kind::Name],
+        CoreForm::Boot | CoreForm::Handover | CoreForm::Dump => &[Kind::Keyword, Kind::Name, Kind::Name],
         CoreForm::Shutdown
         | CoreForm::Detach
         | CoreForm::State
@@ -149,6 +151,10 @@ pub(crate) fn core_command(form: CoreForm, words: &[&[u8]]) -> Command
         CoreForm::Drive => Command::Drive {
             name,
             count: number_at(words, 2),
+        },
+        CoreForm::Dump => Command::Dump {
+            name,
+            image: name_at(words, 2),
         },
     }
 }

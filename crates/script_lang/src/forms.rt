@@ -34,7 +34,7 @@ pub(crate) enum Form {
 }
 
 /// The forms that are told by their first word.
-pub(crate) const FORMS: [Form; 34] = [
+pub(crate) const FORMS: [Form; 35] = [
     Form::Call(CallForm::Send),
     Form::Call(CallForm::Take),
     Form::Call(CallForm::Give),
@@ -68,6 +68,7 @@ pub(crate) const FORMS: [Form; 34] = [
     Form::Core(CoreForm::Recovery),
     Form::Core(CoreForm::Driver),
     Form::Core(CoreForm::Drive),
+    Form::Core(CoreForm::Dump),
     Form::Quiet,
 ];
 
