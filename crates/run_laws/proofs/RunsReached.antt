@@ -87,7 +87,9 @@ module _ (run : RunState) (are : AreReached run.objects) where
   unnamed (command.Reopen name) = are
   unnamed (command.Region name kind da pa len) = are
   unnamed (command.Boot name image) = are
+  unnamed (command.Handover name image) = are
   unnamed (command.Shutdown name) = are
+  unnamed (command.Detach name) = are
   unnamed (command.State name) = are
   unnamed (command.Table name) = are
   unnamed (command.Trace name index) = are
