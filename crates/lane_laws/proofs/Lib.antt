@@ -1,6 +1,7 @@
 pub mod SoundKept
 pub mod CrashLaws
 pub mod PartSteps
+pub mod ReclaimParts
 pub mod Numbering
 pub mod LaneMoves
 pub mod LaneFacts
@@ -13,3 +14,5 @@ pub mod Told
 pub mod WayFacts
 pub mod FormMoves
 pub mod RingMoves
+pub mod RingParts
+pub mod RingWays

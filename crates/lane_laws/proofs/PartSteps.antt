@@ -22,7 +22,8 @@ use Rattle.lane_laws.proofs.SoundKept.{IsSoundLanes, hosts_see, remotes_see}
 use Rattle.lane_model.proofs.CrashSteps.{others_have, others_once, others_fewer, send_ended_sound, receive_ended_sound}
 use Rattle.lane_laws.proofs.CrashLaws.{closed_between, stays, users_apart, turn_apart, ended_had, not_then, host_is_not, remote_is_not}
 
-taken_of : {C : Type 0} (P : ℕ → C → Type 0) (now : Turn C) → OfCall now P → OfCall (manager_takes now) P
+-- what holds of the call that has a turn, where the manager takes or leaves that turn
+pub taken_of : {C : Type 0} (P : ℕ → C → Type 0) (now : Turn C) → OfCall now P → OfCall (manager_takes now) P
 taken_of P turn.Free of = tt
 taken_of P (turn.Taken caller call) of = of
 taken_of P (turn.Leaving caller ended) of = tt

@@ -16,6 +16,7 @@ use Rattle.lane_model.specs.Lanes.{has_call, is_live_in}
 use Rattle.lane_model.specs.Recoveries.{link_after_close, link_after_reclaim, link_after_reopen, without_caller}
 use Rattle.ring_core.proofs.Reclaims.{send_ended_sound, receive_ended_sound, reopened_sound}
 use Rattle.lane_model.specs.Conditions.{MayLanesStep, MayEndStep, MayStep, IsConfig}
+use Rattle.lane_model.specs.Soundness.{SoundLink}
 use Rattle.ring_core.specs.declared.states.RingState.{RingState}
 use Rattle.ring_core.specs.RingSteps.{holding_of, ring_form}
 use Rattle.ring_core.specs.RingLinks.{opened_ring_lane, opened_ring_link}
@@ -87,6 +88,16 @@ none_aside s sound whole =
     let counted = sound.counted in
     let hands : length s.rings.hands ≡ length s.lane.lane.held = sym (length-map s.rings.hands holding_of) ∙ ap length sound.holdings in
     nil_from_length s.rings.aside (omega arith)
+
+-- the lane to an end of a link with sound rings
+pub sound_at : {D : Type 0} (link : LaneLink (RingState D)) (end : End) → HasSoundRings link → IsSoundRings (lanes_of link end).incoming
+sound_at link side.Host sound = sound.to_host
+sound_at link side.Remote sound = sound.to_remote
+
+-- while a sound link is live, nothing is aside
+pub link_aside : {D : Type 0} (meaning : DeskMeaning D) (link : LaneLink (RingState D)) → HasSoundRings link → SoundLink (link_of (ring_form meaning) link) → link.era.is_live ≡ true
+    → (link.to_host.rings.aside ≡ []) × (link.to_remote.rings.aside ≡ [])
+link_aside meaning link rings lists live = (none_aside link.to_host rings.to_host (lists.to_host.whole live), none_aside link.to_remote rings.to_remote (lists.to_remote.whole live))
 
 -- a close leaves the lanes as they are
 close_if : {D : Type 0} (b : Bool) (link : LaneLink (RingState D)) (inc : ℕ) → HasSoundRings link → HasSoundRings (cond b (record link { era = record { inc = inc; is_live = false } }) link)

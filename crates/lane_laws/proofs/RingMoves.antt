@@ -13,7 +13,8 @@ use Rattle.lane_laws.specs.SoundRingLinks.{HasSoundRings}
 use Rattle.lane_laws.proofs.FormMoves.{move_agrees}
 use Rattle.lane_laws.proofs.RingLinks.{link_kept, close_kept, reclaim_kept}
 
-is_ring_form : {D : Type 0} (desk : DeskMeaning D) → IsForm (ring_form desk) desk
+-- the form over rings is a form
+pub is_ring_form : {D : Type 0} (desk : DeskMeaning D) → IsForm (ring_form desk) desk
 is_ring_form desk = record {
   after_send_start = λ lane caller follows message. refl;
   after_receive_start = λ lane caller follows first. refl;

@@ -5,3 +5,5 @@ pub mod SoundRingLinks
 pub mod Ways
 pub mod Takes
 pub mod FormMoves
+pub mod RingParts
+pub mod RingWays

@@ -1,5 +1,5 @@
 -- What may befall a link within one incarnation, and runs of it with what they hand over (own).
-use Rattle.std.specs.Prelude.{◌≡◌, ℕ, false, List, [], ◌∷◌, ◌++◌, Option, Some}
+use Rattle.std.specs.Prelude.{◌≡◌, ℕ, false, List, [], ◌∷◌, ◌++◌, map, Option, Some}
 use Rattle.rp_base.specs.declared.kinds.End.{End}
 use Rattle.rp_base.specs.declared.kinds.End.TheVariants as side
 use Rattle.rp_base.specs.declared.kinds.BoundEndpoint.{BoundEndpoint}
@@ -13,7 +13,7 @@ use Rattle.lane_model.specs.Forms.{list_form}
 use Rattle.lane_model.specs.Links.{LinkState, lanes_of, end_of, caller_step, with_caller, free_number}
 use Rattle.lane_model.specs.Conditions.{MayStep}
 use Rattle.lane_model.specs.Recoveries.{link_after_close, link_after_reclaim}
-use Rattle.lane_laws.specs.Parts.{part_done, MayPart, with_manager, without_manager}
+use Rattle.lane_laws.specs.Parts.{part_done, reclaim_parts, MayPart, with_manager, without_manager}
 use Rattle.lane_model.specs.Soundness.{SoundLink}
 use Rattle.lane_laws.specs.Handings.{Handing, handed_by}
 
@@ -63,6 +63,10 @@ MayMove link (Part end caller which) =
     (link.era.is_live ≡ false) × (end_of link.callers caller ≡ Some end) × MayPart (lanes_of link end) caller which
 MayMove link (Take end which) = Unit {0}
 MayMove link (Leave end which) = Unit {0}
+
+-- the moves that reclaim this caller of this end in parts, with nothing between
+abbrev pub reclaim_moves : {D : Type 0} → LinkState D → End → ℕ → List Move
+reclaim_moves link end caller = map (Part end caller) (reclaim_parts (lanes_of link end) caller)
 
 -- a link, and what it has handed over in its incarnation, to either end
 pub record Recorded (D : Type 0) : Type 0 where

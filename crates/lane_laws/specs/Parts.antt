@@ -1,5 +1,5 @@
 -- The parts of a reclaim, between which others may step, and the turns that the manager takes and leaves (own).
-use Rattle.std.specs.Prelude.{◌≡◌, ℕ, false, if◌then◌else◌, List, slice_set, Option, None}
+use Rattle.std.specs.Prelude.{◌≡◌, ℕ, Bool, false, ◌&&◌, not, if◌then◌else◌, List, [], ◌∷◌, ◌++◌, slice_set, Option, None}
 use Rattle.rp_base.specs.declared.kinds.End.{End}
 use Rattle.lane_model.specs.declared.states.LaneState.{LaneState}
 use Rattle.lane_model.specs.declared.stages.Turn.{Turn}
@@ -73,3 +73,15 @@ MayPart lanes caller part.TakesTurn = holder lanes.incoming.receiver ≡ None
 MayPart lanes caller part.EndsCall = Unit {0}
 MayPart lanes caller part.LeavesTurn = lanes.incoming.receiver ≡ turn.Manager
 MayPart lanes caller part.FreesNumber = (is_in_call lanes caller ≡ false) × (has_held lanes.incoming.lane.held caller ≡ false)
+
+-- the manager needs the receiver's turn for what this caller holds, since the caller's own call doesn't have it
+abbrev pub needs_turn : {D : Type 0} → LaneState D → ℕ → Bool
+needs_turn state caller = has_held state.lane.held caller && not (has_call state.receiver caller)
+
+-- the parts of the reclaim of a caller of these lanes, in their order: the receiver's turn where it is needed, the call where there is one, the number
+abbrev pub reclaim_parts : {D : Type 0} → Lanes (LaneState D) → ℕ → List ReclaimPart
+reclaim_parts lanes caller =
+    (if needs_turn lanes.incoming caller then part.TakesTurn ∷ [] else [])
+    ++ (if is_in_call lanes caller then part.EndsCall ∷ [] else [])
+    ++ (if needs_turn lanes.incoming caller then part.LeavesTurn ∷ [] else [])
+    ++ part.FreesNumber ∷ []

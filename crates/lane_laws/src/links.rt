@@ -10,8 +10,9 @@ ghost use Rattle.lane_model.specs.declared.recoveries.LaneTurn.{LaneTurn};
 ghost use Rattle.lane_laws.specs.Parts.{part_done, MayPart, with_manager, without_manager};
 ghost use Rattle.lane_model.specs.Links.{lanes_of, end_of, LinkState, caller_step, opened_link, with_caller, free_number};
 ghost use Rattle.lane_model.specs.Forms.{list_form};
-ghost use Rattle.lane_model.specs.Recoveries.{link_after_close, link_after_reclaim, link_after_reopen, unopened_by};
-ghost use Rattle.lane_laws.specs.Moves.{IsEmptyLane, HandsNone, Move, MayMoves, Recorded, no_handings, after_moves, lane_to, handings_to, IsNewLink, WasBound};
+ghost use Rattle.lane_model.specs.Recoveries.{link_after_close, link_after_reclaim, link_after_reopen, unopened_by, unreclaimed_by};
+ghost use Rattle.lane_laws.specs.Moves.{IsEmptyLane, HandsNone, Move, MayMoves, reclaim_moves, Recorded, no_handings, after_moves, lane_to, handings_to, IsNewLink, WasBound};
+ghost use Rattle.lane_laws.specs.Ways.{link_after_moves};
 ghost use Rattle.lane_model.specs.Conditions.{MayStep};
 ghost use Rattle.lane_model.specs.Soundness.{SoundLink};
 ghost use Rattle.lane_model.specs.Desks.{IsFreshDesk, IsBound};
@@ -68,6 +69,15 @@ pub fn sound_kept<D: Desk>()
     ensures moves { (start : Recorded D) (moves : List Move) → SoundLink start.link → MayMoves D.meaning start.link moves
         → SoundLink (after_moves D.meaning start moves).link }
     ensures reopen { (link : LinkState D) → SoundLink (link_after_reopen (list_form D.meaning) link) }
+{}
+
+/// Where nothing refuses the reclaim of a caller, its parts may be done in their order, and with nothing between they leave what the whole
+/// reclaim leaves.
+pub fn parts_make_reclaim<D: Desk>()
+    ensures may { (link : LinkState D) (end : End) (caller : ℕ) → end_of link.callers caller ≡ Some end → unreclaimed_by link caller ≡ None
+        → MayMoves D.meaning link (reclaim_moves link end caller) }
+    ensures whole { (link : LinkState D) (end : End) (caller : ℕ) → end_of link.callers caller ≡ Some end → unreclaimed_by link caller ≡ None
+        → link_after_moves D.meaning link (reclaim_moves link end caller) ≡ link_after_reclaim (list_form D.meaning) link caller }
 {}
 
 /// A new link is sound.
