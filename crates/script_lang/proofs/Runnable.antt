@@ -64,6 +64,7 @@ core_runs core.Recover w m = tt
 core_runs core.Recovery w m = tt
 core_runs core.Driver w m = tt
 core_runs core.Drive w m = m.1.1.0
+core_runs core.Dump w m = tt
 
 form_runs : (f : Form) (w : List (List ℕ)) → AreInRange (kinds f) w 0 → IsRunnable (command_of f w)
 form_runs (form.Call f) w m = call_runs f w m

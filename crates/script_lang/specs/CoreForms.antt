@@ -26,6 +26,7 @@ core_keyword core.Recover = codes "recover"
 core_keyword core.Recovery = codes "recovery"
 core_keyword core.Driver = codes "driver"
 core_keyword core.Drive = codes "drive"
+core_keyword core.Dump = codes "dump"
 
 -- the kinds of all words of a form
 abbrev pub core_kinds : CoreForm → List Kind
@@ -42,6 +43,7 @@ core_kinds core.Recover = kind.Keyword ∷ kind.Name ∷ []
 core_kinds core.Recovery = kind.Keyword ∷ kind.Name ∷ kind.Switch ∷ []
 core_kinds core.Driver = kind.Keyword ∷ kind.Name ∷ kind.Name ∷ kind.DriverKind ∷ []
 core_kinds core.Drive = kind.Keyword ∷ kind.Name ∷ kind.Count ∷ []
+core_kinds core.Dump = kind.Keyword ∷ kind.Name ∷ kind.Name ∷ []
 
 -- the set of regions in a place
 abbrev pub region_set_at : List (List ℕ) → ℕ → RegionSet
@@ -62,3 +64,4 @@ core_command core.Recover w = command.Recover (name_at w 1)
 core_command core.Recovery w = command.Recovery (name_at w 1) (switch_read (word_at w 2))
 core_command core.Driver w = command.Driver (name_at w 1) (name_at w 2) (driver_read (word_at w 3))
 core_command core.Drive w = command.Drive (name_at w 1) (number_at w 2)
+core_command core.Dump w = command.Dump (name_at w 1) (name_at w 2)

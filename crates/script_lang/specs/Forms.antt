@@ -21,7 +21,7 @@ plain_forms =
     ∷ form.Channels ∷ form.Close ∷ form.Reclaim ∷ form.Reopen
     ∷ form.Core core.Core ∷ form.Core core.Region ∷ form.Core core.Boot ∷ form.Core core.Shutdown ∷ form.Core core.State ∷ form.Core core.Table
     ∷ form.Core core.Trace ∷ form.Core core.Mem ∷ form.Core core.Crash ∷ form.Core core.Recover ∷ form.Core core.Recovery
-    ∷ form.Core core.Driver ∷ form.Core core.Drive ∷ form.Quiet ∷ []
+    ∷ form.Core core.Driver ∷ form.Core core.Drive ∷ form.Core core.Dump ∷ form.Quiet ∷ []
 
 -- the first word of a form
 abbrev pub keyword : Form → List ℕ

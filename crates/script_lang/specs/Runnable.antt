@@ -109,6 +109,7 @@ IsRunnable (command.Recover name) = Unit {0}
 IsRunnable (command.Recovery name switch) = Unit {0}
 IsRunnable (command.Driver name channel kind) = Unit {0}
 IsRunnable (command.Drive name count) = IsCount count
+IsRunnable (command.Dump name image) = Unit {0}
 IsRunnable (command.Quiet switch) = Unit {0}
 IsRunnable (command.Image name lines) = IsRecipe lines
 

@@ -226,6 +226,11 @@ pub enum Command {
         name: Name,
         count: u64,
     },
+    /// Keeps the dump of a crashed core as the image of a name.
+    Dump {
+        name: Name,
+        image: Name,
+    },
     /// Whether a drive writes no lines of its calls.
     Quiet {
         switch: Switch,

@@ -22,6 +22,7 @@ pub(crate) enum CoreForm {
     Recovery,
     Driver,
     Drive,
+    Dump,
 }
 
 /// The first word of a command of a core.
@@ -42,6 +43,7 @@ pub(crate) fn core_keyword(form: CoreForm) -> &'static str
         CoreForm::Recovery => "recovery",
         CoreForm::Driver => "driver",
         CoreForm::Drive => "drive",
+        CoreForm::Dump => "dump",
     }
 }
 
@@ -59,7 +61,7 @@ pub(crate) fn core_kinds(form: CoreForm) -> &'static [Kind]
             Kind::Number,
             Kind::Number,
         ],
-        CoreForm::Boot => &[Kind::Keyword, Kind::Name, Kind::Name],
+        CoreForm::Boot | CoreForm::Dump => &[Kind::Keyword, Kind::Name, Kind::Name],
         CoreForm::Shutdown | CoreForm::State | CoreForm::Table | CoreForm::Recover => {
             &[Kind::Keyword, Kind::Name]
         }
@@ -138,6 +140,10 @@ pub(crate) fn core_command(form: CoreForm, words: &[&[u8]]) -> Command
         CoreForm::Drive => Command::Drive {
             name,
             count: number_at(words, 2),
+        },
+        CoreForm::Dump => Command::Dump {
+            name,
+            image: name_at(words, 2),
         },
     }
 }

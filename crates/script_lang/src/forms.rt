@@ -34,7 +34,7 @@ pub(crate) enum Form {
 }
 
 /// The forms that are told by their first word.
-pub(crate) const FORMS: [Form; 32] = [
+pub(crate) const FORMS: [Form; 33] = [
     Form::Call(CallForm::Send),
     Form::Call(CallForm::Take),
     Form::Call(CallForm::Give),
@@ -66,6 +66,7 @@ pub(crate) const FORMS: [Form; 32] = [
     Form::Core(CoreForm::Recovery),
     Form::Core(CoreForm::Driver),
     Form::Core(CoreForm::Drive),
+    Form::Core(CoreForm::Dump),
     Form::Quiet,
 ];
 
