@@ -29,7 +29,7 @@ forms =
     form.LaneAcceptedHandedReturned ∷ form.Pumped ∷ form.Ring ∷ form.Dump ∷ form.StillTurn ∷ form.ChannelWithout ∷ form.Channel ∷ form.Offline ∷
     form.NotOffline ∷ form.Region ∷ form.Driver ∷ form.DriverTaken ∷ form.DriversFull ∷ form.Running ∷ form.Users ∷ form.Missing ∷ form.TooLarge ∷
     form.Fault ∷ form.FaultAt ∷ form.CrashedMmufault ∷ form.CrashedWatchdog ∷ form.CrashedFatal ∷ form.AlreadyCrashed ∷ form.Recovery ∷ form.State ∷
-    form.WorkerFault ∷ form.Idle ∷ form.Paused ∷ form.Stopped ∷ form.NotRunning ∷ form.NotLoaded ∷ form.TableCarveout ∷ form.TableDevmem ∷
+    form.WorkerFault ∷ form.Idle ∷ form.Paused ∷ form.Stopped ∷ form.NotRunning ∷ form.NotLoaded ∷ form.NotCrashed ∷ form.DumpTooLarge ∷ form.DumpsFull ∷ form.TableCarveout ∷ form.TableDevmem ∷
     form.TableTrace ∷ form.TableTraceUnavailable ∷ form.TableSkipped ∷ form.TableVdev ∷ form.TableVring ∷ form.Trace ∷ form.NoTrace ∷ form.Mem ∷
     form.Unmapped ∷ form.InCall ∷ form.NoCall ∷ form.NotHeld ∷ form.TooLong ∷ form.Begun ∷ form.At ∷ form.Sent ∷ form.Gave ∷ form.Bound ∷
     form.Unbound ∷ form.Busy ∷ form.Dead ∷ form.NoBuffer ∷ form.BookFull ∷ form.Empty ∷ form.AddressTaken ∷ form.EndpointsFull ∷ form.NotBound ∷
@@ -85,6 +85,9 @@ kinds form.Paused = OfName ∷ OfText (codes "paused") ∷ []
 kinds form.Stopped = OfName ∷ OfText (codes "stopped") ∷ []
 kinds form.NotRunning = OfName ∷ OfText (codes "not-running") ∷ []
 kinds form.NotLoaded = OfName ∷ OfText (codes "not-loaded") ∷ []
+kinds form.NotCrashed = OfName ∷ OfText (codes "not-crashed") ∷ []
+kinds form.DumpTooLarge = OfName ∷ OfText (codes "dump-too-large") ∷ OfNumber ∷ []
+kinds form.DumpsFull = OfName ∷ OfText (codes "dumps-full") ∷ []
 kinds form.TableCarveout = OfName ∷ OfText (codes "entry") ∷ OfNumber ∷ OfText (codes "carveout") ∷ OfDigits ∷ OfDigits ∷ OfDigits ∷ OfEscaped ∷ []
 kinds form.TableDevmem = OfName ∷ OfText (codes "entry") ∷ OfNumber ∷ OfText (codes "devmem") ∷ OfDigits ∷ OfDigits ∷ OfDigits ∷ OfEscaped ∷ []
 kinds form.TableTrace = OfName ∷ OfText (codes "entry") ∷ OfNumber ∷ OfText (codes "trace") ∷ OfDigits ∷ OfDigits ∷ OfEscaped ∷ []
@@ -244,6 +247,9 @@ event_in form.Paused at = event.Paused (name_in (at 0))
 event_in form.Stopped at = event.Stopped (name_in (at 0))
 event_in form.NotRunning at = event.NotRunning (name_in (at 0))
 event_in form.NotLoaded at = event.NotLoaded (name_in (at 0))
+event_in form.NotCrashed at = event.NotCrashed (name_in (at 0))
+event_in form.DumpTooLarge at = event.DumpTooLarge (name_in (at 0)) (number_in (at 2))
+event_in form.DumpsFull at = event.DumpsFull (name_in (at 0))
 event_in form.TableCarveout at = event.Table (name_in (at 0)) (entry.Carveout (number_in (at 2)) (digits_in (at 4)) (digits_in (at 5)) (digits_in (at 6)) (escaped_in (at 7)))
 event_in form.TableDevmem at = event.Table (name_in (at 0)) (entry.Devmem (number_in (at 2)) (digits_in (at 4)) (digits_in (at 5)) (digits_in (at 6)) (escaped_in (at 7)))
 event_in form.TableTrace at = event.Table (name_in (at 0)) (entry.Trace (number_in (at 2)) (digits_in (at 4)) (digits_in (at 5)) (escaped_in (at 6)))

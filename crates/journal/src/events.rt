@@ -377,6 +377,19 @@ pub enum Event {
     NotLoaded {
         name: Name,
     },
+    /// The core has not crashed.
+    NotCrashed {
+        name: Name,
+    },
+    /// The dump of the core is larger than an image may be: how many bytes it would have.
+    DumpTooLarge {
+        name: Name,
+        len: u64,
+    },
+    /// As many dumps were made as there may be.
+    DumpsFull {
+        name: Name,
+    },
     /// A line about the resource table.
     Table {
         name: Name,

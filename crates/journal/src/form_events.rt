@@ -218,6 +218,16 @@ pub(crate) fn event_in(alloc: Global, form: Form, words: &[&[u8]]) -> Result<Eve
         Form::NotLoaded => Ok(Event::NotLoaded {
             name: name_at(words, 0),
         }),
+        Form::NotCrashed => Ok(Event::NotCrashed {
+            name: name_at(words, 0),
+        }),
+        Form::DumpTooLarge => Ok(Event::DumpTooLarge {
+            name: name_at(words, 0),
+            len: decimal_at(words, 2),
+        }),
+        Form::DumpsFull => Ok(Event::DumpsFull {
+            name: name_at(words, 0),
+        }),
         Form::TableCarveout => Ok(Event::Table {
             name: name_at(words, 0),
             line: TableLine::Carveout(

@@ -55,6 +55,9 @@ pub(crate) enum Form {
     Stopped,
     NotRunning,
     NotLoaded,
+    NotCrashed,
+    DumpTooLarge,
+    DumpsFull,
     TableCarveout,
     TableDevmem,
     TableTrace,
@@ -94,7 +97,7 @@ pub(crate) enum Form {
 
 /// All forms. Those that begin with `*` come first, and those with a number in the second place
 /// last, since a name may be any other fixed word.
-const FORMS: [Form; 83] = [
+const FORMS: [Form; 86] = [
     Form::Unknown,
     Form::ObjectsFull,
     Form::Image,
@@ -143,6 +146,9 @@ const FORMS: [Form; 83] = [
     Form::Stopped,
     Form::NotRunning,
     Form::NotLoaded,
+    Form::NotCrashed,
+    Form::DumpTooLarge,
+    Form::DumpsFull,
     Form::TableCarveout,
     Form::TableDevmem,
     Form::TableTrace,
@@ -283,6 +289,9 @@ fn slots(form: Form) -> &'static [Slot<'static>]
         Form::Stopped => &[Slot::Name, Slot::Text("stopped")],
         Form::NotRunning => &[Slot::Name, Slot::Text("not-running")],
         Form::NotLoaded => &[Slot::Name, Slot::Text("not-loaded")],
+        Form::NotCrashed => &[Slot::Name, Slot::Text("not-crashed")],
+        Form::DumpTooLarge => &[Slot::Name, Slot::Text("dump-too-large"), Slot::Number],
+        Form::DumpsFull => &[Slot::Name, Slot::Text("dumps-full")],
         Form::TableCarveout => &[
             Slot::Name,
             Slot::Text("entry"),

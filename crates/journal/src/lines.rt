@@ -232,6 +232,9 @@ pub fn line(_alloc: Global, event: &Event, out: &mut Vec<u8>) -> Result<(), NoMe
         Event::Stopped { name: x } => name_word(out, x, "stopped"),
         Event::NotRunning { name: x } => name_word(out, x, "not-running"),
         Event::NotLoaded { name: x } => name_word(out, x, "not-loaded"),
+        Event::NotCrashed { name: x } => name_word(out, x, "not-crashed"),
+        Event::DumpTooLarge { name: x, len } => name_word_number(out, x, "dump-too-large", *len),
+        Event::DumpsFull { name: x } => name_word(out, x, "dumps-full"),
         Event::Table {
             name: x,
             line: entry,
