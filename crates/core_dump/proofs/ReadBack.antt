@@ -11,11 +11,10 @@ use Rattle.elf_writer.specs.Loads.{Load, load_headers, loaded_segments}
 use Rattle.elf_writer.proofs.ReadFields.{IsHeader, behind, header_read, skip}
 use Rattle.elf_writer.proofs.ReadLoads.{IsLoadIn}
 use Rattle.elf_writer.proofs.ReadImages.{identified, image_read, layout_is, length_header, plain_pass}
-use Rattle.core_dump.specs.Parts.{AreParts, IsPart, data_len, part_len}
+use Rattle.core_dump.specs.Parts.{AreParts, IsPart, MemoryPart, data_len, part_len}
 use Rattle.core_dump.specs.Dumps.{IsReadBack, data_start, dump_of, loads_from, part_bytes, segments_from}
-use Rattle.core_dump.specs.declared.dumps.Part.{Part}
 
-count_same : (parts : List Part) (offset : ℕ) → length (loads_from offset parts) ≡ length parts
+count_same : (parts : List MemoryPart) (offset : ℕ) → length (loads_from offset parts) ≡ length parts
 count_same [] offset = refl
 count_same (part ∷ more) offset = let later = count_same more (offset + part_len part) in omega arith
 
@@ -28,16 +27,16 @@ length_headers (load ∷ more) =
     omega (arith, length-append word (load_headers more))
 
 -- the segments of parts, none of which is empty
-segments_same : (parts : List Part) (index offset : ℕ) → All IsPart parts → loaded_segments index (loads_from offset parts) ≡ segments_from index parts
+segments_same : (parts : List MemoryPart) (index offset : ℕ) → All IsPart parts → loaded_segments index (loads_from offset parts) ≡ segments_from index parts
 segments_same [] index offset all = refl
 segments_same (part ∷ more) index offset all =
     let is = All-head IsPart part more all in
-    let segment : SegmentAt = record { index = index; da = part.da; memory_len = part_len part; file = part.bytes.now } in
+    let segment : SegmentAt = record { index = index; da = part.da; memory_len = part_len part; file = part.bytes } in
     ap (λ b. cond b [] (segment ∷ []) ++ loaded_segments (index + 1) (loads_from (offset + part_len part) more)) (ne_eqb (part_len part) 0 (λ e. absurd (omega (arith, is.some))))
     ∙ ap (λ later. segment ∷ later) (segments_same more (index + 1) (offset + part_len part) (All-tail IsPart part more all))
 
 -- each part stands in an image that has their bytes from there on
-parts_hold : (parts : List Part) (offset : ℕ) (bytes : List ℕ) → All IsPart parts → length bytes < 2 ^ 32 → offset + data_len parts ≤ length bytes
+parts_hold : (parts : List MemoryPart) (offset : ℕ) (bytes : List ℕ) → All IsPart parts → length bytes < 2 ^ 32 → offset + data_len parts ≤ length bytes
     → drop offset bytes ≡ part_bytes parts → All (IsLoadIn bytes) (loads_from offset parts)
 parts_hold [] offset bytes all small within f = All-nil (IsLoadIn bytes)
 parts_hold (part ∷ more) offset bytes all small within f =
@@ -47,9 +46,27 @@ parts_hold (part ∷ more) offset bytes all small within f =
     All-cons (IsLoadIn bytes) _ _
     (record { rest = part_bytes more; placed = f; inside = omega arith; address = omega (arith, is.some, is.device); memory = omega arith; room = λ _. omega arith })
     (parts_hold more (offset + len) bytes (All-tail IsPart part more all) small (omega arith)
-    (behind offset len bytes (part.bytes.now ++ part_bytes more) f ∙ drop-append_seam part.bytes.now (part_bytes more)))
+    (behind offset len bytes (part.bytes ++ part_bytes more) f ∙ drop-append_seam part.bytes (part_bytes more)))
 
-pub dump_read : (entry : ℕ) (parts : List Part) → entry < 2 ^ 32 → AreParts parts → IsReadBack entry parts (dump_of entry parts)
+-- how many bytes a dump has
+pub dump_length : (entry : ℕ) (parts : List MemoryPart) → length (dump_of entry parts) ≡ data_start parts + data_len parts
+unfolding dump_of
+dump_length entry parts =
+    let loads = loads_from (data_start parts) parts in
+    let front = file_header 4 entry (length parts) 0 0 0 0 in
+    let headers = load_headers loads in
+    let files = part_bytes parts in
+    omega (
+      arith,
+      length-append front (headers ++ files),
+      length-append headers files,
+      length_header 4 entry (length parts) 0 0 0 0,
+      length_headers loads,
+      count_same parts (data_start parts),
+      length-flat_map (λ (part : MemoryPart). part.bytes) parts,
+    )
+
+pub dump_read : (entry : ℕ) (parts : List MemoryPart) → entry < 2 ^ 32 → AreParts parts → IsReadBack entry parts (dump_of entry parts)
 unfolding dump_of
 dump_read entry parts low are =
     let start = data_start parts in
@@ -62,8 +79,7 @@ dump_read entry parts low are =
     let front_len : length front ≡ 52 = length_header 4 entry count 0 0 0 0 in
     let same = count_same parts start in
     let headers_len : length headers ≡ 32 * count = length_headers loads ∙ ap (λ n. 32 * n) same in
-    let total : length bytes ≡ start + data_len parts =
-    omega (arith, length-append front (headers ++ files), length-append headers files, front_len, headers_len, length-flat_map (λ (part : Part). part.bytes.now) parts) in
+    let total : length bytes ≡ start + data_len parts = dump_length entry parts in
     let small : length bytes < 2 ^ 32 = omega (arith, total, are.few, are.small) in
     let at_headers : drop 52 bytes ≡ headers ++ files = skip 0 52 bytes front (headers ++ files) refl front_len in
     let at_data : drop start bytes ≡ files = skip 52 (32 * count) bytes headers files at_headers headers_len in

@@ -1,11 +1,12 @@
-ghost use Rattle.std.specs.Prelude.{◌≡◌, ◌+◌, ◌≤◌, ◌<◌, ◌^◌, ◌++◌, IfOk, OnOk};
+ghost use Rattle.std.specs.Prelude.{◌≡◌, ℕ, ◌+◌, ◌*◌, ◌≤◌, ◌<◌, ◌^◌, ◌++◌, IfOk, OnOk, length};
 ghost use Rattle.elf_writer.specs.Loads.{load_headers};
 ghost use Rattle.core_dump.specs.Parts.{AreParts, data_len};
-ghost use Rattle.core_dump.specs.Dumps.{dump_of, IsReadBack, loads_from, part_bytes};
+ghost use Rattle.core_dump.specs.Dumps.{IsReadBack, dump_of, loads_from, part_bytes};
 
 use elf_writer::{put_file_header, put_load_header};
 use rp_base::{Da, NoMemory};
 use std::alloc::{AllocError, Global};
+use std::marker::Model;
 
 /// The type of a file that is a core's memory, `ET_CORE`.
 const ET_CORE: u64 = 4;
@@ -17,12 +18,37 @@ const FILE_HEADER_LEN: usize = 52;
 const PROGRAM_HEADER_LEN: usize = 32;
 
 /// A part of a core's memory.
-#[derive(Clone, Copy)]
+#[derive(Drop)]
 pub struct Part<'a> {
     /// The device address of its first byte.
     pub da: Da,
     /// Its bytes.
     pub bytes: &'a [u8],
+}
+
+impl<'a> Model for Part<'a> {
+    ghost use Rattle.core_dump.specs.Parts.{MemoryPart};
+
+    ghost Value = { MemoryPart };
+
+    ghost view = { λ part. record { da = part.da; bytes = part.bytes.now } };
+}
+
+/// How many bytes the dump of parts has, of which there are at most 1,024 with 16,777,216 bytes
+/// together.
+pub fn dump_len(parts: &[Part<'_>]) -> usize
+    requires { AreParts parts.now }
+    ensures { (entry : ℕ) → result ≡ length (dump_of entry parts.now) }
+{
+    data_start(parts.len()) + data_len(parts)
+}
+
+/// Where the bytes of so many parts begin: behind the ELF header and the program headers.
+fn data_start(count: usize) -> usize
+    requires { count ≤ 1024 }
+    ensures { result ≡ 52 + 32 * count }
+{
+    FILE_HEADER_LEN + PROGRAM_HEADER_LEN * count
 }
 
 /// The dump of a core's memory: a core image of the format ELF32 that has a loaded segment for each
@@ -36,7 +62,7 @@ pub fn write_dump(alloc: Global, entry: Da, parts: &[Part<'_>]) -> Result<Vec<u8
     ensures bytes { IfOk result (λ dump. dump.items ≡ dump_of entry parts.now) }
     ensures read_back { IfOk result (λ dump. IsReadBack entry parts.now dump.items) }
 {
-    let start = FILE_HEADER_LEN + PROGRAM_HEADER_LEN * parts.len();
+    let start = data_start(parts.len());
     let mut dump = Vec::with_capacity(alloc, start + data_len(parts))?;
     let count = parts.len() as u64;
     put_file_header(&mut dump, ET_CORE, u64::from(entry), count, 0, 0, 0, 0)?;

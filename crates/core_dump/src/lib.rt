@@ -5,4 +5,4 @@ mod dumps;
 #[cfg(test)]
 mod tests;
 
-pub use dumps::{Part, write_dump};
+pub use dumps::{Part, dump_len, write_dump};
