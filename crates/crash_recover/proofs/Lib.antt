@@ -6,3 +6,7 @@ pub mod RecordRuns
 pub mod CoreTurnWalks
 pub mod DriveSteps
 pub mod Recovered
+pub mod PlacedCounts
+pub mod PartSums
+pub mod KeptParts
+pub mod CoreParts

@@ -4,6 +4,7 @@ pub mod CoreCrashes
 pub mod CoreRecoveries
 pub mod CoreLinks
 pub mod CoreRings
+pub mod CoreParts
 pub mod Actors
 pub mod Drives
 pub mod CoreCallers

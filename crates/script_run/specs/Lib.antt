@@ -17,6 +17,7 @@ pub mod CoreRestarts
 pub mod CoreViews
 pub mod CoreLinks
 pub mod CoreCommands
+pub mod Dumps
 pub mod Runs
 pub mod Reports
 pub mod Asked

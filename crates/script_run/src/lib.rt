@@ -12,6 +12,7 @@ mod core_restarts;
 mod core_views;
 mod cores;
 mod demos;
+mod dumps;
 mod endings;
 mod fetches;
 mod links;

@@ -16,7 +16,7 @@ returns-clause-loaded c = rw (← c.self.view_is) (load_is c.args.image.now c.se
 pub returns-clause-sound : goal.returns-clause-sound
 returns-clause-sound c =
     rw (← c.self.view_is)
-    (load_sound c.args.image.now c.self.inside.regions c.in_ok-loaded.loaded c.in_ok-loaded.ensures.loaded)
+    (load_sound c.args.image.now c.self.inside.regions c.in_ok-loaded.loaded c.in_ok-loaded.ensures.loads c.in_ok-loaded.ensures.loaded)
 
 pub returns-clause-bench : goal.returns-clause-bench
 returns-clause-bench c =
