@@ -5,3 +5,7 @@ pub mod Names
 pub mod RecordRuns
 pub mod CoreTurnWalks
 pub mod DriveSteps
+pub mod PlacedCounts
+pub mod PartSums
+pub mod KeptParts
+pub mod CoreParts

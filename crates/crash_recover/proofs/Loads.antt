@@ -1,5 +1,6 @@
 -- What a load leaves: a sound placement, and rings over which a link may be made.
-use Rattle.std.proofs.Common.{◌≡◌, ℕ, ◌≤◌, List, Option, Some, None, IfSome, arith, leb}
+use Rattle.std.proofs.Common.{◌≡◌, ℕ, ◌≤◌, List, Option, None, Some, IfSome, arith, ap, leb, subst, ◌∙◌}
+use Rattle.std.specs.Option.{is_some}
 use Rattle.std.specs.Int.{is_power_of_two}
 use Rattle.std.proofs.lemmas.Bool.{leb-true}
 use Rattle.rp_base.specs.Limits.{IsRingSize, ring_capacity}
@@ -8,24 +9,30 @@ use Rattle.resource_table.specs.Tables.{IsSoundRing}
 use Rattle.resource_table.specs.declared.entries.Ring.{Ring}
 use Rattle.resource_table.proofs.Sound.{both_true}
 use Rattle.memory_pool.specs.declared.regions.Region.{Region}
-use Rattle.fw_load.specs.Loading.{IsLoaded}
+use Rattle.fw_load.specs.Loading.{IsLoaded, load_fault}
+use Rattle.fw_load.specs.Memory.{memory_at}
 use Rattle.fw_load.specs.Rings.{IsSoundPair}
 use Rattle.fw_load.specs.declared.loading.Loaded.{Loaded}
 use Rattle.fw_load.specs.declared.rings.RingPair.{RingPair}
 use Rattle.lane_model.specs.Conditions.{IsConfig}
 use Rattle.crash_recover.specs.CoreBoots.{config_of}
 use Rattle.crash_recover.specs.Cores.{IsSoundLoad}
+use Rattle.crash_recover.proofs.PlacedCounts.{loads_few}
 
 -- what a load leaves is sound
-pub load_sound : (image : List ℕ) (regions : List Region) (loaded : Loaded) → IsLoaded image regions loaded → IsSoundLoad regions loaded
-load_sound image regions loaded is = record {
-  placed = is.held;
-  map = is.map;
-  length = is.length;
-  traces = is.inside;
-  rings = is.sound;
-  buffers = is.buffers;
-}
+pub load_sound : (image : List ℕ) (regions : List Region) (loaded : Loaded) → load_fault image regions ≡ None → IsLoaded image regions loaded → IsSoundLoad regions loaded
+load_sound image regions loaded loads is =
+    let placed = loads_few image regions loaded.placed.blocks.items loads is.placed in
+    record {
+      placed = is.held;
+      map = is.map;
+      length = is.length;
+      traces = is.inside;
+      rings = is.sound;
+      buffers = is.buffers;
+      few = placed.0;
+      entry = ap (λ entry. is_some (memory_at regions loaded.placed.blocks.items entry 16)) is.entry ∙ placed.1;
+    }
 
 capacity_most : (entries : ℕ) → ring_capacity entries ≤ 256
 capacity_most entries = omega arith

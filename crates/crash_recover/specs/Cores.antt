@@ -1,5 +1,5 @@
 -- A remote core: its regions, its life, and what a boot gave it (the calls and states of the Linux remoteproc documentation; the rest is own).
-use Rattle.std.specs.Prelude.{◌≡◌, ℕ, ◌+◌, ◌≤◌, not, is_some, List, [], ◌∷◌, ◌++◌, length, All, slice_get, slice_range, Option, Some, None, IfSome, option_map, option_and_then, Result, Err, if◌then◌else◌}
+use Rattle.std.specs.Prelude.{◌≡◌, ℕ, ◌+◌, ◌≤◌, Bool, true, false, not, is_some, List, [], ◌∷◌, ◌++◌, length, All, slice_get, slice_range, Option, Some, None, IfSome, option_map, option_and_then, Result, Err, if◌then◌else◌}
 use Rattle.rp_base.specs.declared.limits.TheConstants.{BOOK_MOST}
 use Rattle.memory_pool.specs.Regions.{region_fault}
 use Rattle.memory_pool.specs.Soundness.{SoundPlacement}
@@ -110,7 +110,11 @@ core_memory core da len = option_and_then (λ (load : LoadState). bytes_at load.
 abbrev pub core_trace : CoreState → ℕ → Option (List ℕ)
 core_trace core index = option_and_then (λ (load : LoadState). option_and_then (λ (trace : TraceAt). bytes_at load.memory trace.len trace.at) (slice_get load.traces index)) core.loaded
 
--- a load over regions: its map is that of what was placed, its traces lie in its memory, and its rings and their buffers within the addresses
+-- how many blocks are placed at most: two rings and the buffers of each of 256 entries
+abbrev pub blocks_most : ℕ
+blocks_most = 768
+
+-- a load over regions: its map is that of what was placed, its traces lie in its memory, its rings and their buffers within the addresses, and its first record in one block of memory
 pub record IsSoundLoad (regions : List Region) (loaded : Loaded) : Type 0 where
   pub placed : SoundPlacement regions loaded.placed.blocks.items
   pub map : IsMapOf regions loaded.placed.blocks.items loaded.map
@@ -118,6 +122,8 @@ pub record IsSoundLoad (regions : List Region) (loaded : Loaded) : Type 0 where
   pub traces : All (IsTraceIn loaded.map.memory_len) loaded.traces.items
   pub rings : IfSome loaded.rings IsSoundPair
   pub buffers : IfSome loaded.rings HasBuffers
+  pub few : length loaded.placed.blocks.items ≤ blocks_most
+  pub entry : is_some (memory_at regions loaded.placed.blocks.items loaded.entry 16) ≡ true
 
 -- what a core keeps: its book is one that a lane may have, what it was given is sound, it has an image and what that became exactly while it is not offline, and no link without users
 pub record SoundCore (regions : List Region) (messages : ℕ) (life : CoreLife) (name : Option (List ℕ)) (given : Option Loaded) (link : Option BenchState) : Type 0 where

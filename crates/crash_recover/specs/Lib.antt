@@ -5,6 +5,7 @@ pub mod CoreLeaves
 pub mod CoreRecoveries
 pub mod CoreLinks
 pub mod CoreRings
+pub mod CoreParts
 pub mod Actors
 pub mod Drives
 pub mod CoreCallers

@@ -12,6 +12,7 @@ mod core_drives;
 mod core_faults;
 mod core_leaves;
 mod core_links;
+mod core_parts;
 mod core_recoveries;
 mod core_rings;
 mod core_turns;

@@ -1,5 +1,5 @@
 -- Commands on a core keep what its link keeps, and so do runs.
-use Rattle.std.proofs.Common.{◌≡◌, ◌<◌, ℕ, zero, suc, ◌+◌, ◌-◌, ◌==◌, nat_le, cond, Bool, true, false, List, [], ◌∷◌, length, Option, Some, None, IfSome, Ok, Err, is_some, slice_get, refl, ap, subst}
+use Rattle.std.proofs.Common.{◌≡◌, ◌<◌, ℕ, zero, suc, ◌+◌, ◌-◌, ◌==◌, nat_le, cond, Bool, true, false, List, [], ◌∷◌, length, Option, Some, None, IfSome, Result, Ok, Err, is_some, slice_get, refl, ap, subst}
 use Rattle.std.proofs.lemmas.Bool.{cond_both, leb-false, true≢false}
 use Rattle.std.proofs.lemmas.List.Elements.{All-nil, All-push, All-set}
 use Rattle.rp_base.specs.declared.kinds.CrashKind.{CrashKind}
@@ -53,7 +53,7 @@ use Rattle.script_run.specs.NamedCores.{NamedCoreState}
 use Rattle.script_run.specs.NamedImages.{ImageState}
 use Rattle.script_run.specs.NamedLinks.{NamedLink}
 use Rattle.script_run.specs.Recoveries.{reclaim_effect}
-use Rattle.script_run.specs.Runs.{Run, RunEffect, RunState, asked_name, command_name, core_located_effect, core_made_effect, core_place, effect_of, family_effect, found_core_effect, found_effect, has_image, image_effect, image_wanted, is_full, located_effect, made_effect, named_effect, new_run, place_of, quiet_effect, quiet_wanted, run_from, run_of, run_on, run_tells, run_told, unnamed_effect, with_image, without_link_effect}
+use Rattle.script_run.specs.Runs.{Run, RunEffect, RunState, asked_name, command_name, core_located_effect, core_made_effect, core_place, dump_answer, dump_effect, dump_wanted, dumped_effect, effect_of, family_effect, found_core_effect, found_effect, has_image, image_effect, image_wanted, is_full, located_effect, made_effect, named_effect, new_run, place_of, quiet_effect, quiet_wanted, run_from, run_of, run_on, run_tells, run_told, unnamed_effect, with_image, without_link_effect, kept_effect}
 use Rattle.script_run.specs.Stores.{Answer, Told, later_told, told_answer}
 use Rattle.run_laws.proofs.RunsReached.{item_at}
 
@@ -180,6 +180,7 @@ link_kept life named steps (command.Core name regions book) of is = absurd of
 link_kept life named steps (command.Region name kind da pa len) of is = absurd of
 link_kept life named steps (command.Driver name channel kind) of is = absurd of
 link_kept life named steps (command.Drive name count) of is = absurd of
+link_kept life named steps (command.Dump name image) of is = absurd of
 link_kept life named steps (command.Boot name image) of is = absurd of
 link_kept life named steps (command.Handover name image) of is = absurd of
 link_kept life named steps (command.Shutdown name) of is = absurd of
@@ -363,6 +364,7 @@ core_kept images answer is_quiet named steps (command.State name) is = is
 core_kept images answer is_quiet named steps (command.Recovery name set) is = switch_kept named.name named.core steps is set
 core_kept images answer is_quiet named steps (command.Close name) is = is
 core_kept images answer is_quiet named steps (command.Reopen name) is = is
+core_kept images answer is_quiet named steps (command.Dump name image) is = is
 core_kept images answer is_quiet named steps (command.Boot name image) is = boot_kept named.name named.core steps is images answer image
 core_kept images answer is_quiet named steps (command.Handover name image) is = handover_kept named.name named.core steps is images answer image
 core_kept images answer is_quiet named steps (command.Shutdown name) is = shutdown_kept named.name named.core steps is
@@ -453,6 +455,7 @@ module _ (run : RunState) (are : AreKept run.objects) where
   unnamed (command.Recovery name set) = are
   unnamed (command.Driver name channel kind) = are
   unnamed (command.Drive name count) = are
+  unnamed (command.Dump name image) = are
   unnamed (command.Quiet set) = are
 
 module _ (answer : Answer) (run : RunState) (wanted : Command) (are : AreKept run.objects) where
@@ -483,8 +486,20 @@ module _ (answer : Answer) (run : RunState) (wanted : Command) (are : AreKept ru
   unfolding quiet_effect
   quieted set = are
 
+  dumped : (image : List ℕ) (answered : Result (List ℕ) Event) → LeavesRun (dumped_effect run image answered)
+  dumped image (Ok bytes) = are
+  dumped image (Err told) = are
+
+  dump_made : (name image : List ℕ) → LeavesRun (dump_effect run name image)
+  unfolding dump_effect
+  dump_made name image = dumped image (dump_answer run.objects name image)
+
+  by_dump : (found : Option (List ℕ × List ℕ)) → LeavesRun (kept_effect answer run wanted found)
+  by_dump None = located (place_of run.objects.links (command_name wanted))
+  by_dump (Some names) = dump_made names.0 names.1
+
   by_name : (found : Option Switch) → LeavesRun (named_effect answer run wanted found)
-  by_name None = located (place_of run.objects.links (command_name wanted))
+  by_name None = by_dump (dump_wanted wanted)
   by_name (Some set) = quieted set
 
   imaged : (name : List ℕ) (lines : List RecipeLine) → LeavesRun (image_effect run name lines)

@@ -220,6 +220,7 @@ core_reached images answer is_quiet named steps (command.State name) runs is = s
 core_reached images answer is_quiet named steps (command.Recovery name set) runs is = switch_reached named.name named.core steps is set
 core_reached images answer is_quiet named steps (command.Close name) runs is = is
 core_reached images answer is_quiet named steps (command.Reopen name) runs is = is
+core_reached images answer is_quiet named steps (command.Dump name image) runs is = is
 core_reached images answer is_quiet named steps (command.Boot name image) runs is = boot_reached named.name named.core steps is images answer image
 core_reached images answer is_quiet named steps (command.Handover name image) runs is = handover_reached named.name named.core steps is images answer image
 core_reached images answer is_quiet named steps (command.Shutdown name) runs is = shutdown_reached named.name named.core steps is

@@ -1,5 +1,5 @@
 -- Commands on a core keep that its actors hold what their calls give back, and so do runs.
-use Rattle.std.proofs.Common.{◌≡◌, ◌<◌, ℕ, zero, suc, ◌+◌, ◌-◌, ◌==◌, nat_le, cond, Bool, true, false, List, [], ◌∷◌, length, Option, Some, None, IfSome, Ok, Err, is_some, slice_get, refl, ap, subst}
+use Rattle.std.proofs.Common.{◌≡◌, ◌<◌, ℕ, zero, suc, ◌+◌, ◌-◌, ◌==◌, nat_le, cond, Bool, true, false, List, [], ◌∷◌, length, Option, Some, None, IfSome, Result, Ok, Err, is_some, slice_get, refl, ap, subst}
 use Rattle.std.proofs.lemmas.Bool.{cond_both, true≢false}
 use Rattle.std.proofs.lemmas.List.Elements.{All-nil, All-push, All-set}
 use Rattle.rp_base.specs.declared.kinds.CrashKind.{CrashKind}
@@ -53,7 +53,7 @@ use Rattle.script_run.specs.NamedCores.{NamedCoreState}
 use Rattle.script_run.specs.NamedImages.{ImageState}
 use Rattle.script_run.specs.NamedLinks.{NamedLink}
 use Rattle.script_run.specs.Recoveries.{reclaim_effect}
-use Rattle.script_run.specs.Runs.{Run, RunEffect, RunState, asked_name, command_name, core_located_effect, core_made_effect, core_place, effect_of, family_effect, found_core_effect, found_effect, has_image, image_effect, image_wanted, is_full, located_effect, made_effect, named_effect, new_run, place_of, quiet_effect, quiet_wanted, run_from, run_of, run_on, run_tells, run_told, unnamed_effect, with_image, without_link_effect}
+use Rattle.script_run.specs.Runs.{Run, RunEffect, RunState, asked_name, command_name, core_located_effect, core_made_effect, core_place, dump_answer, dump_effect, dump_wanted, dumped_effect, effect_of, family_effect, found_core_effect, found_effect, has_image, image_effect, image_wanted, is_full, located_effect, made_effect, named_effect, new_run, place_of, quiet_effect, quiet_wanted, run_from, run_of, run_on, run_tells, run_told, unnamed_effect, with_image, without_link_effect, kept_effect}
 use Rattle.script_run.specs.Stores.{Answer, Told, later_told, told_answer}
 use Rattle.run_laws.proofs.RunsReached.{effect_reached, item_at}
 use Rattle.std.proofs.Common.{arith, ◌∙◌, sym, option_map, not}
@@ -233,6 +233,7 @@ module _ (state : LifeState) (actors : ActorsState) where
   link_stands named steps (command.Region name kind da pa len) runs of is = absurd of
   link_stands named steps (command.Driver name channel kind) runs of is = absurd of
   link_stands named steps (command.Drive name count) runs of is = absurd of
+  link_stands named steps (command.Dump name image) runs of is = absurd of
   link_stands named steps (command.Boot name image) runs of is = absurd of
   link_stands named steps (command.Handover name image) runs of is = absurd of
   link_stands named steps (command.Shutdown name) runs of is = absurd of
@@ -476,6 +477,7 @@ core_ready images answer is_quiet named steps (command.State name) runs reached 
 core_ready images answer is_quiet named steps (command.Recovery name set) runs reached kept is = switch_kept named.name named.core steps is set
 core_ready images answer is_quiet named steps (command.Close name) runs reached kept is = is
 core_ready images answer is_quiet named steps (command.Reopen name) runs reached kept is = is
+core_ready images answer is_quiet named steps (command.Dump name image) runs reached kept is = is
 core_ready images answer is_quiet named steps (command.Boot name image) runs reached kept is = boot_kept named.name named.core steps is images answer image
 core_ready images answer is_quiet named steps (command.Handover name image) runs reached kept is = handover_kept named.name named.core steps is images answer image
 core_ready images answer is_quiet named steps (command.Shutdown name) runs reached kept is = shutdown_kept named.name named.core steps is
@@ -566,6 +568,7 @@ module _ (run : RunState) (are : AreReady run.objects) where
   unnamed (command.Recovery name set) = are
   unnamed (command.Driver name channel kind) = are
   unnamed (command.Drive name count) = are
+  unnamed (command.Dump name image) = are
   unnamed (command.Quiet set) = are
 
 module _ (answer : Answer) (run : RunState) (wanted : Command) (runs : IsRunnable wanted) (reached : AreReached run.objects) (kept : AreKept run.objects) (are : AreReady run.objects) where
@@ -598,8 +601,20 @@ module _ (answer : Answer) (run : RunState) (wanted : Command) (runs : IsRunnabl
   unfolding quiet_effect
   quieted set = are
 
+  dumped : (image : List ℕ) (answered : Result (List ℕ) Event) → LeavesRun (dumped_effect run image answered)
+  dumped image (Ok bytes) = are
+  dumped image (Err told) = are
+
+  dump_made : (name image : List ℕ) → LeavesRun (dump_effect run name image)
+  unfolding dump_effect
+  dump_made name image = dumped image (dump_answer run.objects name image)
+
+  by_dump : (found : Option (List ℕ × List ℕ)) → LeavesRun (kept_effect answer run wanted found)
+  by_dump None = located (place_of run.objects.links (command_name wanted))
+  by_dump (Some names) = dump_made names.0 names.1
+
   by_name : (found : Option Switch) → LeavesRun (named_effect answer run wanted found)
-  by_name None = located (place_of run.objects.links (command_name wanted))
+  by_name None = by_dump (dump_wanted wanted)
   by_name (Some set) = quieted set
 
   imaged : (name : List ℕ) (lines : List RecipeLine) → LeavesRun (image_effect run name lines)

@@ -209,6 +209,7 @@ link_reached named steps (command.Core name regions book) runs is = is
 link_reached named steps (command.Region name kind da pa len) runs is = is
 link_reached named steps (command.Driver name channel kind) runs is = is
 link_reached named steps (command.Drive name count) runs is = is
+link_reached named steps (command.Dump name image) runs is = is
 link_reached named steps (command.Boot name image) runs is = is
 link_reached named steps (command.Handover name image) runs is = is
 link_reached named steps (command.Shutdown name) runs is = is

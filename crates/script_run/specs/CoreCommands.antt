@@ -35,5 +35,7 @@ core_effect images answer is_quiet named steps (command.Mem name da len) = mem_e
 core_effect images answer is_quiet named steps (command.Crash name kind) = crash_effect named.name named.core steps kind
 core_effect images answer is_quiet named steps (command.Recover name) = recover_effect images answer named.name named.core steps
 core_effect images answer is_quiet named steps (command.Ring name lane) = core_ring_effect named.name named.core steps lane
+-- (no run gets here: a dump is made beside the cores)
+core_effect images answer is_quiet named steps (command.Dump name image) = core_tells named.core steps (event.Unknown named.name)
 -- (all others are about a link)
 core_effect images answer is_quiet named steps other = core_link_effect named.name named.core steps other

@@ -16,6 +16,7 @@ pub mod CoreDrives
 pub mod CoreViews
 pub mod CoreLinks
 pub mod CoreCommands
+pub mod Dumps
 pub mod Runs
 pub mod Reports
 pub mod Asked

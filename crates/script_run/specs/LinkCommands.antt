@@ -55,5 +55,6 @@ link_effect named steps (command.Mem name da len) = tells named.bench steps (eve
 link_effect named steps (command.Crash name kind) = tells named.bench steps (event.Unknown named.name)
 link_effect named steps (command.Recover name) = tells named.bench steps (event.Unknown named.name)
 link_effect named steps (command.Recovery name set) = tells named.bench steps (event.Unknown named.name)
+link_effect named steps (command.Dump name image) = tells named.bench steps (event.Unknown named.name)
 -- (no run gets here: whether drives are quiet is no matter of a link)
 link_effect named steps (command.Quiet set) = tells named.bench steps (event.Unknown named.name)

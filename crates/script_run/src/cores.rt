@@ -83,7 +83,7 @@ impl NamedCore {
             Command::Trace { trace: index, .. } => self.tell_trace(*index, log),
             Command::Mem { da, len, .. } => self.tell_memory(*da as u32, *len as u32, log),
             Command::Recovery { switch, .. } => self.set_recovery(*switch, log),
-            Command::Close { .. } | Command::Reopen { .. } => self.tell(
+            Command::Close { .. } | Command::Reopen { .. } | Command::Dump { .. } => self.tell(
                 &Event::Unknown { name: self.name },
                 log,
             ),

@@ -11,6 +11,7 @@ mod core_lives;
 mod core_views;
 mod cores;
 mod demos;
+mod dumps;
 mod endings;
 mod fetches;
 mod links;

@@ -134,7 +134,8 @@ impl NamedBench {
             | Command::Mem { .. }
             | Command::Crash { .. }
             | Command::Recover { .. }
-            | Command::Recovery { .. } => self.tell(&Event::Unknown { name: self.name }, log),
+            | Command::Recovery { .. }
+            | Command::Dump { .. } => self.tell(&Event::Unknown { name: self.name }, log),
         }
     }
 
