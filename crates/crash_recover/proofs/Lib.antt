@@ -5,3 +5,4 @@ pub mod Names
 pub mod RecordRuns
 pub mod CoreTurnWalks
 pub mod DriveSteps
+pub mod Unfound
