@@ -114,7 +114,6 @@ map_reached : (found : Option BenchState) (f : BenchState → BenchState) → ((
 map_reached None f each is = is
 map_reached (Some bench) f each is = each bench is
 
-
 -- ---- a recovery
 
 ready_at : (bench : BenchState) (why : Option ReclaimRefusal) → unreclaimed_by bench.link 0 ≡ why → IsReachedBench bench → IsReachedBench (renewed_unless bench why)

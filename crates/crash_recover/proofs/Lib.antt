@@ -9,3 +9,4 @@ pub mod PlacedCounts
 pub mod PartSums
 pub mod KeptParts
 pub mod CoreParts
+pub mod Unfound

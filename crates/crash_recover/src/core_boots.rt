@@ -1,11 +1,12 @@
-ghost use Rattle.std.specs.Prelude.{◌≡◌, ◌≢◌, ◌≤◌, true, false, length, Some, None, Ok, Err, OnOk, OnErr, IfOk, IfErr, IfSome, IsErrOf, option_map};
+ghost use Rattle.std.specs.Prelude.{◌≡◌, ◌≢◌, ◌≤◌, ⊥, ℕ, true, false, length, Some, None, Ok, Err, OnOk, OnErr, IfOk, IfErr, IfSome, IsErrOf, option_map};
 ghost use Rattle.std.specs.Result.{result_map_both};
 ghost use Rattle.rp_base.specs.declared.limits.TheConstants.{NAME_MOST};
 ghost use Rattle.rp_base.specs.Texts.{text_before_zero};
 ghost use Rattle.rp_io.specs.Causes.{Rose};
+ghost use Rattle.rp_io.specs.declared.faults.FetchFault.{FetchFault};
 ghost use Rattle.rp_io.specs.declared.faults.FetchFault.TheVariants as fetch;
 ghost use Rattle.lane_model.specs.Conditions.{IsConfig};
-ghost use Rattle.proc_state.specs.Lives.{is_offline, is_up, life_after_boot};
+ghost use Rattle.proc_state.specs.Lives.{is_offline, life_after_boot};
 ghost use Rattle.proc_state.specs.declared.answers.Power.TheVariants as power;
 ghost use Rattle.crash_recover.specs.Actors.{driver_names};
 ghost use Rattle.crash_recover.specs.Cores.{IsSoundLoad, load_view, loaded_rings};
@@ -18,7 +19,7 @@ use crate::core_answers::Start;
 use crate::core_faults::CoreFault;
 use crate::cores::Core;
 use channel_bus::Side;
-use fw_load::{RingPair, load};
+use fw_load::{Loaded, RingPair, load};
 use lane_model::LinkConfig;
 use link_bench::Bench;
 use proc_state::{Life, Power};
@@ -58,11 +59,7 @@ impl Core {
         ensures failed { IsErrOf result (fault.Fetch fetch.Failed) → Rose (F.faults store.old) (F.faults store.new) }
         ensures same { result ≢ Err (fault.Fetch fetch.Failed) → F.faults store.new ≡ F.faults store.old }
     {
-        let image = if self.needs_image() {
-            store.fetch(alloc, name)?
-        } else {
-            Vec::new(alloc)
-        };
+        let image = fetch_where(self.needs_image(), alloc, name, store)?;
         let start = self.boot_found(alloc, name_of(name), Ok(image.as_slice()))?;
         Ok(start.power())
     }
@@ -78,6 +75,7 @@ impl Core {
     /// core, [`CoreFault::Fetch`] where no image was found and [`CoreFault::Load`] as [`load`] answers,
     /// and [`CoreFault::NoMemory`] where memory ran out, which only a boot that starts the core
     /// answers. The core is as it was then.
+    #[tactic(auto, unfolding(crate::specs::CoreBoots::boot_of))]
     pub fn boot_found(
         &mut self,
         alloc: Global,
@@ -86,6 +84,7 @@ impl Core {
     ) -> Result<Start, CoreFault>
         ensures answer { result ≢ Err fault.NoMemory → result ≡ (boot_of self.old name (result_map_both (λ image. image.now) (λ why. why) found)).answer }
         ensures left { result ≢ Err fault.NoMemory → self.new ≡ (boot_of self.old name (result_map_both (λ image. image.now) (λ why. why) found)).core }
+        ensures fetched { (why : FetchFault) → result ≡ Err (fault.Fetch why) → found ≡ Err why }
         ensures memory { IsErrOf result fault.NoMemory → (life_after_boot self.old.life).answer ≡ Ok power.First }
         ensures unchanged { OnErr result (self.new ≡ self.old) }
         ensures attached { is_offline self.old.life.state ≡ false → self.new.loaded ≡ self.old.loaded }
@@ -98,7 +97,10 @@ impl Core {
             }
             Power::First => match self.life.state() {
                 LifeState::Offline => self.boot_image(alloc, life, name, found?),
-                _ => self.attach(alloc, life),
+                LifeState::Running
+                | LifeState::Crashed
+                | LifeState::Attached
+                | LifeState::Detached => self.attach(alloc, life),
             },
         }
     }
@@ -111,16 +113,18 @@ impl Core {
         name: Name,
         image: &[u8],
     ) -> Result<Start, CoreFault>
-        requires up { is_up life.state ≡ true }
+        requires loaded { is_offline life.state ≡ false }
+        requires users { 1 ≤ life.users }
         requires first { 1 ≤ life.incarnation }
         ensures loads { OnOk result (load_fault image.now self.old.regions ≡ None) }
         ensures answer { IfOk result (λ start. start ≡ start.Running life.incarnation) }
         ensures left { OnOk result (self.new ≡ started_core life (with_load self.old name (loaded_from image.now self.old.regions))) }
         ensures refused { IfErr result (λ why. why ≢ fault.NoMemory → option_map fault.Load (load_fault image.now self.old.regions) ≡ Some why) }
+        ensures unfetched { (why : FetchFault) → result ≢ Err (fault.Fetch why) }
         ensures unchanged { OnErr result (self.new ≡ self.old) }
     {
         let inc = life.incarnation();
-        let loaded = load(alloc, image, &self.regions)?;
+        let loaded = self.load_image(alloc, image)?;
         let bench = self.link_over(alloc, &loaded.rings, inc)?;
         self.actors.restart(loaded.entry);
         self.life = life;
@@ -133,7 +137,8 @@ impl Core {
     /// Starts a detached core in this life, over what it has loaded.
     fn attach(&mut self, alloc: Global, life: Life) -> Result<Start, CoreFault>
         requires loaded { is_offline self.old.life.state ≡ false }
-        requires up { is_up life.state ≡ true }
+        requires stays { is_offline life.state ≡ false }
+        requires users { 1 ≤ life.users }
         requires first { 1 ≤ life.incarnation }
         ensures answer { IfOk result (λ start. start ≡ start.Attached life.incarnation) }
         ensures left { OnOk result (self.new ≡ started_core life self.old) }
@@ -157,6 +162,7 @@ impl Core {
     /// [`CoreFault::Life`] where the core isn't offline, then [`CoreFault::Fetch`] where no image was
     /// found and [`CoreFault::Load`] as [`load`] answers, and [`CoreFault::NoMemory`] where memory ran
     /// out. The core is as it was then.
+    #[tactic(auto, unfolding(crate::specs::CoreBoots::handover_of))]
     pub fn handover_found(
         &mut self,
         alloc: Global,
@@ -165,11 +171,12 @@ impl Core {
     ) -> Result<Start, CoreFault>
         ensures answer { result ≢ Err fault.NoMemory → result ≡ (handover_of self.old name (result_map_both (λ image. image.now) (λ why. why) found)).answer }
         ensures left { result ≢ Err fault.NoMemory → self.new ≡ (handover_of self.old name (result_map_both (λ image. image.now) (λ why. why) found)).core }
+        ensures fetched { (why : FetchFault) → result ≡ Err (fault.Fetch why) → found ≡ Err why }
         ensures unchanged { OnErr result (self.new ≡ self.old) }
     {
         let mut life = self.life.copy();
         life.handover()?;
-        let loaded = load(alloc, found?, &self.regions)?;
+        let loaded = self.load_image(alloc, found?)?;
         self.life = life;
         self.image = Some(name);
         self.loaded = Some(loaded);
@@ -200,13 +207,23 @@ impl Core {
         ensures failed { IsErrOf result (fault.Fetch fetch.Failed) → Rose (F.faults store.old) (F.faults store.new) }
         ensures same { result ≢ Err (fault.Fetch fetch.Failed) → F.faults store.new ≡ F.faults store.old }
     {
-        let image = if self.life.state() == LifeState::Offline {
-            store.fetch(alloc, name)?
-        } else {
-            Vec::new(alloc)
-        };
+        let is_offline = self.life.state() == LifeState::Offline;
+        let image = fetch_where(is_offline, alloc, name, store)?;
         self.handover_found(alloc, name_of(name), Ok(image.as_slice()))?;
         Ok(())
+    }
+
+    /// What an image becomes in the memory of the core.
+    pub(crate) fn load_image(&self, alloc: Global, image: &[u8]) -> Result<Loaded, CoreFault>
+        ensures loads { OnOk result (load_fault image.now self.now.regions ≡ None) }
+        ensures loaded { IfOk result (λ loaded. load_view loaded ≡ loaded_from image.now self.now.regions) }
+        ensures sound { IfOk result (IsSoundLoad self.now.regions) }
+        ensures config { IfOk result (λ loaded. (inc : ℕ) → 1 ≤ inc → IfSome loaded.rings (λ rings. IsConfig (config_of rings self.now.book inc))) }
+        ensures refused { IfErr result (λ why. why ≢ fault.NoMemory → option_map fault.Load (load_fault image.now self.now.regions) ≡ Some why) }
+        ensures unfetched { (why : FetchFault) → result ≢ Err (fault.Fetch why) }
+    {
+        let loaded = load(alloc, image, &self.regions)?;
+        Ok(loaded)
     }
 
     /// The link over these rings in an incarnation, with the drivers of the core, where there are
@@ -246,6 +263,28 @@ impl Core {
             Some(loaded) => loaded.entry,
             None => 0,
         }
+    }
+}
+
+/// The image that a store has under a name, where it is needed; else the store is not asked.
+fn fetch_where<F: FirmwareStore>(
+    is_needed: bool,
+    alloc: Global,
+    name: &str,
+    store: &mut F,
+) -> Result<Vec<u8>, FetchFault>
+    ensures had { is_needed ≡ true → IsFoundIn (F.images store.old) name.now (result_map_both (λ image. image.items) (λ why. why) result) }
+    ensures unneeded { is_needed ≡ false → OnErr result ⊥ }
+    ensures unasked { is_needed ≡ false → store.new ≡ store.old }
+    ensures kept { F.images store.new ≡ F.images store.old }
+    ensures later { F.faults store.old ≤ F.faults store.new }
+    ensures failed { IsErrOf result fetch.Failed → Rose (F.faults store.old) (F.faults store.new) }
+    ensures same { result ≢ Err fetch.Failed → F.faults store.new ≡ F.faults store.old }
+{
+    if is_needed {
+        store.fetch(alloc, name)
+    } else {
+        Ok(Vec::new(alloc))
     }
 }
 

@@ -1,11 +1,12 @@
 ghost use Rattle.std.specs.Prelude.{◌≡◌, ℕ, true, Ok, Some};
 ghost use Rattle.std.specs.Result.{result_map_both};
-ghost use Rattle.crash_recover.specs.CoreCrashes.{after_report, report_in_short, report_of};
+ghost use Rattle.proc_state.specs.Lives.{is_offline};
+ghost use Rattle.crash_recover.specs.CoreCrashes.{after_report, first_report, report_in_short, report_of};
 ghost use Rattle.crash_recover.specs.declared.core_answers.Crash.TheVariants as crash;
 
 use crate::core_answers::Crash;
 use crate::cores::Core;
-use proc_state::{LifeFault, Report};
+use proc_state::{Life, LifeFault, Report};
 use rp_base::CrashKind;
 
 impl Core {
@@ -32,19 +33,30 @@ impl Core {
         ensures step { (inc : ℕ) → result ≡ Ok (crash.First (Some inc)) → may_step ≡ true }
     {
         let mut life = self.life.copy();
-        if let Report::Already = life.crash()? {
-            return Ok(Crash::Already);
+        match life.crash()? {
+            Report::Already => Ok(Crash::Already),
+            Report::First => Ok(self.crash_first(life, may_step)),
         }
+    }
+
+    /// Reports the first crash of a core, which leaves it in this life.
+    fn crash_first(&mut self, life: Life, may_step: bool) -> Crash
+        requires loaded { is_offline life.state ≡ is_offline self.old.life.state }
+        requires users { life.users ≡ self.old.life.users }
+        ensures answer { Ok result ≡ (first_report may_step life self.old self.old.bench).answer }
+        ensures left { self.new ≡ (first_report may_step life self.old self.old.bench).core }
+        ensures step { (inc : ℕ) → result ≡ crash.First (Some inc) → may_step ≡ true }
+    {
         let Some(bench) = &mut self.bench else {
             self.life = life;
-            return Ok(Crash::First(None));
+            return Crash::First(None);
         };
         if !may_step {
-            return Ok(Crash::Limit);
+            return Crash::Limit;
         }
         let inc = bench.era().inc;
         bench.crash();
         self.life = life;
-        Ok(Crash::First(Some(inc)))
+        Crash::First(Some(inc))
     }
 }

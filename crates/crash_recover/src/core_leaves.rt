@@ -1,13 +1,15 @@
-ghost use Rattle.std.specs.Prelude.{◌≡◌, ℕ, true, Ok, None, Some, option_and_then};
+ghost use Rattle.std.specs.Prelude.{◌≡◌, ℕ, true, false, Ok, None, Some, option_and_then};
 ghost use Rattle.link_bench.specs.BenchHolds.{caller_out};
+ghost use Rattle.rp_base.specs.declared.kinds.LifeState.TheVariants as state;
+ghost use Rattle.proc_state.specs.Lives.{is_offline};
 ghost use Rattle.crash_recover.specs.CoreBoots.{in_short};
-ghost use Rattle.crash_recover.specs.CoreLeaves.{detach_of, left_of, live_inc, shutdown_of};
+ghost use Rattle.crash_recover.specs.CoreLeaves.{detach_of, detached_core, last_leave, left_of, live_inc, shutdown_of, unloaded_core};
 ghost use Rattle.crash_recover.specs.declared.core_answers.Leave.TheVariants as leave;
 
 use crate::core_answers::Leave;
 use crate::core_faults::CoreFault;
 use crate::cores::Core;
-use proc_state::Left;
+use proc_state::{Left, Life};
 use rp_base::{CallerNo, Inc};
 
 impl Core {
@@ -35,10 +37,22 @@ impl Core {
         ensures step { (inc : ℕ) → result ≡ Ok (leave.Last (Some inc)) → may_step ≡ true }
     {
         let mut life = self.life.copy();
-        if let Left::Users(users) = life.shutdown()? {
-            self.life = life;
-            return Ok(Leave::Users(users));
+        match life.shutdown()? {
+            Left::Users(users) => {
+                self.life = life;
+                Ok(Leave::Users(users))
+            }
+            Left::Last => self.shut_last(life, may_step),
         }
+    }
+
+    /// Takes the last user away from a core that goes offline.
+    fn shut_last(&mut self, life: Life, may_step: bool) -> Result<Leave, CoreFault>
+        requires state { life.state ≡ state.Offline }
+        ensures answer { result ≡ (last_leave may_step self.old (unloaded_core life self.old)).answer }
+        ensures left { self.new ≡ (last_leave may_step self.old (unloaded_core life self.old)).core }
+        ensures step { (inc : ℕ) → result ≡ Ok (leave.Last (Some inc)) → may_step ≡ true }
+    {
         if let Some(caller) = self.caller_out() {
             return Err(CoreFault::CallerOut(caller));
         }
@@ -76,10 +90,23 @@ impl Core {
         ensures step { (inc : ℕ) → result ≡ Ok (leave.Last (Some inc)) → may_step ≡ true }
     {
         let mut life = self.life.copy();
-        if let Left::Users(users) = life.detach()? {
-            self.life = life;
-            return Ok(Leave::Users(users));
+        match life.detach()? {
+            Left::Users(users) => {
+                self.life = life;
+                Ok(Leave::Users(users))
+            }
+            Left::Last => self.detach_last(life, may_step),
         }
+    }
+
+    /// Takes the last user away from an attached core.
+    fn detach_last(&mut self, life: Life, may_step: bool) -> Result<Leave, CoreFault>
+        requires state { life.state ≡ state.Detached }
+        requires loaded { is_offline self.old.life.state ≡ false }
+        ensures answer { result ≡ (last_leave may_step self.old (detached_core life self.old)).answer }
+        ensures left { self.new ≡ (last_leave may_step self.old (detached_core life self.old)).core }
+        ensures step { (inc : ℕ) → result ≡ Ok (leave.Last (Some inc)) → may_step ≡ true }
+    {
         if let Some(caller) = self.caller_out() {
             return Err(CoreFault::CallerOut(caller));
         }

@@ -2,6 +2,7 @@ ghost use Rattle.std.specs.Prelude.{◌≡◌, ◌≢◌, ◌≤◌, ◌⊎◌, 
 ghost use Rattle.std.specs.Option.{option_or};
 ghost use Rattle.std.specs.Result.{result_err, result_map_both};
 ghost use Rattle.rp_io.specs.Causes.{Rose};
+ghost use Rattle.rp_io.specs.declared.faults.FetchFault.{FetchFault};
 ghost use Rattle.rp_io.specs.declared.faults.FetchFault.TheVariants as fetch;
 ghost use Rattle.proc_state.specs.Lives.{life_after_recovery};
 ghost use Rattle.crash_recover.specs.declared.core_answers.Start.TheVariants as start;
@@ -16,7 +17,7 @@ ghost use Rattle.crash_recover.specs.CoreRecoveries.{IsFoundAs, asked_text, link
 use crate::core_answers::Start;
 use crate::core_faults::CoreFault;
 use crate::cores::Core;
-use fw_load::{Loaded, RingPair, load};
+use fw_load::{Loaded, RingPair};
 use link_bench::Bench;
 use proc_state::LifeFault;
 use resource_table::Ring;
@@ -33,7 +34,8 @@ impl Core {
         match self.life.state() {
             LifeState::Crashed if self.life.recovery() => None,
             LifeState::Crashed => Some(LifeFault::RecoveryOff),
-            _ => Some(LifeFault::NotCrashed),
+            LifeState::Offline | LifeState::Running | LifeState::Attached | LifeState::Detached =>
+                Some(LifeFault::NotCrashed),
         }
     }
 
@@ -94,7 +96,7 @@ impl Core {
     /// # Errors
     ///
     /// [`CoreFault::Life`] as [`Core::recovery_fault`] answers, then [`CoreFault::Fetch`] where no
-    /// image was found, then [`CoreFault::Load`] as [`load`] answers, then [`CoreFault::RingsChanged`]
+    /// image was found, then [`CoreFault::Load`] as [`fw_load::load`] answers, then [`CoreFault::RingsChanged`]
     /// where the rings are other ones than before: the core is as it was then. Then
     /// [`CoreFault::Reopen`], which names who has the turn that the reclaim of caller 0 needs as
     /// [`lane_model::ReopenFault::StillTurn`], and [`CoreFault::Life`] where no incarnation is left: the
@@ -109,6 +111,7 @@ impl Core {
         ensures answer { result ≢ Err fault.NoMemory → result ≡ (recovery_of self.old (result_map_both (λ image. image.now) (λ why. why) found)).answer }
         ensures left { result ≢ Err fault.NoMemory → self.new ≡ (recovery_of self.old (result_map_both (λ image. image.now) (λ why. why) found)).core }
         ensures memory { IsErrOf result fault.NoMemory → (self.new ≡ self.old) ⊎ (self.new ≡ readied_core self.old) }
+        ensures fetched { (why : FetchFault) → result ≡ Err (fault.Fetch why) → found ≡ Err why }
     {
         if let Some(fault) = self.recovery_fault() {
             return Err(CoreFault::Life(fault));
@@ -128,8 +131,9 @@ impl Core {
         ensures loaded { IfOk result (λ loaded. load_view loaded ≡ loaded_in self.now (result_map_both (λ image. image.now) (λ why. why) found)) }
         ensures sound { IfOk result (λ loaded. IsSoundLoad self.now.regions loaded) }
         ensures refused { IfErr result (λ why. why ≢ fault.NoMemory → reload_fault self.now (result_map_both (λ image. image.now) (λ why. why) found) ≡ Some why) }
+        ensures fetched { (why : FetchFault) → result ≡ Err (fault.Fetch why) → found ≡ Err why }
     {
-        let loaded = load(alloc, found?, &self.regions)?;
+        let loaded = self.load_image(alloc, found?)?;
         if !self.has_rings(&loaded.rings) {
             return Err(CoreFault::RingsChanged);
         }
@@ -152,6 +156,7 @@ impl Core {
         ensures left { OnOk result (self.new ≡ reopened_core self.old) }
         ensures refused { IfErr result (λ why. option_or (reopen_fault self.old) (Some fault.NoMemory) ≡ Some why) }
         ensures ready { OnErr result (self.new ≡ readied_core self.old) }
+        ensures unfetched { (why : FetchFault) → result ≢ Err (fault.Fetch why) }
     {
         let is_spent = self.life.incarnation() == Inc::MAX;
         if let Some(bench) = &mut self.bench {
@@ -176,7 +181,8 @@ impl Core {
 
 /// Tests that an incarnation is left.
 fn test_incarnation(is_spent: bool) -> Result<(), CoreFault>
-    ensures { result_err result ≡ spent_fault is_spent }
+    ensures spent { result_err result ≡ spent_fault is_spent }
+    ensures unfetched { (why : FetchFault) → result ≢ Err (fault.Fetch why) }
 {
     if is_spent {
         return Err(CoreFault::Life(LifeFault::IncarnationsSpent));
@@ -190,6 +196,7 @@ fn reopen_bench(bench: &mut Bench, alloc: Global, is_spent: bool) -> Result<(), 
     ensures left { OnOk result (bench.new ≡ after_reopen (readied_bench bench.old)) }
     ensures refused { IfErr result (λ why. option_or (link_fault bench.old is_spent) (Some fault.NoMemory) ≡ Some why) }
     ensures ready { OnErr result (bench.new ≡ readied_bench bench.old) }
+    ensures unfetched { (why : FetchFault) → result ≢ Err (fault.Fetch why) }
 {
     if let Some(fault) = bench.renew_host() {
         return Err(CoreFault::Reopen(fault));

@@ -1,4 +1,4 @@
-ghost use Rattle.std.specs.Prelude.{◌≡◌, ◌≤◌, ◌+◌, ◌==◌, ℕ, true, Ok, OnOk, if◌then◌else◌};
+ghost use Rattle.std.specs.Prelude.{◌≡◌, ◌≤◌, ◌+◌, ◌==◌, ℕ, true, false, Ok, OnOk, if◌then◌else◌};
 ghost use Rattle.rp_base.specs.declared.kinds.LifeState.TheVariants as state;
 ghost use Rattle.proc_state.specs.Lives.{AreIn, IsReachable, first_start, is_offline, is_up, life_after_boot, life_after_crash, life_after_detach, life_after_handover, life_after_recovery, life_after_shutdown, most, new_life, with_user, without_user};
 ghost use Rattle.proc_state.specs.declared.answers.Left.TheVariants as left;
@@ -124,7 +124,7 @@ impl Life {
     pub fn boot(&mut self) -> Result<Power, LifeFault>
         ensures left { self.new ≡ (life_after_boot self.old).life }
         ensures answer { result ≡ (life_after_boot self.old).answer }
-        ensures first { result ≡ Ok power.First → (is_up self.new.state ≡ true) × (1 ≤ self.new.incarnation) }
+        ensures first { result ≡ Ok power.First → (is_offline self.new.state ≡ false) × (1 ≤ self.new.users) × (1 ≤ self.new.incarnation) }
         ensures counted { (users : ℕ) → result ≡ Ok (power.Counted users) → (self.new.state ≡ self.old.state) × (1 ≤ self.new.users) }
     {
         match self.state {
@@ -139,7 +139,7 @@ impl Life {
         requires up { is_up state ≡ true }
         ensures left { self.new ≡ (first_start state 1 power.First self.old).life }
         ensures answer { result ≡ (first_start state 1 power.First self.old).answer }
-        ensures first { result ≡ Ok power.First → (self.new.state ≡ state) × (1 ≤ self.new.incarnation) }
+        ensures first { result ≡ Ok power.First → (self.new.state ≡ state) × (1 ≤ self.new.users) × (1 ≤ self.new.incarnation) }
     {
         self.incarnation = next_incarnation(self.incarnation)?;
         self.state = state;
