@@ -6,3 +6,4 @@ pub mod RecordRuns
 pub mod CoreTurnWalks
 pub mod DriveSteps
 pub mod Unfound
+pub mod Restarts
