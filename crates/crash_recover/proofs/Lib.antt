@@ -10,3 +10,4 @@ pub mod PartSums
 pub mod KeptParts
 pub mod CoreParts
 pub mod Unfound
+pub mod Restarts

@@ -14,7 +14,7 @@ use Rattle.crash_recover.specs.declared.core_answers.Start.{Start}
 use Rattle.crash_recover.specs.declared.core_faults.CoreFault.{CoreFault}
 use Rattle.crash_recover.specs.declared.core_faults.CoreFault.TheVariants as fault
 use Rattle.crash_recover.specs.Cores.{CoreOutcome, CoreState}
-use Rattle.crash_recover.specs.CoreBoots.{Found, IsFoundIn, boot_as, boot_of, core_fault_of_fetch, handover_as, handover_of, needs_image}
+use Rattle.crash_recover.specs.CoreBoots.{DidWith, Found, IsFoundIn, boot_as, boot_of, core_fault_of_fetch, handover_as, handover_of, needs_image}
 use Rattle.crash_recover.specs.CoreRecoveries.{recovery_fault, recovery_of}
 
 -- what was fetched is what was found
@@ -65,3 +65,13 @@ unfound_recovery core why may = rw may refl
 pub refused_recovery : (core : CoreState) (found : Found) (why : LifeFault) → recovery_fault core.life ≡ Some why → recovery_of core found ≡ record { core = core; answer = Err (fault.Life why) }
 unfolding recovery_of
 refused_recovery core found why refused = rw refused refl
+
+-- a call that finds no image, and is refused for that
+pub did_unfound : {A : Type 0} (IsHad : Found → Type 0) (does : Found → CoreOutcome A CoreFault) (core : CoreState) (why : FetchFault) (answer : Result A CoreFault) → IsHad (Err why)
+    → does (Err why) ≡ record { core = core; answer = Err (core_fault_of_fetch why) } → answer ≡ Err (core_fault_of_fetch why) → DidWith IsHad does core answer
+did_unfound {A} IsHad does core why answer had is same = record {
+  found = Err why;
+  had = had;
+  core = sym (ap (λ (out : CoreOutcome A CoreFault). out.core) is);
+  answers = same ∙ sym (ap (λ (out : CoreOutcome A CoreFault). out.answer) is);
+}

@@ -1,4 +1,4 @@
-ghost use Rattle.std.specs.Prelude.{◌≡◌, ◌≢◌, ◌≤◌, ⊥, ℕ, true, false, length, Some, None, Ok, Err, OnOk, OnErr, IfOk, IfErr, IfSome, IsErrOf, option_map};
+ghost use Rattle.std.specs.Prelude.{◌≡◌, ◌≢◌, ◌≤◌, ℕ, true, false, length, Some, None, Ok, Err, OnOk, OnErr, IfOk, IfErr, IfSome, IsErrOf, option_map};
 ghost use Rattle.std.specs.Result.{result_map_both};
 ghost use Rattle.rp_base.specs.declared.limits.TheConstants.{NAME_MOST};
 ghost use Rattle.rp_base.specs.Texts.{text_before_zero};
@@ -82,9 +82,9 @@ impl Core {
         name: Name,
         found: Result<&[u8], FetchFault>,
     ) -> Result<Start, CoreFault>
-        ensures answer { result ≢ Err fault.NoMemory → result ≡ (boot_of self.old name (result_map_both (λ image. image.now) (λ why. why) found)).answer }
-        ensures left { result ≢ Err fault.NoMemory → self.new ≡ (boot_of self.old name (result_map_both (λ image. image.now) (λ why. why) found)).core }
-        ensures fetched { (why : FetchFault) → result ≡ Err (fault.Fetch why) → found ≡ Err why }
+        ensures answer { result ≢ Err fault.NoMemory → result ≡ (boot_of self.old name (result_map_both (λ image. image.now) (λ why. why) found.entry)).answer }
+        ensures left { result ≢ Err fault.NoMemory → self.new ≡ (boot_of self.old name (result_map_both (λ image. image.now) (λ why. why) found.entry)).core }
+        ensures fetched { (why : FetchFault) → result ≡ Err (fault.Fetch why) → found.entry ≡ Err why }
         ensures memory { IsErrOf result fault.NoMemory → (life_after_boot self.old.life).answer ≡ Ok power.First }
         ensures unchanged { OnErr result (self.new ≡ self.old) }
         ensures attached { is_offline self.old.life.state ≡ false → self.new.loaded ≡ self.old.loaded }
@@ -117,7 +117,7 @@ impl Core {
         requires users { 1 ≤ life.users }
         requires first { 1 ≤ life.incarnation }
         ensures loads { OnOk result (load_fault image.now self.old.regions ≡ None) }
-        ensures answer { IfOk result (λ start. start ≡ start.Running life.incarnation) }
+        ensures answer { IfOk result (λ did. did ≡ start.Running life.incarnation) }
         ensures left { OnOk result (self.new ≡ started_core life (with_load self.old name (loaded_from image.now self.old.regions))) }
         ensures refused { IfErr result (λ why. why ≢ fault.NoMemory → option_map fault.Load (load_fault image.now self.old.regions) ≡ Some why) }
         ensures unfetched { (why : FetchFault) → result ≢ Err (fault.Fetch why) }
@@ -140,7 +140,7 @@ impl Core {
         requires stays { is_offline life.state ≡ false }
         requires users { 1 ≤ life.users }
         requires first { 1 ≤ life.incarnation }
-        ensures answer { IfOk result (λ start. start ≡ start.Attached life.incarnation) }
+        ensures answer { IfOk result (λ did. did ≡ start.Attached life.incarnation) }
         ensures left { OnOk result (self.new ≡ started_core life self.old) }
         ensures refused { IfErr result (λ why. why ≡ fault.NoMemory) }
         ensures unchanged { OnErr result (self.new ≡ self.old) }
@@ -169,9 +169,9 @@ impl Core {
         name: Name,
         found: Result<&[u8], FetchFault>,
     ) -> Result<Start, CoreFault>
-        ensures answer { result ≢ Err fault.NoMemory → result ≡ (handover_of self.old name (result_map_both (λ image. image.now) (λ why. why) found)).answer }
-        ensures left { result ≢ Err fault.NoMemory → self.new ≡ (handover_of self.old name (result_map_both (λ image. image.now) (λ why. why) found)).core }
-        ensures fetched { (why : FetchFault) → result ≡ Err (fault.Fetch why) → found ≡ Err why }
+        ensures answer { result ≢ Err fault.NoMemory → result ≡ (handover_of self.old name (result_map_both (λ image. image.now) (λ why. why) found.entry)).answer }
+        ensures left { result ≢ Err fault.NoMemory → self.new ≡ (handover_of self.old name (result_map_both (λ image. image.now) (λ why. why) found.entry)).core }
+        ensures fetched { (why : FetchFault) → result ≡ Err (fault.Fetch why) → found.entry ≡ Err why }
         ensures unchanged { OnErr result (self.new ≡ self.old) }
     {
         let mut life = self.life.copy();
@@ -267,6 +267,7 @@ impl Core {
 }
 
 /// The image that a store has under a name, where it is needed; else the store is not asked.
+#[tactic(auto, using(crate::proofs::Unfound::found_in))]
 fn fetch_where<F: FirmwareStore>(
     is_needed: bool,
     alloc: Global,

@@ -102,16 +102,16 @@ impl Core {
     /// [`lane_model::ReopenFault::StillTurn`], and [`CoreFault::Life`] where no incarnation is left: the
     /// core stays crashed, with a new caller 0 where the old one was reclaimed. [`CoreFault::NoMemory`]
     /// may come at the load, or after all other tests.
-    #[tactic(auto, unfolding(crate::specs::CoreRecoveries::recovery_of))]
+    #[tactic(auto, using(crate::proofs::Restarts::recovers, crate::proofs::Restarts::start_fault), unfolding(crate::specs::CoreRecoveries::recovery_of))]
     pub fn recover_found(
         &mut self,
         alloc: Global,
         found: Result<&[u8], FetchFault>,
     ) -> Result<Start, CoreFault>
-        ensures answer { result ≢ Err fault.NoMemory → result ≡ (recovery_of self.old (result_map_both (λ image. image.now) (λ why. why) found)).answer }
-        ensures left { result ≢ Err fault.NoMemory → self.new ≡ (recovery_of self.old (result_map_both (λ image. image.now) (λ why. why) found)).core }
+        ensures answer { result ≢ Err fault.NoMemory → result ≡ (recovery_of self.old (result_map_both (λ image. image.now) (λ why. why) found.entry)).answer }
+        ensures left { result ≢ Err fault.NoMemory → self.new ≡ (recovery_of self.old (result_map_both (λ image. image.now) (λ why. why) found.entry)).core }
         ensures memory { IsErrOf result fault.NoMemory → (self.new ≡ self.old) ⊎ (self.new ≡ readied_core self.old) }
-        ensures fetched { (why : FetchFault) → result ≡ Err (fault.Fetch why) → found ≡ Err why }
+        ensures fetched { (why : FetchFault) → result ≡ Err (fault.Fetch why) → found.entry ≡ Err why }
     {
         if let Some(fault) = self.recovery_fault() {
             return Err(CoreFault::Life(fault));
@@ -127,11 +127,11 @@ impl Core {
         alloc: Global,
         found: Result<&[u8], FetchFault>,
     ) -> Result<Loaded, CoreFault>
-        ensures may { OnOk result (reload_fault self.now (result_map_both (λ image. image.now) (λ why. why) found) ≡ None) }
-        ensures loaded { IfOk result (λ loaded. load_view loaded ≡ loaded_in self.now (result_map_both (λ image. image.now) (λ why. why) found)) }
+        ensures may { OnOk result (reload_fault self.now (result_map_both (λ image. image.now) (λ why. why) found.entry) ≡ None) }
+        ensures loaded { IfOk result (λ loaded. load_view loaded ≡ loaded_in self.now (result_map_both (λ image. image.now) (λ why. why) found.entry)) }
         ensures sound { IfOk result (λ loaded. IsSoundLoad self.now.regions loaded) }
-        ensures refused { IfErr result (λ why. why ≢ fault.NoMemory → reload_fault self.now (result_map_both (λ image. image.now) (λ why. why) found) ≡ Some why) }
-        ensures fetched { (why : FetchFault) → result ≡ Err (fault.Fetch why) → found ≡ Err why }
+        ensures refused { IfErr result (λ why. why ≢ fault.NoMemory → reload_fault self.now (result_map_both (λ image. image.now) (λ why. why) found.entry) ≡ Some why) }
+        ensures fetched { (why : FetchFault) → result ≡ Err (fault.Fetch why) → found.entry ≡ Err why }
     {
         let loaded = self.load_image(alloc, found?)?;
         if !self.has_rings(&loaded.rings) {

@@ -4,7 +4,7 @@ ghost use Rattle.std.specs.Result.{result_map_both};
 ghost use Rattle.rp_base.specs.declared.limits.TheConstants.{STEPS_MOST};
 ghost use Rattle.crash_recover.specs.declared.core_answers.Crash.TheVariants as crash;
 ghost use Rattle.crash_recover.specs.declared.core_answers.Leave.TheVariants as leave;
-ghost use Rattle.crash_recover.specs.declared.core_faults.CoreFault.TheVariants as fault;
+ghost use Rattle.crash_recover.specs.declared.core_faults.CoreFault.TheVariants as core_fault;
 ghost use Rattle.journal.specs.Lines.{line};
 ghost use Rattle.journal.specs.declared.events.Event.TheVariants as event;
 ghost use Rattle.script_run.specs.Logs.{HasCoreEffect};
@@ -98,7 +98,7 @@ impl NamedCore {
         log: &mut RunLog,
     ) -> Result<Option<Stop>, NoMemory>
         ensures same { self.new ≡ self.old }
-        ensures known { OnOk result (started ≢ Err fault.NoMemory) }
+        ensures known { OnOk result (started ≢ Err core_fault.NoMemory) }
         ensures effect { IfOk result (λ ending. HasCoreEffect (core_tells_all self.old.core log.old.steps (start_events self.old.name image started)) self.new.core log.old log.new ending) }
     {
         match started {
@@ -118,7 +118,7 @@ impl NamedCore {
         log: &mut RunLog,
     ) -> Result<Option<Stop>, NoMemory>
         ensures same { self.new ≡ self.old }
-        ensures known { OnOk result (fault.now ≢ fault.NoMemory) }
+        ensures known { OnOk result (fault.now ≢ core_fault.NoMemory) }
         ensures effect { IfOk result (λ ending. HasCoreEffect (core_tells_all self.old.core log.old.steps (core_fault_events self.old.name image fault.now)) self.new.core log.old log.new ending) }
     {
         let name = self.name;
