@@ -16,7 +16,7 @@ pub(crate) struct Fields<'a> {
 impl<'a> Fields<'a> {
     pub(crate) fn one(form: Form, a: Piece<'a>) -> Fields<'a>
         ensures form { result.form ≡ form }
-        ensures values { map word_of result.values ≡ word_of a ∷ Fixed [] ∷ Fixed [] ∷ Fixed [] ∷ Fixed [] ∷ Fixed [] ∷ [] }
+        ensures values { map word_of result.values ≡ word_of a.entry ∷ Fixed [] ∷ Fixed [] ∷ Fixed [] ∷ Fixed [] ∷ Fixed [] ∷ [] }
     {
         let empty = Piece::Fixed("");
         Fields {
@@ -27,7 +27,7 @@ impl<'a> Fields<'a> {
 
     pub(crate) fn two(form: Form, a: Piece<'a>, b: Piece<'a>) -> Fields<'a>
         ensures form { result.form ≡ form }
-        ensures values { map word_of result.values ≡ word_of a ∷ word_of b ∷ Fixed [] ∷ Fixed [] ∷ Fixed [] ∷ Fixed [] ∷ [] }
+        ensures values { map word_of result.values ≡ word_of a.entry ∷ word_of b.entry ∷ Fixed [] ∷ Fixed [] ∷ Fixed [] ∷ Fixed [] ∷ [] }
     {
         let empty = Piece::Fixed("");
         Fields {
@@ -38,7 +38,7 @@ impl<'a> Fields<'a> {
 
     pub(crate) fn three(form: Form, a: Piece<'a>, b: Piece<'a>, c: Piece<'a>) -> Fields<'a>
         ensures form { result.form ≡ form }
-        ensures values { map word_of result.values ≡ word_of a ∷ word_of b ∷ word_of c ∷ Fixed [] ∷ Fixed [] ∷ Fixed [] ∷ [] }
+        ensures values { map word_of result.values ≡ word_of a.entry ∷ word_of b.entry ∷ word_of c.entry ∷ Fixed [] ∷ Fixed [] ∷ Fixed [] ∷ [] }
     {
         let empty = Piece::Fixed("");
         Fields {
@@ -55,7 +55,7 @@ impl<'a> Fields<'a> {
         d: Piece<'a>,
     ) -> Fields<'a>
         ensures form { result.form ≡ form }
-        ensures values { map word_of result.values ≡ word_of a ∷ word_of b ∷ word_of c ∷ word_of d ∷ Fixed [] ∷ Fixed [] ∷ [] }
+        ensures values { map word_of result.values ≡ word_of a.entry ∷ word_of b.entry ∷ word_of c.entry ∷ word_of d.entry ∷ Fixed [] ∷ Fixed [] ∷ [] }
     {
         let empty = Piece::Fixed("");
         Fields {
@@ -73,7 +73,7 @@ impl<'a> Fields<'a> {
         e: Piece<'a>,
     ) -> Fields<'a>
         ensures form { result.form ≡ form }
-        ensures values { map word_of result.values ≡ word_of a ∷ word_of b ∷ word_of c ∷ word_of d ∷ word_of e ∷ Fixed [] ∷ [] }
+        ensures values { map word_of result.values ≡ word_of a.entry ∷ word_of b.entry ∷ word_of c.entry ∷ word_of d.entry ∷ word_of e.entry ∷ Fixed [] ∷ [] }
     {
         let empty = Piece::Fixed("");
         Fields {
@@ -92,7 +92,7 @@ impl<'a> Fields<'a> {
         f: Piece<'a>,
     ) -> Fields<'a>
         ensures form { result.form ≡ form }
-        ensures values { map word_of result.values ≡ word_of a ∷ word_of b ∷ word_of c ∷ word_of d ∷ word_of e ∷ word_of f ∷ [] }
+        ensures values { map word_of result.values ≡ word_of a.entry ∷ word_of b.entry ∷ word_of c.entry ∷ word_of d.entry ∷ word_of e.entry ∷ word_of f.entry ∷ [] }
     {
         Fields {
             form,
