@@ -2,11 +2,11 @@
 #![tactic(auto)]
 
 mod events;
+mod fields;
 pub mod laws;
 mod lines;
 mod notices;
 mod readers;
-mod rows;
 mod table;
 mod tables;
 

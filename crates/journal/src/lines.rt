@@ -4,11 +4,11 @@ ghost use Rattle.journal.specs.Notices.{cause_text, notice_line};
 
 use crate::events::Event;
 use crate::notices::Notice;
-use crate::table::row_of;
+use crate::table::{fields_of, slots};
 use crate::tables::TableLine;
 use rp_base::NoMemory;
 use std::alloc::Global;
-use word_kinds::{Cause, Piece, no_name, push_line};
+use word_kinds::{Cause, Piece, no_name, push_form, push_line};
 
 /// Appends the line of an event, with its line feed. Where memory is wanting, the text stays as it
 /// was.
@@ -17,8 +17,8 @@ pub fn line(_alloc: Global, event: &Event, out: &mut Vec<u8>) -> Result<(), NoMe
     ensures whole { OnOk result (out.new.items ≡ out.old.items ++ line event.now) }
     ensures same { OnErr result (out.new.items ≡ out.old.items) }
 {
-    let row = row_of(event);
-    push_line(out, row.words())
+    let fields = fields_of(event);
+    push_form(out, slots(fields.form), &fields.values)
 }
 
 /// Appends the line of a notice. Where memory is wanting, the text stays as it was.
@@ -39,15 +39,15 @@ pub fn push_notice(_alloc: Global, notice: &Notice, out: &mut Vec<u8>) -> Result
         Notice::Missing(name) => push_line(out, &[Piece::Fixed("missing"), Piece::Name(name)]),
         Notice::TooLarge(name) => push_line(out, &[Piece::Fixed("too-large"), Piece::Name(name)]),
         Notice::Fault(number, index) => push_fault(out, *number, *index),
-        Notice::Start(entry) => push_line(out, &[Piece::Fixed("start"), Piece::Digits(*entry)]),
+        Notice::Start(entry) => push_line(out, &[Piece::Fixed("start"), Piece::Digits(entry)]),
         Notice::Segment(index, da, file_len, memory_len) => push_line(
             out,
             &[
                 Piece::Fixed("segment"),
-                Piece::Number(u64::from(*index)),
-                Piece::Digits(*da),
-                Piece::Number(*file_len),
-                Piece::Number(u64::from(*memory_len)),
+                Piece::Number(&u64::from(*index)),
+                Piece::Digits(da),
+                Piece::Number(file_len),
+                Piece::Short(memory_len),
             ],
         ),
         Notice::Table(entry) => push_entry(out, entry),
@@ -55,13 +55,13 @@ pub fn push_notice(_alloc: Global, notice: &Notice, out: &mut Vec<u8>) -> Result
         Notice::Demo(sessions, to_host, to_remote) => push_demo(
             out, *sessions, *to_host, *to_remote,
         ),
-        Notice::Sound(lines) => push_line(out, &[Piece::Fixed("audit ok"), Piece::Number(*lines)]),
+        Notice::Sound(lines) => push_line(out, &[Piece::Fixed("audit ok"), Piece::Number(lines)]),
         Notice::Broken(line, rule) => push_line(
             out,
             &[
                 Piece::Fixed("audit broken"),
-                Piece::Number(*line),
-                Piece::Number(u64::from(*rule)),
+                Piece::Number(line),
+                Piece::Number(&u64::from(*rule)),
             ],
         ),
     }
@@ -77,7 +77,7 @@ fn push_refusal(out: &mut Vec<u8>, line: u32, why: Cause) -> Result<(), NoMemory
         out,
         &[
             Piece::Fixed("* refused"),
-            Piece::Number(u64::from(line)),
+            Piece::Short(&line),
             Piece::Fixed(cause_text(why)),
         ],
     )
@@ -90,10 +90,11 @@ fn push_fault(out: &mut Vec<u8>, number: u8, index: Option<u16>) -> Result<(), N
     ensures same { OnErr result (out.new.items ≡ out.old.items) }
 {
     let fault = Piece::Fixed("fault");
-    let number = Piece::Number(u64::from(number));
+    let number = u64::from(number);
+    let number = Piece::Number(&number);
     match index {
         None => push_line(out, &[fault, number]),
-        Some(index) => push_line(out, &[fault, number, Piece::Number(u64::from(index))]),
+        Some(index) => push_line(out, &[fault, number, Piece::Number(&u64::from(index))]),
     }
 }
 
@@ -107,9 +108,9 @@ fn push_entry(out: &mut Vec<u8>, entry: &TableLine) -> Result<(), NoMemory>
         name: no_name(),
         line: *entry,
     };
-    let row = row_of(&event);
-    match row.words() {
-        [_name, words @ ..] => push_line(out, words),
+    let fields = fields_of(&event);
+    match slots(fields.form) {
+        [_name, words @ ..] => push_form(out, words, &fields.values[1..]),
         [] => unreachable!(),
     }
 }
@@ -120,7 +121,7 @@ fn push_demo(out: &mut Vec<u8>, sessions: u32, to_host: u64, to_remote: u64) -> 
     ensures whole { OnOk result (out.new.items ≡ out.old.items ++ notice_line (Notice.Demo sessions to_host to_remote)) }
     ensures same { OnErr result (out.new.items ≡ out.old.items) }
 {
-    let sessions = Piece::Number(u64::from(sessions));
+    let sessions = Piece::Short(&sessions);
     push_line(
         out,
         &[
@@ -129,9 +130,9 @@ fn push_demo(out: &mut Vec<u8>, sessions: u32, to_host: u64, to_remote: u64) -> 
             Piece::Fixed("sessions"),
             sessions,
             Piece::Fixed("to-host"),
-            Piece::Number(to_host),
+            Piece::Number(&to_host),
             Piece::Fixed("to-remote"),
-            Piece::Number(to_remote),
+            Piece::Number(&to_remote),
         ],
     )
 }

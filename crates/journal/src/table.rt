@@ -1,12 +1,12 @@
 ghost use Rattle.std.specs.Prelude.{◌≡◌, ◌%◌, ◌^◌, IfOk, find, map};
 ghost use Rattle.word_kinds.specs.Readings.{number_read};
-ghost use Rattle.word_kinds.specs.Rows.{kind_in, fit, row_read, text_at};
+ghost use Rattle.word_kinds.specs.Lines.{word_of};
+ghost use Rattle.word_kinds.specs.Rows.{kind_in, fit, filled, row_read, text_at};
 ghost use Rattle.journal.specs.Lines.{words_of};
 ghost use Rattle.journal.specs.Forms.{forms, kinds, event_in};
-ghost use Rattle.journal.specs.Rows.{words_in};
 
 use crate::events::Event;
-use crate::rows::Row;
+use crate::fields::Fields;
 use crate::tables::TableLine;
 use rp_base::{CrashKind, Era};
 use std::alloc::{AllocError, Global};
@@ -109,13 +109,13 @@ pub(crate) enum Form {
     WrongSide,
 }
 
-/// The table of the lines, one entry for each form: the event, and the words of its line in their
-/// order, each a fixed word or a kind with the field that stands there. All that follows goes by
-/// it. Forms that begin with `*` come first, and those with a number in the second place last,
-/// since a name may be any other fixed word.
-macro_rules! with_table {
-    ($rule:ident $($input:tt)*) => {
-        $rule! { ($($input)*)
+/// The table of the lines, an entry for each form: its event, and the words of its line in their
+/// order, each a fixed word or a kind with the field that stands there. What follows goes by it, as
+/// rules over the entries. Lines that begin with `*` come first, and those with a number in the
+/// second place last, since a name may be any other fixed word.
+macro_rules! with_lines {
+    ($rule:ident $($given:tt)*) => {
+        $rule! { $($given)*
             Unknown: (Event::Unknown { name }) ["*" "unknown" (Name name)];
             ObjectsFull: (Event::ObjectsFull) ["*" "objects-full"];
             Image: (Event::Image { name, len }) ["*" "image" (Name name) (Number len)];
@@ -278,7 +278,7 @@ macro_rules! with_table {
 }
 
 macro_rules! all_forms {
-    (() $($form:ident: $event:tt [$($word:tt)+];)+) => { [$(Form::$form),+] };
+    ($($form:ident: $event:tt [$($word:tt)+];)+) => { [$(Form::$form),+] };
 }
 
 macro_rules! slot {
@@ -294,35 +294,39 @@ macro_rules! slots_by_form {
     };
 }
 
+/// The fields of an event with the form of its line: each as the piece of its kind, and the fixed
+/// words left out. The rule of the counts tells how many there are.
+macro_rules! fields {
+    ($form:ident [] [zero $($more:ident)+]) => {
+        Fields { form: Form::$form, values: [$(empty!($more)),+] }
+    };
+    ($form:ident [$($piece:tt)+] [$count:ident $($more:ident)*]) => {
+        Fields::$count(Form::$form, $($piece)+)
+    };
+    ($form:ident [$($piece:tt)*] $counts:tt $text:literal $($word:tt)*) => {
+        fields!($form [$($piece)*] $counts $($word)*)
+    };
+    ($form:ident [$($piece:tt)*] [$count:ident $($more:ident)*] ($($named:tt)+) $($word:tt)*) => {
+        fields!($form [$($piece)* piece!($($named)+),] [$($more)*] $($word)*)
+    };
+}
+
+/// What stands in a place that no field needs.
+macro_rules! empty {
+    ($count:ident) => { Piece::Fixed("") };
+}
+
 macro_rules! piece {
-    ((Row $most:literal $field:ident)) => { Piece::Row($most, $field) };
-    ((Dotted $first:ident $second:ident)) => { Piece::Dotted(*$first, *$second) };
-    ((Inc $field:ident)) => { Piece::Number(u64::from(*$field)) };
-    ((Name $field:ident)) => { Piece::Name($field) };
-    ((Escaped $field:ident)) => { Piece::Escaped($field) };
-    ((Bytes $field:ident)) => { Piece::Bytes($field) };
-    ((Trace $field:ident)) => { Piece::Trace($field) };
-    (($kind:ident $field:ident)) => { Piece::$kind(*$field) };
-    ($text:literal) => { Piece::Fixed($text) };
+    (Inc $field:ident) => { Piece::Short($field) };
+    (Row $most:literal $field:ident) => { Piece::Row($most, $field) };
+    ($kind:ident $($field:ident)+) => { Piece::$kind($($field),+) };
 }
 
-macro_rules! unused {
-    ($place:literal) => { Piece::Number(0) };
-}
-
-/// A row of some words, and of places that are not used up to the ninth.
-macro_rules! row {
-    ([$($piece:expr,)*] [$count:literal $($place:literal)*]) => {
-        Row { words: [$($piece,)* $(unused!($place)),*], count: $count }
-    };
-    ([$($piece:expr,)*] [$place:literal $($places:literal)*] $word:tt $($words:tt)*) => {
-        row!([$($piece,)* piece!($word),] [$($places)*] $($words)*)
-    };
-}
-
-macro_rules! row_by_event {
+macro_rules! fields_by_event {
     (($event_now:ident) $($form:ident: ($($event:tt)+) [$($word:tt)+];)+) => {
-        match $event_now { $($($event)+ => row!([] [0 1 2 3 4 5 6 7 8 9] $($word)+),)+ }
+        match $event_now {
+            $($($event)+ => fields!($form [] [zero one two three four five six] $($word)+),)+
+        }
     };
 }
 
@@ -375,13 +379,13 @@ macro_rules! event_by_form {
 }
 
 /// All forms, in the order of the table.
-const FORMS: [Form; 88] = with_table!(all_forms);
+const FORMS: [Form; 88] = with_lines!(all_forms);
 
 /// What stands in the places of a line of this form.
 pub(crate) fn slots(form: Form) -> &'static [Slot<'static>]
     ensures { map kind_in result.now ≡ kinds form }
 {
-    with_table!(slots_by_form form)
+    with_lines!(slots_by_form(form))
 }
 
 /// The first form that these words fit.
@@ -391,18 +395,18 @@ pub(crate) fn form_of(words: &[&[u8]]) -> Option<Form>
     FORMS.iter().copied().find(|form| fit(slots(*form), words))
 }
 
-/// The words of the line of an event.
-pub(crate) fn row_of(event: &Event) -> Row<'_>
-    ensures { words_in result ≡ words_of event.now }
+/// The form of the line of an event, with the event's fields.
+pub(crate) fn fields_of(event: &Event) -> Fields<'_>
+    ensures { filled (kinds result.form) (map word_of result.values) ≡ words_of event.now }
 {
-    with_table!(row_by_event event)
+    with_lines!(fields_by_event(event))
 }
 
 /// The event of this form that the words say.
 pub(crate) fn event_in(alloc: Global, form: Form, words: &[&[u8]]) -> Result<Event, AllocError>
     ensures { IfOk result (λ event. event ≡ event_in form (row_read (kinds form) (map (λ word. word.now) words.now))) }
 {
-    with_table!(event_by_form form words alloc)
+    with_lines!(event_by_form (form words alloc))
 }
 
 /// The incarnation whose number stands in a place, modulo 2^32.

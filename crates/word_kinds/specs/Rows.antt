@@ -66,6 +66,22 @@ text_at texts place = slice_index_or texts place []
 abbrev pub row_read : List LineKind → List (List ℕ) → ℕ → Word
 row_read kinds texts place = word_read (kind_at kinds place) (text_at texts place)
 
+-- the word in a place of a kind: a fixed one, or else the first of some values; and the values that are left
+abbrev pub word_for : LineKind → List Word → Word
+word_for (OfText text) values = Fixed text
+word_for kind [] = Fixed []
+word_for kind (value ∷ values) = value
+
+abbrev pub left_by : LineKind → List Word → List Word
+left_by (OfText text) values = values
+left_by kind [] = []
+left_by kind (value ∷ values) = values
+
+-- the words of a row with values in the places that have no fixed word
+abbrev pub filled : List LineKind → List Word → List Word
+filled [] values = []
+filled (kind ∷ kinds) values = word_for kind values ∷ filled kinds (left_by kind values)
+
 -- the word in a place
 abbrev pub word_in : List Word → ℕ → Word
 word_in words place = slice_index_or words place (Fixed [])

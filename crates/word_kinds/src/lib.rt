@@ -17,7 +17,7 @@ pub use causes::Cause;
 pub use cuts::cut_at;
 pub use digits::{is_name, name, number_to_base};
 pub use kinds::{Kind, are_of};
-pub use pieces::{Piece, push_line};
+pub use pieces::{Piece, push_form, push_line};
 pub use places::{
     address_at, bytes_at, crash_kind_at, destination_at, end_at, name_at, no_name, number_at,
     region_kind_at, word_at,

@@ -3,8 +3,10 @@ ghost use Rattle.std.specs.Fmt.{decimal, digits};
 ghost use Rattle.std.specs.List.{flat_map, join_with_byte};
 ghost use Rattle.word_kinds.specs.Texts.{hex_digit, hex_byte, eight_digits, four_digits, hex_bytes, with_escapes, is_plain, dotted_text, end_text, service_text, state_text, driver_text, switch_text, text};
 ghost use Rattle.word_kinds.specs.Lines.{line_of, word_of};
+ghost use Rattle.word_kinds.specs.Rows.{kind_in, word_for, left_by, filled};
 ghost use Rattle.word_kinds.specs.Fronts.{IsFront};
 
+use crate::slots::Slot;
 use rp_base::{Data, DriverKind, End, Endpoint, LifeState, Name, NoMemory, NsKind, Switch};
 use std::alloc::AllocError;
 
@@ -16,12 +18,14 @@ pub enum Piece<'a> {
     /// A name as it is.
     Name(&'a Name),
     /// A number in decimal.
-    Number(u64),
+    Number(&'a u64),
+    /// A number of 32 bits in decimal.
+    Short(&'a u32),
     /// A number as eight lower-case hexadecimal digits.
-    Digits(u32),
+    Digits(&'a u32),
     /// A number as four lower-case hexadecimal digits, and more without a leading zero where it
     /// needs them.
-    Offset(u64),
+    Offset(&'a u64),
     /// Bytes as pairs of lower-case hexadecimal digits, or `-` where there is none.
     Bytes(&'a Data),
     /// From one to so many bytes as pairs of lower-case hexadecimal digits.
@@ -32,23 +36,23 @@ pub enum Piece<'a> {
     /// A text of any length, written as a name with escapes is.
     Trace(&'a Data),
     /// A lane: 0 or 1.
-    Lane(u64),
+    Lane(&'a u64),
     /// An address and the number of its binding.
-    Bound(Endpoint),
+    Bound(&'a Endpoint),
     /// Two numbers with a dot between them.
-    Dotted(u64, u64),
+    Dotted(&'a u64, &'a u64),
     /// The end of a link.
-    Side(End),
+    Side(&'a End),
     /// Whether an incarnation is open.
-    Open(bool),
+    Open(&'a bool),
     /// What the name service made of a message.
-    Service(NsKind),
+    Service(&'a NsKind),
     /// The state of a core.
-    State(LifeState),
+    State(&'a LifeState),
     /// What a driver does.
-    Driver(DriverKind),
+    Driver(&'a DriverKind),
     /// Whether something is on.
-    Switch(Switch),
+    Switch(&'a Switch),
 }
 
 /// Appends the line of these words: a space between two, and a line feed at the end. Where memory
@@ -102,6 +106,83 @@ fn push_more(out: &mut Vec<u8>, words: &[Piece]) -> Result<(), AllocError>
     Ok(())
 }
 
+/// Appends the line of a form: its fixed words, and in the other places these values in their
+/// order. Where memory is wanting, the text stays as it was.
+pub fn push_form(out: &mut Vec<u8>, slots: &[Slot], values: &[Piece]) -> Result<(), NoMemory>
+    ensures whole { OnOk result (out.new.items ≡ out.old.items ++ line_of (filled (map kind_in slots.now) (map word_of values.now))) }
+    ensures same { OnErr result (out.new.items ≡ out.old.items) }
+{
+    let len = out.len();
+    if push_places(out, slots, values).is_err() {
+        out.truncate(len);
+        return Err(NoMemory);
+    }
+    Ok(())
+}
+
+#[tactic(auto, unfolding(crate::specs::Lines::line_of))]
+fn push_places(out: &mut Vec<u8>, slots: &[Slot], values: &[Piece]) -> Result<(), AllocError>
+    ensures whole { OnOk result (out.new.items ≡ out.old.items ++ line_of (filled (map kind_in slots.now) (map word_of values.now))) }
+    ensures front { IsFront out.old.items out.new.items }
+{
+    push_joined_places(out, slots, values)?;
+    out.push(b'\n')?;
+    Ok(())
+}
+
+/// Appends the words of places with a space between two.
+fn push_joined_places(out: &mut Vec<u8>, slots: &[Slot], values: &[Piece]) -> Result<(), AllocError>
+    ensures whole { OnOk result (out.new.items ≡ out.old.items ++ join_with_byte 32 (map text (filled (map kind_in slots.now) (map word_of values.now)))) }
+    ensures front { IsFront out.old.items out.new.items }
+{
+    match slots {
+        [] => Ok(()),
+        [first, more @ ..] => {
+            push_place(out, first, values)?;
+            push_more_places(out, more, left_by(first, values))?;
+            Ok(())
+        }
+    }
+}
+
+/// Appends the words of places, each behind a space.
+fn push_more_places(out: &mut Vec<u8>, slots: &[Slot], values: &[Piece]) -> Result<(), AllocError>
+    ensures whole { OnOk result (out.new.items ≡ out.old.items ++ flat_map (λ word. 32 ∷ text word) (filled (map kind_in slots.now) (map word_of values.now))) }
+    ensures front { IsFront out.old.items out.new.items }
+{
+    let mut rest = slots;
+    let mut left = values;
+    while let [slot, more @ ..] = rest {
+        out.push(b' ')?;
+        push_place(out, slot, left)?;
+        left = left_by(slot, left);
+        rest = more;
+    }
+    Ok(())
+}
+
+/// Appends the word of a place: a fixed one, or else the first of the values.
+fn push_place(out: &mut Vec<u8>, slot: &Slot, values: &[Piece]) -> Result<(), AllocError>
+    ensures whole { OnOk result (out.new.items ≡ out.old.items ++ text (word_for (kind_in slot.now) (map word_of values.now))) }
+    ensures front { IsFront out.old.items out.new.items }
+{
+    match (slot, values) {
+        (Slot::Text(text), _) => out.extend_from_slice(text.as_bytes()),
+        (_, [value, ..]) => push_word(out, value),
+        (_, []) => Ok(()),
+    }
+}
+
+/// The values that are left behind a place: a fixed word takes none.
+fn left_by<'v, 'a>(slot: &Slot, values: &'v [Piece<'a>]) -> &'v [Piece<'a>]
+    ensures { map word_of result.now ≡ left_by (kind_in slot.now) (map word_of values.now) }
+{
+    match (slot, values) {
+        (Slot::Text(_), _) | (_, []) => values,
+        (_, [_, more @ ..]) => more,
+    }
+}
+
 fn push_word(out: &mut Vec<u8>, word: &Piece) -> Result<(), AllocError>
     ensures whole { OnOk result (out.new.items ≡ out.old.items ++ text (word_of word.now)) }
     ensures front { IsFront out.old.items out.new.items }
@@ -109,27 +190,28 @@ fn push_word(out: &mut Vec<u8>, word: &Piece) -> Result<(), AllocError>
     match word {
         Piece::Fixed(bytes) => out.extend_from_slice(bytes.as_bytes()),
         Piece::Name(name) => out.extend_from_slice(name.bytes()),
-        Piece::Number(number) => push_number(out, *number),
-        Piece::Digits(number) => push_digits(out, *number),
-        Piece::Offset(number) => push_offset(out, *number),
+        Piece::Number(number) => push_number(out, **number),
+        Piece::Short(number) => push_number(out, u64::from(**number)),
+        Piece::Digits(number) => push_digits(out, **number),
+        Piece::Offset(number) => push_offset(out, **number),
         Piece::Bytes(bytes) => push_hex(out, bytes.bytes()),
         Piece::Row(_, bytes) => push_hex(out, bytes.bytes()),
         Piece::Escaped(name) => push_escaped(out, name.bytes()),
         Piece::Trace(text) => push_escaped(out, text.bytes()),
-        Piece::Lane(lane) => push_number(out, *lane),
+        Piece::Lane(lane) => push_number(out, **lane),
         Piece::Bound(endpoint) => {
             push_dotted(out, u64::from(endpoint.address), endpoint.generation)
         }
-        Piece::Dotted(first, second) => push_dotted(out, *first, *second),
-        Piece::Side(end) => out.extend_from_slice(end_text(*end).as_bytes()),
+        Piece::Dotted(first, second) => push_dotted(out, **first, **second),
+        Piece::Side(end) => out.extend_from_slice(end_text(**end).as_bytes()),
         Piece::Open(is_live) => {
-            let open = if *is_live { "open" } else { "closed" };
+            let open = if **is_live { "open" } else { "closed" };
             out.extend_from_slice(open.as_bytes())
         }
-        Piece::Service(what) => out.extend_from_slice(service_text(*what).as_bytes()),
-        Piece::State(state) => out.extend_from_slice(state_text(*state).as_bytes()),
-        Piece::Driver(kind) => out.extend_from_slice(driver_text(*kind).as_bytes()),
-        Piece::Switch(switch) => out.extend_from_slice(switch_text(*switch).as_bytes()),
+        Piece::Service(what) => out.extend_from_slice(service_text(**what).as_bytes()),
+        Piece::State(state) => out.extend_from_slice(state_text(**state).as_bytes()),
+        Piece::Driver(kind) => out.extend_from_slice(driver_text(**kind).as_bytes()),
+        Piece::Switch(switch) => out.extend_from_slice(switch_text(**switch).as_bytes()),
     }
 }
 
