@@ -7,3 +7,4 @@ pub mod WantedSound
 pub mod Steps
 pub mod RegionsSound
 pub mod Meant
+pub mod UseCounts

@@ -94,13 +94,13 @@ window_use P regions before index da pa len block here is =
           ]
     ]
 
-next_use : (P : Use → ℕ → Type 0) (regions : List Region) (before : List Block) (one : Wanted) (block : Block) → OfWanted P one → next_block regions before one ≡ Ok block → OfBlock P block
+pub next_use : (P : Use → ℕ → Type 0) (regions : List Region) (before : List Block) (one : Wanted) (block : Block) → OfWanted P one → next_block regions before one ≡ Ok block → OfBlock P block
 next_use P regions before (wanted.Given purpose da len) block here is = given_use P (pool_of regions da len) before purpose da len block here is
 next_use P regions before (wanted.Any purpose len align) block here is =
     free_use P regions before purpose len align block here (any_use (least_free regions before purpose len align) purpose block is)
 next_use P regions before (wanted.Window index da pa len) block here is = window_use P regions before index da pa len block here is
 
-ok_next : {A B E : Type 0} (next : A → Result B E) (r : Result A E) (y : B) → then_ok next r ≡ Ok y → (x : A) × (r ≡ Ok x) × (next x ≡ Ok y)
+pub ok_next : {A B E : Type 0} (next : A → Result B E) (r : Result A E) (y : B) → then_ok next r ≡ Ok y → (x : A) × (r ≡ Ok x) × (next x ≡ Ok y)
 ok_next next (Ok x) y e = (x, refl, e)
 ok_next next (Err refused) y e = absurd (cc)
 

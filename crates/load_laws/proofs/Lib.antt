@@ -1,0 +1,6 @@
+pub mod PlaceParts
+pub mod LoadParts
+pub mod ByteParts
+pub mod PatchParts
+pub mod UseParts
+pub mod RingParts
