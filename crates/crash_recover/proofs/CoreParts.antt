@@ -193,16 +193,24 @@ each_once regions placed address sound good =
     let split : map of_mapped (mapped_blocks regions placed) ≡ map of_region (tcm_of regions) ++ map of_block placed =
     map-append of_mapped always others ∙ ap (λ front. front ++ map of_mapped others) (map_map (mapped_region regions) of_mapped (tcm_of regions))
     ∙ ap (λ rest. map of_region (tcm_of regions) ++ rest) (map_map (mapped_block regions) of_mapped placed) in
-    omega
-    (arith, once, ap (sum_by (hit address)) split, sum_by-append (hit address) (map of_region (tcm_of regions)) (map of_block placed),
-    sum_by-append (hit address) (map of_region (tcm_of regions)) (map of_block (memory_of placed)), hit_filtered address of_block (λ block. not (is_window block)) placed)
+    omega (
+      arith,
+      once,
+      ap (sum_by (hit address)) split,
+      sum_by-append (hit address) (map of_region (tcm_of regions)) (map of_block placed),
+      sum_by-append (hit address) (map of_region (tcm_of regions)) (map of_block (memory_of placed)),
+      hit_filtered address of_block (λ block. not (is_window block)) placed,
+    )
 
 -- together they have no more bytes than the regions
 lengths_few : (regions : List Region) (placed : List Block) → SoundRegions regions → SoundPlacement regions placed → sum_by (λ range. range.1) (memory_ranges regions placed) ≤ memory_len regions
 lengths_few regions placed sound good =
-    omega
-    (arith, lengths_within (2 ^ 32) (memory_ranges regions placed) (map of_region regions) (λ address. each_once regions placed address sound good) (each_ends regions placed sound good)
-    (All-map (λ (range : ℕ × ℕ). range.0 + range.1 ≤ 2 ^ 32) of_region regions (λ k d lt. (sound.ranges k d lt).device)) (each_within regions placed good), sum_map of_region (λ (range : ℕ × ℕ). range.1) regions)
+    omega (
+      arith,
+      lengths_within (2 ^ 32) (memory_ranges regions placed) (map of_region regions) (λ address. each_once regions placed address sound good) (each_ends regions placed sound good)
+          (All-map (λ (range : ℕ × ℕ). range.0 + range.1 ≤ 2 ^ 32) of_region regions (λ k d lt. (sound.ranges k d lt).device)) (each_within regions placed good),
+      sum_map of_region (λ (range : ℕ × ℕ). range.1) regions,
+    )
 
 window_nowhere : (regions : List Region) (purpose : Use) (da len : ℕ) → is_window_use purpose ≡ true → is_some (place_of_use regions purpose da len) ≡ false
 window_nowhere regions (usage.Window index) da len is = refl
@@ -252,9 +260,17 @@ few_ranges : (regions : List Region) (placed : List Block) → SoundRegions regi
 few_ranges regions placed sound few =
     let tcm = λ (region : Region). not (is_pool region) in
     let memory = λ (block : Block). not (is_window block) in
-    omega
-    (arith, length-append (map of_region (tcm_of regions)) (map of_block (memory_of placed)), length-map (tcm_of regions) of_region, length-map (memory_of placed) of_block,
-    length-filter tcm regions, count_by-le-length tcm regions, length-filter memory placed, count_by-le-length memory placed, sound.few)
+    omega (
+      arith,
+      length-append (map of_region (tcm_of regions)) (map of_block (memory_of placed)),
+      length-map (tcm_of regions) of_region,
+      length-map (memory_of placed) of_block,
+      length-filter tcm regions,
+      count_by-le-length tcm regions,
+      length-filter memory placed,
+      count_by-le-length memory placed,
+      sound.few,
+    )
 
 -- the blocks of memory of what is loaded are what a dump asks for
 parts_fit : (core : CoreState) (load : LoadState) → core.loaded ≡ Some load → IsWhole core.regions load → AreParts (filter_map (part_at core) (memory_ranges core.regions load.placed))

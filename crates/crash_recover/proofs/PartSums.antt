@@ -73,10 +73,12 @@ hit_within address ranges regions once inside =
     elim (cases_eq (sum_by (hit address) regions) 0) [
       | inr some ↦ omega arith
       | inl none ↦
-          omega
-          (arith, none_hit (hit address) ranges (λ k d lt.
-          let held = inside k d lt in
-          omega (arith, within_hit address (slice_index_or ranges k d) held.0 held.2, All-contains (λ range. hit address range ≤ sum_by (hit address) regions) regions held.0 (part_of_sum (hit address) regions) held.1)))
+          omega (
+            arith,
+            none_hit (hit address) ranges (λ k d lt.
+                let held = inside k d lt in
+                omega (arith, within_hit address (slice_index_or ranges k d) held.0 held.2, All-contains (λ range. hit address range ≤ sum_by (hit address) regions) regions held.0 (part_of_sum (hit address) regions) held.1)),
+          )
     ]
 
 below_none : (ranges : List (ℕ × ℕ)) → sum_by (below 0) ranges ≡ 0
@@ -93,9 +95,13 @@ below_within (suc address) ranges regions each =
 all_below : (address : ℕ) (ranges : List (ℕ × ℕ)) → All (λ range. range.0 + range.1 ≤ address) ranges → sum_by (below address) ranges ≡ sum_by (λ range. range.1) ranges
 all_below address [] all = refl
 all_below address (range ∷ more) all =
-    omega
-    (arith, sum_by-cons (below address) range more, sum_by-cons (λ (range : ℕ × ℕ). range.1) range more, All-head (λ (range : ℕ × ℕ). range.0 + range.1 ≤ address) range more all,
-    all_below address more (All-tail (λ (range : ℕ × ℕ). range.0 + range.1 ≤ address) range more all))
+    omega (
+      arith,
+      sum_by-cons (below address) range more,
+      sum_by-cons (λ (range : ℕ × ℕ). range.1) range more,
+      All-head (λ (range : ℕ × ℕ). range.0 + range.1 ≤ address) range more all,
+      all_below address more (All-tail (λ (range : ℕ × ℕ). range.0 + range.1 ≤ address) range more all),
+    )
 
 -- the lengths of all of them together are at most those of the regions
 pub lengths_within : (end : ℕ) (ranges regions : List (ℕ × ℕ)) → ((address : ℕ) → sum_by (hit address) ranges ≤ 1) → All (λ range. range.0 + range.1 ≤ end) ranges → All (λ range. range.0 + range.1 ≤ end) regions

@@ -54,9 +54,14 @@ few_of_device index device =
     let second = cond (nat_lt 1 device.count) (ring_wanted index 1 device.second ∷ []) [] in
     let buffers = wanted.Any (usage.Buffers index) (512 * (ring_capacity device.first.num + ring_capacity device.second.num)) 4096 in
     let third = cond (device.id == 7) (buffers ∷ []) [] in
-    omega
-    (arith, length-append (first ++ second) third, length-append first second, few_if (nat_lt 0 device.count) (ring_wanted index 0 device.first),
-    few_if (nat_lt 1 device.count) (ring_wanted index 1 device.second), few_if (device.id == 7) buffers)
+    omega (
+      arith,
+      length-append (first ++ second) third,
+      length-append first second,
+      few_if (nat_lt 0 device.count) (ring_wanted index 0 device.first),
+      few_if (nat_lt 1 device.count) (ring_wanted index 1 device.second),
+      few_if (device.id == 7) buffers,
+    )
 
 few_by : (index : ℕ) (one : Entry) → length (wanted_by index one) ≤ 3
 few_by index (entry.Carveout da pa len name) = omega (arith, few_unless (len == 0) (memory_wanted (usage.Carveout index) da len 4096))
@@ -78,9 +83,13 @@ few_placed : (regions : List Region) (entries : List Entry) (blocks : List Block
 few_placed regions entries blocks is few =
     let all = wanted_from 0 entries in
     let pinned = λ (one : Wanted). not (is_anywhere one) in
-    omega
-    (arith, placed_count regions [] (in_order all) blocks is, length-append (filter pinned all) (filter is_anywhere all), length-filter_both pinned is_anywhere (λ one. opposite (is_anywhere one)) all,
-    few_from 0 entries)
+    omega (
+      arith,
+      placed_count regions [] (in_order all) blocks is,
+      length-append (filter pinned all) (filter is_anywhere all),
+      length-filter_both pinned is_anywhere (λ one. opposite (is_anywhere one)) all,
+      few_from 0 entries,
+    )
 
 both_none : {F : Type 0} (a b : Option F) → option_or a b ≡ None → (a ≡ None) × (b ≡ None)
 both_none None b none = (refl, none)
@@ -117,6 +126,7 @@ loads_few image regions blocks loads is =
     let third = both_none placed None second.1 in
     let mapped : mapped_fault image regions blocks ≡ None = rw is at third.0 in
     let last = both_none (segments_unmapped (memory_at regions blocks) (segments_of image)) (option_or (entry_unmapped (memory_at regions blocks) (entry_of image)) None) mapped in
-    let entered = both_none (entry_unmapped (memory_at regions blocks) (entry_of image)) None last.1 in
-    (few_placed regions (entries_in (table_of image)) blocks is (few_entries image (table_section image) (unfaulted image (table_section image) second.0)),
-    entry_stands (memory_at regions blocks (entry_of image) 16) entered.0)
+    let entered = both_none (entry_unmapped (memory_at regions blocks) (entry_of image)) None last.1 in (
+      few_placed regions (entries_in (table_of image)) blocks is (few_entries image (table_section image) (unfaulted image (table_section image) second.0)),
+      entry_stands (memory_at regions blocks (entry_of image) 16) entered.0,
+    )

@@ -117,12 +117,12 @@ blocks_most = 768
 -- a load over regions: its map is that of what was placed, its traces lie in its memory, its rings and their buffers within the addresses, and its first record in one block of memory
 pub record IsSoundLoad (regions : List Region) (loaded : Loaded) : Type 0 where
   pub placed : SoundPlacement regions loaded.placed.blocks.items
+  pub few : length loaded.placed.blocks.items ≤ blocks_most
   pub map : IsMapOf regions loaded.placed.blocks.items loaded.map
   pub length : length loaded.memory ≡ loaded.map.memory_len
   pub traces : All (IsTraceIn loaded.map.memory_len) loaded.traces.items
   pub rings : IfSome loaded.rings IsSoundPair
   pub buffers : IfSome loaded.rings HasBuffers
-  pub few : length loaded.placed.blocks.items ≤ blocks_most
   pub entry : is_some (memory_at regions loaded.placed.blocks.items loaded.entry 16) ≡ true
 
 -- what a core keeps: its book is one that a lane may have, what it was given is sound, it has an image and what that became exactly while it is not offline, and no link without users

@@ -1,6 +1,6 @@
-ghost use Rattle.std.specs.Prelude.{◌≡◌, ◌≤◌, IfOk, IfSome, All, true, is_some, option_map, slice_get};
+ghost use Rattle.std.specs.Prelude.{◌≡◌, ◌≤◌, IfOk, All, true, is_some, option_and_then, option_map, slice_get};
 ghost use Rattle.core_dump.specs.Parts.{AreParts};
-ghost use Rattle.crash_recover.specs.CoreParts.{AreBlocksOf, core_parts, core_ranges, memory_ranges};
+ghost use Rattle.crash_recover.specs.CoreParts.{AreBlocksOf, core_parts, core_ranges, memory_ranges, part_at};
 
 use crate::cores::Core;
 use core_dump::Part;
@@ -15,9 +15,13 @@ impl Core {
     pub fn part(&self, index: u16) -> Option<(Da, &[u8])>
         ensures { option_map (λ part. record { da = part.0; bytes = part.1.now }) result ≡ slice_get (core_parts self.now) index }
     {
-        let (da, len) = self.range_at(usize::from(index))?;
-        let bytes = self.memory(da, len)?;
-        Some((da, bytes))
+        let Some((da, len)) = self.range_at(usize::from(index)) else {
+            return None;
+        };
+        match self.memory(da, len) {
+            Some(bytes) => Some((da, bytes)),
+            None => None,
+        }
     }
 
     /// All blocks of memory, in that order.
@@ -25,14 +29,15 @@ impl Core {
     /// Errors: only for want of memory.
     pub fn parts(&self, alloc: Global) -> Result<Vec<Part<'_>>, NoMemory>
         ensures parts { IfOk result (λ parts. parts.items ≡ core_parts self.now) }
-        ensures blocks { IfOk result (λ parts. AreBlocksOf self.now parts.items) }
-        ensures fit { IfOk result (λ parts. is_some self.now.loaded ≡ true → AreParts parts.items) }
+        ensures blocks { AreBlocksOf self.now (core_parts self.now) }
+        ensures fit { is_some self.now.loaded ≡ true → AreParts (core_parts self.now) }
     {
         let ranges = self.ranges(alloc)?;
         let mut parts = Vec::with_capacity(alloc, ranges.len())?;
-        for (da, len) in &ranges {
-            if let Some(bytes) = self.memory(*da, *len) {
-                parts.push(Part { da: *da, bytes })?;
+        for range in &ranges {
+            let (da, len) = *range;
+            if let Some(bytes) = self.memory(da, len) {
+                parts.push(Part { da, bytes })?;
             }
         }
         Ok(parts)
@@ -41,7 +46,9 @@ impl Core {
     /// Where the blocks of memory stand, in order: the device address of each, and its length.
     fn ranges(&self, alloc: Global) -> Result<Vec<(Da, u32)>, NoMemory>
         ensures ranges { IfOk result (λ ranges. ranges.items ≡ core_ranges self.now) }
-        ensures some { IfOk result (λ ranges. All (λ range. 1 ≤ range.1) ranges.items) }
+        ensures some { All (λ range. 1 ≤ range.1) (core_ranges self.now) }
+        ensures blocks { AreBlocksOf self.now (core_parts self.now) }
+        ensures fit { is_some self.now.loaded ≡ true → AreParts (core_parts self.now) }
     {
         let regions = self.regions.as_slice();
         match &self.loaded {
@@ -53,11 +60,14 @@ impl Core {
     /// Where the block of memory of a number stands.
     fn range_at(&self, index: usize) -> Option<(Da, u32)>
         ensures range { result ≡ slice_get (core_ranges self.now) index }
-        ensures some { IfSome result (λ range. 1 ≤ range.1) }
+        ensures some { All (λ range. 1 ≤ range.1) (core_ranges self.now) }
+        ensures part { slice_get (core_parts self.now) index ≡ option_and_then (part_at self.now) (slice_get (core_ranges self.now) index) }
     {
         let regions = self.regions.as_slice();
-        let loaded = self.loaded.as_ref()?;
-        nth_range(regions, &loaded.placed.blocks, index)
+        match &self.loaded {
+            Some(loaded) => nth_range(regions, &loaded.placed.blocks, index),
+            None => None,
+        }
     }
 }
 
