@@ -12,3 +12,4 @@ mod DemoLines
 mod DemoSays
 pub mod DemoSizes
 mod DemoRunnable
+pub mod Lengths

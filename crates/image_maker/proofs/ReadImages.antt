@@ -1,5 +1,5 @@
 -- The headers and the segments of a built image are read back.
-use Rattle.std.proofs.Common.{◌≡◌, ℕ, ◌+◌, ◌*◌, ◌<◌, ◌≤◌, ◌^◌, ◌==◌, ◌&&◌, not, false, List, [], ◌∷◌, ◌++◌, length, drop, subst, sym, ◌∙◌, ap, arith, refl, Some, None, append_assoc, length-append}
+use Rattle.std.proofs.Common.{◌≡◌, ℕ, ◌+◌, ◌*◌, ◌<◌, ◌≤◌, ◌^◌, ◌==◌, ◌&&◌, not, false, List, [], ◌∷◌, ◌++◌, length, drop, subst, ◌∙◌, ap, arith, refl, Some, None, append_assoc, length-append}
 use Rattle.std.proofs.lemmas.List.Concat.{length-flat_map}
 use Rattle.std.proofs.lemmas.List.Sums.{sum_by-cons}
 use Rattle.elf_image.specs.Layout.{elf32, layout_of}

@@ -1,14 +1,11 @@
 -- A built image is read back as its recipe.
-use Rattle.std.proofs.Common.{◌≡◌, ℕ, ◌+◌, ◌*◌, ◌<◌, ◌^◌, ◌==◌, ◌||◌, ◌&&◌, not, Bool, true, false, cond, List, [], ◌∷◌, ◌++◌, length, find, codes, Option, Some, None, sym, ◌∙◌, ap, subst, arith, refl, lit<, append_assoc, append-nil, length-append}
-use lib.Dec.{ltb as nat_lt}
+use Rattle.std.proofs.Common.{◌≡◌, ℕ, ◌+◌, ◌<◌, ◌^◌, ◌==◌, ◌&&◌, not, Bool, true, false, cond, List, [], ◌∷◌, ◌++◌, length, find, codes, Option, Some, None, sym, ◌∙◌, ap, subst, arith, refl, lit<, append_assoc, append-nil, length-append}
 use Rattle.std.specs.Prelude.{option_map, IsSome, fold}
 use Rattle.std.proofs.lemmas.Option.{same_Some}
 use Rattle.std.proofs.lemmas.Bool.{ne_eqb}
 use Rattle.elf_image.specs.Layout.{elf32}
 use Rattle.elf_image.specs.Headers.{file_header as file_header_read}
-use Rattle.elf_image.specs.Faults.{fault_if, first_fault}
-use Rattle.elf_image.specs.Sections.{section_header_at, names_of, has_name, section_place, section_by, sections_from}
-use Rattle.elf_image.specs.declared.faults.ElfFault.TheVariants as fault
+use Rattle.elf_image.specs.Sections.{names_of, has_name, section_place, section_by, sections_from}
 use Rattle.script_lang.specs.declared.recipes.RecipeLine.{RecipeLine}
 use Rattle.script_lang.specs.declared.recipes.RecipeLine.TheVariants as recipe
 use Rattle.script_lang.specs.Runnable.{IsRecipe}
@@ -16,7 +13,7 @@ use Rattle.image_maker.specs.Segments.{segment_count}
 use Rattle.image_maker.specs.Tables.{table_len, table_bytes}
 use Rattle.image_maker.specs.Images.{entry_after, entry_address, table_after, table_address, segments_part, section_names, section_headers, data_end, image_with, image_of}
 use Rattle.image_maker.specs.ReadBack.{table_section, IsLoadable, IsReadBack}
-use Rattle.elf_writer.proofs.ReadFields.{IsHeader, skip, header_read}
+use Rattle.elf_writer.proofs.ReadFields.{skip, header_read}
 use Rattle.elf_writer.proofs.ReadLoads.{file_is}
 use Rattle.image_maker.proofs.ReadTable.{HasTable, length_table, section_found, sections_pass}
 use Rattle.elf_writer.specs.Headers.{file_header}

@@ -4,7 +4,7 @@ use Rattle.std.proofs.lemmas.List.Elements.{All-nil, All-cons}
 use Rattle.std.proofs.lemmas.List.Sums.{sum_by-cons}
 use Rattle.std.proofs.Math.Seq.{drop-append_seam}
 use Rattle.elf_writer.specs.Headers.{load_header}
-use Rattle.elf_writer.specs.Loads.{Load, load_headers, loaded_segment, loaded_segments}
+use Rattle.elf_writer.specs.Loads.{Load, load_headers, loaded_segments}
 use Rattle.elf_writer.proofs.ReadFields.{behind}
 use Rattle.elf_writer.proofs.ReadLoads.{IsLoadIn}
 use Rattle.script_lang.specs.declared.recipes.RecipeLine.{RecipeLine}

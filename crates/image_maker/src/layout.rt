@@ -18,6 +18,11 @@ use std::alloc::{AllocError, Global};
 const ET_EXEC: u64 = 2;
 
 /// The image that a recipe says.
+///
+/// Errors: only for want of memory; no length of a recipe of a script passes 64 bits, see
+/// [`laws::lengths_fit`].
+///
+/// [`laws::lengths_fit`]: crate::laws::lengths_fit
 #[tactic(auto, unfolding(crate::specs::Images::image_of))]
 pub fn build(alloc: Global, recipe: &Recipe) -> Result<Vec<u8>, NoMemory>
     ensures { IfOk result (λ image. image.items ≡ image_of recipe.now) }

@@ -7,14 +7,14 @@ use crate::codes::is_record;
 use rp_base::NoMemory;
 use script_lang::RecipeLine;
 
-/// A sum of lengths. One that no memory could hold is refused.
+/// A sum of lengths. One past 64 bits is refused, as no recipe of a script makes.
 pub(crate) fn plus(left: u64, right: u64) -> Result<u64, NoMemory>
     ensures { IfOk result (λ sum. sum ≡ left + right) }
 {
     left.checked_add(right).ok_or(NoMemory)
 }
 
-/// A product of lengths. One that no memory could hold is refused.
+/// A product of lengths. One past 64 bits is refused, as no recipe of a script makes.
 pub(crate) fn times(left: u64, right: u64) -> Result<u64, NoMemory>
     ensures { IfOk result (λ product. product ≡ left * right) }
 {
