@@ -1,4 +1,6 @@
 -- The words stand apart: a step on a word of the table is one on the word of its number.
+use Rattle.link_words.specs.declared.codes.DeskTables.{DeskTables}
+use Rattle.link_words.specs.PlacedDesks.{PlacedDesk}
 use Rattle.std.proofs.Common.{◌≡◌, ℕ, zero, suc, ◌+◌, ◌*◌, ◌<◌, ◌≤◌, List, [], ◌∷◌, get_or, set, refl, sym, ap, ◌∙◌, subst, arith}
 use Rattle.atomic_table.specs.Table.{Allows, Splits, Joins, carried_after}
 use base.Stored.{Coded}
@@ -14,7 +16,7 @@ use Rattle.link_words.specs.declared.rule.Ring.TheVariants as ring
 use Rattle.link_words.specs.Words.{sizes_at, entries_before, ring_before, entry_number, words_in, IsSized, sender_word, receiver_word, forward_word, return_word}
 use Rattle.link_words.specs.Calls.{SeatState}
 use Rattle.link_words.specs.Layouts.{words_apart, place_apart, place_in}
-use Rattle.link_words.specs.Rule.{WordsRule, LinkRule}
+use Rattle.link_words.specs.Rule.{WordsRule, PlacedRule}
 
 pub found_apart : (n : ℕ) (ws : List ℕ) (i : ℕ) → get_or (words_apart n ws) (place_apart n i) 0 ≡ get_or ws i 0
 found_apart n [] i = refl
@@ -42,8 +44,8 @@ place_behind (suc n) i = let rec = place_behind n i in ap (place_apart (suc n)) 
 pub entry_place_is : (i : ℕ) → place_in (10 + i) ≡ 160 + 8 * i
 entry_place_is i = place_behind 10 i
 
-module _ {D : Type 0} (cd : Coded D) (desk : DeskMeaning D) (z : LinkSizes) where
-  pub apart : (slots id : ℕ) (me : SeatState) (i place : ℕ) (f : ℕ → ℕ) (T : ℕ → SeatState → Type 0) → place ≡ place_in i → Allows (WordsRule cd desk z) slots id me i f T → Allows (LinkRule cd desk z) slots id me place f T
+module _ {B : Type 0} {kc : Coded B} {kz : DeskTables} (cd : Coded (PlacedDesk kc kz)) (desk : DeskMeaning (PlacedDesk kc kz)) (z : LinkSizes) where
+  pub apart : (slots id : ℕ) (me : SeatState) (i place : ℕ) (f : ℕ → ℕ) (T : ℕ → SeatState → Type 0) → place ≡ place_in i → Allows (WordsRule cd desk z) slots id me i f T → Allows (PlacedRule cd desk z) slots id me place f T
   apart slots id me i place f T is allows s (ws, shown, r) long at wide =
       let found : get_or s.words place 0 ≡ get_or ws i 0 = (λ k. get_or (shown k) (is k) 0) ∙ found_apart 10 ws i in
       let a = allows (record s { words = ws }) r long at (subst (λ (n : ℕ). n < 18446744073709551616) found wide) in (
@@ -54,10 +56,10 @@ module _ {D : Type 0} (cd : Coded D) (desk : DeskMeaning D) (z : LinkSizes) wher
         subst (λ (n : ℕ). T n (a.0, carried_after me.1 a.1)) (sym found) a.4,
       )
 
-  pub splits_apart : (id : ℕ) (v left right : View) → Splits (WordsRule cd desk z) id v left right → Splits (LinkRule cd desk z) id v left right
+  pub splits_apart : (id : ℕ) (v left right : View) → Splits (WordsRule cd desk z) id v left right → Splits (PlacedRule cd desk z) id v left right
   splits_apart id v left right splits s (ws, shown, r) at = (ws, shown, splits (record s { words = ws }) r at)
 
-  pub joins_apart : (id : ℕ) (v : View) (other : ℕ) (w both spent : View) → Joins (WordsRule cd desk z) id v other w both spent → Joins (LinkRule cd desk z) id v other w both spent
+  pub joins_apart : (id : ℕ) (v : View) (other : ℕ) (w both spent : View) → Joins (WordsRule cd desk z) id v other w both spent → Joins (PlacedRule cd desk z) id v other w both spent
   joins_apart id v other w both spent joins s (ws, shown, r) at apart seen = (ws, shown, joins (record s { words = ws }) r at apart seen)
 
 -- the turns and the indexes stand before the entries

@@ -1,4 +1,6 @@
 -- Step 1 of a call as its seat is told it, on the words of the table.
+use Rattle.link_words.specs.declared.codes.DeskTables.{DeskTables}
+use Rattle.link_words.specs.PlacedDesks.{PlacedDesk}
 use Rattle.std.proofs.Common.{◌≡◌, ℕ, zero, suc, ◌+◌, ◌<◌, ◌≤◌, Bool, true, false, eqb, cond, ◌&&◌, ◌||◌, List, [], ◌∷◌, refl, sym, ap, ◌∙◌, subst, arith, eq-eqb}
 use Rattle.std.specs.Prelude.{Some, IsTrue}
 use mathlib.Core.Option.{some, some-ne-none, some-injective}
@@ -32,10 +34,13 @@ use Rattle.link_words.specs.Deeds.{Steps}
 use Rattle.link_words.specs.Histories.{hands_of}
 use Rattle.link_words.specs.Layouts.{place_in}
 use Rattle.link_words.specs.Passes.{HasNumber, with_call, place_of_number}
-use Rattle.link_words.specs.Rule.{IsCallOf, Shows, LinkRule}
-use Rattle.link_words.specs.Steps.{IsStepOf, Begins, IsFit, first_work, turn_word_for, TakesSender, TakesReceiver, TakesTurn, HasWord}
+use Rattle.link_words.specs.Rule.{IsCallOf, Shows, PlacedRule}
+use Rattle.link_words.specs.Steps.{IsStepOf, BeginsWith, IsFit, first_work, turn_word_for, TakesSender, TakesReceiver, TakesTurn, HasWord}
 use Rattle.link_words.specs.Words.{other, lane_to, sender_word, receiver_word, sender_slot, receiver_slot}
 use Rattle.link_words.proofs.Apart.{apart, sender_low, receiver_low}
+use Rattle.link_words.specs.declared.rule.Made.TheVariants as made
+use Rattle.link_words.specs.Rule.{WordsRule}
+use Rattle.link_words.proofs.Notes.{noted_seat, becomes_noted, becomes_same, notes, step_noted}
 use Rattle.link_words.proofs.Exact.{StepBy, number_is, becomes, step_told, ReadsAt, read_there}
 use Rattle.link_words.proofs.Starts.{SendBeginsBy, starts}
 use Rattle.link_words.proofs.TakeStarts.{takes_turn}
@@ -65,54 +70,66 @@ held_of c k (h ∷ hs) has = go (eqb h.caller c) refl has (held_of c k hs)
     go true mine (suc i, at) rec = right (eqb h.number k && eqb h.caller c) (holds hs k c) (rec (i, at))
     go false other has rec = right (eqb h.number k && eqb h.caller c) (holds hs k c) (rec has)
 
-module _ {D : Type 0} (cd : Coded D) (desk : DeskMeaning D) (z : LinkSizes) (n id : ℕ) (me : SeatState) (e : End) (number follows : ℕ) (s : RestsAt me e number) (new place : ℕ) (new_is : new ≡ number + 1) where
+module _ {B : Type 0} {kc : Coded B} {kz : DeskTables} (cd : Coded (PlacedDesk kc kz)) (desk : DeskMeaning (PlacedDesk kc kz)) (z : LinkSizes) (n id : ℕ) (me : SeatState) (e : End) (number follows : ℕ) (s : RestsAt me e number) (new place : ℕ) (new_is : new ≡ number + 1) where
   suc_number : new ≡ suc s.mover.pass.number
   suc_number = let same = s.number in omega (arith, new_is, same)
 
   -- the step by its place and its number
-  begin_told : (w : Wish) (i y : ℕ) (me' : SeatState) → place ≡ place_in i → StepBy cd desk (ReadsAt i y) me s.mover (Steps s.mover.pass.number follows (Some w)) me' → Begins cd desk (HasWord place y) number follows w me me'
+  begin_told : (w : Wish) (i y : ℕ) (me' : SeatState) → place ≡ place_in i → StepBy cd desk (ReadsAt i y) me s.mover (Steps s.mover.pass.number follows (Some w)) me' → BeginsWith cd desk (HasWord place y) number follows w me (noted_seat (made.Turn y) (place_of_number number me.0.passes) me')
   begin_told w i y me' is step = let k = place_of_number number me.0.passes in
-      read_there cd desk i place y is _ _ _ _ me me' (subst (λ (j : ℕ). IsStepOf cd desk (ReadsAt i y) (Steps j follows (Some w)) j (call_at k me.0.passes) (call_at k me'.0.passes) me me') (sym (number_is me s.mover k s.here) ∙ s.number)
-      (step_told me s.mover k s.here cd desk (ReadsAt i y) (λ j. Steps j follows (Some w)) me' step))
+      read_there cd desk i place y is _ _ _ _ me (noted_seat (made.Turn y) k me') (step_noted cd desk z (ReadsAt i y) (Steps number follows (Some w)) number k (call_at k me.0.passes) me me' (made.Turn y)
+      (subst (λ (j : ℕ). IsStepOf cd desk (ReadsAt i y) (Steps j follows (Some w)) j (call_at k me.0.passes) (call_at k me'.0.passes) me me') (sym (number_is me s.mover k s.here) ∙ s.number)
+      (step_told me s.mover k s.here cd desk (ReadsAt i y) (λ j. Steps j follows (Some w)) me' step)))
 
-  takes_sender : (message : List ℕ) (y : ℕ) (me' : SeatState) → SendBeginsBy cd desk z me s.mover (other e) follows message y me' → TakesSender (other e) number follows message me y me'
+  abbrev there : ℕ
+  there = place_of_number number me.0.passes
+
+  takes_sender : (message : List ℕ) (y : ℕ) (me' : SeatState) → SendBeginsBy cd desk z me s.mover (other e) follows message y me' → TakesSender (other e) number follows message me y (noted_seat (made.Turn y) there me')
   takes_sender message y me' t = (
     (λ free. let f = t.0 free in (
       f.0,
-      becomes me s.mover (place_of_number number me.0.passes) s.here (λ p. with_call p (Sends (other e) (turn.Taken number (record { follows = follows; message = message; stage = stage.Turn })) f.0 0)) _ ((sender_slot (other e), Sender f.0) ∷ me.1) me'
-          (ap (λ (k : ℕ). with_call s.mover.pass (Sends (other e) (turn.Taken k (record { follows = follows; message = message; stage = stage.Turn })) f.0 0)) s.number) f.1,
+      f.1,
+      becomes_noted (made.Turn y) (λ p. with_call p (Sends (other e) (turn.Taken number (record { follows = follows; message = message; stage = stage.Turn })) f.0 0)) there ((sender_slot (other e), Sender f.0) ∷ me.1) me me'
+          (becomes me s.mover there s.here (λ p. with_call p (Sends (other e) (turn.Taken number (record { follows = follows; message = message; stage = stage.Turn })) f.0 0)) _ ((sender_slot (other e), Sender f.0) ∷ me.1) me'
+          (ap (λ (k : ℕ). with_call s.mover.pass (Sends (other e) (turn.Taken k (record { follows = follows; message = message; stage = stage.Turn })) f.0 0)) s.number) f.2),
     )),
-    t.1,
+    (λ busy. becomes_noted (made.Turn y) (λ p. p) there me.1 me me' (becomes_same there me me' (t.1 busy))),
   )
 
-  takes_receiver : (first : Work) (y : ℕ) (me' : SeatState) → TakeBeginsBy me s.mover e follows first y me' → TakesReceiver e number follows first me y me'
+  takes_receiver : (first : Work) (y : ℕ) (me' : SeatState) → TakeBeginsBy me s.mover e follows first y me' → TakesReceiver e number follows first me y (noted_seat (made.Turn y) there me')
   takes_receiver first y me' t = (
     (λ free. let f = t.0 free in (
       f.0,
-      becomes me s.mover (place_of_number number me.0.passes) s.here (λ p. with_call p (Receives e (turn.Taken number (record { follows = follows; work = first })) f.0 0 [])) _ ((receiver_slot e, Receiver f.0) ∷ me.1) me'
-          (ap (λ (k : ℕ). with_call s.mover.pass (Receives e (turn.Taken k (record { follows = follows; work = first })) f.0 0 [])) s.number) f.1,
+      f.1,
+      f.2,
+      becomes_noted (made.Turn y) (λ p. with_call p (Receives e (turn.Taken number (record { follows = follows; work = first })) f.0 0 [])) there ((receiver_slot e, Receiver f.0) ∷ me.1) me me'
+          (becomes me s.mover there s.here (λ p. with_call p (Receives e (turn.Taken number (record { follows = follows; work = first })) f.0 0 [])) _ ((receiver_slot e, Receiver f.0) ∷ me.1) me'
+          (ap (λ (k : ℕ). with_call s.mover.pass (Receives e (turn.Taken k (record { follows = follows; work = first })) f.0 0 [])) s.number) f.3),
     )),
-    t.1,
+    (λ busy. becomes_noted (made.Turn y) (λ p. p) there me.1 me me' (becomes_same there me me' (t.1 busy))),
   )
 
+  -- a first step, on the word of the table and noted
+  begins_by : (w : Wish) (i : ℕ) (f : ℕ → ℕ) (T T' : ℕ → SeatState → Type 0) → place ≡ place_in i
+      → Allows (WordsRule cd desk z) n id me i f (λ y me'. T y me' × (y ≤ 65) × StepBy cd desk (ReadsAt i y) me s.mover (Steps s.mover.pass.number follows (Some w)) me') → ((y : ℕ) (me' : SeatState) → T y me' → T' y (noted_seat (made.Turn y) there me'))
+      → Allows (PlacedRule cd desk z) n id me place f (λ y me'. T' y me' × (y ≤ 65) × BeginsWith cd desk (HasWord place y) number follows w me me')
+  begins_by w i f T T' is allows follows_told =
+      apart cd desk z n id me i place f (λ y me'. T' y me' × (y ≤ 65) × BeginsWith cd desk (HasWord place y) number follows w me me') is
+      (notes cd desk z n id me i f there (λ y me'. T y me' × (y ≤ 65) × StepBy cd desk (ReadsAt i y) me s.mover (Steps s.mover.pass.number follows (Some w)) me') (λ y me'. T' y me' × (y ≤ 65) × BeginsWith cd desk (HasWord place y) number follows w me me')
+      (λ y me' t. made.Turn y) allows (λ y me' t. (follows_told y me' t.0, t.1, begin_told w i y me' is t.2)))
+
   send_begins : (message : List ℕ) → IsFit (wish.Send message) s.mover.pass.hands → place ≡ place_in (sender_word (other e))
-      → Allows (LinkRule cd desk z) n id me place (λ y. either (eqb y 0) new y) (λ y me'. TakesTurn e number follows (wish.Send message) me y me' × (y ≤ 65) × Begins cd desk (HasWord place y) number follows (wish.Send message) me me')
-  send_begins message fits is st kept long at wide =
-      let a = apart cd desk z n id me (sender_word (other e)) place (λ y. either (eqb y 0) new y)
-      (λ y me'. SendBeginsBy cd desk z me s.mover (other e) follows message y me' × (y ≤ 65) × StepBy cd desk (ReadsAt (sender_word (other e)) y) me s.mover (Steps s.mover.pass.number follows (Some (wish.Send message))) me') is
-      (starts cd desk z n id me s.mover (other e) follows new message fits (s.call ∙ ap Rests (sym (other_twice e))) suc_number) st kept long at wide in
-      (a.0, a.1, a.2, a.3, (takes_sender message _ _ a.4.0, a.4.1, begin_told (wish.Send message) (sender_word (other e)) _ _ is a.4.2))
+      → Allows (PlacedRule cd desk z) n id me place (λ y. either (eqb y 0) new y) (λ y me'. TakesTurn e number follows (wish.Send message) me y me' × (y ≤ 65) × BeginsWith cd desk (HasWord place y) number follows (wish.Send message) me me')
+  send_begins message fits is = begins_by (wish.Send message) (sender_word (other e)) (λ y. either (eqb y 0) new y) (SendBeginsBy cd desk z me s.mover (other e) follows message) (TakesSender (other e) number follows message me) is
+      (starts cd desk z n id me s.mover (other e) follows new message fits (s.call ∙ ap Rests (sym (other_twice e))) suc_number) (takes_sender message)
 
-  work_begins : (w : Wish) (first : Work) → ((lanes : Lanes (RingState D)) (caller : ℕ) → first_step (ring_form desk) lanes caller follows w ≡ receive_first (ring_form desk) lanes caller follows first) → work_is_out first ≡ false
-      → ((st : State Slot View) (m : LaneLink (RingState D)) (p : ℕ) → Shows cd desk z st m p → get_elem? st.views id ≡ some me.0 → IsFitWish w (lane_to m e).lane.lane.held s.mover.pass.number) → place ≡ place_in (receiver_word e)
-      → Allows (LinkRule cd desk z) n id me place (λ y. either (eqb y 0) new y) (λ y me'. TakesReceiver e number follows first me y me' × (y ≤ 65) × Begins cd desk (HasWord place y) number follows w me me')
-  work_begins w first begins inside fits is st kept long at wide =
-      let a = apart cd desk z n id me (receiver_word e) place (λ y. either (eqb y 0) new y)
-      (λ y me'. TakeBeginsBy me s.mover e follows first y me' × (y ≤ 65) × StepBy cd desk (ReadsAt (receiver_word e) y) me s.mover (Steps s.mover.pass.number follows (Some w)) me') is
-      (takes_turn desk w first follows begins cd z id me s.mover e s.call inside fits n new suc_number) st kept long at wide in
-      (a.0, a.1, a.2, a.3, (takes_receiver first _ _ a.4.0, a.4.1, begin_told w (receiver_word e) _ _ is a.4.2))
+  work_begins : (w : Wish) (first : Work) → ((lanes : Lanes (RingState (PlacedDesk kc kz))) (caller : ℕ) → first_step (ring_form desk) lanes caller follows w ≡ receive_first (ring_form desk) lanes caller follows first) → work_is_out first ≡ false
+      → ((st : State Slot View) (m : LaneLink (RingState (PlacedDesk kc kz))) (p : ℕ) → Shows cd desk z st m p → get_elem? st.views id ≡ some me.0 → IsFitWish w (lane_to m e).lane.lane.held s.mover.pass.number) → place ≡ place_in (receiver_word e)
+      → Allows (PlacedRule cd desk z) n id me place (λ y. either (eqb y 0) new y) (λ y me'. TakesReceiver e number follows first me y me' × (y ≤ 65) × BeginsWith cd desk (HasWord place y) number follows w me me')
+  work_begins w first begins inside fits is = begins_by w (receiver_word e) (λ y. either (eqb y 0) new y) (TakeBeginsBy me s.mover e follows first) (TakesReceiver e number follows first me) is
+      (takes_turn desk w first follows begins cd z id me s.mover e s.call inside fits n new suc_number) (takes_receiver first)
 
-  give_fits : (k : ℕ) → HasNumber s.mover.pass.hands k → (st : State Slot View) (m : LaneLink (RingState D)) (p : ℕ) → Shows cd desk z st m p → get_elem? st.views id ≡ some me.0 → IsFitWish (wish.Give k) (lane_to m e).lane.lane.held s.mover.pass.number
+  give_fits : (k : ℕ) → HasNumber s.mover.pass.hands k → (st : State Slot View) (m : LaneLink (RingState (PlacedDesk kc kz))) (p : ℕ) → Shows cd desk z st m p → get_elem? st.views id ≡ some me.0 → IsFitWish (wish.Give k) (lane_to m e).lane.lane.held s.mover.pass.number
   give_fits k has st m p r at =
       let rests : IsCallOf m p s.mover.pass.number (Rests e) = subst (IsCallOf m p s.mover.pass.number) s.call (r.turns.calls id s.mover.place s.mover.pass (me.0, at, s.mover.here)) in
       let held = r.histories.hands id s.mover.place s.mover.pass (me.0, at, s.mover.here) e rests.0 in
@@ -120,7 +137,7 @@ module _ {D : Type 0} (cd : Coded D) (desk : DeskMeaning D) (z : LinkSizes) (n i
 
   -- step 1 of what a caller wishes
   pub call_begins : (w : Wish) → IsFit w s.mover.pass.hands → place ≡ place_in (turn_word_for e w)
-      → Allows (LinkRule cd desk z) n id me place (λ y. either (eqb y 0) new y) (λ y me'. TakesTurn e number follows w me y me' × (y ≤ 65) × Begins cd desk (HasWord place y) number follows w me me')
+      → Allows (PlacedRule cd desk z) n id me place (λ y. either (eqb y 0) new y) (λ y me'. TakesTurn e number follows w me y me' × (y ≤ 65) × BeginsWith cd desk (HasWord place y) number follows w me me')
   call_begins (wish.Send message) fits is = send_begins message fits is
   call_begins wish.Take fits is = work_begins wish.Take (first_work wish.Take) (λ lanes caller. refl) refl (λ st m p r at. tt) is
   call_begins (wish.Give k) fits is = work_begins (wish.Give k) (first_work (wish.Give k)) (λ lanes caller. refl) refl (give_fits k fits) is

@@ -11,7 +11,7 @@ use Rattle.lane_model.specs.declared.states.BookEntry.{BookEntry}
 use Rattle.lane_model.specs.Desks.{DeskMeaning}
 use Rattle.ring_core.specs.declared.states.RingState.{RingState}
 use Rattle.link_words.specs.declared.rule.Event.{Event}
-use Rattle.link_words.specs.declared.rule.Event.TheVariants.{Publish, Take}
+use Rattle.link_words.specs.declared.rule.Event.TheVariants.{Step, Publish, Take}
 use Rattle.link_words.specs.Words.{lane_to, with_lane}
 use Rattle.link_words.specs.Deeds.{link_after_opening}
 use Rattle.link_words.specs.Histories.{same_end, entries_by, sends_in, NoneLater, takes_by, takes_in, ReadsIn, NoneOf}
@@ -82,6 +82,7 @@ before_more (b ∷ book) entry (suc k) low = before_more book entry k (omega ari
 -- an entry more leaves what was read
 read_push : (e : End) (inc : ℕ) (book : List BookEntry) (entry : BookEntry) (own : List Event) → ReadsIn e inc book own → ReadsIn e inc (book ++ entry ∷ []) own
 read_push e inc book entry [] has = tt
+read_push e inc book entry (Step made ∷ own) has = read_push e inc book entry own has
 read_push e inc book entry (Publish lane i number message ∷ own) has = read_push e inc book entry own has
 read_push e inc book entry (Take lane i number message ∷ own) has =
     ((λ here now. let was = has.0 here now in let long = length-append book (entry ∷ []) in let low = was.0 in (omega (arith, low, long), was.1 ∙ before_more book entry number was.0)), read_push e inc book entry own has.1)
@@ -95,6 +96,7 @@ read_more m side.Remote s entry book own has side.Remote = subst (λ (b : List B
 -- nothing of a later incarnation was read
 read_none : (e : End) (inc next : ℕ) (book : List BookEntry) (own : List Event) → inc < next → NoneLater inc own → ReadsIn e next book own
 read_none e inc next book [] later none = tt
+read_none e inc next book (Step made ∷ own) later none = read_none e inc next book own later none
 read_none e inc next book (Publish lane i number message ∷ own) later none = read_none e inc next book own later none.1
 read_none e inc next book (Take lane i number message ∷ own) later none = ((λ here now. let low = none.0 in absurd (omega (arith, low, later, now))), read_none e inc next book own later none.1)
 
@@ -147,6 +149,7 @@ history_shut {D} m inc number first own is has = record { sent = λ i. go i; tak
 
 mine_none : (e : End) (inc next : ℕ) (own : List Event) → inc < next → NoneLater inc own → sends_in e next own ≡ []
 mine_none e inc next [] later none = refl
+mine_none e inc next (Step made ∷ own) later none = mine_none e inc next own later none
 mine_none e inc next (Take lane i number message ∷ own) later none = mine_none e inc next own later none.1
 mine_none e inc next (Publish lane i number message ∷ own) later none =
     ap (λ (y : Bool). cond (same_end lane e && y) (sends_in e next own ++ (number, message) ∷ []) (sends_in e next own)) (ne_eqb i next (λ same. let low = none.0 in omega arith))
@@ -158,11 +161,13 @@ mine_none e inc next (Publish lane i number message ∷ own) later none =
 
 none_more : (inc next : ℕ) (own : List Event) → inc ≤ next → NoneLater inc own → NoneLater next own
 none_more inc next [] more none = tt
+none_more inc next (Step made ∷ own) more none = none_more inc next own more none
 none_more inc next (Publish lane i number message ∷ own) more none = (le_trans none.0 more, none_more inc next own more none.1)
 none_more inc next (Take lane i number message ∷ own) more none = (le_trans none.0 more, none_more inc next own more none.1)
 
 took_none : (e : End) (inc next : ℕ) (own : List Event) → inc < next → NoneLater inc own → takes_in e next own ≡ []
 took_none e inc next [] later none = refl
+took_none e inc next (Step made ∷ own) later none = took_none e inc next own later none
 took_none e inc next (Publish lane i number message ∷ own) later none = took_none e inc next own later none.1
 took_none e inc next (Take lane i number message ∷ own) later none =
     ap (λ (y : Bool). cond (same_end lane e && y) (takes_in e next own ++ number ∷ []) (takes_in e next own)) (ne_eqb i next (λ same. let low = none.0 in omega arith))

@@ -1,4 +1,6 @@
 -- The steps of a send at which a buffer goes out and comes home, on either lane: from the sender's own list or from the return ring.
+use Rattle.link_words.specs.declared.codes.DeskTables.{DeskTables}
+use Rattle.link_words.specs.PlacedDesks.{PlacedDesk}
 use Rattle.std.proofs.Common.{◌≡◌, ℕ, ◌+◌, ◌<◌, true, List, ◌∷◌, length, get_or, set, refl, sym, ap, ◌∙◌, subst, arith, length-set, le_refl}
 use Rattle.std.specs.Prelude.{None}
 use Rattle.std.specs.Prelude.{Some}
@@ -47,7 +49,7 @@ use Rattle.link_words.proofs.Sends.{has_of, true-false, at_zero}
 use Rattle.link_words.proofs.Exact.{StepBy, ReadsAt, read_by}
 use Rattle.link_words.proofs.Parts.{rings_in, sizes_in, buffers_in}
 
-pub rings_to : {D : Type 0} (m : LaneLink (RingState D)) (e : End) → HasSoundRings m → IsSoundRings (lane_to m e)
+pub rings_to : {B : Type 0} {kc : Coded B} {kz : DeskTables} (m : LaneLink (RingState (PlacedDesk kc kz))) (e : End) → HasSoundRings m → IsSoundRings (lane_to m e)
 rings_to m side.Host sound = sound.to_host
 rings_to m side.Remote sound = sound.to_remote
 
@@ -55,37 +57,37 @@ pub index_set : (e : End) (era n : ℕ) (a b : LaneWords) → set (words_at e er
 index_set side.Host era n a b = refl
 index_set side.Remote era n a b = refl
 
-module _ {D : Type 0} (cd : Coded D) (desk : DeskMeaning D) (z : LinkSizes) (st : State Slot View) (m : LaneLink (RingState D)) (r : Shows cd desk z st m 0) (e : End) where
+module _ {B : Type 0} {kc : Coded B} {kz : DeskTables} (cd : Coded (PlacedDesk kc kz)) (desk : DeskMeaning (PlacedDesk kc kz)) (z : LinkSizes) (st : State Slot View) (m : LaneLink (RingState (PlacedDesk kc kz))) (r : Shows cd desk z st m 0) (e : End) where
   -- the table seen from a lane
   pub words_here : st.words ≡ words_at e (era_word m.era) (lane_words (lane_to m e)) (lane_words (lane_to m (other e)))
-  words_here = r.words_are ∙ (ap (λ (x : LaneLink (RingState D)). words_of 0 (fresh_block desk m) x) (sym (same_lane m e)) ∙ words_seen (fresh_block desk m) m e (lane_to m e))
+  words_here = r.words_are ∙ (ap (λ (x : LaneLink (RingState (PlacedDesk kc kz))). words_of 0 (fresh_block desk m) x) (sym (same_lane m e)) ∙ words_seen (fresh_block desk m) m e (lane_to m e))
 
   pub homes_here : st.homes ≡ homes_at e (lane_homes (lane_to m e) (shelf_to r.shelves e)) (lane_homes (lane_to m (other e)) (shelf_to r.shelves (other e)))
   homes_here = r.homes_are ∙ ((λ k. homes_of (sym (same_lane m e) k) (sym (same_shelf r.shelves e) k)) ∙ homes_seen m r.shelves e (lane_to m e) (shelf_to r.shelves e))
 
-  pub loaded : (i : ℕ) (s : RingState D) → lane_to m e ≡ s → set (words_at e (era_word m.era) (lane_words s) (lane_words (lane_to m (other e)))) i (get_or st.words i 0) ≡ words_at e (era_word m.era) (lane_words s) (lane_words (lane_to m (other e)))
+  pub loaded : (i : ℕ) (s : RingState (PlacedDesk kc kz)) → lane_to m e ≡ s → set (words_at e (era_word m.era) (lane_words s) (lane_words (lane_to m (other e)))) i (get_or st.words i 0) ≡ words_at e (era_word m.era) (lane_words s) (lane_words (lane_to m (other e)))
   loaded i s is =
-      let all : st.words ≡ words_at e (era_word m.era) (lane_words s) (lane_words (lane_to m (other e))) = words_here ∙ ap (λ (x : RingState D). words_at e (era_word m.era) (lane_words x) (lane_words (lane_to m (other e)))) is in
+      let all : st.words ≡ words_at e (era_word m.era) (lane_words s) (lane_words (lane_to m (other e))) = words_here ∙ ap (λ (x : RingState (PlacedDesk kc kz)). words_at e (era_word m.era) (lane_words x) (lane_words (lane_to m (other e)))) is in
       ap (λ (ws : List ℕ). set (words_at e (era_word m.era) (lane_words s) (lane_words (lane_to m (other e)))) i (get_or ws i 0)) all ∙ set-get_or (words_at e (era_word m.era) (lane_words s) (lane_words (lane_to m (other e)))) i 0
 
 -- where the buffers of the lane to the remote begin
-pub first_is : {D : Type 0} (cd : Coded D) (desk : DeskMeaning D) (z : LinkSizes) (st : State Slot View) (m : LaneLink (RingState D)) (r : Shows cd desk z st m 0) (e : End) (first : ℕ) → first ≡ z.to_host.capacity
+pub first_is : {B : Type 0} {kc : Coded B} {kz : DeskTables} (cd : Coded (PlacedDesk kc kz)) (desk : DeskMeaning (PlacedDesk kc kz)) (z : LinkSizes) (st : State Slot View) (m : LaneLink (RingState (PlacedDesk kc kz))) (r : Shows cd desk z st m 0) (e : End) (first : ℕ) → first ≡ z.to_host.capacity
     → e ≡ side.Remote → first ≡ length (shelf_to r.shelves (other e))
 first_is cd desk z st m r side.Host first is at = absurd (host_is_not at)
 first_is cd desk z st m r side.Remote first is at = is ∙ sym (((buffers_in r) side.Host).long ∙ ap (λ x. x.capacity) (sizes_in r).0)
 
-module _ {D : Type 0} (cd : Coded D) (desk : DeskMeaning D) (z : LinkSizes) where
+module _ {B : Type 0} {kc : Coded B} {kz : DeskTables} (cd : Coded (PlacedDesk kc kz)) (desk : DeskMeaning (PlacedDesk kc kz)) (z : LinkSizes) where
   -- step 4 of a send, whatever word it loads: the buffer of the coming send is at home, and goes out
   pub pulls : (n id : ℕ) (me : SeatState) (o : Mover me.0) (e : End) (c f : ℕ) (message : List ℕ) (x : SenderSide) (b i first : ℕ) → o.pass.call ≡ Sends e (turn.Taken c (record { follows = f; message = message; stage = stage.Look })) x b → first ≡ z.to_host.capacity
       → (told : ℕ → ℕ)
-      → ((st : State Slot View) (m : LaneLink (RingState D)) (r : Shows cd desk z st m 0) → x ≡ sender_side (lane_to m e) → IsSoundRings (lane_to m e) → length (lane_to m e).lane.lane.accepted < (lane_to m e).lane.lane.returned + (lane_to m e).rings.sizes.capacity
+      → ((st : State Slot View) (m : LaneLink (RingState (PlacedDesk kc kz))) (r : Shows cd desk z st m 0) → x ≡ sender_side (lane_to m e) → IsSoundRings (lane_to m e) → length (lane_to m e).lane.lane.accepted < (lane_to m e).lane.lane.returned + (lane_to m e).rings.sizes.capacity
       → told (get_or st.words i 0) ≡ source_buffer (lane_to m e).rings.sizes.entries (lane_to m e).rings.sizes.own (lane_to m e).rings.returns (length (lane_to m e).lane.lane.accepted))
       → Allows (WordsRule cd desk z) n id me i (λ y. y) (λ y me'. SendTakesBufferBy me o first e c (record { follows = f; message = message; stage = stage.Look }) x (told y) me' × StepBy cd desk (ReadsAt i y) me o (Steps o.pass.number 0 None) me')
   pulls n id me o e c f message x b i first call first_at told knows st (m, p, r₀) wide at _ =
       let sending : Sending = record { follows = f; message = message; stage = stage.Look } in let t : Turn Sending = turn.Taken c sending in
       let h : IsCallOf m p o.pass.number (Sends e t x b) = subst (IsCallOf m p o.pass.number) call (r₀.turns.calls id o.place o.pass (me.0, at, o.here)) in
       let r = at_zero cd desk z st m p e t h.1.0 refl r₀ in let s₀ = lane_to m e in let s = with_turn s₀ t in let is : s₀ ≡ s = λ k. with_turn s₀ (h.1.0 k) in
-      let sound₀ = rings_to m e (rings_in r) in let sound : IsSoundRings s = subst IsSoundRings is sound₀ in let q : HoldsBuffers s (shelf_to r.shelves e) = subst (λ (u : RingState D). HoldsBuffers u (shelf_to r.shelves e)) is ((buffers_in r) e) in
+      let sound₀ = rings_to m e (rings_in r) in let sound : IsSoundRings s = subst IsSoundRings is sound₀ in let q : HoldsBuffers s (shelf_to r.shelves e) = subst (λ (u : RingState (PlacedDesk kc kz)). HoldsBuffers u (shelf_to r.shelves e)) is ((buffers_in r) e) in
       let sizes = s.rings.sizes in let a = length s.lane.lane.accepted in let hd = length s.lane.lane.takers in let cap : s.lane.lane.capacity ≡ sizes.capacity = sound.sized.lane in
       let found = sound.room refl in let room : a < s.lane.lane.returned + sizes.capacity = omega (arith, found.0, cap) in
       let own : ℕ = source_buffer sizes.entries sizes.own s.rings.returns a in
@@ -95,11 +97,11 @@ module _ {D : Type 0} (cd : Coded D) (desk : DeskMeaning D) (z : LinkSizes) wher
       let y : Slot = home.0 in let near : own < length (shelf_to r.shelves e) = omega (arith, low, q.long) in let first_here = first_is cd desk z st m r e first first_at in
       let id_is : told (get_or st.words i 0) ≡ own = knows st m r h.1.2 sound₀ room in
       let t' : Turn Sending = turn.Taken c (record sending { stage = stage.Buffer }) in let w : Call = Sends e t' x own in
-      let s' : RingState D = (ring_form desk).sent_on s m.era in
+      let s' : RingState (PlacedDesk kc kz) = (ring_form desk).sent_on s m.era in
       let has : has_call s₀.lane.sender o.pass.number ≡ true = has_of s₀.lane.sender o.pass.number (ap holder h.1.0 ∙ h.1.1) (ap is_manager h.1.0) in
       let l' = set (shelf_to r.shelves e) own none in
       let may = send_may desk m e o.pass.number 0 h.0 has in
-      let deed : with_lane m e s' ≡ after_deed desk m (Steps o.pass.number 0 None) = ap (λ (u : RingState D). with_lane m e ((ring_form desk).sent_on u m.era)) (sym is) ∙ send_deed desk m e o.pass.number 0 h.0 has in
+      let deed : with_lane m e s' ≡ after_deed desk m (Steps o.pass.number 0 None) = ap (λ (u : RingState (PlacedDesk kc kz)). with_lane m e ((ring_form desk).sent_on u m.era)) (sym is) ∙ send_deed desk m e o.pass.number 0 h.0 has in
       let mine : IsCallOf (with_lane m e s') 0 o.pass.number w = here_sends desk m e s' o.pass.number t' x own h.0 (refl, h.1.1, h.1.2, λ _. refl) h.2 in (
         _,
         takes (buffer_slot first e own) y,
@@ -124,7 +126,7 @@ module _ {D : Type 0} (cd : Coded D) (desk : DeskMeaning D) (z : LinkSizes) wher
 
   -- step 4 of a send of the first sends of an incarnation: the sender's own list
   pub pulls_own : (n id : ℕ) (me : SeatState) (o : Mover me.0) (e : End) (c f : ℕ) (message : List ℕ) (x : SenderSide) (b i first own : ℕ) → o.pass.call ≡ Sends e (turn.Taken c (record { follows = f; message = message; stage = stage.Look })) x b → first ≡ z.to_host.capacity
-      → ((st : State Slot View) (m : LaneLink (RingState D)) → Shows cd desk z st m 0 → (lane_to m e).rings.sizes.own ≡ own) → x.accepted < own
+      → ((st : State Slot View) (m : LaneLink (RingState (PlacedDesk kc kz))) → Shows cd desk z st m 0 → (lane_to m e).rings.sizes.own ≡ own) → x.accepted < own
       → Allows (WordsRule cd desk z) n id me i (λ y. y) (λ y me'. SendTakesBufferBy me o first e c (record { follows = f; message = message; stage = stage.Look }) x x.accepted me' × StepBy cd desk (ReadsAt i y) me o (Steps o.pass.number 0 None) me')
   pulls_own n id me o e c f message x b i first own call first_at own_is early = pulls n id me o e c f message x b i first call first_at (λ _. x.accepted)
       (λ st m r side sound room. let a : x.accepted ≡ length (lane_to m e).lane.lane.accepted = ap (λ (u : SenderSide). u.accepted) side in let o = own_is st m r in

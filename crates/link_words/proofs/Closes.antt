@@ -1,5 +1,7 @@
 -- The close is that of the ring form, made by any seat.
-use Rattle.std.proofs.Common.{◌≡◌, ℕ, ◌+◌, ◌*◌, Bool, true, false, cond, eqb, ◌&&◌, List, get_or, set, refl, sym, ap, ◌∙◌, subst, inl, ⊎_elim, arith, eq-eqb, ne_eqb}
+use Rattle.link_words.specs.declared.codes.DeskTables.{DeskTables}
+use Rattle.link_words.specs.PlacedDesks.{PlacedDesk}
+use Rattle.std.proofs.Common.{◌≡◌, ℕ, ◌+◌, ◌*◌, ◌<◌, Bool, true, false, cond, eqb, ◌&&◌, List, get_or, set, refl, sym, ap, ◌∙◌, subst, inl, ⊎_elim, arith, eq-eqb, ne_eqb}
 use Rattle.std.specs.Prelude.{Some}
 use mathlib.Core.Option.{some}
 use lib.ListN.{get_elem?}
@@ -34,7 +36,7 @@ use Rattle.link_words.specs.Calls.{SeatState}
 use Rattle.link_words.specs.Seats.{ClosesEra}
 use Rattle.link_words.proofs.Frames.{some_copy, each_set, numbers_set, keepers_set, manager_set}
 use Rattle.link_words.proofs.Kept.{deed_kept}
-use Rattle.link_words.proofs.Parts.{state_in, sizes_in, buffers_in, put_together, one_more}
+use Rattle.link_words.proofs.Parts.{state_in, sizes_in, told_in, buffers_in, put_together, one_more}
 
 -- an era can be read off its word
 pub era_is : (i j : ℕ) (a b : Bool) → i * 2 + cond a 1 0 ≡ j * 2 + cond b 1 0 → (i ≡ j) × (a ≡ b)
@@ -60,11 +62,11 @@ not_live_in : (inc found : ℕ) (live : Bool) → ((found ≡ inc) → live ≡ 
 not_live_in inc found false never = and_false (eqb found inc)
 not_live_in inc found true never = ap (λ (b : Bool). b && true) (ne_eqb found inc (λ same. never same refl))
 
-managers_shut : {D : Type 0} (m : LaneLink (RingState D)) (inc : ℕ) → AreManagers m → AreManagers (record m { era = record { inc = inc; is_live = false } })
+managers_shut : {B : Type 0} {kc : Coded B} {kz : DeskTables} (m : LaneLink (RingState (PlacedDesk kc kz))) (inc : ℕ) → AreManagers m → AreManagers (record m { era = record { inc = inc; is_live = false } })
 managers_shut m inc a = record { host_sender = a.host_sender; host_receiver = a.host_receiver; remote_sender = a.remote_sender; remote_receiver = a.remote_receiver }
 
 -- a change of the era alone, which shuts it
-shut_call : {D : Type 0} (m : LaneLink (RingState D)) (inc : ℕ) (k : ℕ) (call : Call) → m.era ≡ record { inc = inc; is_live = true } → IsCallOf m 0 k call → IsCallOf (record m { era = record { inc = inc; is_live = false } }) 0 k call
+shut_call : {B : Type 0} {kc : Coded B} {kz : DeskTables} (m : LaneLink (RingState (PlacedDesk kc kz))) (inc : ℕ) (k : ℕ) (call : Call) → m.era ≡ record { inc = inc; is_live = true } → IsCallOf m 0 k call → IsCallOf (record m { era = record { inc = inc; is_live = false } }) 0 k call
 shut_call m inc k Idle live has = has
 shut_call m inc k (Rests side.Host) live has = has
 shut_call m inc k (Rests side.Remote) live has = has
@@ -83,17 +85,17 @@ shut_call m inc k (EndsSend side.Remote t x buffer) live has = (has.0, has.1, re
 shut_call m inc k (Reopens p i) live has = absurd (true-false (sym (ap (λ (x : Era). x.is_live) live) ∙ has.2.0))
 shut_call m inc k (HoldsAll a b) live has = (has.0, has.1, managers_shut m inc has.2, has.3, has.4)
 
-shut_hands : {D : Type 0} (m : LaneLink (RingState D)) (inc : ℕ) (q : Pass) → HandsOf m q → HandsOf (record m { era = record { inc = inc; is_live = false } }) q
+shut_hands : {B : Type 0} {kc : Coded B} {kz : DeskTables} (m : LaneLink (RingState (PlacedDesk kc kz))) (inc : ℕ) (q : Pass) → HandsOf m q → HandsOf (record m { era = record { inc = inc; is_live = false } }) q
 shut_hands m inc q has side.Host user = has side.Host user
 shut_hands m inc q has side.Remote user = has side.Remote user
 
-shut_shelved : {D : Type 0} (m : LaneLink (RingState D)) (inc : ℕ) (F : RingState D → End → Type 0) → ((e : End) → F (lane_to m e) e) → (e : End) → F (lane_to (record m { era = record { inc = inc; is_live = false } }) e) e
+shut_shelved : {B : Type 0} {kc : Coded B} {kz : DeskTables} (m : LaneLink (RingState (PlacedDesk kc kz))) (inc : ℕ) (F : RingState (PlacedDesk kc kz) → End → Type 0) → ((e : End) → F (lane_to m e) e) → (e : End) → F (lane_to (record m { era = record { inc = inc; is_live = false } }) e) e
 shut_shelved m inc F each side.Host = each side.Host
 shut_shelved m inc F each side.Remote = each side.Remote
 
-module _ {D : Type 0} (cd : Coded D) (desk : DeskMeaning D) (z : LinkSizes) where
+module _ {B : Type 0} {kc : Coded B} {kz : DeskTables} (cd : Coded (PlacedDesk kc kz)) (desk : DeskMeaning (PlacedDesk kc kz)) (z : LinkSizes) where
   -- a deed that changes nothing, whatever a reopening has reset
-  pub stays_at : (st : State Slot View) (m : LaneLink (RingState D)) (p : ℕ) → Shows cd desk z st m p → (i n id : ℕ) (cs : List (ℕ × Slot)) (v : View) (o : Mover v) (call : Call) (d : Deed) → get_elem? st.views id ≡ some v → n ≡ get_or st.words i 0
+  pub stays_at : (st : State Slot View) (m : LaneLink (RingState (PlacedDesk kc kz))) (p : ℕ) → Shows cd desk z st m p → (i n id : ℕ) (cs : List (ℕ × Slot)) (v : View) (o : Mover v) (call : Call) (d : Deed) → get_elem? st.views id ≡ some v → n ≡ get_or st.words i 0
       → MayDo desk m d → m ≡ after_deed desk m d → IsCallOf m p o.pass.number call → ((i : End) → has_for_manager i call ≡ true → has_for_manager i o.pass.call ≡ true) → WordsRule cd desk z (stepped st i n id cs (with_pass v o (with_call o.pass call) (Some (copied cd m))) keeps)
   stays_at st m p r i n id cs v o call d at found may deed has quiet =
       let w = with_call o.pass call in let u = with_pass v o w (Some (copied cd m)) in let each = each_set st.views id v u o w at refl in (
@@ -101,7 +103,7 @@ module _ {D : Type 0} (cd : Coded D) (desk : DeskMeaning D) (z : LinkSizes) wher
         p,
         put_together (ap (set st.words i) found ∙ (set-get_or st.words i 0 ∙ r.words_are))
             r.shelves r.homes_are
-            (state_in r) (sizes_in r) (buffers_in r) (one_more desk m _ d r.reached may deed)
+            (state_in r) (told_in r) (buffers_in r) (one_more desk m _ d r.reached may deed)
             (record {
               calls = each (HasCall m p) (HasCall m p) r.numbers.places r.turns.calls (λ j l q there apart had. had) has;
               keepers = keepers_set st.views id v u o w at refl refl quiet r.turns.keepers;
@@ -115,18 +117,19 @@ module _ {D : Type 0} (cd : Coded D) (desk : DeskMeaning D) (z : LinkSizes) wher
               places = numbers_set st.views id v u o w at refl refl r.numbers.places;
               manager = manager_set st.views id v u o w at refl cd m m refl refl refl refl (λ old. old) (λ j y apart there manages. refl) (λ n none was not. was not) (λ n none Q was not. was not) (λ old. old) (λ j y apart there manages old. old) (λ k same _. sym (some_copy (copied cd m) k same)) r.numbers.manager;
               many = r.numbers.many;
+              short = r.numbers.short;
             }),
       )
 
   -- the same, where the view stays too
-  pub stays : (st : State Slot View) (m : LaneLink (RingState D)) (p : ℕ) → Shows cd desk z st m p → (i n id : ℕ) (cs : List (ℕ × Slot)) (v : View) (d : Deed) → get_elem? st.views id ≡ some v → n ≡ get_or st.words i 0
+  pub stays : (st : State Slot View) (m : LaneLink (RingState (PlacedDesk kc kz))) (p : ℕ) → Shows cd desk z st m p → (i n id : ℕ) (cs : List (ℕ × Slot)) (v : View) (d : Deed) → get_elem? st.views id ≡ some v → n ≡ get_or st.words i 0
       → MayDo desk m d → m ≡ after_deed desk m d → WordsRule cd desk z (stepped st i n id cs v keeps)
   stays st m p r i n id cs v d at found may deed = subst (λ (views : List View). WordsRule cd desk z (record { words = set st.words i n; homes = st.homes; views = views })) (sym (set_again st.views id v at)) (
     m,
     p,
     put_together (ap (set st.words i) found ∙ (set-get_or st.words i 0 ∙ r.words_are))
         r.shelves r.homes_are
-        (state_in r) (sizes_in r) (buffers_in r) (one_more desk m _ d r.reached may deed)
+        (state_in r) (told_in r) (buffers_in r) (one_more desk m _ d r.reached may deed)
         (record {
           calls = r.turns.calls;
           keepers = r.turns.keepers;
@@ -140,6 +143,7 @@ module _ {D : Type 0} (cd : Coded D) (desk : DeskMeaning D) (z : LinkSizes) wher
           places = r.numbers.places;
           manager = r.numbers.manager;
           many = r.numbers.many;
+          short = r.numbers.short;
         }),
   )
 
@@ -151,7 +155,7 @@ module _ {D : Type 0} (cd : Coded D) (desk : DeskMeaning D) (z : LinkSizes) wher
       (λ hit.
       let era : m.era ≡ record { inc = inc; is_live = true } = era_of_word m.era (record { inc = inc; is_live = true }) (sym word ∙ (hit ∙ is_old)) in
       let r : Shows cd desk z st m 0 = ⊎_elim (λ (none_reset : p ≡ 0). subst (Shows cd desk z st m) none_reset r₀) (λ (still : IsStill m). absurd (true-false (ap (λ (x : Era). x.is_live) (sym era) ∙ still.0))) r₀.turns.still in
-      let m' : LaneLink (RingState D) = record m { era = record { inc = inc; is_live = false } } in
+      let m' : LaneLink (RingState (PlacedDesk kc kz)) = record m { era = record { inc = inc; is_live = false } } in
       let deed : m' ≡ link_after_close m inc = sym (ap (λ (b : Bool). cond b m' m) (live_in m.era inc era)) in
       let u = record me.0 { copy = Some (copied cd m') } in let again = sym (set_again me.0.passes o.place o.pass o.here) in let each = each_set st.views id me.0 u o o.pass at again in (
         u,
@@ -162,7 +166,7 @@ module _ {D : Type 0} (cd : Coded D) (desk : DeskMeaning D) (z : LinkSizes) wher
           0,
           put_together (λ k. set (r.words_are k) 1 (is_new k))
               r.shelves r.homes_are
-              (subst (IsSoundState desk) (sym deed) (deed_kept desk m (Closes inc) tt (state_in r))) (sizes_in r) (shut_shelved m inc (λ s e. HoldsBuffers s (shelf_to r.shelves e)) (buffers_in r)) (one_more desk m _ (Closes inc) r.reached tt deed)
+              (subst (IsSoundState desk) (sym deed) (deed_kept desk m (Closes inc) tt (state_in r))) (told_in r) (shut_shelved m inc (λ s e. HoldsBuffers s (shelf_to r.shelves e)) (buffers_in r)) (one_more desk m _ (Closes inc) r.reached tt deed)
               (record {
                 calls = each (HasCall m 0) (HasCall m' 0) r.numbers.places r.turns.calls (λ j l q there apart. shut_call m inc q.number q.call era) (shut_call m inc o.pass.number o.pass.call era (r.turns.calls id o.place o.pass (me.0, at, o.here)));
                 keepers = keepers_set st.views id me.0 u o o.pass at again refl (λ i k. k) r.turns.keepers;
@@ -176,6 +180,7 @@ module _ {D : Type 0} (cd : Coded D) (desk : DeskMeaning D) (z : LinkSizes) wher
                 places = numbers_set st.views id me.0 u o o.pass at again refl r.numbers.places;
                 manager = manager_set st.views id me.0 u o o.pass at again cd m m' refl refl refl refl (λ old. old ∙ ap (λ (x : Era). x.inc) era) (λ j y apart there manages. ap (λ (x : Era). x.inc) (sym era)) (λ n none was not. none_shut m inc n (was not)) (λ n none Q was not. none_shut m inc n (was not)) (λ old _. refl) (λ j y apart there manages old. refl) (λ k same _. sym (some_copy (copied cd m') k same)) r.numbers.manager;
                 many = r.numbers.many;
+                short = subst (λ (x : Era). x.inc < 4294967296) era r.numbers.short;
               }),
         ),
         (m.era, word, refl),

@@ -1,4 +1,6 @@
 -- The end of a caller, carried or not: the era is closed, it is in no call and holds nothing, and its number is free.
+use Rattle.link_words.specs.declared.codes.DeskTables.{DeskTables}
+use Rattle.link_words.specs.PlacedDesks.{PlacedDesk}
 use Rattle.link_words.specs.Seats.{Settles}
 use Rattle.link_words.proofs.Books.{none_with}
 use Rattle.link_words.proofs.Froms.{stands_left, stands_right}
@@ -105,17 +107,17 @@ end_from views id v o c at j l q (u, eu, eq) = ⊎_elim
 removed_manages : (v : View) (o : Mover v) (c : Option LinkCopy) → Manages (after_end_at v o c) → Manages v
 removed_manages v o c (k, b, e, is) = let r = removed_at o.place v.passes k b e in (r.0, b, r.1, is)
 
-module _ {D : Type 0} (cd : Coded D) (desk : DeskMeaning D) (z : LinkSizes) where
-  frees_may : (m : LaneLink (RingState D)) (p : ℕ) (e : End) (n : ℕ) → m.era.is_live ≡ false → IsCallOf m p n (Rests e) → hands_of n (lane_to m e).lane.lane.held ≡ [] → MayDo desk m (Frees e n)
+module _ {B : Type 0} {kc : Coded B} {kz : DeskTables} (cd : Coded (PlacedDesk kc kz)) (desk : DeskMeaning (PlacedDesk kc kz)) (z : LinkSizes) where
+  frees_may : (m : LaneLink (RingState (PlacedDesk kc kz))) (p : ℕ) (e : End) (n : ℕ) → m.era.is_live ≡ false → IsCallOf m p n (Rests e) → hands_of n (lane_to m e).lane.lane.held ≡ [] → MayDo desk m (Frees e n)
   frees_may m p side.Host n shut rests bare = (shut, rests.0, (or_false (has_call m.to_remote.lane.sender n) (has_call m.to_host.lane.receiver n) rests.1 rests.2, none_held n m.to_host.lane.lane.held bare))
   frees_may m p side.Remote n shut rests bare = (shut, rests.0, (or_false (has_call m.to_host.lane.sender n) (has_call m.to_remote.lane.receiver n) rests.1 rests.2, none_held n m.to_remote.lane.lane.held bare))
 
   -- the number n is free, and its pass is in no view
-  freed : (st : State Slot View) (m : LaneLink (RingState D)) (p : ℕ) (r : Shows cd desk z st m p) (views : List View) (went : Spot → Spot) → From st.views views went → (e : End) (n : ℕ)
+  freed : (st : State Slot View) (m : LaneLink (RingState (PlacedDesk kc kz))) (p : ℕ) (r : Shows cd desk z st m p) (views : List View) (went : Spot → Spot) → From st.views views went → (e : End) (n : ℕ)
       → ((j l : ℕ) (q : Pass) → PassAt views j l q → n ≢ q.number) → ManagerKnows cd (record m { callers = slice_set m.callers n None }) views → m.era.is_live ≡ false → IsCallOf m p n (Rests e) → hands_of n (lane_to m e).lane.lane.held ≡ []
       → WordsRule cd desk z (with_views st views)
   freed st m p r views went from e n gone manager shut rests bare =
-      let cs = slice_set m.callers n None in let m' : LaneLink (RingState D) = record m { callers = cs } in let many = r.numbers.many in
+      let cs = slice_set m.callers n None in let m' : LaneLink (RingState (PlacedDesk kc kz)) = record m { callers = cs } in let many = r.numbers.many in
       recast cd desk z st m p r cs (Frees e n) views (frees_may m p e n shut rests bare) refl (length-set m.callers n None ∙ many)
       (each_from st.views views went from (HasCall m p) (HasCall m' p) r.turns.calls (λ j l q at has. call_with m cs p q.number q.call (end_else m.callers n q.number None (gone j l q at)) has))
       (each_from st.views views went from (HistoryOf m) (HistoryOf m') r.histories.own (λ j l q at has. history_with m cs q has))
@@ -123,10 +125,10 @@ module _ {D : Type 0} (cd : Coded D) (desk : DeskMeaning D) (z : LinkSizes) wher
       (numbers_from st.views views went from r.numbers.places) (keepers_from st.views views went from r.turns.keepers) manager
 
   -- a carried caller ends
-  pub ends : (st : State Slot View) (m : LaneLink (RingState D)) (p : ℕ) (r : Shows cd desk z st m p) (id : ℕ) (v : View) (o : Mover v) (e : End) → get_elem? st.views id ≡ some v → Manages v → v.is_closed ≡ true → o.pass.call ≡ Rests e → o.pass.hands ≡ []
+  pub ends : (st : State Slot View) (m : LaneLink (RingState (PlacedDesk kc kz))) (p : ℕ) (r : Shows cd desk z st m p) (id : ℕ) (v : View) (o : Mover v) (e : End) → get_elem? st.views id ≡ some v → Manages v → v.is_closed ≡ true → o.pass.call ≡ Rests e → o.pass.hands ≡ []
       → WordsRule cd desk z (with_views st (set st.views id (after_end_at v o (Some (copied cd (record m { callers = slice_set m.callers o.pass.number None }))))))
   ends st m p r id v o e at manages shut call bare =
-      let n = o.pass.number in let known = r.numbers.manager id v at manages in let m' : LaneLink (RingState D) = record m { callers = slice_set m.callers n None } in let u = after_end_at v o (Some (copied cd m')) in let views = set st.views id u in
+      let n = o.pass.number in let known = r.numbers.manager id v at manages in let m' : LaneLink (RingState (PlacedDesk kc kz)) = record m { callers = slice_set m.callers n None } in let u = after_end_at v o (Some (copied cd m')) in let views = set st.views id u in
       let rests : IsCallOf m p n (Rests e) = subst (IsCallOf m p n) call (r.turns.calls id o.place o.pass (v, at, o.here)) in let from = end_from st.views id v o (Some (copied cd m')) at in
       freed st m p r views (one_gone id o.place) (λ j l q there. let s = from j l q there in (s.0, s.1, s.2)) e n
       (λ j l q there same. let s = from j l q there in let a = r.numbers.places id o.place s.0.0 s.0.1 o.pass q (v, at, o.here) s.1 same in s.3 (sym a.0) (sym a.1))
@@ -158,7 +160,7 @@ module _ {D : Type 0} (cd : Coded D) (desk : DeskMeaning D) (z : LinkSizes) wher
   -- a caller whose seat comes back ends
   pub joins_ended : (id other : ℕ) (v w : View) (q : Pass) (e : End) → Manages v → v.is_closed ≡ true → w.passes ≡ q ∷ [] → q.call ≡ Rests e → q.hands ≡ [] → Joins (WordsRule cd desk z) id v other w (after_end_with v w) spent_view
   joins_ended id other v w q e manages shut only call bare st (m, p, r) at apart seen =
-      let n = q.number in let known = r.numbers.manager id v at manages in let u = after_end_with v w in let views = set (set st.views id u) other spent_view in let m' : LaneLink (RingState D) = record m { callers = slice_set m.callers n None } in
+      let n = q.number in let known = r.numbers.manager id v at manages in let u = after_end_with v w in let views = set (set st.views id u) other spent_view in let m' : LaneLink (RingState (PlacedDesk kc kz)) = record m { callers = slice_set m.callers n None } in
       let there : get_elem? st.views other ≡ some w = sym (set_else st.views id other u apart) ∙ seen in
       let mine : PassAt st.views other 0 q = (w, there, ap (λ (ps : List Pass). get_elem? ps 0) only) in
       let rests : IsCallOf m p n (Rests e) = subst (IsCallOf m p n) call (r.turns.calls other 0 q mine) in

@@ -1,4 +1,6 @@
 -- step 4 of a send from the return ring, on either lane: where the entry's word stands, and what its number says.
+use Rattle.link_words.specs.declared.codes.DeskTables.{DeskTables}
+use Rattle.link_words.specs.PlacedDesks.{PlacedDesk}
 use Rattle.std.proofs.Common.{◌≡◌, ℕ, suc, ◌+◌, ◌-◌, ◌*◌, ◌%◌, ◌<◌, ◌≤◌, List, [], ◌++◌, map, length, get_or, refl, sym, ap, ◌∙◌, arith}
 use Rattle.std.proofs.lemmas.List.{length-map, get_or-map, get_or_append_left}
 use native.Mathlib.Nat.{mod-lt}
@@ -77,10 +79,10 @@ forward_found side.Remote era i word a b low at =
 pub id_of : (entry : UsedWord) → entry.id < 4294967296 → entry_word entry % 4294967296 ≡ entry.id
 id_of entry low = let n : ℕ = entry.id in let l : ℕ = entry.len in let small : n < 4294967296 = low in let e : (n + l * 4294967296) % 4294967296 ≡ n = omega arith in e
 
-module _ {D : Type 0} (cd : Coded D) (desk : DeskMeaning D) (z : LinkSizes) where
+module _ {B : Type 0} {kc : Coded B} {kz : DeskTables} (cd : Coded (PlacedDesk kc kz)) (desk : DeskMeaning (PlacedDesk kc kz)) (z : LinkSizes) where
   -- step 4 of a send behind the own list: the word is that of the return entry
   pub pulls_entry : (n id : ℕ) (me : SeatState) (o : Mover me.0) (e : End) (c f : ℕ) (message : List ℕ) (x : SenderSide) (b i first entries own before : ℕ) → o.pass.call ≡ Sends e (turn.Taken c (record { follows = f; message = message; stage = stage.Look })) x b → first ≡ z.to_host.capacity
-      → ((st : State Slot View) (m : LaneLink (RingState D)) → Shows cd desk z st m 0 → ((lane_to m e).rings.sizes.entries ≡ entries) × ((lane_to m e).rings.sizes.own ≡ own) × (ahead e (lane_words (lane_to m (other e))) ≡ before))
+      → ((st : State Slot View) (m : LaneLink (RingState (PlacedDesk kc kz))) → Shows cd desk z st m 0 → ((lane_to m e).rings.sizes.entries ≡ entries) × ((lane_to m e).rings.sizes.own ≡ own) × (ahead e (lane_words (lane_to m (other e))) ≡ before))
       → own ≤ x.accepted → i ≡ 10 + (before + (entries + (x.accepted - own) % entries))
       → Allows (WordsRule cd desk z) n id me i (λ y. y) (λ y me'. SendTakesBufferBy me o first e c (record { follows = f; message = message; stage = stage.Look }) x (y % 4294967296) me' × StepBy cd desk (ReadsAt i y) me o (Steps o.pass.number 0 None) me')
   pulls_entry n id me o e c f message x b i first entries own before call first_at sizes_are late at_word = pulls cd desk z n id me o e c f message x b i first call first_at (λ y. y % 4294967296)
@@ -100,7 +102,7 @@ module _ {D : Type 0} (cd : Coded D) (desk : DeskMeaning D) (z : LinkSizes) wher
       ap (λ (k : ℕ). k % 4294967296) found ∙ (id_of entry (omega (arith, below, source, most)) ∙ sym source))
 
 -- what both forms of step 4 of a send ask of the sizes holds of every state of the rule
-pub sizes_known : {D : Type 0} (cd : Coded D) (desk : DeskMeaning D) (z : LinkSizes) (e : End) (st : State Slot View) (m : LaneLink (RingState D)) → Shows cd desk z st m 0
+pub sizes_known : {B : Type 0} {kc : Coded B} {kz : DeskTables} (cd : Coded (PlacedDesk kc kz)) (desk : DeskMeaning (PlacedDesk kc kz)) (z : LinkSizes) (e : End) (st : State Slot View) (m : LaneLink (RingState (PlacedDesk kc kz))) → Shows cd desk z st m 0
     → ((lane_to m e).rings.sizes.entries ≡ (sizes_at z e).entries) × ((lane_to m e).rings.sizes.own ≡ (sizes_at z e).own) × (ahead e (lane_words (lane_to m (other e))) ≡ entries_before z e)
 sizes_known cd desk z side.Host st m r = (ap (λ (x : RingSizes). x.entries) (sizes_in r).0, ap (λ (x : RingSizes). x.own) (sizes_in r).0, refl)
 sizes_known cd desk z side.Remote st m r =
@@ -108,7 +110,7 @@ sizes_known cd desk z side.Remote st m r =
     (ap (λ (x : RingSizes). x.entries) (sizes_in r).1, ap (λ (x : RingSizes). x.own) (sizes_in r).1, (λ k. (f ∙ n) k + (g ∙ n) k))
 
 -- the forward entry of the next message names its buffer
-pub forward_entry : {D : Type 0} (cd : Coded D) (desk : DeskMeaning D) (z : LinkSizes) (n : ℕ) (e : End) (st : State Slot View) (m : LaneLink (RingState D)) (r : Shows cd desk z st m 0) (count : ℕ) → count ≡ length (lane_to m e).lane.lane.takers → IsSoundRings (lane_to m e)
+pub forward_entry : {B : Type 0} {kc : Coded B} {kz : DeskTables} (cd : Coded (PlacedDesk kc kz)) (desk : DeskMeaning (PlacedDesk kc kz)) (z : LinkSizes) (n : ℕ) (e : End) (st : State Slot View) (m : LaneLink (RingState (PlacedDesk kc kz))) (r : Shows cd desk z st m 0) (count : ℕ) → count ≡ length (lane_to m e).lane.lane.takers → IsSoundRings (lane_to m e)
     → buffer_at (lane_to m e).rings.sizes.entries (lane_to m e).rings.forward (length (lane_to m e).lane.lane.takers) < (lane_to m e).rings.sizes.capacity
     → get_or st.words (entry_number z e ring.Forward count) 0 % 4294967296 ≡ buffer_at (lane_to m e).rings.sizes.entries (lane_to m e).rings.forward (length (lane_to m e).lane.lane.takers)
 forward_entry cd desk z n e st m r count at sound low =

@@ -1,4 +1,6 @@
 -- The manager's form: a step by the manager's seat takes its copy exactly by the ring form's function, though no desk is in the copy.
+use Rattle.link_words.specs.declared.codes.DeskTables.{DeskTables}
+use Rattle.link_words.specs.PlacedDesks.{PlacedDesk}
 use Rattle.std.proofs.Common.{◌≡◌, ℕ, zero, suc, List, [], ◌∷◌, set, refl, sym, ap, ◌∙◌, subst, get_or}
 use base.Stored.{Coded}
 use Rattle.lane_model.specs.declared.lane_links.LaneLink.{LaneLink}
@@ -27,9 +29,9 @@ use Rattle.link_words.specs.Words.{words_of}
 use Rattle.link_words.specs.Layouts.{layout, place_in}
 use Rattle.link_words.proofs.Apart.{found_apart}
 
-module _ {D : Type 0} (c : Coded D) where
+module _ {B : Type 0} {kc : Coded B} {kz : DeskTables} (c : Coded (PlacedDesk kc kz)) where
   -- a copy is that of one state
-  copied_one : (m n : LaneLink (RingState D)) → copied c m ≡ copied c n → m ≡ n
+  copied_one : (m n : LaneLink (RingState (PlacedDesk kc kz))) → copied c m ≡ copied c n → m ≡ n
   copied_one m n e i = record {
     era = (e i).state.era;
     to_host = record {
@@ -54,20 +56,20 @@ module _ {D : Type 0} (c : Coded D) where
   }
 
 -- who knows the state by the manager's copy knows it after a step, which takes the copy by the deed though no desk is in it
-pub copy_after : {D : Type 0} (cd : Coded D) (desk : DeskMeaning D) (Reads : LaneLink (RingState D) → LaneLink (RingState D) → Type 0) (d : Deed) (number : ℕ) (before after : Call) (me me' : SeatState) → IsStepOf cd desk Reads d number before after me me' → (known : LaneLink (RingState D)) → Manages me.0 → me.0.out ≡ [] → me.0.copy ≡ Some (copied cd known)
+pub copy_after : {B : Type 0} {kc : Coded B} {kz : DeskTables} (cd : Coded (PlacedDesk kc kz)) (desk : DeskMeaning (PlacedDesk kc kz)) (Reads : LaneLink (RingState (PlacedDesk kc kz)) → LaneLink (RingState (PlacedDesk kc kz)) → Type 0) (d : Deed) (number : ℕ) (before after : Call) (me me' : SeatState) → IsStepOf cd desk Reads d number before after me me' → (known : LaneLink (RingState (PlacedDesk kc kz))) → Manages me.0 → me.0.out ≡ [] → me.0.copy ≡ Some (copied cd known)
     → me'.0.copy ≡ Some (copied cd (after_deed desk known d))
 copy_after cd desk Reads d number before after me me' step known manages none_out was =
     let c = step.copy (copied cd known) manages none_out was in c.1 ∙ ap (λ (s : LaneLink (RingState _)). Some (copied cd (after_deed desk s d))) (sym (copied_one cd known step.state c.0))
 
 -- the word of this number was found to be this, before the step, or is this after it
-abbrev pub ReadsAt : {D : Type 0} → ℕ → ℕ → LaneLink (RingState D) → LaneLink (RingState D) → Type 0
+abbrev pub ReadsAt : {B : Type 0} {kc : Coded B} {kz : DeskTables} → ℕ → ℕ → LaneLink (RingState (PlacedDesk kc kz)) → LaneLink (RingState (PlacedDesk kc kz)) → Type 0
 ReadsAt i n before after = n ≡ get_or (words_of 0 [] before) i 0
 
-abbrev pub WritesAt : {D : Type 0} → ℕ → ℕ → LaneLink (RingState D) → LaneLink (RingState D) → Type 0
+abbrev pub WritesAt : {B : Type 0} {kc : Coded B} {kz : DeskTables} → ℕ → ℕ → LaneLink (RingState (PlacedDesk kc kz)) → LaneLink (RingState (PlacedDesk kc kz)) → Type 0
 WritesAt i n before after = n ≡ get_or (words_of 0 [] after) i 0
 
 -- the step that a pass of the view makes
-abbrev pub StepBy : {D : Type 0} → Coded D → DeskMeaning D → (LaneLink (RingState D) → LaneLink (RingState D) → Type 0) → (me : SeatState) → Mover me.0 → Deed → SeatState → Type 0
+abbrev pub StepBy : {B : Type 0} {kc : Coded B} {kz : DeskTables} → Coded (PlacedDesk kc kz) → DeskMeaning (PlacedDesk kc kz) → (LaneLink (RingState (PlacedDesk kc kz)) → LaneLink (RingState (PlacedDesk kc kz)) → Type 0) → (me : SeatState) → Mover me.0 → Deed → SeatState → Type 0
 StepBy cd desk Reads me o d me' = IsStepOf cd desk Reads d o.pass.number o.pass.call (call_at o.place me'.0.passes) me me'
 
 call_set : (ps : List Pass) (k : ℕ) (p w : Pass) → get_elem? ps k ≡ some p → call_at k (set ps k w) ≡ w.call
@@ -75,7 +77,7 @@ call_set [] k p w at = absurd (some-ne-none p (sym at))
 call_set (x ∷ xs) zero p w at = refl
 call_set (x ∷ xs) (suc k) p w at = call_set xs k p w at
 
-pub step_with : {D : Type 0} (Reads : LaneLink (RingState D) → LaneLink (RingState D) → Type 0) (cd : Coded D) (desk : DeskMeaning D) (z : LinkSizes) (st : State Slot View) (m : LaneLink (RingState D)) (r : Shows cd desk z st m 0) (id : ℕ) (me : SeatState) (o : Mover me.0) (w : Pass) (d : Deed) (m' : LaneLink (RingState D)) (slots : List (ℕ × Slot))
+pub step_with : {B : Type 0} {kc : Coded B} {kz : DeskTables} (Reads : LaneLink (RingState (PlacedDesk kc kz)) → LaneLink (RingState (PlacedDesk kc kz)) → Type 0) (cd : Coded (PlacedDesk kc kz)) (desk : DeskMeaning (PlacedDesk kc kz)) (z : LinkSizes) (st : State Slot View) (m : LaneLink (RingState (PlacedDesk kc kz))) (r : Shows cd desk z st m 0) (id : ℕ) (me : SeatState) (o : Mover me.0) (w : Pass) (d : Deed) (m' : LaneLink (RingState (PlacedDesk kc kz))) (slots : List (ℕ × Slot))
     → get_elem? st.views id ≡ some me.0 → Reads m m' → MayDo desk m d → m' ≡ after_deed desk m d → IsCallOf m' 0 o.pass.number w.call → StepBy cd desk Reads me o d (with_pass me.0 o w (Some (copied cd m')), slots)
 step_with Reads cd desk z st m r id me o w d m' slots at read may is mine = record {
   state = m;
@@ -88,12 +90,12 @@ step_with Reads cd desk z st m r id me o w d m' slots at read may is mine = reco
 }
 
 -- at a store
-pub write_by : {D : Type 0} (i n : ℕ) (cd : Coded D) (desk : DeskMeaning D) (z : LinkSizes) (st : State Slot View) (m : LaneLink (RingState D)) (r : Shows cd desk z st m 0) (id : ℕ) (me : SeatState) (o : Mover me.0) (w : Pass) (d : Deed) (m' : LaneLink (RingState D)) (slots : List (ℕ × Slot))
+pub write_by : {B : Type 0} {kc : Coded B} {kz : DeskTables} (i n : ℕ) (cd : Coded (PlacedDesk kc kz)) (desk : DeskMeaning (PlacedDesk kc kz)) (z : LinkSizes) (st : State Slot View) (m : LaneLink (RingState (PlacedDesk kc kz))) (r : Shows cd desk z st m 0) (id : ℕ) (me : SeatState) (o : Mover me.0) (w : Pass) (d : Deed) (m' : LaneLink (RingState (PlacedDesk kc kz))) (slots : List (ℕ × Slot))
     → n ≡ get_or (words_of 0 [] m') i 0 → get_elem? st.views id ≡ some me.0 → MayDo desk m d → m' ≡ after_deed desk m d → IsCallOf m' 0 o.pass.number w.call → StepBy cd desk (WritesAt i n) me o d (with_pass me.0 o w (Some (copied cd m')), slots)
 write_by i n cd desk z st m r id me o w d m' slots written at may is mine = step_with (WritesAt i n) cd desk z st m r id me o w d m' slots at written may is mine
 
 -- at a load, or an exchange
-pub read_by : {D : Type 0} (i : ℕ) (cd : Coded D) (desk : DeskMeaning D) (z : LinkSizes) (st : State Slot View) (m : LaneLink (RingState D)) (r : Shows cd desk z st m 0) (id : ℕ) (me : SeatState) (o : Mover me.0) (w : Pass) (d : Deed) (m' : LaneLink (RingState D)) (slots : List (ℕ × Slot))
+pub read_by : {B : Type 0} {kc : Coded B} {kz : DeskTables} (i : ℕ) (cd : Coded (PlacedDesk kc kz)) (desk : DeskMeaning (PlacedDesk kc kz)) (z : LinkSizes) (st : State Slot View) (m : LaneLink (RingState (PlacedDesk kc kz))) (r : Shows cd desk z st m 0) (id : ℕ) (me : SeatState) (o : Mover me.0) (w : Pass) (d : Deed) (m' : LaneLink (RingState (PlacedDesk kc kz))) (slots : List (ℕ × Slot))
     → get_elem? st.views id ≡ some me.0 → MayDo desk m d → m' ≡ after_deed desk m d → IsCallOf m' 0 o.pass.number w.call → StepBy cd desk (ReadsAt i (get_or st.words i 0)) me o d (with_pass me.0 o w (Some (copied cd m')), slots)
 read_by i cd desk z st m r id me o w d m' slots at may is mine =
     step_with (ReadsAt i (get_or st.words i 0)) cd desk z st m r id me o w d m' slots at (ap (λ (ws : List ℕ). get_or ws i 0) r.words_are) may is mine
@@ -104,7 +106,7 @@ call_at_is (x ∷ xs) zero p at = ap (λ (q : Pass). q.call) (sym (some-injectiv
 call_at_is (x ∷ xs) (suc k) p at = call_at_is xs k p at
 
 -- a caller who meets another's turn stays as it is, and so does the state
-pub busy_by : {D : Type 0} (cd : Coded D) (desk : DeskMeaning D) (z : LinkSizes) (st : State Slot View) (m : LaneLink (RingState D)) (p : ℕ) (r : Shows cd desk z st m p) (id i : ℕ) (me : SeatState) (o : Mover me.0) (e : End) (d : Deed)
+pub busy_by : {B : Type 0} {kc : Coded B} {kz : DeskTables} (cd : Coded (PlacedDesk kc kz)) (desk : DeskMeaning (PlacedDesk kc kz)) (z : LinkSizes) (st : State Slot View) (m : LaneLink (RingState (PlacedDesk kc kz))) (p : ℕ) (r : Shows cd desk z st m p) (id i : ℕ) (me : SeatState) (o : Mover me.0) (e : End) (d : Deed)
     → get_or st.words i 0 ≡ get_or (words_of 0 [] m) i 0 → o.pass.call ≡ Rests e → get_elem? st.views id ≡ some me.0 → MayDo desk m d → m ≡ after_deed desk m d → StepBy cd desk (ReadsAt i (get_or st.words i 0)) me o d me
 busy_by cd desk z st m p r id i me o e d low call at may same =
     let rests : IsCallOf m 0 o.pass.number (Rests e) = subst (IsCallOf m p o.pass.number) call (r.turns.calls id o.place o.pass (me.0, at, o.here)) in
@@ -140,11 +142,11 @@ module _ (me : SeatState) (o : Mover me.0) (k : ℕ) (place : o.place ≡ k) whe
   becomes f w slots me' is told = told ∙ λ i. (record me.0 { copy = me'.0.copy; passes = (ap (set me.0.passes o.place) is ∙ (passes_at f me.0.passes o.place o.pass o.here ∙ ap (λ (j : ℕ). with_pass_at f j me.0.passes) place)) i }, slots)
 
   -- and the step that it makes
-  pub step_told : {D : Type 0} (cd : Coded D) (desk : DeskMeaning D) (Reads : LaneLink (RingState D) → LaneLink (RingState D) → Type 0) (d : ℕ → Deed) (me' : SeatState) → StepBy cd desk Reads me o (d o.pass.number) me' → IsStepOf cd desk Reads (d (number_at k me.0.passes)) (number_at k me.0.passes) (call_at k me.0.passes) (call_at k me'.0.passes) me me'
+  pub step_told : {B : Type 0} {kc : Coded B} {kz : DeskTables} (cd : Coded (PlacedDesk kc kz)) (desk : DeskMeaning (PlacedDesk kc kz)) (Reads : LaneLink (RingState (PlacedDesk kc kz)) → LaneLink (RingState (PlacedDesk kc kz)) → Type 0) (d : ℕ → Deed) (me' : SeatState) → StepBy cd desk Reads me o (d o.pass.number) me' → IsStepOf cd desk Reads (d (number_at k me.0.passes)) (number_at k me.0.passes) (call_at k me.0.passes) (call_at k me'.0.passes) me me'
   step_told cd desk Reads d me' step = subst (λ (t : ℕ × ℕ × Call). IsStepOf cd desk Reads (d t.0) t.0 t.2 (call_at t.1 me'.0.passes) me me') (λ i. (number_is i, place i, call_is i)) step
 
 -- a word that was found is the one at its place of the table
-pub read_there : {D : Type 0} (cd : Coded D) (desk : DeskMeaning D) (i place n : ℕ) → place ≡ place_in i → (d : Deed) (number : ℕ) (call next : Call) (me me' : SeatState) → IsStepOf cd desk (ReadsAt i n) d number call next me me' → IsStepOf cd desk (HasWord place n) d number call next me me'
+pub read_there : {B : Type 0} {kc : Coded B} {kz : DeskTables} (cd : Coded (PlacedDesk kc kz)) (desk : DeskMeaning (PlacedDesk kc kz)) (i place n : ℕ) → place ≡ place_in i → (d : Deed) (number : ℕ) (call next : Call) (me me' : SeatState) → IsStepOf cd desk (ReadsAt i n) d number call next me me' → IsStepOf cd desk (HasWord place n) d number call next me me'
 read_there cd desk i place n is d number call next me me' s = record {
   state = s.state;
   sound = s.sound;
@@ -155,7 +157,7 @@ read_there cd desk i place n is d number call next me me' s = record {
   read = s.read ∙ (sym (found_apart 10 (words_of 0 [] s.state) i) ∙ ap (λ (k : ℕ). get_or (layout (words_of 0 [] s.state)) k 0) (sym is));
 }
 
-pub written_there : {D : Type 0} (cd : Coded D) (desk : DeskMeaning D) (i place n : ℕ) → place ≡ place_in i → (d : Deed) (number : ℕ) (call next : Call) (me me' : SeatState) → IsStepOf cd desk (WritesAt i n) d number call next me me' → IsStepOf cd desk (StoresWord place n) d number call next me me'
+pub written_there : {B : Type 0} {kc : Coded B} {kz : DeskTables} (cd : Coded (PlacedDesk kc kz)) (desk : DeskMeaning (PlacedDesk kc kz)) (i place n : ℕ) → place ≡ place_in i → (d : Deed) (number : ℕ) (call next : Call) (me me' : SeatState) → IsStepOf cd desk (WritesAt i n) d number call next me me' → IsStepOf cd desk (StoresWord place n) d number call next me me'
 written_there cd desk i place n is d number call next me me' s = record {
   state = s.state;
   sound = s.sound;

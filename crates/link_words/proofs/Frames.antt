@@ -1,4 +1,6 @@
 -- What every step has in common.
+use Rattle.link_words.specs.declared.codes.DeskTables.{DeskTables}
+use Rattle.link_words.specs.PlacedDesks.{PlacedDesk}
 use Rattle.lane_model.specs.Links.{end_of}
 use Rattle.std.specs.Prelude.{None}
 use Rattle.link_words.specs.Histories.{NoneOf}
@@ -90,7 +92,7 @@ module _ (views : List View) (id : ℕ) (v u : View) (o : Mover v) (w : Pass) (a
       (at_set v.passes o.place k w b (ap (λ (ps : List Pass). get_elem? ps k) (sym is) ∙ eb))
 
   -- what the manager knows of the callers and of who is out stands
-  pub manager_set : {D : Type 0} (cd : Coded D) (m m' : LaneLink (RingState D)) → w.number ≡ o.pass.number → m'.callers ≡ m.callers → u.users ≡ v.users → u.out ≡ v.out → (v.inc ≡ m.era.inc → u.inc ≡ m'.era.inc) → ((i : ℕ) (y : View) → i ≢ id → get_elem? views i ≡ some y → Manages y → m'.era.inc ≡ m.era.inc)
+  pub manager_set : {B : Type 0} {kc : Coded B} {kz : DeskTables} (cd : Coded (PlacedDesk kc kz)) (m m' : LaneLink (RingState (PlacedDesk kc kz))) → w.number ≡ o.pass.number → m'.callers ≡ m.callers → u.users ≡ v.users → u.out ≡ v.out → (v.inc ≡ m.era.inc → u.inc ≡ m'.era.inc) → ((i : ℕ) (y : View) → i ≢ id → get_elem? views i ≡ some y → Manages y → m'.era.inc ≡ m.era.inc)
       → ((n : ℕ) → end_of m.callers n ≡ None → ((HasNumber v.reclaims n → ⊥) → NoneOf m n) → (HasNumber u.reclaims n → ⊥) → NoneOf m' n) → ((n : ℕ) → end_of m.callers n ≡ None → ((Q : Type 0) → (Q → NoneOf m n) → Q → NoneOf m' n))
       → ((v.is_closed ≡ true → m.era.is_live ≡ false) → u.is_closed ≡ true → m'.era.is_live ≡ false) → ((i : ℕ) (y : View) → i ≢ id → get_elem? views i ≡ some y → Manages y → m.era.is_live ≡ false → m'.era.is_live ≡ false) → ((k : LinkCopy) → u.copy ≡ Some k → u.out ≡ [] → k ≡ copied cd m') → ManagerKnows cd m views → ManagerKnows cd m' (set views id u)
   manager_set cd m m' same callers users out inc others_inc fresh others_fresh shut others copies old i y ey manages =
@@ -118,8 +120,36 @@ module _ (views : List View) (id : ℕ) (v u : View) (o : Mover v) (w : Pass) (a
       })
       (at_set views id i u y ey)
 
+  -- the same, where the view changes in a pass alone
+  pub manager_stays : {B : Type 0} {kc : Coded B} {kz : DeskTables} (cd : Coded (PlacedDesk kc kz)) (m : LaneLink (RingState (PlacedDesk kc kz))) → w.number ≡ o.pass.number → u.users ≡ v.users → u.out ≡ v.out → u.inc ≡ v.inc → u.reclaims ≡ v.reclaims → u.is_closed ≡ v.is_closed → u.copy ≡ v.copy
+      → ManagerKnows cd m views → ManagerKnows cd m (set views id u)
+  manager_stays cd m same users out inc reclaims closed copy old i y ey manages =
+      ⊎_elim
+      (λ (x : (i ≡ id) × (u ≡ y)).
+      let k = old id v at (manages_set same (subst Manages (sym x.1) manages)) in
+      subst (λ (z : View). Knows cd m (set views id u) i z) x.1 (record {
+        users = users ∙ k.users;
+        inc = inc ∙ k.inc;
+        unused = λ n none not. k.unused n none (λ has. not (subst (λ (l : List ℕ). HasNumber l n) (sym reclaims) has));
+        closed = λ shut. k.closed (sym closed ∙ shut);
+        out = λ j l q there apart. let b = before_set (λ a c. a.number ≡ c.number) (λ a. refl) (sym same) j l q there in
+            subst (λ (z : List ℕ × ℕ). HasNumber z.0 z.1) (λ t. (sym out t, b.2 t)) (k.out j l b.0 b.1 (λ here. apart (here ∙ sym x.0)));
+        copy = λ c is none_out. k.copy c (sym copy ∙ is) (sym out ∙ none_out);
+      }))
+      (λ (x : (i ≢ id) × (get_elem? views i ≡ some y)).
+      let k = old i y x.1 manages in
+      record {
+        users = k.users;
+        inc = k.inc;
+        unused = k.unused;
+        closed = k.closed;
+        out = λ j l q there apart. let b = before_set (λ a c. a.number ≡ c.number) (λ a. refl) (sym same) j l q there in subst (HasNumber y.out) b.2 (k.out j l b.0 b.1 apart);
+        copy = k.copy;
+      })
+      (at_set views id i u y ey)
+
 -- a fact of each lane with its buffers, where one lane changes
-pub each_lane : {D : Type 0} (F : End → RingState D → List (Option Slot) → Type 0) (m : LaneLink (RingState D)) (sh : Shelves) (e : End) (s : RingState D) (l : List (Option Slot))
+pub each_lane : {B : Type 0} {kc : Coded B} {kz : DeskTables} (F : End → RingState (PlacedDesk kc kz) → List (Option Slot) → Type 0) (m : LaneLink (RingState (PlacedDesk kc kz))) (sh : Shelves) (e : End) (s : RingState (PlacedDesk kc kz)) (l : List (Option Slot))
     → F e s l → F (other e) (lane_to m (other e)) (shelf_to sh (other e)) → (i : End) → F i (lane_to (with_lane m e s) i) (shelf_to (with_shelf sh e l) i)
 each_lane F m sh side.Host s l here there side.Host = here
 each_lane F m sh side.Host s l here there side.Remote = there
@@ -127,17 +157,17 @@ each_lane F m sh side.Remote s l here there side.Host = there
 each_lane F m sh side.Remote s l here there side.Remote = here
 
 -- a link seen from a lane
-pub words_seen : {D : Type 0} (fresh : List ℕ) (m : LaneLink (RingState D)) (e : End) (s : RingState D)
+pub words_seen : {B : Type 0} {kc : Coded B} {kz : DeskTables} (fresh : List ℕ) (m : LaneLink (RingState (PlacedDesk kc kz))) (e : End) (s : RingState (PlacedDesk kc kz))
     → words_of 0 fresh (with_lane m e s) ≡ words_at e (era_word m.era) (lane_words s) (lane_words (lane_to m (other e)))
 words_seen fresh m side.Host s = refl
 words_seen fresh m side.Remote s = refl
 
-pub homes_seen : {D : Type 0} (m : LaneLink (RingState D)) (sh : Shelves) (e : End) (s : RingState D) (l : List (Option Slot))
+pub homes_seen : {B : Type 0} {kc : Coded B} {kz : DeskTables} (m : LaneLink (RingState (PlacedDesk kc kz))) (sh : Shelves) (e : End) (s : RingState (PlacedDesk kc kz)) (l : List (Option Slot))
     → homes_of (with_lane m e s) (with_shelf sh e l) ≡ homes_at e (lane_homes s l) (lane_homes (lane_to m (other e)) (shelf_to sh (other e)))
 homes_seen m sh side.Host s l = refl
 homes_seen m sh side.Remote s l = refl
 
-pub same_lane : {D : Type 0} (m : LaneLink (RingState D)) (e : End) → with_lane m e (lane_to m e) ≡ m
+pub same_lane : {B : Type 0} {kc : Coded B} {kz : DeskTables} (m : LaneLink (RingState (PlacedDesk kc kz))) (e : End) → with_lane m e (lane_to m e) ≡ m
 same_lane m side.Host = refl
 same_lane m side.Remote = refl
 
@@ -192,18 +222,18 @@ buffer_set side.Remote first id x a b near long = ap (λ (l : List (Option Slot)
     (ap (λ (k : ℕ). set (b.shelf ++ a.shelf) (k + id) x) (long refl) ∙ set_add b.shelf a.shelf id x)
 
 -- a word of a lane, in the link
-pub sender_in : {D : Type 0} (m : LaneLink (RingState D)) (e : End) (s : RingState D) → turn_word s.lane.sender ≡ get_or (words_of 0 [] (with_lane m e s)) (sender_word e) 0
+pub sender_in : {B : Type 0} {kc : Coded B} {kz : DeskTables} (m : LaneLink (RingState (PlacedDesk kc kz))) (e : End) (s : RingState (PlacedDesk kc kz)) → turn_word s.lane.sender ≡ get_or (words_of 0 [] (with_lane m e s)) (sender_word e) 0
 sender_in m side.Host s = refl
 sender_in m side.Remote s = refl
 
-pub receiver_in : {D : Type 0} (m : LaneLink (RingState D)) (e : End) (s : RingState D) → turn_word s.lane.receiver ≡ get_or (words_of 0 [] (with_lane m e s)) (receiver_word e) 0
+pub receiver_in : {B : Type 0} {kc : Coded B} {kz : DeskTables} (m : LaneLink (RingState (PlacedDesk kc kz))) (e : End) (s : RingState (PlacedDesk kc kz)) → turn_word s.lane.receiver ≡ get_or (words_of 0 [] (with_lane m e s)) (receiver_word e) 0
 receiver_in m side.Host s = refl
 receiver_in m side.Remote s = refl
 
-pub forward_in : {D : Type 0} (m : LaneLink (RingState D)) (e : End) (s : RingState D) → s.rings.forward_index ≡ get_or (words_of 0 [] (with_lane m e s)) (forward_word e) 0
+pub forward_in : {B : Type 0} {kc : Coded B} {kz : DeskTables} (m : LaneLink (RingState (PlacedDesk kc kz))) (e : End) (s : RingState (PlacedDesk kc kz)) → s.rings.forward_index ≡ get_or (words_of 0 [] (with_lane m e s)) (forward_word e) 0
 forward_in m side.Host s = refl
 forward_in m side.Remote s = refl
 
-pub return_in : {D : Type 0} (m : LaneLink (RingState D)) (e : End) (s : RingState D) → s.rings.return_index ≡ get_or (words_of 0 [] (with_lane m e s)) (return_word e) 0
+pub return_in : {B : Type 0} {kc : Coded B} {kz : DeskTables} (m : LaneLink (RingState (PlacedDesk kc kz))) (e : End) (s : RingState (PlacedDesk kc kz)) → s.rings.return_index ≡ get_or (words_of 0 [] (with_lane m e s)) (return_word e) 0
 return_in m side.Host s = refl
 return_in m side.Remote s = refl

@@ -1,6 +1,8 @@
 -- The rule holds of a new table.
+use Rattle.link_words.specs.declared.codes.DeskTables.{DeskTables}
+use Rattle.link_words.specs.PlacedDesks.{PlacedDesk, right_to}
 use Rattle.link_words.specs.Histories.{NoneOf}
-use Rattle.std.proofs.Common.{◌≡◌, ℕ, zero, suc, List, [], ◌∷◌, ◌++◌, map, length, refl, sym, ap, ◌∙◌, subst, inl, arith, true, false}
+use Rattle.std.proofs.Common.{◌≡◌, ℕ, ◌<◌, zero, suc, List, [], ◌∷◌, ◌++◌, map, length, refl, sym, ap, ◌∙◌, subst, inl, arith, true, false}
 use mathlib.Core.Option.{some, some-injective, some-ne-none}
 use mathlib.Core.Option.{Option as Option_of}
 use Rattle.std.proofs.lemmas.List.{length-map}
@@ -35,12 +37,13 @@ use Rattle.link_words.specs.Rule.{HasCall, HistoryOf, HandsOf, WordsRule, first_
 use Rattle.link_words.specs.Parts.{HoldsBuffers, Knows}
 use Rattle.link_words.specs.Histories.{hands_of}
 use Rattle.link_words.proofs.Parts.{put_together}
+use Rattle.link_words.specs.Fresh.{opened_slots, opened_sender, opened_receiver}
 
 map_append : {A B : Type 0} (f : A → B) (xs ys : List A) → map f (xs ++ ys) ≡ map f xs ++ map f ys
 map_append f [] ys = refl
 map_append {B = B} f (x ∷ xs) ys = ap (λ (l : List B). f x ∷ l) (map_append f xs ys)
 
-new_shelf : {D : Type 0} (s : RingState D) (xs : List (List ℕ)) → length xs ≡ s.rings.sizes.capacity → length s.lane.lane.accepted ≡ 0 → HoldsBuffers s (map some (map Buffer xs))
+new_shelf : {B : Type 0} {kc : Coded B} {kz : DeskTables} (s : RingState (PlacedDesk kc kz)) (xs : List (List ℕ)) → length xs ≡ s.rings.sizes.capacity → length s.lane.lane.accepted ≡ 0 → HoldsBuffers s (map some (map Buffer xs))
 new_shelf s xs many none_accepted = record {
   long = length-map (map Buffer xs) some ∙ (length-map xs Buffer ∙ many);
   full = λ k from to other. absurd (omega (arith, to, none_accepted));
@@ -65,20 +68,20 @@ first z j l q (v, ev, eq) = let a = only z j v ev in let b = pass l (subst (λ (
     pass zero e = (refl, some-injective _ q e)
     pass (suc k) e = absurd (some-ne-none q (sym e))
 
-module _ {D : Type 0} (cd : Coded D) (desk : DeskMeaning D) where
-  pub opens_new : (config : LinkConfig) (host remote : D) (xs ys : List (List ℕ)) → IsConfig config → length xs ≡ ring_capacity config.num0 → length ys ≡ ring_capacity config.num1
-      → let z : LinkSizes = record { to_host = sizes_of config.num0 true; to_remote = sizes_of config.num1 false; first = config.first } in
+module _ {B : Type 0} {kc : Coded B} {kz : DeskTables} (cd : Coded (PlacedDesk kc kz)) (desk : DeskMeaning (PlacedDesk kc kz)) where
+  pub opens_new : (config : LinkConfig) (host remote : PlacedDesk kc kz) (xs ys : List (List ℕ)) → IsConfig config → config.first < 4294967296 → length xs ≡ ring_capacity config.num0 → length ys ≡ ring_capacity config.num1
+      → let z : LinkSizes = record { to_host = sizes_of config.num0 true; to_remote = sizes_of config.num1 false; book = config.book; first = config.first; desks = kz } in
       WordsRule cd desk z (opening (words_of 0 [] (opened_ring_link config host remote))
-      (Sender (record { accepted = 0 }) ∷ Receiver (record { handed = 0; returned = 0; hands = [] }) ∷ Sender (record { accepted = 0 }) ∷ Receiver (record { handed = 0; returned = 0; hands = [] }) ∷ (map Buffer xs ++ map Buffer ys))
+      (opened_slots (right_to host) (right_to remote) xs ys)
       (first_view z 64))
-  opens_new config host remote xs ys is many0 many1 =
-      let z : LinkSizes = record { to_host = sizes_of config.num0 true; to_remote = sizes_of config.num1 false; first = config.first } in let m = opened_ring_link config host remote in (
+  opens_new config host remote xs ys is low many0 many1 =
+      let z : LinkSizes = record { to_host = sizes_of config.num0 true; to_remote = sizes_of config.num1 false; book = config.book; first = config.first; desks = kz } in let m = opened_ring_link config host remote in (
         m,
         0,
         put_together refl
-            (record { host = map some (map Buffer xs); remote = map some (map Buffer ys) }) (ap (λ (l : List (Option_of Slot)). some (Sender (record { accepted = 0 })) ∷ some (Receiver (record { handed = 0; returned = 0; hands = [] })) ∷ some (Sender (record { accepted = 0 })) ∷ some (Receiver (record { handed = 0; returned = 0; hands = [] })) ∷ l)
+            (record { host = map some (map Buffer xs); remote = map some (map Buffer ys) }) (ap (λ (l : List (Option_of Slot)). some (Sender opened_sender) ∷ some (Receiver (opened_receiver (right_to host))) ∷ some (Sender opened_sender) ∷ some (Receiver (opened_receiver (right_to remote))) ∷ l)
             (map_append some (map Buffer xs) (map Buffer ys)))
-            (record { rings = opened_link_sound config host remote is; sound = opened_sound config host remote }) (refl, refl) shelf (record { start = m; run = []; by_run = refl })
+            (record { rings = opened_link_sound config host remote is; sound = opened_sound config host remote }) ((refl, refl), (refl, refl)) shelf (record { start = m; run = []; by_run = refl })
             (record {
               calls = λ j l q there. subst (HasCall m 0) (first z j l q there).2 refl;
               keepers = λ e i k j l p q ep eq _ _. ap (λ (x : Pass). x.number) (sym (first z i k p ep).2 ∙ (first z j l q eq).2);
@@ -92,6 +95,7 @@ module _ {D : Type 0} (cd : Coded D) (desk : DeskMeaning D) where
               places = λ i k j l p q ep eq _. let a = first z i k p ep in let b = first z j l q eq in (a.0 ∙ sym b.0, a.1 ∙ sym b.1);
               manager = λ i v e manages. let a = only z i v e in subst (Knows cd m (first_view z 64 ∷ []) i) a.1 (record { users = refl; inc = refl; unused = λ n none not. nothing n; closed = λ never. absurd (false-true never); out = λ j l q there apart. absurd (apart ((first z j l q there).0 ∙ sym a.0)); copy = λ k never _. absurd (none_some k never) });
               many = refl;
+              short = low;
             }),
       )
     where

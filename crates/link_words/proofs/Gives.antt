@@ -1,4 +1,6 @@
 -- The later steps of a give: the return entry, and the return index; and step 2 of a binding or an unbinding.
+use Rattle.link_words.specs.declared.codes.DeskTables.{DeskTables}
+use Rattle.link_words.specs.PlacedDesks.{PlacedDesk, right_to}
 use Rattle.std.proofs.Common.{◌≡◌, ◌≢◌, ℕ, ◌+◌, ◌*◌, ◌%◌, ◌<◌, Bool, true, false, cond, eqb, not, ◌&&◌, List, [], ◌∷◌, length, get_or, set, refl, sym, ap, ◌∙◌, subst, arith, ne_eqb, length-set}
 use Rattle.std.specs.Prelude.{Some, None}
 use Rattle.std.proofs.lemmas.Bool.{eqb-true}
@@ -49,6 +51,7 @@ use Rattle.link_words.specs.Words.{other, lane_to, with_lane, era_word, entry_wo
 use Rattle.link_words.proofs.Buffers.{loaded, rings_to}
 use Rattle.link_words.proofs.Entries.{ahead, sizes_known, return_found}
 use Rattle.link_words.proofs.Exact.{StepBy, write_by, ReadsAt, read_by, WritesAt}
+use Rattle.link_words.proofs.Tells.{BindLoadsEraBy}
 use Rattle.link_words.proofs.Frames.{keepers_set, words_seen, return_in}
 use Rattle.link_words.proofs.Hands.{hands_here, hands_at}
 use Rattle.link_words.proofs.Kept.{no_send, receive_deed, receive_may}
@@ -92,7 +95,7 @@ return_set : (e : End) (era n : ℕ) (a b : LaneWords) → set (words_at e era a
 return_set side.Host era n a b = refl
 return_set side.Remote era n a b = refl
 
-module _ {D : Type 0} (cd : Coded D) (desk : DeskMeaning D) (z : LinkSizes) where
+module _ {B : Type 0} {kc : Coded B} {kz : DeskTables} (cd : Coded (PlacedDesk kc kz)) (desk : DeskMeaning (PlacedDesk kc kz)) (z : LinkSizes) where
   -- step 2 of a give: the return entry names the buffer in hand
   pub gives_entry : (n id : ℕ) (me : SeatState) (o : Mover me.0) (e : End) (c f k : ℕ) (x : ReceiverSide) (b count new : ℕ) (msg : List ℕ) → o.pass.call ≡ Receives e (turn.Taken c (record { follows = f; work = work.Give k give_stage.Turn })) x b msg
       → count ≡ return_count (sizes_at z e) x.returned → new ≡ held_buffer x.hands k + 0 * 4294967296
@@ -101,7 +104,7 @@ module _ {D : Type 0} (cd : Coded D) (desk : DeskMeaning D) (z : LinkSizes) wher
       let t : Turn Receiving = turn.Taken c (record { follows = f; work = work.Give k give_stage.Turn }) in
       let h : IsCallOf m p o.pass.number (Receives e t x b msg) = subst (IsCallOf m p o.pass.number) call (r₀.turns.calls id o.place o.pass (me.0, at, o.here)) in
       let r = at_zero' cd desk z st m p e t h.1.0 refl r₀ in let s₀ = lane_to m e in let s = with_receiver s₀ t in let is : s₀ ≡ s = λ i. with_receiver s₀ (h.1.0 i) in
-      let sound : IsSoundRings s = subst IsSoundRings is (rings_to m e (rings_in r)) in let q : HoldsBuffers s (shelf_to r.shelves e) = subst (λ (u : RingState D). HoldsBuffers u (shelf_to r.shelves e)) is ((buffers_in r) e) in
+      let sound : IsSoundRings s = subst IsSoundRings is (rings_to m e (rings_in r)) in let q : HoldsBuffers s (shelf_to r.shelves e) = subst (λ (u : RingState (PlacedDesk kc kz)). HoldsBuffers u (shelf_to r.shelves e)) is ((buffers_in r) e) in
       let known = sizes_known cd desk z e st m r in let size = s.rings.sizes.entries in let fl = sound.sized.forward_long in let rl = sound.sized.returns_long in
       let some : 0 < size = let one = sound.sized.some in let fits = sound.sized.fits in omega (arith, one, fits) in
       let nth : ℕ = return_count s.rings.sizes s.lane.lane.returned in let j : ℕ = nth % size in let low : j < size = mod-lt nth some in
@@ -112,10 +115,10 @@ module _ {D : Type 0} (cd : Coded D) (desk : DeskMeaning D) (z : LinkSizes) wher
       let position : count % (sizes_at z e).entries ≡ j = λ i. at_count i % (sym known.0 i) in let en = known.0 in let be = known.2 in
       let word : entry_number z e ring.Return count ≡ 10 + (ahead e (lane_words (lane_to m (other e))) + (length s.rings.forward + j)) =
       let w : 10 + (entries_before z e + ((sizes_at z e).entries + count % (sizes_at z e).entries)) ≡ 10 + (ahead e (lane_words (lane_to m (other e))) + (length s.rings.forward + j)) = omega (arith, position, en, be, fl) in w in
-      let t' : Turn Receiving = turn.Taken c (record { follows = f; work = work.Give k give_stage.Entry }) in let w : Call = Receives e t' x b msg in let s' : RingState D = (ring_form desk).received_on s m.era in
+      let t' : Turn Receiving = turn.Taken c (record { follows = f; work = work.Give k give_stage.Entry }) in let w : Call = Receives e t' x b msg in let s' : RingState (PlacedDesk kc kz) = (ring_form desk).received_on s m.era in
       let has : has_call s₀.lane.receiver o.pass.number ≡ true = has_of s₀.lane.receiver o.pass.number (ap holder h.1.0 ∙ h.1.1) (ap is_manager h.1.0) in
       let may = receive_may desk m e o.pass.number 0 h.0 has in
-      let deed : with_lane m e s' ≡ after_deed desk m (Steps o.pass.number 0 None) = ap (λ (u : RingState D). with_lane m e ((ring_form desk).received_on u m.era)) (sym is) ∙ receive_deed desk m e o.pass.number 0 h.0 (no_send desk m e o.pass.number r.sound has) in
+      let deed : with_lane m e s' ≡ after_deed desk m (Steps o.pass.number 0 None) = ap (λ (u : RingState (PlacedDesk kc kz)). with_lane m e ((ring_form desk).received_on u m.era)) (sym is) ∙ receive_deed desk m e o.pass.number 0 h.0 (no_send desk m e o.pass.number r.sound has) in
       let mine : IsCallOf (with_lane m e s') 0 o.pass.number w = here_receives desk m e s' o.pass.number t' x b msg h.0 (refl, h.1.1, h.1.2, (λ out. absurd (true-false (sym out))), refl) in (
         _,
         keeps,
@@ -141,24 +144,24 @@ module _ {D : Type 0} (cd : Coded D) (desk : DeskMeaning D) (z : LinkSizes) wher
   -- step 3 of a give: the return index tells that the buffer is back
   pub gives_back : (n id : ℕ) (me : SeatState) (o : Mover me.0) (e : End) (c f k : ℕ) (x : ReceiverSide) (b new : ℕ) (msg : List ℕ) → o.pass.call ≡ Receives e (turn.Taken c (record { follows = f; work = work.Give k give_stage.Entry })) x b msg
       → new ≡ (return_count (sizes_at z e) x.returned + 1) % 65536
-      → Allows (WordsRule cd desk z) n id me (return_word e) (λ _. new) (λ _ me'. (me' ≡ (with_pass me.0 o (with_call_and_hands o.pass (Receives e (turn.Leaving c (end.Gave k)) (record { handed = x.handed; returned = x.returned + 1; hands = hands_without x.hands k }) b msg) (hands_but o.pass.hands k)) me'.0.copy, me.1))
+      → Allows (WordsRule cd desk z) n id me (return_word e) (λ _. new) (λ _ me'. (me' ≡ (with_pass me.0 o (with_call_and_hands o.pass (Receives e (turn.Leaving c (end.Gave k)) (record x { returned = x.returned + 1; hands = hands_without x.hands k }) b msg) (hands_but o.pass.hands k)) me'.0.copy, me.1))
       × StepBy cd desk (WritesAt (return_word e) new) me o (Steps o.pass.number 0 None) me')
   gives_back n id me o e c f k x b new msg call new_is st (m, p, r₀) wide at _ =
       let t : Turn Receiving = turn.Taken c (record { follows = f; work = work.Give k give_stage.Entry }) in
       let h : IsCallOf m p o.pass.number (Receives e t x b msg) = subst (IsCallOf m p o.pass.number) call (r₀.turns.calls id o.place o.pass (me.0, at, o.here)) in
       let r = at_zero' cd desk z st m p e t h.1.0 refl r₀ in let s₀ = lane_to m e in let s = with_receiver s₀ t in let is : s₀ ≡ s = λ i. with_receiver s₀ (h.1.0 i) in
-      let sound : IsSoundRings s = subst IsSoundRings is (rings_to m e (rings_in r)) in let q : HoldsBuffers s (shelf_to r.shelves e) = subst (λ (u : RingState D). HoldsBuffers u (shelf_to r.shelves e)) is ((buffers_in r) e) in
+      let sound : IsSoundRings s = subst IsSoundRings is (rings_to m e (rings_in r)) in let q : HoldsBuffers s (shelf_to r.shelves e) = subst (λ (u : RingState (PlacedDesk kc kz)). HoldsBuffers u (shelf_to r.shelves e)) is ((buffers_in r) e) in
       let nth : ℕ = return_count s.rings.sizes s.lane.lane.returned in let back : x.returned ≡ s.lane.lane.returned = ap (λ (u : ReceiverSide). u.returned) h.1.2 in let same = sizes_is cd desk z st m r e in
       let index : new ≡ next_index s.rings.return_index = new_is ∙ ((λ i. (return_count (sym same i) (back i) + 1) % 65536) ∙ (sym (mod-add-mod nth 65536 1) ∙ ap (λ (i : ℕ). (i + 1) % 65536) (sym sound.return_index))) in
-      let s' : RingState D = (ring_form desk).received_on s m.era in let t' : Turn Receiving = turn.Leaving c (end.Gave k) in
-      let x' : ReceiverSide = record { handed = x.handed; returned = x.returned + 1; hands = hands_without x.hands k } in let w : Call = Receives e t' x' b msg in
+      let s' : RingState (PlacedDesk kc kz) = (ring_form desk).received_on s m.era in let t' : Turn Receiving = turn.Leaving c (end.Gave k) in
+      let x' : ReceiverSide = record x { returned = x.returned + 1; hands = hands_without x.hands k } in let w : Call = Receives e t' x' b msg in
       let who : c ≡ o.pass.number = some_number c o.pass.number h.1.1 in
-      let side : x' ≡ receiver_side s' = ap (λ (u : ReceiverSide). record { handed = u.handed; returned = u.returned + 1; hands = hands_without u.hands k }) h.1.2 in
+      let side : x' ≡ receiver_side s' = ap (λ (u : ReceiverSide). record u { returned = u.returned + 1; hands = hands_without u.hands k }) h.1.2 in
       let has : has_call s₀.lane.receiver o.pass.number ≡ true = has_of s₀.lane.receiver o.pass.number (ap holder h.1.0 ∙ h.1.1) (ap is_manager h.1.0) in
       let held_now : hands_of o.pass.number s.lane.lane.held ≡ o.pass.hands = hands_at m e o.pass h.0 (r.histories.hands id o.place o.pass (me.0, at, o.here)) in
       let pass : Pass = with_call_and_hands o.pass w (hands_but o.pass.hands k) in
       let may = receive_may desk m e o.pass.number 0 h.0 has in
-      let deed : with_lane m e s' ≡ after_deed desk m (Steps o.pass.number 0 None) = ap (λ (u : RingState D). with_lane m e ((ring_form desk).received_on u m.era)) (sym is) ∙ receive_deed desk m e o.pass.number 0 h.0 (no_send desk m e o.pass.number r.sound has) in
+      let deed : with_lane m e s' ≡ after_deed desk m (Steps o.pass.number 0 None) = ap (λ (u : RingState (PlacedDesk kc kz)). with_lane m e ((ring_form desk).received_on u m.era)) (sym is) ∙ receive_deed desk m e o.pass.number 0 h.0 (no_send desk m e o.pass.number r.sound has) in
       let mine : IsCallOf (with_lane m e s') 0 o.pass.number w = here_receives desk m e s' o.pass.number t' x' b msg h.0 (refl, h.1.1, side, (λ out. absurd (true-false (sym out))), refl) in (
         _,
         keeps,
@@ -173,24 +176,24 @@ module _ {D : Type 0} (cd : Coded D) (desk : DeskMeaning D) (z : LinkSizes) wher
             (λ j l u there apart. others_receive desk m e s' t o.pass.number h.1.0 h.1.1 refl refl refl refl (λ i ne. no_call desk t' o.pass.number i h.1.1 ne) u.number apart u.call)
             refl refl refl
             (hands_here m e s' pass h.0 ((λ i. hands_of (sym who i) (without s.lane.lane.held k c)) ∙ (hands_given c k s.lane.lane.held ∙ (λ i. hands_but (hands_of (who i) s.lane.lane.held) k) ∙ ap (λ (l : List ℕ). hands_but l k) held_now)))
-            (λ u apart. hands_kept desk m e s' u (λ was. hands_stay c k u.number s.lane.lane.held (λ same_one. apart (sym who ∙ same_one)) ∙ (ap (λ (y : RingState D). hands_of u.number y.lane.lane.held) (sym is) ∙ was)))
+            (λ u apart. hands_kept desk m e s' u (λ was. hands_stay c k u.number s.lane.lane.held (λ same_one. apart (sym who ∙ same_one)) ∙ (ap (λ (y : RingState (PlacedDesk kc kz)). hands_of u.number y.lane.lane.held) (sym is) ∙ was)))
             (keepers_set st.views id me.0 (with_pass me.0 o pass (Some (copied cd (with_lane m e s')))) o pass at refl refl (λ i l. absurd (true-false (sym l))) r.turns.keepers),
         (refl, write_by (return_word e) new cd desk z st m r id me o pass (Steps o.pass.number 0 None) (with_lane m e s') me.1 (index ∙ return_in m e s') at may deed mine),
       )
 
   -- step 2 of a binding or an unbinding, where the call ends so and leaves this desk
-  binds_with : (st : State Slot View) (m : LaneLink (RingState D)) (r : Shows cd desk z st m 0) (id : ℕ) (me : SeatState) (o : Mover me.0) (e : End) (w : Work) (f c : ℕ) (x : ReceiverSide) (b : ℕ) (msg : List ℕ) (ended : CallEnd) (left : D) → get_elem? st.views id ≡ some me.0
+  binds_with : (st : State Slot View) (m : LaneLink (RingState (PlacedDesk kc kz))) (r : Shows cd desk z st m 0) (id : ℕ) (me : SeatState) (o : Mover me.0) (e : End) (w : Work) (f c : ℕ) (x : ReceiverSide) (b : ℕ) (msg : List ℕ) (ended : CallEnd) (left : PlacedDesk kc kz) (x' : ReceiverSide) → x' ≡ record (receiver_side (lane_to m e)) { desk = right_to left } → get_elem? st.views id ≡ some me.0
       → IsCallOf m 0 o.pass.number (Receives e (turn.Taken c (record { follows = f; work = w })) x b msg) → work_is_out w ≡ false
       → (ring_form desk).received_on (with_receiver (lane_to m e) (turn.Taken c (record { follows = f; work = w }))) m.era ≡ record { lane = record (lane_to m e).lane { receiver = turn.Leaving c ended; desk = left }; rings = (lane_to m e).rings }
-      → (v : View) × WordsRule cd desk z (stepped st 1 (get_or st.words 1 0) id me.1 v keeps) × (v ≡ with_pass me.0 o (with_call o.pass (Receives e (turn.Leaving c ended) x b msg)) v.copy) × StepBy cd desk (ReadsAt 1 (get_or st.words 1 0)) me o (Steps o.pass.number 0 None) (v, me.1)
-  binds_with st m r id me o e w f c x b msg ended left at h inside does =
+      → (v : View) × WordsRule cd desk z (stepped st 1 (get_or st.words 1 0) id me.1 v keeps) × (v ≡ with_pass me.0 o (with_call o.pass (Receives e (turn.Leaving c ended) x' b msg)) v.copy) × StepBy cd desk (ReadsAt 1 (get_or st.words 1 0)) me o (Steps o.pass.number 0 None) (v, me.1)
+  binds_with st m r id me o e w f c x b msg ended left x' side at h inside does =
       let t : Turn Receiving = turn.Taken c (record { follows = f; work = w }) in let s₀ = lane_to m e in let s = with_receiver s₀ t in let is : s₀ ≡ s = λ i. with_receiver s₀ (h.1.0 i) in
-      let t' : Turn Receiving = turn.Leaving c ended in let s' : RingState D = record { lane = record s₀.lane { receiver = t'; desk = left }; rings = s₀.rings } in let call : Call = Receives e t' x b msg in
+      let t' : Turn Receiving = turn.Leaving c ended in let s' : RingState (PlacedDesk kc kz) = record { lane = record s₀.lane { receiver = t'; desk = left }; rings = s₀.rings } in let call : Call = Receives e t' x' b msg in
       let has : has_call s₀.lane.receiver o.pass.number ≡ true = has_of s₀.lane.receiver o.pass.number (ap holder h.1.0 ∙ h.1.1) (ap is_manager h.1.0) in
       let may = receive_may desk m e o.pass.number 0 h.0 has in
       let deed : with_lane m e s' ≡ after_deed desk m (Steps o.pass.number 0 None) =
-      ap (with_lane m e) (sym does) ∙ (ap (λ (u : RingState D). with_lane m e ((ring_form desk).received_on u m.era)) (sym is) ∙ receive_deed desk m e o.pass.number 0 h.0 (no_send desk m e o.pass.number r.sound has)) in
-      let mine : IsCallOf (with_lane m e s') 0 o.pass.number call = here_receives desk m e s' o.pass.number t' x b msg h.0 (refl, h.1.1, h.1.2, (λ out. absurd (true-false (sym out))), refl) in (
+      ap (with_lane m e) (sym does) ∙ (ap (λ (u : RingState (PlacedDesk kc kz)). with_lane m e ((ring_form desk).received_on u m.era)) (sym is) ∙ receive_deed desk m e o.pass.number 0 h.0 (no_send desk m e o.pass.number r.sound has)) in
+      let mine : IsCallOf (with_lane m e s') 0 o.pass.number call = here_receives desk m e s' o.pass.number t' x' b msg h.0 (refl, h.1.1, side, (λ out. absurd (true-false (sym out))), refl) in (
         _,
         lane_moves cd desk z st m r e s s' is 1 (get_or st.words 1 0) id me.1 me.0 o call keeps (Steps o.pass.number 0 None) (shelf_to r.shelves e) at
             may
@@ -205,26 +208,26 @@ module _ {D : Type 0} (cd : Coded D) (desk : DeskMeaning D) (z : LinkSizes) wher
       )
 
   -- in its incarnation, live, the desk changes and says how the call ends
-  pub binds : (w : Work) (desk_after : RingState D → D) (end_after : RingState D → CallEnd) (f c : ℕ) → work_is_out w ≡ false
-      → ((s : RingState D) (era : Era) → (ring_form desk).received_on (with_receiver s (turn.Taken c (record { follows = f; work = w }))) era ≡ record {
-        lane = cond (is_live_in era f) (record s.lane { receiver = turn.Leaving c (end_after s); desk = desk_after s }) (record s.lane { receiver = turn.Leaving c (end.Dead era) });
+  pub binds : (w : Work) (leaves : PlacedDesk kc kz → ℕ → PlacedDesk kc kz) (says : PlacedDesk kc kz → ℕ → CallEnd) (f c : ℕ) → work_is_out w ≡ false
+      → ((s : RingState (PlacedDesk kc kz)) (era : Era) → (ring_form desk).received_on (with_receiver s (turn.Taken c (record { follows = f; work = w }))) era ≡ record {
+        lane = cond (is_live_in era f) (record s.lane { receiver = turn.Leaving c (says s.lane.desk (length s.lane.lane.takers)); desk = leaves s.lane.desk (length s.lane.lane.takers) }) (record s.lane { receiver = turn.Leaving c (end.Dead era) });
         rings = s.rings;
       })
       → (n id : ℕ) (me : SeatState) (o : Mover me.0) (e : End) (x : ReceiverSide) (b : ℕ) (msg : List ℕ) → o.pass.call ≡ Receives e (turn.Taken c (record { follows = f; work = w })) x b msg
-      → Allows (WordsRule cd desk z) n id me 1 (λ y. y) (λ y me'. ((era : Era) × (y ≡ era_word era) × (ended : CallEnd) × (me' ≡ (with_pass me.0 o (with_call o.pass (Receives e (cond (is_live_in era f) (turn.Leaving c ended) (turn.Leaving c (end.Dead era))) x b msg)) me'.0.copy, me.1)))
-      × StepBy cd desk (ReadsAt 1 y) me o (Steps o.pass.number 0 None) me')
-  binds w desk_after end_after f c inside does n id me o e x b msg call st (m, p, r₀) wide at _ =
+      → Allows (WordsRule cd desk z) n id me 1 (λ y. y) (λ y me'. BindLoadsEraBy leaves says me o e c f x b msg y me' × StepBy cd desk (ReadsAt 1 y) me o (Steps o.pass.number 0 None) me')
+  binds w leaves says f c inside does n id me o e x b msg call st (m, p, r₀) wide at _ =
       let t : Turn Receiving = turn.Taken c (record { follows = f; work = w }) in
       let h : IsCallOf m p o.pass.number (Receives e t x b msg) = subst (IsCallOf m p o.pass.number) call (r₀.turns.calls id o.place o.pass (me.0, at, o.here)) in
       let r = at_zero' cd desk z st m p e t h.1.0 refl r₀ in go (is_live_in m.era f) refl h r (ap (λ (ws : List ℕ). get_or ws 1 0) r.words_are)
     where
       go : (live : Bool) → is_live_in m.era f ≡ live → IsCallOf m 0 o.pass.number (Receives e (turn.Taken c (record { follows = f; work = w })) x b msg) → Shows cd desk z st m 0 → get_or st.words 1 0 ≡ era_word m.era
           → (v : View) × (a : Act Slot) × Valid st.homes me.1 a × WordsRule cd desk z (stepped st 1 (get_or st.words 1 0) id me.1 v a)
-          × (((era : Era) × (get_or st.words 1 0 ≡ era_word era) × (ended : CallEnd) × Path (Me Slot View) (v, carried_after me.1 a) (with_pass me.0 o (with_call o.pass (Receives e (cond (is_live_in era f) (turn.Leaving c ended) (turn.Leaving c (end.Dead era))) x b msg)) v.copy, me.1))
+          × (BindLoadsEraBy leaves says me o e c f x b msg (get_or st.words 1 0) (v, carried_after me.1 a)
           × StepBy cd desk (ReadsAt 1 (get_or st.words 1 0)) me o (Steps o.pass.number 0 None) (v, carried_after me.1 a))
       go true is_live h r word =
-          let all = binds_with st m r id me o e w f c x b msg (end_after (lane_to m e)) (desk_after (lane_to m e)) at h inside
-          (does (lane_to m e) m.era ∙ λ i. record { lane = cond (is_live i) (record (lane_to m e).lane { receiver = turn.Leaving c (end_after (lane_to m e)); desk = desk_after (lane_to m e) }) (record (lane_to m e).lane { receiver = turn.Leaving c (end.Dead m.era) }); rings = (lane_to m e).rings }) in (
+          let s = lane_to m e in let d : PlacedDesk kc kz = s.lane.desk in let hd = length s.lane.lane.takers in let nth : x.handed ≡ hd = ap (λ (y : ReceiverSide). y.handed) h.1.2 in
+          let all = binds_with st m r id me o e w f c x b msg (says d x.handed) (leaves d hd) (record x { desk = right_to (leaves d x.handed) }) (λ i. record (h.1.2 i) { desk = right_to (leaves d (nth i)) }) at h inside
+          (does s m.era ∙ λ i. record { lane = cond (is_live i) (record s.lane { receiver = turn.Leaving c (says d (sym nth i)); desk = leaves d hd }) (record s.lane { receiver = turn.Leaving c (end.Dead m.era) }); rings = s.rings }) in (
             all.0,
             keeps,
             tt,
@@ -233,15 +236,18 @@ module _ {D : Type 0} (cd : Coded D) (desk : DeskMeaning D) (z : LinkSizes) wher
               (
                 m.era,
                 word,
-                end_after (lane_to m e),
-                (λ i. (all.2 i, me.1)) ∙ λ i. (with_pass me.0 o (with_call o.pass (Receives e (cond (sym is_live i) (turn.Leaving c (end_after (lane_to m e))) (turn.Leaving c (end.Dead m.era))) x b msg)) all.0.copy, me.1),
+                r.numbers.short,
+                d,
+                ap (λ (y : ReceiverSide). y.desk) h.1.2,
+                (λ i. (all.2 i, me.1)) ∙ λ i. (with_pass me.0 o (with_call o.pass (Receives e (cond (sym is_live i) (turn.Leaving c (says d x.handed)) (turn.Leaving c (end.Dead m.era))) (cond (sym is_live i) (record x { desk = right_to (leaves d x.handed) }) x) b msg)) all.0.copy, me.1),
               ),
               all.3,
             ),
           )
       go false is_dead h r word =
-          let all = binds_with st m r id me o e w f c x b msg (end.Dead m.era) (lane_to m e).lane.desk at h inside
-          (does (lane_to m e) m.era ∙ λ i. record { lane = cond (is_dead i) (record (lane_to m e).lane { receiver = turn.Leaving c (end_after (lane_to m e)); desk = desk_after (lane_to m e) }) (record (lane_to m e).lane { receiver = turn.Leaving c (end.Dead m.era) }); rings = (lane_to m e).rings }) in (
+          let s = lane_to m e in let d : PlacedDesk kc kz = s.lane.desk in let hd = length s.lane.lane.takers in
+          let all = binds_with st m r id me o e w f c x b msg (end.Dead m.era) d x h.1.2 at h inside
+          (does s m.era ∙ λ i. record { lane = cond (is_dead i) (record s.lane { receiver = turn.Leaving c (says d hd); desk = leaves d hd }) (record s.lane { receiver = turn.Leaving c (end.Dead m.era) }); rings = s.rings }) in (
             all.0,
             keeps,
             tt,
@@ -250,8 +256,10 @@ module _ {D : Type 0} (cd : Coded D) (desk : DeskMeaning D) (z : LinkSizes) wher
               (
                 m.era,
                 word,
-                end.Dead m.era,
-                (λ i. (all.2 i, me.1)) ∙ λ i. (with_pass me.0 o (with_call o.pass (Receives e (cond (sym is_dead i) (turn.Leaving c (end.Dead m.era)) (turn.Leaving c (end.Dead m.era))) x b msg)) all.0.copy, me.1),
+                r.numbers.short,
+                d,
+                ap (λ (y : ReceiverSide). y.desk) h.1.2,
+                (λ i. (all.2 i, me.1)) ∙ λ i. (with_pass me.0 o (with_call o.pass (Receives e (cond (sym is_dead i) (turn.Leaving c (says d x.handed)) (turn.Leaving c (end.Dead m.era))) (cond (sym is_dead i) (record x { desk = right_to (leaves d x.handed) }) x) b msg)) all.0.copy, me.1),
               ),
               all.3,
             ),

@@ -1,5 +1,7 @@
 -- A reclaim of a caller that is in no call and holds buffers: the manager takes its receiver's turn with the caller's own seat, finds the era
 -- closed while it has it, and leaves it without what the caller held.
+use Rattle.link_words.specs.declared.codes.DeskTables.{DeskTables}
+use Rattle.link_words.specs.PlacedDesks.{PlacedDesk}
 use Rattle.std.proofs.Common.{◌≡◌, ◌≢◌, ℕ, ◌<◌, ◌≤◌, Bool, true, false, eqb, List, [], ◌∷◌, length, get_or, refl, sym, ap, ◌∙◌, subst, ⊎_elim, arith, suc-ne-zero}
 use Rattle.std.specs.Prelude.{Some, None}
 use mathlib.Core.Option.{some, none}
@@ -80,7 +82,7 @@ not_held t k free held = no_some k (sym (ap holder free) ∙ held)
     no_some n e = absurd (cc)
 
 -- the shelves stand where the receiver's turn changes between turns that have nothing out
-pub shelved_receiver : {D : Type 0} (s s' : RingState D) (l : List (Option_of Slot)) → receiver_is_out s.lane.receiver ≡ false → receiver_is_out s'.lane.receiver ≡ false → s'.lane.sender ≡ s.lane.sender → s'.lane.lane.accepted ≡ s.lane.lane.accepted → s'.lane.lane.takers ≡ s.lane.lane.takers
+pub shelved_receiver : {B : Type 0} {kc : Coded B} {kz : DeskTables} (s s' : RingState (PlacedDesk kc kz)) (l : List (Option_of Slot)) → receiver_is_out s.lane.receiver ≡ false → receiver_is_out s'.lane.receiver ≡ false → s'.lane.sender ≡ s.lane.sender → s'.lane.lane.accepted ≡ s.lane.lane.accepted → s'.lane.lane.takers ≡ s.lane.lane.takers
     → s'.rings.sizes ≡ s.rings.sizes → s'.rings.forward ≡ s.rings.forward → s'.rings.sending ≡ s.rings.sending → HoldsBuffers s l → HoldsBuffers s' l
 shelved_receiver s s' l before after sender accepted takers sizes forward sending q = record {
   long = q.long ∙ ap (λ x. x.capacity) (sym sizes);
@@ -90,9 +92,9 @@ shelved_receiver s s' l before after sender accepted takers sizes forward sendin
   home = λ j under mine theirs. q.home j (subst (λ (n : ℕ). j < n) (ap (λ x. x.capacity) sizes) under) (λ o same. mine (ap sender_is_out sender ∙ o) (same ∙ sym sending)) (λ o. absurd (true-false (sym o ∙ before)));
 }
 
-module _ {D : Type 0} (cd : Coded D) (desk : DeskMeaning D) (z : LinkSizes) where
+module _ {B : Type 0} {kc : Coded B} {kz : DeskTables} (cd : Coded (PlacedDesk kc kz)) (desk : DeskMeaning (PlacedDesk kc kz)) (z : LinkSizes) where
   -- where the receiver's turn is free, nobody has it
-  pub free_for_all : (m : LaneLink (RingState D)) (e : End) (p : ℕ) → (lane_to m e).lane.receiver ≡ turn.Free → (k : ℕ) (call : Call) → has_receiver e call ≡ true → IsCallOf m p k call → ⊥
+  pub free_for_all : (m : LaneLink (RingState (PlacedDesk kc kz))) (e : End) (p : ℕ) → (lane_to m e).lane.receiver ≡ turn.Free → (k : ℕ) (call : Call) → has_receiver e call ≡ true → IsCallOf m p k call → ⊥
   free_for_all m e p free k Idle having has = true-false (sym having)
   free_for_all m e p free k (Rests i) having has = true-false (sym having)
   free_for_all m e p free k (Sends i t x b) having has = true-false (sym having)
@@ -132,7 +134,7 @@ module _ {D : Type 0} (cd : Coded D) (desk : DeskMeaning D) (z : LinkSizes) wher
   minds_has e (HoldsAll x y) kept = kept
 
   -- where the manager has the turn, who has it minds it for the manager
-  has_minds : (m : LaneLink (RingState D)) (e : End) (p : ℕ) → (lane_to m e).lane.receiver ≡ turn.Manager → (k : ℕ) (call : Call) → has_receiver e call ≡ true → IsCallOf m p k call → has_for_manager e call ≡ true
+  has_minds : (m : LaneLink (RingState (PlacedDesk kc kz))) (e : End) (p : ℕ) → (lane_to m e).lane.receiver ≡ turn.Manager → (k : ℕ) (call : Call) → has_receiver e call ≡ true → IsCallOf m p k call → has_for_manager e call ≡ true
   has_minds m e p is k Idle having has = having
   has_minds m e p is k (Rests i) having has = having
   has_minds m e p is k (Sends i t x b) having has = having
@@ -151,7 +153,7 @@ module _ {D : Type 0} (cd : Coded D) (desk : DeskMeaning D) (z : LinkSizes) wher
   has_minds m e p is k (HoldsAll x y) having has = refl
 
   -- nobody else has the turn that this seat minds for the manager
-  alone : (st : State Slot View) (m : LaneLink (RingState D)) (r : Shows cd desk z st m 0) (e : End) (id : ℕ) (v : View) (o : Mover v) → get_elem? st.views id ≡ some v → has_for_manager e o.pass.call ≡ true → (lane_to m e).lane.receiver ≡ turn.Manager
+  alone : (st : State Slot View) (m : LaneLink (RingState (PlacedDesk kc kz))) (r : Shows cd desk z st m 0) (e : End) (id : ℕ) (v : View) (o : Mover v) → get_elem? st.views id ≡ some v → has_for_manager e o.pass.call ≡ true → (lane_to m e).lane.receiver ≡ turn.Manager
       → (j l : ℕ) (q : Pass) → PassAt st.views j l q → o.pass.number ≢ q.number → has_receiver e q.call ≡ true → IsCallOf m 0 q.number q.call → ⊥
   alone st m r e id v o at mind is j l q there apart having has = apart (r.turns.keepers e id o.place j l o.pass q (v, at, o.here) there mind (has_minds m e 0 is q.number q.call having has))
 
@@ -163,7 +165,7 @@ module _ {D : Type 0} (cd : Coded D) (desk : DeskMeaning D) (z : LinkSizes) wher
   abbrev pub claimed : (me : SeatState) → Mover me.0 → End → ℕ → SeatState → Type 0
   claimed me o e n me' = (n ≡ 0 → (x : ReceiverSide) × (me' ≡ (with_pass me.0 o (with_call o.pass (Reclaims e x)) me'.0.copy, (receiver_slot e, Receiver x) ∷ me.1))) × (n ≢ 0 → me' ≡ me)
 
-  minded : (m : LaneLink (RingState D)) (e : End) (s : RingState D) (number : ℕ) → end_of m.callers number ≡ Some e → s.lane.receiver ≡ turn.Manager → has_call (lane_to m (other e)).lane.sender number ≡ false → IsCallOf (with_lane m e s) 0 number (Reclaims e (receiver_side s))
+  minded : (m : LaneLink (RingState (PlacedDesk kc kz))) (e : End) (s : RingState (PlacedDesk kc kz)) (number : ℕ) → end_of m.callers number ≡ Some e → s.lane.receiver ≡ turn.Manager → has_call (lane_to m (other e)).lane.sender number ≡ false → IsCallOf (with_lane m e s) 0 number (Reclaims e (receiver_side s))
   minded m side.Host s number user is sends = (user, is, refl, refl, sends)
   minded m side.Remote s number user is sends = (user, is, refl, refl, sends)
 
@@ -173,11 +175,11 @@ module _ {D : Type 0} (cd : Coded D) (desk : DeskMeaning D) (z : LinkSizes) wher
   same_end_is side.Remote side.Host same = absurd (true-false (sym same))
   same_end_is side.Remote side.Remote same = refl
 
-  pub seen_receiver : (m : LaneLink (RingState D)) (p : ℕ) (i : End) → get_or (words_of p (fresh_block desk m) m) (receiver_word i) 0 ≡ turn_word (lane_to m i).lane.receiver
+  pub seen_receiver : (m : LaneLink (RingState (PlacedDesk kc kz))) (p : ℕ) (i : End) → get_or (words_of p (fresh_block desk m) m) (receiver_word i) 0 ≡ turn_word (lane_to m i).lane.receiver
   seen_receiver m p side.Host = refl
   seen_receiver m p side.Remote = refl
 
-  claims_free : (id : ℕ) (me : SeatState) (o : Mover me.0) (e : End) (st : State Slot View) (m : LaneLink (RingState D)) (r : Shows cd desk z st m 0) → get_elem? st.views id ≡ some me.0 → end_of m.callers o.pass.number ≡ Some e → has_call (lane_to m (other e)).lane.sender o.pass.number ≡ false → (lane_to m e).lane.receiver ≡ turn.Free
+  claims_free : (id : ℕ) (me : SeatState) (o : Mover me.0) (e : End) (st : State Slot View) (m : LaneLink (RingState (PlacedDesk kc kz))) (r : Shows cd desk z st m 0) → get_elem? st.views id ≡ some me.0 → end_of m.callers o.pass.number ≡ Some e → has_call (lane_to m (other e)).lane.sender o.pass.number ≡ false → (lane_to m e).lane.receiver ≡ turn.Free
       → (w : View) × (a : Act Slot) × Valid st.homes me.1 a × WordsRule cd desk z (stepped st (receiver_word e) 65 id me.1 w a) × ((x : ReceiverSide) × Path (Me Slot View) (w, carried_after me.1 a) (with_pass me.0 o (with_call o.pass (Reclaims e x)) w.copy, (receiver_slot e, Receiver x) ∷ me.1))
   claims_free id me o e st m r at user sends free =
       let s₀ = lane_to m e in let s = with_receiver s₀ turn.Free in let is : s₀ ≡ s = λ k. with_receiver s₀ (free k) in let s' = with_receiver s₀ turn.Manager in
@@ -243,8 +245,8 @@ module _ {D : Type 0} (cd : Coded D) (desk : DeskMeaning D) (z : LinkSizes) wher
   leaves_held n id me o e x x' call side_is has_slot st (m, p, r₀) wide at _ =
       let h : IsCallOf m p o.pass.number (EndsHeld e x) = subst (IsCallOf m p o.pass.number) call (r₀.turns.calls id o.place o.pass (me.0, at, o.here)) in
       let c = o.pass.number in let s₀ = lane_to m e in let r : Shows cd desk z st m 0 = subst (Shows cd desk z st m) h.3 r₀ in
-      let out : RingState D = (ring_form desk).after_receive_end s₀ c in
-      let left : Turn Receiving → RingState D = λ t. record out { lane = record out.lane { receiver = manager_leaves t } } in
+      let out : RingState (PlacedDesk kc kz) = (ring_form desk).after_receive_end s₀ c in
+      let left : Turn Receiving → RingState (PlacedDesk kc kz) = λ t. record out { lane = record out.lane { receiver = manager_leaves t } } in
       let s = with_receiver s₀ turn.Manager in let is : s₀ ≡ s = λ k. with_receiver s₀ (h.1 k) in let s' = left turn.Manager in
       let ha = lane_homes s (shelf_to r.shelves e) in let hb = lane_homes (lane_to m (other e)) (shelf_to r.shelves (other e)) in
       let side : x' ≡ receiver_side s' = side_is ∙ ap (λ (u : ReceiverSide). record u { hands = hands_of_others u.hands c }) h.2 in

@@ -1,6 +1,8 @@
 -- A step of a seat on one lane that is a deed of the ring form keeps the rule.
+use Rattle.link_words.specs.declared.codes.DeskTables.{DeskTables}
+use Rattle.link_words.specs.PlacedDesks.{PlacedDesk}
 use Rattle.link_words.specs.Histories.{NoneOf}
-use Rattle.std.proofs.Common.{◌≡◌, ◌≢◌, ℕ, true, false, List, length, set, refl, sym, ap, ◌∙◌, subst, inl, ne_eqb}
+use Rattle.std.proofs.Common.{◌≡◌, ◌≢◌, ℕ, ◌<◌, true, false, List, length, set, refl, sym, ap, ◌∙◌, subst, inl, ne_eqb}
 use Rattle.std.specs.Prelude.{Option, Some, None}
 use mathlib.Core.Option.{some}
 use mathlib.Core.Path.{Path}
@@ -18,6 +20,7 @@ use Rattle.link_words.specs.Codes.{copied}
 use Rattle.lane_model.specs.Desks.{DeskMeaning}
 use Rattle.lane_model.specs.Lanes.{holder, has_call, message_at}
 use Rattle.lane_model.specs.Links.{end_of}
+use Rattle.ring_core.specs.declared.states.RingSizes.{RingSizes}
 use Rattle.ring_core.specs.declared.states.RingState.{RingState}
 use Rattle.ring_core.specs.Owners.{receiver_is_out}
 use Rattle.link_words.specs.declared.rule.Slot.{Slot}
@@ -40,14 +43,14 @@ use Rattle.link_words.specs.Histories.{hands_of}
 use Rattle.link_words.proofs.Frames.{some_copy, each_set, numbers_set, keepers_set, manager_set, each_lane, words_seen, homes_seen, same_lane, same_shelf}
 use Rattle.link_words.proofs.Books.{sent_same, taken_same, read_same, later, none_same}
 use Rattle.link_words.proofs.Kept.{deed_kept}
-use Rattle.link_words.proofs.Parts.{state_in, sizes_in, buffers_in, put_together, one_more}
+use Rattle.link_words.proofs.Parts.{state_in, told_in, IsAsTold, buffers_in, put_together, one_more}
 use Rattle.link_words.specs.Turns.{turns_of}
 
 abbrev option_or_zero : Option ℕ → ℕ
 option_or_zero None = 0
 option_or_zero (Some n) = n
 
-module _ {D : Type 0} (desk : DeskMeaning D) where
+module _ {B : Type 0} {kc : Coded B} {kz : DeskTables} (desk : DeskMeaning (PlacedDesk kc kz)) where
   -- a turn of another is not this caller's
   pub no_call : {C : Type 0} (t : Turn C) (a k : ℕ) → holder t ≡ Some a → a ≢ k → has_call t k ≡ false
   no_call turn.Free a k held apart = refl
@@ -59,7 +62,7 @@ module _ {D : Type 0} (desk : DeskMeaning D) where
   number_of None n = n
   number_of (Some k) n = k
 
-  pub still_sender : (m : LaneLink (RingState D)) (e : End) → AreManagers m → (lane_to m e).lane.sender ≡ turn.Manager
+  pub still_sender : (m : LaneLink (RingState (PlacedDesk kc kz))) (e : End) → AreManagers m → (lane_to m e).lane.sender ≡ turn.Manager
   still_sender m side.Host still = still.host_sender
   still_sender m side.Remote still = still.remote_sender
 
@@ -69,7 +72,7 @@ module _ {D : Type 0} (desk : DeskMeaning D) where
   one_holder t a b x y = ap (λ (o : Option ℕ). number_of o a) (sym x ∙ y)
 
   -- the calls of the others, where the sender's end of a lane moves
-  pub others_send : (m : LaneLink (RingState D)) (e : End) (s : RingState D) (t : Turn Sending) (number : ℕ) → (lane_to m e).lane.sender ≡ t → holder t ≡ Some number
+  pub others_send : (m : LaneLink (RingState (PlacedDesk kc kz))) (e : End) (s : RingState (PlacedDesk kc kz)) (t : Turn Sending) (number : ℕ) → (lane_to m e).lane.sender ≡ t → holder t ≡ Some number
       → (s.lane.receiver ≡ (lane_to m e).lane.receiver) → (receiver_side s ≡ receiver_side (lane_to m e)) → (s.rings.taking ≡ (lane_to m e).rings.taking) → (receiver_is_out (lane_to m e).lane.receiver ≡ true → message_at s.lane.lane.accepted (length s.lane.lane.takers) ≡ message_at (lane_to m e).lane.lane.accepted (length (lane_to m e).lane.lane.takers))
       → ((k : ℕ) → number ≢ k → has_call s.lane.sender k ≡ false)
       → (k : ℕ) → number ≢ k → (call : Call) → IsCallOf m 0 k call → IsCallOf (with_lane m e s) 0 k call
@@ -130,7 +133,7 @@ module _ {D : Type 0} (desk : DeskMeaning D) where
   free_not is = free_none 64 turn.Manager is refl
 
   -- the calls of the others, where the sender's end of a lane moves
-  pub others_free_send : (m : LaneLink (RingState D)) (e : End) (s : RingState D) → (lane_to m e).lane.sender ≡ turn.Free
+  pub others_free_send : (m : LaneLink (RingState (PlacedDesk kc kz))) (e : End) (s : RingState (PlacedDesk kc kz)) → (lane_to m e).lane.sender ≡ turn.Free
       → (s.lane.receiver ≡ (lane_to m e).lane.receiver) → (receiver_side s ≡ receiver_side (lane_to m e)) → (s.rings.taking ≡ (lane_to m e).rings.taking) → (receiver_is_out (lane_to m e).lane.receiver ≡ true → message_at s.lane.lane.accepted (length s.lane.lane.takers) ≡ message_at (lane_to m e).lane.lane.accepted (length (lane_to m e).lane.lane.takers))
       → (k : ℕ) → has_call s.lane.sender k ≡ false → (call : Call) → IsCallOf m 0 k call → IsCallOf (with_lane m e s) 0 k call
   others_free_send m side.Host s free receiver beside taking book k after Idle has = has
@@ -181,45 +184,44 @@ module _ {D : Type 0} (desk : DeskMeaning D) where
       absurd (free_not (sym free ∙ still_sender m side.Remote has.2))
 
   -- the mover's call, by the lane
-  pub here_sends : (m : LaneLink (RingState D)) (e : End) (s : RingState D) (number : ℕ) (t : Turn Sending) (x : SenderSide) (buffer : ℕ) → end_of m.callers number ≡ Some (other e) → SendsAt (turns_of s) number t x buffer → IsCurrent t m.era.inc
+  pub here_sends : (m : LaneLink (RingState (PlacedDesk kc kz))) (e : End) (s : RingState (PlacedDesk kc kz)) (number : ℕ) (t : Turn Sending) (x : SenderSide) (buffer : ℕ) → end_of m.callers number ≡ Some (other e) → SendsAt (turns_of s) number t x buffer → IsCurrent t m.era.inc
       → IsCallOf (with_lane m e s) 0 number (Sends e t x buffer)
   here_sends m side.Host s number t x buffer user at now = (user, at, now)
   here_sends m side.Remote s number t x buffer user at now = (user, at, now)
 
-  sizes_after : (z : LinkSizes) (m : LaneLink (RingState D)) (e : End) (s : RingState D) → s.rings.sizes ≡ (lane_to m e).rings.sizes → (m.to_host.rings.sizes ≡ z.to_host) × (m.to_remote.rings.sizes ≡ z.to_remote)
-      → ((with_lane m e s).to_host.rings.sizes ≡ z.to_host) × ((with_lane m e s).to_remote.rings.sizes ≡ z.to_remote)
-  sizes_after z m side.Host s same old = (same ∙ old.0, old.1)
-  sizes_after z m side.Remote s same old = (old.0, same ∙ old.1)
+  sizes_after : (z : LinkSizes) (m : LaneLink (RingState (PlacedDesk kc kz))) (e : End) (s : RingState (PlacedDesk kc kz)) → Path (RingSizes × ℕ) (s.rings.sizes, s.lane.lane.book) ((lane_to m e).rings.sizes, (lane_to m e).lane.lane.book) → IsAsTold z m → IsAsTold z (with_lane m e s)
+  sizes_after z m side.Host s same old = ((ap (λ (t : RingSizes × ℕ). t.0) same ∙ old.0.0, old.0.1), (ap (λ (t : RingSizes × ℕ). t.1) same ∙ old.1.0, old.1.1))
+  sizes_after z m side.Remote s same old = ((old.0.0, ap (λ (t : RingSizes × ℕ). t.0) same ∙ old.0.1), (old.1.0, ap (λ (t : RingSizes × ℕ). t.1) same ∙ old.1.1))
 
   -- the callers and the era, where one lane changes
-  callers_same : (m : LaneLink (RingState D)) (e : End) (s : RingState D) → (with_lane m e s).callers ≡ m.callers
+  callers_same : (m : LaneLink (RingState (PlacedDesk kc kz))) (e : End) (s : RingState (PlacedDesk kc kz)) → (with_lane m e s).callers ≡ m.callers
   callers_same m side.Host s = refl
   callers_same m side.Remote s = refl
 
-  era_same : (m : LaneLink (RingState D)) (e : End) (s : RingState D) → (with_lane m e s).era ≡ m.era
+  era_same : (m : LaneLink (RingState (PlacedDesk kc kz))) (e : End) (s : RingState (PlacedDesk kc kz)) → (with_lane m e s).era ≡ m.era
   era_same m side.Host s = refl
   era_same m side.Remote s = refl
 
   -- a history that reads the same books
-  history_kept : (m : LaneLink (RingState D)) (e : End) (s : RingState D) → s.lane.lane.accepted ≡ (lane_to m e).lane.lane.accepted → s.lane.lane.takers ≡ (lane_to m e).lane.lane.takers → (number first : ℕ) (own : List Event) → IsHistory m number first own → IsHistory (with_lane m e s) number first own
+  history_kept : (m : LaneLink (RingState (PlacedDesk kc kz))) (e : End) (s : RingState (PlacedDesk kc kz)) → s.lane.lane.accepted ≡ (lane_to m e).lane.lane.accepted → s.lane.lane.takers ≡ (lane_to m e).lane.lane.takers → (number first : ℕ) (own : List Event) → IsHistory m number first own → IsHistory (with_lane m e s) number first own
   history_kept m e s book handed number first own has = record { sent = sent_same m e s book number first own has.sent; taken = taken_same m e s handed number first own has.taken; read = read_same m e s book own has.read; none_later = later m e s number first own has.none_later }
 
   -- hands, where a lane has what the caller holds as it was
-  pub hands_kept : (m : LaneLink (RingState D)) (e : End) (s : RingState D) (q : Pass) → (hands_of q.number (lane_to m e).lane.lane.held ≡ q.hands → hands_of q.number s.lane.lane.held ≡ q.hands) → HandsOf m q → HandsOf (with_lane m e s) q
+  pub hands_kept : (m : LaneLink (RingState (PlacedDesk kc kz))) (e : End) (s : RingState (PlacedDesk kc kz)) (q : Pass) → (hands_of q.number (lane_to m e).lane.lane.held ≡ q.hands → hands_of q.number s.lane.lane.held ≡ q.hands) → HandsOf m q → HandsOf (with_lane m e s) q
   hands_kept m side.Host s q stays has side.Host user = stays (has side.Host user)
   hands_kept m side.Host s q stays has side.Remote user = has side.Remote user
   hands_kept m side.Remote s q stays has side.Host user = has side.Host user
   hands_kept m side.Remote s q stays has side.Remote user = stays (has side.Remote user)
 
-module _ {D : Type 0} (cd : Coded D) (desk : DeskMeaning D) where
+module _ {B : Type 0} {kc : Coded B} {kz : DeskTables} (cd : Coded (PlacedDesk kc kz)) (desk : DeskMeaning (PlacedDesk kc kz)) where
   -- the table after a step on one lane is the one that the ring form shows after the deed
-  pub lane_moves_with : (z : LinkSizes) (st : State Slot View) (m : LaneLink (RingState D)) (r : Shows cd desk z st m 0) (e : End) (s s' : RingState D) → lane_to m e ≡ s
+  pub lane_moves_with : (z : LinkSizes) (st : State Slot View) (m : LaneLink (RingState (PlacedDesk kc kz))) (r : Shows cd desk z st m 0) (e : End) (s s' : RingState (PlacedDesk kc kz)) → lane_to m e ≡ s
       → (i n id : ℕ) (cs : List (ℕ × Slot)) (v : View) (o : Mover v) (w : Pass) (a : Act Slot) (d : Deed) (l' : List (Option_of Slot)) → get_elem? st.views id ≡ some v
       → MayDo desk m d → with_lane m e s' ≡ after_deed desk m d
       → set (words_at e (era_word m.era) (lane_words s) (lane_words (lane_to m (other e)))) i n ≡ words_at e (era_word m.era) (lane_words s') (lane_words (lane_to m (other e)))
       → homes_after (homes_at e (lane_homes s (shelf_to r.shelves e)) (lane_homes (lane_to m (other e)) (shelf_to r.shelves (other e)))) cs a ≡ homes_at e (lane_homes s' l') (lane_homes (lane_to m (other e)) (shelf_to r.shelves (other e)))
       → HoldsBuffers s' l' → IsCallOf (with_lane m e s') 0 w.number w.call → ((j l : ℕ) (q : Pass) → PassAt st.views j l q → o.pass.number ≢ q.number → IsCallOf m 0 q.number q.call → IsCallOf (with_lane m e s') 0 q.number q.call)
-      → w.number ≡ o.pass.number → s'.rings.sizes ≡ s.rings.sizes
+      → w.number ≡ o.pass.number → Path (RingSizes × ℕ) (s'.rings.sizes, s'.lane.lane.book) (s.rings.sizes, s.lane.lane.book)
       → HistoryOf (with_lane m e s') w → ((q : Pass) → o.pass.number ≢ q.number → HistoryOf m q → HistoryOf (with_lane m e s') q)
       → HandsOf (with_lane m e s') w → ((q : Pass) → o.pass.number ≢ q.number → HandsOf m q → HandsOf (with_lane m e s') q) → ((n : ℕ) → end_of m.callers n ≡ None → NoneOf m n → NoneOf (with_lane m e s') n) → AreKeepersApart (set st.views id (with_pass v o w (Some (copied cd (with_lane m e s')))))
       → WordsRule cd desk z (stepped st i n id cs (with_pass v o w (Some (copied cd (with_lane m e s')))) a)
@@ -228,14 +230,14 @@ module _ {D : Type 0} (cd : Coded D) (desk : DeskMeaning D) where
         with_lane m e s',
         0,
         put_together (ap (λ (ws : List ℕ). set ws i n)
-            (r.words_are ∙ (ap (λ (x : LaneLink (RingState D)). words_of 0 (fresh_block desk m) x) (sym (same_lane m e)) ∙ (words_seen (fresh_block desk m) m e (lane_to m e)
-            ∙ ap (λ (x : RingState D). words_at e (era_word m.era) (lane_words x) (lane_words (lane_to m (other e)))) is)))
+            (r.words_are ∙ (ap (λ (x : LaneLink (RingState (PlacedDesk kc kz))). words_of 0 (fresh_block desk m) x) (sym (same_lane m e)) ∙ (words_seen (fresh_block desk m) m e (lane_to m e)
+            ∙ ap (λ (x : RingState (PlacedDesk kc kz)). words_at e (era_word m.era) (lane_words x) (lane_words (lane_to m (other e)))) is)))
             ∙ (words ∙ sym (words_seen (fresh_block desk (with_lane m e s')) m e s')))
             (with_shelf r.shelves e l') (ap (λ (hs : List (Option_of Slot)). homes_after hs cs a)
             (r.homes_are ∙ ((λ k. homes_of (sym (same_lane m e) k) (sym (same_shelf r.shelves e) k)) ∙ (homes_seen m r.shelves e (lane_to m e) (shelf_to r.shelves e)
-            ∙ ap (λ (x : RingState D). homes_at e (lane_homes x (shelf_to r.shelves e)) (lane_homes (lane_to m (other e)) (shelf_to r.shelves (other e)))) is)))
+            ∙ ap (λ (x : RingState (PlacedDesk kc kz)). homes_at e (lane_homes x (shelf_to r.shelves e)) (lane_homes (lane_to m (other e)) (shelf_to r.shelves (other e)))) is)))
             ∙ (homes ∙ sym (homes_seen m r.shelves e s' l')))
-            (subst (IsSoundState desk) (sym deed) (deed_kept desk m d may (state_in r))) (sizes_after desk z m e s' (sizes ∙ ap (λ (x : RingState D). x.rings.sizes) (sym is)) (sizes_in r)) (each_lane (λ _. HoldsBuffers) m r.shelves e s' l' shelved ((buffers_in r) (other e))) (one_more desk m _ d r.reached may deed)
+            (subst (IsSoundState desk) (sym deed) (deed_kept desk m d may (state_in r))) (sizes_after desk z m e s' (sizes ∙ ap (λ (x : RingState (PlacedDesk kc kz)). (x.rings.sizes, x.lane.lane.book)) (sym is)) (told_in r)) (each_lane (λ _. HoldsBuffers) m r.shelves e s' l' shelved ((buffers_in r) (other e))) (one_more desk m _ d r.reached may deed)
             (record {
               calls = each (HasCall m 0) (HasCall (with_lane m e s') 0) r.numbers.places r.turns.calls others mine;
               keepers = keepers;
@@ -251,37 +253,38 @@ module _ {D : Type 0} (cd : Coded D) (desk : DeskMeaning D) where
                   (λ n none was not. fresh n none (was not)) (λ n none Q was not. fresh n none (was not))
                   (λ old shut. ap (λ (x : Era). x.is_live) (era_same desk m e s') ∙ old shut) (λ j y apart there manages old. ap (λ (x : Era). x.is_live) (era_same desk m e s') ∙ old) (λ k same _. sym (some_copy (copied cd (with_lane m e s')) k same)) r.numbers.manager;
               many = ap length (callers_same desk m e s') ∙ r.numbers.many;
+              short = subst (λ (x : Era). x.inc < 4294967296) (sym (era_same desk m e s')) r.numbers.short;
             }),
       )
 
   -- the same, where nothing is accepted and no step is of the own list
-  pub lane_moves_by : (z : LinkSizes) (st : State Slot View) (m : LaneLink (RingState D)) (r : Shows cd desk z st m 0) (e : End) (s s' : RingState D) → lane_to m e ≡ s
+  pub lane_moves_by : (z : LinkSizes) (st : State Slot View) (m : LaneLink (RingState (PlacedDesk kc kz))) (r : Shows cd desk z st m 0) (e : End) (s s' : RingState (PlacedDesk kc kz)) → lane_to m e ≡ s
       → (i n id : ℕ) (cs : List (ℕ × Slot)) (v : View) (o : Mover v) (call : Call) (hands : List ℕ) (a : Act Slot) (d : Deed) (l' : List (Option_of Slot)) → get_elem? st.views id ≡ some v
       → MayDo desk m d → with_lane m e s' ≡ after_deed desk m d
       → set (words_at e (era_word m.era) (lane_words s) (lane_words (lane_to m (other e)))) i n ≡ words_at e (era_word m.era) (lane_words s') (lane_words (lane_to m (other e)))
       → homes_after (homes_at e (lane_homes s (shelf_to r.shelves e)) (lane_homes (lane_to m (other e)) (shelf_to r.shelves (other e)))) cs a ≡ homes_at e (lane_homes s' l') (lane_homes (lane_to m (other e)) (shelf_to r.shelves (other e)))
       → HoldsBuffers s' l' → IsCallOf (with_lane m e s') 0 o.pass.number call → ((j l : ℕ) (q : Pass) → PassAt st.views j l q → o.pass.number ≢ q.number → IsCallOf m 0 q.number q.call → IsCallOf (with_lane m e s') 0 q.number q.call)
-      → s'.rings.sizes ≡ s.rings.sizes → s'.lane.lane.accepted ≡ s.lane.lane.accepted → s'.lane.lane.takers ≡ s.lane.lane.takers
+      → Path (RingSizes × ℕ) (s'.rings.sizes, s'.lane.lane.book) (s.rings.sizes, s.lane.lane.book) → s'.lane.lane.accepted ≡ s.lane.lane.accepted → s'.lane.lane.takers ≡ s.lane.lane.takers
       → HandsOf (with_lane m e s') (with_call_and_hands o.pass call hands) → ((q : Pass) → o.pass.number ≢ q.number → HandsOf m q → HandsOf (with_lane m e s') q) → AreKeepersApart (set st.views id (with_pass v o (with_call_and_hands o.pass call hands) (Some (copied cd (with_lane m e s')))))
       → WordsRule cd desk z (stepped st i n id cs (with_pass v o (with_call_and_hands o.pass call hands) (Some (copied cd (with_lane m e s')))) a)
   lane_moves_by z st m r e s s' is i n id cs v o call hands a d l' at may deed words homes shelved mine others sizes book handed hand others_hands keepers =
-      let books : s'.lane.lane.accepted ≡ (lane_to m e).lane.lane.accepted = book ∙ ap (λ (x : RingState D). x.lane.lane.accepted) (sym is) in
-      let takers : s'.lane.lane.takers ≡ (lane_to m e).lane.lane.takers = handed ∙ ap (λ (x : RingState D). x.lane.lane.takers) (sym is) in
+      let books : s'.lane.lane.accepted ≡ (lane_to m e).lane.lane.accepted = book ∙ ap (λ (x : RingState (PlacedDesk kc kz)). x.lane.lane.accepted) (sym is) in
+      let takers : s'.lane.lane.takers ≡ (lane_to m e).lane.lane.takers = handed ∙ ap (λ (x : RingState (PlacedDesk kc kz)). x.lane.lane.takers) (sym is) in
       lane_moves_with z st m r e s s' is i n id cs v o (with_call_and_hands o.pass call hands) a d l' at may deed words homes shelved mine others refl sizes
       (history_kept desk m e s' books takers o.pass.number o.pass.first o.pass.own (r.histories.own id o.place o.pass (v, at, o.here)))
       (λ q apart has. history_kept desk m e s' books takers q.number q.first q.own has) hand others_hands (λ n none. none_same m e s' books takers n) keepers
 
   -- by numbers, where nothing is accepted, no step is of the own list and nothing comes into a hand or leaves it
-  pub lane_moves : (z : LinkSizes) (st : State Slot View) (m : LaneLink (RingState D)) (r : Shows cd desk z st m 0) (e : End) (s s' : RingState D) → lane_to m e ≡ s
+  pub lane_moves : (z : LinkSizes) (st : State Slot View) (m : LaneLink (RingState (PlacedDesk kc kz))) (r : Shows cd desk z st m 0) (e : End) (s s' : RingState (PlacedDesk kc kz)) → lane_to m e ≡ s
       → (i n id : ℕ) (cs : List (ℕ × Slot)) (v : View) (o : Mover v) (call : Call) (a : Act Slot) (d : Deed) (l' : List (Option_of Slot)) → get_elem? st.views id ≡ some v
       → MayDo desk m d → with_lane m e s' ≡ after_deed desk m d
       → set (words_at e (era_word m.era) (lane_words s) (lane_words (lane_to m (other e)))) i n ≡ words_at e (era_word m.era) (lane_words s') (lane_words (lane_to m (other e)))
       → homes_after (homes_at e (lane_homes s (shelf_to r.shelves e)) (lane_homes (lane_to m (other e)) (shelf_to r.shelves (other e)))) cs a ≡ homes_at e (lane_homes s' l') (lane_homes (lane_to m (other e)) (shelf_to r.shelves (other e)))
       → HoldsBuffers s' l' → IsCallOf (with_lane m e s') 0 o.pass.number call → ((k : ℕ) → o.pass.number ≢ k → (c : Call) → IsCallOf m 0 k c → IsCallOf (with_lane m e s') 0 k c)
-      → s'.rings.sizes ≡ s.rings.sizes → s'.lane.lane.accepted ≡ s.lane.lane.accepted → s'.lane.lane.takers ≡ s.lane.lane.takers → s'.lane.lane.held ≡ s.lane.lane.held → ((i : End) → has_for_manager i call ≡ true → has_for_manager i o.pass.call ≡ true)
+      → Path (RingSizes × ℕ) (s'.rings.sizes, s'.lane.lane.book) (s.rings.sizes, s.lane.lane.book) → s'.lane.lane.accepted ≡ s.lane.lane.accepted → s'.lane.lane.takers ≡ s.lane.lane.takers → s'.lane.lane.held ≡ s.lane.lane.held → ((i : End) → has_for_manager i call ≡ true → has_for_manager i o.pass.call ≡ true)
       → WordsRule cd desk z (stepped st i n id cs (with_pass v o (with_call o.pass call) (Some (copied cd (with_lane m e s')))) a)
   lane_moves z st m r e s s' is i n id cs v o call a d l' at may deed words homes shelved mine others sizes book handed held quiet =
-      let stays = λ (q : Pass) (has : HandsOf m q). hands_kept desk m e s' q (λ was. ap (hands_of q.number) (held ∙ ap (λ (x : RingState D). x.lane.lane.held) (sym is)) ∙ was) has in
+      let stays = λ (q : Pass) (has : HandsOf m q). hands_kept desk m e s' q (λ was. ap (hands_of q.number) (held ∙ ap (λ (x : RingState (PlacedDesk kc kz)). x.lane.lane.held) (sym is)) ∙ was) has in
       lane_moves_by z st m r e s s' is i n id cs v o call o.pass.hands a d l' at may deed words homes shelved mine (λ j l q there apart has. others q.number apart q.call has) sizes book handed
       (stays o.pass (r.histories.hands id o.place o.pass (v, at, o.here))) (λ q apart. stays q)
       (keepers_set st.views id v (with_pass v o (with_call o.pass call) (Some (copied cd (with_lane m e s')))) o (with_call o.pass call) at refl refl quiet r.turns.keepers)

@@ -1,3 +1,5 @@
+pub mod DeskSteps
+pub mod Notes
 pub mod Users
 pub mod Froms
 pub mod Looks

@@ -1,4 +1,6 @@
 -- steps 3 and 5 of a send: the look for room, and the forward entry, on either lane.
+use Rattle.link_words.specs.declared.codes.DeskTables.{DeskTables}
+use Rattle.link_words.specs.PlacedDesks.{PlacedDesk}
 use Rattle.std.proofs.Common.{◌≡◌, ℕ, zero, suc, ◌+◌, ◌*◌, ◌%◌, ◌<◌, ◌≤◌, Bool, true, false, cond, eqb, List, [], ◌∷◌, ◌++◌, map, length, get_or, set, refl, sym, ap, ◌∙◌, subst, arith, length-set}
 use Rattle.std.specs.Prelude.{Some, None}
 use mathlib.Core.Option.{none}
@@ -50,7 +52,7 @@ use Rattle.link_words.proofs.Sends.{has_of, true-false, at_zero, turn_only}
 use Rattle.link_words.proofs.Buffers.{words_here, loaded, rings_to}
 use Rattle.link_words.proofs.Entries.{ahead, forward_found}
 use Rattle.link_words.proofs.Exact.{StepBy, write_by, ReadsAt, read_by, WritesAt}
-use Rattle.link_words.proofs.Parts.{rings_in, sizes_in, buffers_in}
+use Rattle.link_words.proofs.Parts.{book_in, rings_in, sizes_in, buffers_in}
 use Rattle.link_words.specs.Words.{sizes_at}
 use Rattle.link_words.proofs.Frames.{words_seen}
 
@@ -58,7 +60,7 @@ return_seen : (e : End) (era : ℕ) (a b : LaneWords) → get_or (words_at e era
 return_seen side.Host era a b = refl
 return_seen side.Remote era a b = refl
 
-pub sizes_is : {D : Type 0} (cd : Coded D) (desk : DeskMeaning D) (z : LinkSizes) (st : State Slot View) (m : LaneLink (RingState D)) → Shows cd desk z st m 0 → (e : End) → (lane_to m e).rings.sizes ≡ sizes_at z e
+pub sizes_is : {B : Type 0} {kc : Coded B} {kz : DeskTables} (cd : Coded (PlacedDesk kc kz)) (desk : DeskMeaning (PlacedDesk kc kz)) (z : LinkSizes) (st : State Slot View) (m : LaneLink (RingState (PlacedDesk kc kz))) → Shows cd desk z st m 0 → (e : End) → (lane_to m e).rings.sizes ≡ sizes_at z e
 sizes_is cd desk z st m r side.Host = (sizes_in r).0
 sizes_is cd desk z st m r side.Remote = (sizes_in r).1
 
@@ -137,10 +139,10 @@ forward_set side.Remote era i word entry a b low at =
     ∙ ap (λ (l : List ℕ). map entry_word b.returns ++ l) (set_front (map entry_word a.forward) (map entry_word a.returns ++ []) i (entry_word entry) (let l = length-map a.forward entry_word in omega (arith, low, l))
     ∙ ap (λ (l : List ℕ). l ++ (map entry_word a.returns ++ [])) (sym (map-set entry_word a.forward i entry)))))
 
-module _ {D : Type 0} (cd : Coded D) (desk : DeskMeaning D) (z : LinkSizes) where
+module _ {B : Type 0} {kc : Coded B} {kz : DeskTables} (cd : Coded (PlacedDesk kc kz)) (desk : DeskMeaning (PlacedDesk kc kz)) (z : LinkSizes) where
   -- step 3 of a send
   pub sends_look : (n id : ℕ) (me : SeatState) (o : Mover me.0) (e : End) (c f : ℕ) (message : List ℕ) (x : SenderSide) (b : ℕ) → o.pass.call ≡ Sends e (turn.Taken c (record { follows = f; message = message; stage = stage.Era })) x b
-      → Allows (WordsRule cd desk z) n id me (return_word e) (λ y. y) (λ y me'. SendLooksBy me o (sizes_at z e) e c (record { follows = f; message = message; stage = stage.Era }) x b y me' × StepBy cd desk (ReadsAt (return_word e) y) me o (Steps o.pass.number 0 None) me')
+      → Allows (WordsRule cd desk z) n id me (return_word e) (λ y. y) (λ y me'. SendLooksBy me o (sizes_at z e) z.book e c (record { follows = f; message = message; stage = stage.Era }) x b y me' × StepBy cd desk (ReadsAt (return_word e) y) me o (Steps o.pass.number 0 None) me')
   sends_look n id me o e c f message x b call st (m, p, r₀) wide at _ =
       let sending : Sending = record { follows = f; message = message; stage = stage.Era } in let t : Turn Sending = turn.Taken c sending in
       let h : IsCallOf m p o.pass.number (Sends e t x b) = subst (IsCallOf m p o.pass.number) call (r₀.turns.calls id o.place o.pass (me.0, at, o.here)) in
@@ -170,11 +172,10 @@ module _ {D : Type 0} (cd : Coded D) (desk : DeskMeaning D) (z : LinkSizes) wher
         (
           (
             k,
-            lane.book,
             word ∙ (sound.return_index ∙ ap (λ (u : RingSizes). return_count u k % 65536) sizes),
             omega (arith, side, back, behind),
             omega (arith, side, out, cap),
-            λ i. (with_pass me.0 o (with_call o.pass (Sends e (look_turn (sym side i) k (room i) lane.book c sending) x b)) (Some (copied cd m')), me.1),
+            λ i. (with_pass me.0 o (with_call o.pass (Sends e (look_turn (sym side i) k (room i) (book_in r e i) c sending) x b)) (Some (copied cd m')), me.1),
           ),
           read_by (return_word e) cd desk z st m r id me o (with_call o.pass w) (Steps o.pass.number 0 None) m' me.1 at may deed mine,
         ),
@@ -182,26 +183,26 @@ module _ {D : Type 0} (cd : Coded D) (desk : DeskMeaning D) (z : LinkSizes) wher
 
   -- step 5 of a send: the entry is stored while the buffer is out, and the buffers of the messages before it stand
   pub sends_entry : (n id : ℕ) (me : SeatState) (o : Mover me.0) (e : End) (c f : ℕ) (message : List ℕ) (x : SenderSide) (b word new before : ℕ) → o.pass.call ≡ Sends e (turn.Taken c (record { follows = f; message = message; stage = stage.Buffer })) x b
-      → ((st : State Slot View) (m : LaneLink (RingState D)) → Shows cd desk z st m 0 → ahead e (lane_words (lane_to m (other e))) ≡ before)
+      → ((st : State Slot View) (m : LaneLink (RingState (PlacedDesk kc kz))) → Shows cd desk z st m 0 → ahead e (lane_words (lane_to m (other e))) ≡ before)
       → word ≡ 10 + (before + x.accepted % (sizes_at z e).entries) → new ≡ b + entry_length (sizes_at z e) (length message) * 4294967296
       → Allows (WordsRule cd desk z) n id me word (λ _. new) (λ _ me'. SendStoresEntryBy me o e c (record { follows = f; message = message; stage = stage.Buffer }) x b me' × StepBy cd desk (WritesAt word new) me o (Steps o.pass.number 0 None) me')
   sends_entry n id me o e c f message x b word new before call before_is at_word new_is st (m, p, r₀) wide at _ =
       let sending : Sending = record { follows = f; message = message; stage = stage.Buffer } in let t : Turn Sending = turn.Taken c sending in
       let h : IsCallOf m p o.pass.number (Sends e t x b) = subst (IsCallOf m p o.pass.number) call (r₀.turns.calls id o.place o.pass (me.0, at, o.here)) in
       let r = at_zero cd desk z st m p e t h.1.0 refl r₀ in let s₀ = lane_to m e in let s = with_turn s₀ t in let is : s₀ ≡ s = λ k. with_turn s₀ (h.1.0 k) in
-      let sound : IsSoundRings s = subst IsSoundRings is (rings_to m e (rings_in r)) in let q : HoldsBuffers s (shelf_to r.shelves e) = subst (λ (u : RingState D). HoldsBuffers u (shelf_to r.shelves e)) is ((buffers_in r) e) in
+      let sound : IsSoundRings s = subst IsSoundRings is (rings_to m e (rings_in r)) in let q : HoldsBuffers s (shelf_to r.shelves e) = subst (λ (u : RingState (PlacedDesk kc kz)). HoldsBuffers u (shelf_to r.shelves e)) is ((buffers_in r) e) in
       let a = length s.lane.lane.accepted in let hd = length s.lane.lane.takers in let sizes = s.rings.sizes in let same = sizes_is cd desk z st m r e in let side : x.accepted ≡ a = ap (λ (u : SenderSide). u.accepted) h.1.2 in
       let entry : UsedWord = record { id = s.rings.sending; len = entry_length sizes (length message) } in let j : ℕ = a % sizes.entries in
       let one = sound.sized.some in let fits = sound.sized.fits in let fl = sound.sized.forward_long in let low : j < sizes.entries = mod-lt a (omega (arith, one, fits)) in
       let stored : new ≡ entry_word entry = new_is ∙ (λ k. sym (h.1.3 refl) k + entry_length (sym same k) (length message) * 4294967296) in
       let place : word ≡ 10 + (ahead e (lane_words (lane_to m (other e))) + j) = at_word ∙ (λ k. 10 + (sym (before_is st m r) k + side k % (sym same k).entries)) in
-      let s' : RingState D = (ring_form desk).sent_on s m.era in let t' : Turn Sending = turn.Taken c (record sending { stage = stage.Entry }) in let w : Call = Sends e t' x b in
+      let s' : RingState (PlacedDesk kc kz) = (ring_form desk).sent_on s m.era in let t' : Turn Sending = turn.Taken c (record sending { stage = stage.Entry }) in let w : Call = Sends e t' x b in
       let has : has_call s₀.lane.sender o.pass.number ≡ true = has_of s₀.lane.sender o.pass.number (ap holder h.1.0 ∙ h.1.1) (ap is_manager h.1.0) in
       let back = sound.counted.back in let room = (sending_is s sound refl).1 in let cap : s.lane.lane.capacity ≡ sizes.capacity = sound.sized.lane in
       let stands : (k : ℕ) → hd ≤ k → k < a → buffer_at sizes.entries s'.rings.forward k ≡ buffer_at sizes.entries s.rings.forward k = λ k from to.
       buffer_at_other sizes.entries s.rings.forward k a entry (entries_apart sizes.entries k a to (omega (arith, from, room, cap, back, fits))) in
       let may = send_may desk m e o.pass.number 0 h.0 has in
-      let deed : with_lane m e s' ≡ after_deed desk m (Steps o.pass.number 0 None) = ap (λ (u : RingState D). with_lane m e ((ring_form desk).sent_on u m.era)) (sym is) ∙ send_deed desk m e o.pass.number 0 h.0 has in
+      let deed : with_lane m e s' ≡ after_deed desk m (Steps o.pass.number 0 None) = ap (λ (u : RingState (PlacedDesk kc kz)). with_lane m e ((ring_form desk).sent_on u m.era)) (sym is) ∙ send_deed desk m e o.pass.number 0 h.0 has in
       let mine : IsCallOf (with_lane m e s') 0 o.pass.number w = here_sends desk m e s' o.pass.number t' x b h.0 (refl, h.1.1, h.1.2, λ _. h.1.3 refl) (λ past. h.2 refl) in (
         _,
         keeps,

@@ -1,4 +1,6 @@
 -- Passes that go out and come back, are made and end.
+use Rattle.link_words.specs.declared.codes.DeskTables.{DeskTables}
+use Rattle.link_words.specs.PlacedDesks.{PlacedDesk}
 use Rattle.std.proofs.Common.{Bool, true, false, cond, eqb, eq-eqb}
 use Rattle.link_words.specs.Passes.{is_listed, first_incarnation, HasNumber}
 use Rattle.link_words.specs.Histories.{NoneOf, entries_by, takes_by}
@@ -40,7 +42,7 @@ use Rattle.link_words.proofs.Frames.{some_copy}
 use Rattle.link_words.proofs.Kept.{deed_kept}
 use Rattle.link_words.proofs.Froms.{Spot, From, each_from, numbers_from, keepers_from, one_manager, one_goes, split_from, joined, join_from, last_at, at_new, stands_left, stands_right, numbers_at}
 use Rattle.link_words.proofs.Users.{free_is, end_here, end_else, call_with, history_with, hands_with, unused_turn, unused_hands, in_use}
-use Rattle.link_words.proofs.Parts.{state_in, sizes_in, buffers_in, put_together, one_more}
+use Rattle.link_words.proofs.Parts.{state_in, sizes_in, told_in, buffers_in, put_together, one_more}
 
 -- the same table with other views
 abbrev pub with_views : State Slot View → List View → State Slot View
@@ -63,18 +65,18 @@ no_tail [] m e = e
 no_tail (x ∷ xs) m e = absurd (suc-ne-zero (length (xs ++ m)) (ap length e))
 
 -- the link with a caller more
-abbrev pub made_link : {D : Type 0} → LaneLink (RingState D) → End → ℕ → LaneLink (RingState D)
+abbrev pub made_link : {B : Type 0} {kc : Coded B} {kz : DeskTables} → LaneLink (RingState (PlacedDesk kc kz)) → End → ℕ → LaneLink (RingState (PlacedDesk kc kz))
 made_link m e n = record m { callers = slice_set m.callers n (Some e) }
 
-module _ {D : Type 0} (cd : Coded D) (desk : DeskMeaning D) (z : LinkSizes) where
+module _ {B : Type 0} {kc : Coded B} {kz : DeskTables} (cd : Coded (PlacedDesk kc kz)) (desk : DeskMeaning (PlacedDesk kc kz)) (z : LinkSizes) where
   -- passes go to other places, and nothing else changes
-  pub rebuilt : (st : State Slot View) (m : LaneLink (RingState D)) (p : ℕ) (r : Shows cd desk z st m p) (views : List View) (went : Spot → Spot) → From st.views views went → ManagerKnows cd m views → WordsRule cd desk z (with_views st views)
+  pub rebuilt : (st : State Slot View) (m : LaneLink (RingState (PlacedDesk kc kz))) (p : ℕ) (r : Shows cd desk z st m p) (views : List View) (went : Spot → Spot) → From st.views views went → ManagerKnows cd m views → WordsRule cd desk z (with_views st views)
   rebuilt st m p r views went from manager = (
     m,
     p,
     put_together r.words_are
         r.shelves r.homes_are
-        (state_in r) (sizes_in r) (buffers_in r) r.reached
+        (state_in r) (told_in r) (buffers_in r) r.reached
         (record {
           calls = each_from st.views views went from (HasCall m p) (HasCall m p) r.turns.calls (λ j l q at has. has);
           keepers = keepers_from st.views views went from r.turns.keepers;
@@ -88,6 +90,7 @@ module _ {D : Type 0} (cd : Coded D) (desk : DeskMeaning D) (z : LinkSizes) wher
           places = numbers_from st.views views went from r.numbers.places;
           manager = manager;
           many = r.numbers.many;
+          short = r.numbers.short;
         }),
   )
 
@@ -144,7 +147,7 @@ module _ {D : Type 0} (cd : Coded D) (desk : DeskMeaning D) (z : LinkSizes) wher
       (at_set (set st.views id (with_passes_from v w)) other i spent_view y ey))
 
   -- the callers are others, and the parts over views hold of the new views
-  pub recast : (st : State Slot View) (m : LaneLink (RingState D)) (p : ℕ) (r : Shows cd desk z st m p) (cs : List (Option End)) (d : Deed) (views : List View) → MayDo desk m d → record m { callers = cs } ≡ after_deed desk m d → length cs ≡ 64
+  pub recast : (st : State Slot View) (m : LaneLink (RingState (PlacedDesk kc kz))) (p : ℕ) (r : Shows cd desk z st m p) (cs : List (Option End)) (d : Deed) (views : List View) → MayDo desk m d → record m { callers = cs } ≡ after_deed desk m d → length cs ≡ 64
       → EachPass (HasCall (record m { callers = cs }) p) views → EachPass (HistoryOf (record m { callers = cs })) views → EachPass (HandsOf (record m { callers = cs })) views → AreNumbersApart views → AreKeepersApart views → ManagerKnows cd (record m { callers = cs }) views
       → WordsRule cd desk z (with_views st views)
   recast st m p r cs d views may deed many calls histories hands numbers keepers manager = (
@@ -152,7 +155,7 @@ module _ {D : Type 0} (cd : Coded D) (desk : DeskMeaning D) (z : LinkSizes) wher
     p,
     put_together r.words_are
         r.shelves r.homes_are
-        (subst (IsSoundState desk) (sym deed) (deed_kept desk m d may (state_in r))) (sizes_in r) shelf (one_more desk m _ d r.reached may deed)
+        (subst (IsSoundState desk) (sym deed) (deed_kept desk m d may (state_in r))) (told_in r) shelf (one_more desk m _ d r.reached may deed)
         (record {
           calls = calls;
           keepers = keepers;
@@ -166,6 +169,7 @@ module _ {D : Type 0} (cd : Coded D) (desk : DeskMeaning D) (z : LinkSizes) wher
           places = numbers;
           manager = manager;
           many = many;
+          short = r.numbers.short;
         }),
   )
     where
@@ -173,14 +177,14 @@ module _ {D : Type 0} (cd : Coded D) (desk : DeskMeaning D) (z : LinkSizes) wher
       shelf side.Host = (buffers_in r) side.Host
       shelf side.Remote = (buffers_in r) side.Remote
 
-  rests_new : (m : LaneLink (RingState D)) (p : ℕ) (k : IsSoundState desk m) (e : End) (n : ℕ) → end_of m.callers n ≡ None → n < length m.callers → IsCallOf (record m { callers = slice_set m.callers n (Some e) }) p n (Rests e)
+  rests_new : (m : LaneLink (RingState (PlacedDesk kc kz))) (p : ℕ) (k : IsSoundState desk m) (e : End) (n : ℕ) → end_of m.callers n ≡ None → n < length m.callers → IsCallOf (record m { callers = slice_set m.callers n (Some e) }) p n (Rests e)
   rests_new m p k side.Host n unused low = (end_here m.callers n (Some side.Host) low, unused_turn m.callers side.Host m.to_remote.lane.sender n unused k.sound.to_remote.sender, unused_turn m.callers side.Host m.to_host.lane.receiver n unused k.sound.to_host.receiver)
   rests_new m p k side.Remote n unused low = (end_here m.callers n (Some side.Remote) low, unused_turn m.callers side.Remote m.to_host.lane.sender n unused k.sound.to_host.sender, unused_turn m.callers side.Remote m.to_remote.lane.receiver n unused k.sound.to_remote.receiver)
 
-  history_next : (m : LaneLink (RingState D)) (cs : List (Option End)) (e : End) (n first : ℕ) → first ≡ m.era.inc + 1 → HistoryOf (record m { callers = cs }) (new_pass e n first)
+  history_next : (m : LaneLink (RingState (PlacedDesk kc kz))) (cs : List (Option End)) (e : End) (n first : ℕ) → first ≡ m.era.inc + 1 → HistoryOf (record m { callers = cs }) (new_pass e n first)
   history_next m cs e n first is = record { sent = λ i since. let s : first ≤ m.era.inc = since in absurd (omega (arith, s, is)); taken = λ i since. let s : first ≤ m.era.inc = since in absurd (omega (arith, s, is)); read = λ i. tt; none_later = tt }
 
-  history_now : (m : LaneLink (RingState D)) (cs : List (Option End)) (e : End) (n first : ℕ) → NoneOf m n → HistoryOf (record m { callers = cs }) (new_pass e n first)
+  history_now : (m : LaneLink (RingState (PlacedDesk kc kz))) (cs : List (Option End)) (e : End) (n first : ℕ) → NoneOf m n → HistoryOf (record m { callers = cs }) (new_pass e n first)
   history_now m cs e n first none = record { sent = λ i since. sent i; taken = λ i since. taken i; read = λ i. tt; none_later = tt }
     where
       sent : (i : End) → entries_by n 0 (lane_to (record m { callers = cs }) i).lane.lane.accepted ≡ []
@@ -192,14 +196,14 @@ module _ {D : Type 0} (cd : Coded D) (desk : DeskMeaning D) (z : LinkSizes) wher
       taken side.Remote = (none side.Remote).1
 
   -- a history of nothing, from this incarnation on or from the next
-  history_new : (m : LaneLink (RingState D)) (cs : List (Option End)) (e : End) (n : ℕ) (v : View) → v.inc ≡ m.era.inc → ((HasNumber v.reclaims n → ⊥) → NoneOf m n) → HistoryOf (record m { callers = cs }) (new_pass e n (first_incarnation n v))
+  history_new : (m : LaneLink (RingState (PlacedDesk kc kz))) (cs : List (Option End)) (e : End) (n : ℕ) (v : View) → v.inc ≡ m.era.inc → ((HasNumber v.reclaims n → ⊥) → NoneOf m n) → HistoryOf (record m { callers = cs }) (new_pass e n (first_incarnation n v))
   history_new m cs e n v inc none = go (is_listed n v.reclaims) refl
     where
       go : (b : Bool) → is_listed n v.reclaims ≡ b → HistoryOf (record m { callers = cs }) (new_pass e n (cond b (v.inc + 1) v.inc))
       go true is = history_next m cs e n (v.inc + 1) (ap (λ (i : ℕ). i + 1) inc)
       go false is = history_now m cs e n v.inc (none (not_listed n v.reclaims is))
 
-  hands_new : (m : LaneLink (RingState D)) (cs : List (Option End)) (k : IsSoundState desk m) (e : End) (n first : ℕ) → end_of m.callers n ≡ None → HandsOf (record m { callers = cs }) (new_pass e n first)
+  hands_new : (m : LaneLink (RingState (PlacedDesk kc kz))) (cs : List (Option End)) (k : IsSoundState desk m) (e : End) (n first : ℕ) → end_of m.callers n ≡ None → HandsOf (record m { callers = cs }) (new_pass e n first)
   hands_new m cs k e n first unused side.Host user = unused_hands m.callers side.Host n m.to_host.lane.lane.held unused k.sound.to_host.users
   hands_new m cs k e n first unused side.Remote user = unused_hands m.callers side.Remote n m.to_remote.lane.lane.held unused k.sound.to_remote.users
 
@@ -207,7 +211,7 @@ module _ {D : Type 0} (cd : Coded D) (desk : DeskMeaning D) (z : LinkSizes) wher
   no_end e same = absurd (cc)
 
   -- one pass more in the manager's view, of a caller that is made
-  pub enlists : (st : State Slot View) (m : LaneLink (RingState D)) (p : ℕ) (r : Shows cd desk z st m p) (id : ℕ) (v : View) (e : End) (n : ℕ) → get_elem? st.views id ≡ some v → Manages v → free_number v.users ≡ Some n → (k : Option LinkCopy) → ((c : LinkCopy) → k ≡ Some c → c ≡ copied cd (made_link m e n))
+  pub enlists : (st : State Slot View) (m : LaneLink (RingState (PlacedDesk kc kz))) (p : ℕ) (r : Shows cd desk z st m p) (id : ℕ) (v : View) (e : End) (n : ℕ) → get_elem? st.views id ≡ some v → Manages v → free_number v.users ≡ Some n → (k : Option LinkCopy) → ((c : LinkCopy) → k ≡ Some c → c ≡ copied cd (made_link m e n))
       → WordsRule cd desk z (with_views st (set st.views id (with_new_caller e v k)))
   enlists st m p r id v e n at manages number k' right =
       let first = first_incarnation n v in let known = r.numbers.manager id v at manages in let free : free_number m.callers ≡ Some n = ap free_number (sym known.users) ∙ number in let f = free_is m.callers n free in
@@ -227,7 +231,7 @@ module _ {D : Type 0} (cd : Coded D) (desk : DeskMeaning D) (z : LinkSizes) wher
       (λ (x : PassAt st.views j l q). others q (apart j l q x) (old j l q x))
       (λ (x : (j ≡ id) × (l ≡ length v.passes) × (new ≡ q)). subst G x.2 mine)
       (after j l q there) in
-      let m' : LaneLink (RingState D) = record m { callers = cs } in
+      let m' : LaneLink (RingState (PlacedDesk kc kz)) = record m { callers = cs } in
       subst (λ (o : Option ℕ). WordsRule cd desk z (with_views st (set st.views id (with_caller_as e v k' o)))) (sym number)
       (recast st m p r cs (Enlists e) views tt (ap (λ (o : Option ℕ). record m { callers = with_caller m.callers e o }) (sym free)) (length-set m.callers n (Some e) ∙ many)
       (each (HasCall m p) (HasCall m' p) r.turns.calls (λ q ne has. call_with m cs p q.number q.call (end_else m.callers n q.number (Some e) ne) has) (rests_new m p (state_in r) e n f.0 f.1))

@@ -1,4 +1,6 @@
 -- A reopening: words reset one by one, which are no steps of the ring form, and then its one step.
+use Rattle.link_words.specs.declared.codes.DeskTables.{DeskTables}
+use Rattle.link_words.specs.PlacedDesks.{PlacedDesk, right_to}
 use Rattle.std.proofs.Common.{◌≡◌, ◌≢◌, ℕ, zero, suc, ◌+◌, ◌<◌, Bool, true, false, List, [], ◌∷◌, ◌++◌, map, length, get_or, set, refl, sym, ap, ◌∙◌, subst, inl, inr, arith, length-append}
 use Rattle.std.proofs.lemmas.List.{length-map}
 use Rattle.std.specs.Prelude.{Option, Some}
@@ -28,8 +30,9 @@ use Rattle.link_words.specs.declared.rule.Call.{Call}
 use Rattle.link_words.specs.declared.rule.Call.TheVariants.{Idle, Sends, Rests, Reclaims, EndsHeld, Receives, EndsReceive, EndsSend, Reopens, HoldsAll}
 use Rattle.link_words.specs.declared.rule.Pass.{Pass}
 use Rattle.link_words.specs.declared.rule.View.{View}
+use Rattle.link_words.specs.declared.codes.DeskRight.{DeskRight}
 use Rattle.link_words.specs.Words.{lane_to, era_word, turn_word, entry_word, LaneWords, lane_words, entry_words_before, reset_block, reset_first, home_if, homes_of, Shelves, shelf_to, sender_side, receiver_side}
-use Rattle.link_words.specs.Fresh.{fresh_lane, fresh_of}
+use Rattle.link_words.specs.Fresh.{fresh_lane, fresh_of, opened_receiver}
 use Rattle.link_words.proofs.Books.{history_opened, none_opened}
 use Rattle.link_words.specs.Deeds.{Nothing, Opens, MayDo, AreManagers, HoldsNothing, IsSoundState, link_after_opening}
 use Rattle.link_words.specs.Rule.{IsCallOf, HasCall, HistoryOf, HandsOf, fresh_block, WordsRule}
@@ -44,7 +47,7 @@ use Rattle.link_words.proofs.Closes.{stays, stays_at}
 use Rattle.link_words.proofs.Frames.{some_copy, each_set, numbers_set, keepers_set, manager_set}
 use Rattle.link_words.proofs.Kept.{deed_kept}
 use Rattle.link_words.proofs.Sends.{true-false, some_number}
-use Rattle.link_words.proofs.Parts.{state_in, sizes_in, buffers_in, put_together, one_more}
+use Rattle.link_words.proofs.Parts.{state_in, sizes_in, told_in, buffers_in, put_together, one_more}
 
 reset_one : (p : ℕ) (fresh old : List ℕ) (x : ℕ) → length fresh ≡ length old → get_elem? fresh p ≡ some x → set (reset_first p fresh old) p x ≡ reset_first (suc p) fresh old
 reset_one zero [] old x same e = absurd (some-ne-none x (sym e))
@@ -95,7 +98,7 @@ abbrev callers_of : {L : Type 0} → LaneLink L → List (Option End)
 callers_of m = m.callers
 
 -- while the manager has the four turns, the others are in no call
-still_call : {D : Type 0} (m m' : LaneLink (RingState D)) (p p' : ℕ) → AreManagers m → (k : ℕ) → 64 ≢ k → (call : Call) → (has_for_manager side.Host call ≡ true → ⊥) → (has_for_manager side.Remote call ≡ true → ⊥) → callers_of m ≡ callers_of m' → AreManagers m' → IsCallOf m p k call → IsCallOf m' p' k call
+still_call : {B : Type 0} {kc : Coded B} {kz : DeskTables} (m m' : LaneLink (RingState (PlacedDesk kc kz))) (p p' : ℕ) → AreManagers m → (k : ℕ) → 64 ≢ k → (call : Call) → (has_for_manager side.Host call ≡ true → ⊥) → (has_for_manager side.Remote call ≡ true → ⊥) → callers_of m ≡ callers_of m' → AreManagers m' → IsCallOf m p k call → IsCallOf m' p' k call
 still_call m m' p p' a k apart Idle nh nr same a' has = has
 still_call m m' p p' a k apart (Rests side.Host) nh nr same a' has = (ap (λ cs. end_of cs k) (sym same) ∙ has.0, ap (λ t. has_call t k) a'.remote_sender, ap (λ t. has_call t k) a'.host_receiver)
 still_call m m' p p' a k apart (Rests side.Remote) nh nr same a' has = (ap (λ cs. end_of cs k) (sym same) ∙ has.0, ap (λ t. has_call t k) a'.host_sender, ap (λ t. has_call t k) a'.remote_receiver)
@@ -115,7 +118,7 @@ still_call m m' p p' a k apart (Reopens q inc) nh nr same a' has = absurd (apart
 still_call m m' p p' a k apart (HoldsAll x y) nh nr same a' has = absurd (apart (sym has.0))
 
 -- the slots of the next incarnation: no buffer is out
-opened_shelf : {D : Type 0} (s s' : RingState D) (l : List (Option_of Slot)) → HoldsBuffers s l → s.lane.sender ≡ turn.Manager → s.lane.receiver ≡ turn.Manager
+opened_shelf : {B : Type 0} {kc : Coded B} {kz : DeskTables} (s s' : RingState (PlacedDesk kc kz)) (l : List (Option_of Slot)) → HoldsBuffers s l → s.lane.sender ≡ turn.Manager → s.lane.receiver ≡ turn.Manager
     → s'.rings.sizes ≡ s.rings.sizes → length s'.lane.lane.accepted ≡ 0 → HoldsBuffers s' l
 opened_shelf s s' l q sender receiver sizes none_accepted = record {
   long = q.long ∙ ap (λ x. x.capacity) (sym sizes);
@@ -125,30 +128,30 @@ opened_shelf s s' l q sender receiver sizes none_accepted = record {
 }
 
 -- nothing was held, and nothing is
-opened_hands : {D : Type 0} (desk : DeskMeaning D) (m : LaneLink (RingState D)) (q : Pass) → HoldsNothing m → HandsOf m q → HandsOf (link_after_opening desk m) q
+opened_hands : {B : Type 0} {kc : Coded B} {kz : DeskTables} (desk : DeskMeaning (PlacedDesk kc kz)) (m : LaneLink (RingState (PlacedDesk kc kz))) (q : Pass) → HoldsNothing m → HandsOf m q → HandsOf (link_after_opening desk m) q
 opened_hands desk m q bare has side.Host user = ap (hands_of q.number) (sym bare.0) ∙ has side.Host user
 opened_hands desk m q bare has side.Remote user = ap (hands_of q.number) (sym bare.1) ∙ has side.Remote user
 
 -- the manager's view after the opening
-abbrev pub opened_view : (v : View) → Mover v → Option LinkCopy → View
-opened_view v o k = record (with_pass v o (with_call o.pass (HoldsAll (record { handed = 0; returned = 0; hands = [] }) (record { handed = 0; returned = 0; hands = [] }))) k) { is_closed = false; inc = v.inc + 1; reclaims = [] }
+abbrev pub opened_view : (v : View) → Mover v → DeskRight → DeskRight → Option LinkCopy → View
+opened_view v o host remote k = record (with_pass v o (with_call o.pass (HoldsAll (opened_receiver host) (opened_receiver remote))) k) { is_closed = false; inc = v.inc + 1; reclaims = [] }
 
-module _ {D : Type 0} (cd : Coded D) (desk : DeskMeaning D) (z : LinkSizes) where
-  fresh_is : (m : LaneLink (RingState D)) → (m.to_host.rings.sizes ≡ z.to_host) × (m.to_remote.rings.sizes ≡ z.to_remote) → fresh_block desk m ≡ fresh_of z
+module _ {B : Type 0} {kc : Coded B} {kz : DeskTables} (cd : Coded (PlacedDesk kc kz)) (desk : DeskMeaning (PlacedDesk kc kz)) (z : LinkSizes) where
+  fresh_is : (m : LaneLink (RingState (PlacedDesk kc kz))) → (m.to_host.rings.sizes ≡ z.to_host) × (m.to_remote.rings.sizes ≡ z.to_remote) → fresh_block desk m ≡ fresh_of z
   fresh_is m sizes = λ i. reset_block (fresh_lane (sizes.0 i)) (fresh_lane (sizes.1 i))
 
-  as_long : (m : LaneLink (RingState D)) → IsSoundState desk m → length (fresh_block desk m) ≡ length (reset_block (lane_words m.to_host) (lane_words m.to_remote))
+  as_long : (m : LaneLink (RingState (PlacedDesk kc kz))) → IsSoundState desk m → length (fresh_block desk m) ≡ length (reset_block (lane_words m.to_host) (lane_words m.to_remote))
   as_long m k =
       let opened = reopen_kept desk m k.rings in let now = k.rings in
       block_long (lane_words (link_after_reopen (ring_form desk) m).to_host) (lane_words (link_after_reopen (ring_form desk) m).to_remote) (lane_words m.to_host) (lane_words m.to_remote)
       (opened.to_host.sized.forward_long ∙ sym now.to_host.sized.forward_long) (opened.to_host.sized.returns_long ∙ sym now.to_host.sized.returns_long)
       (opened.to_remote.sized.forward_long ∙ sym now.to_remote.sized.forward_long) (opened.to_remote.sized.returns_long ∙ sym now.to_remote.sized.returns_long)
 
-  homes_still : (m : LaneLink (RingState D)) (sh : Shelves) → AreManagers m → homes_of m sh ≡ homes_of (link_after_opening desk m) sh
+  homes_still : (m : LaneLink (RingState (PlacedDesk kc kz))) (sh : Shelves) → AreManagers m → homes_of m sh ≡ homes_of (link_after_opening desk m) sh
   homes_still m sh a = λ k. home_if (a.host_sender k) (Sender (sender_side m.to_host)) ∷ home_if (a.host_receiver k) (Receiver (receiver_side m.to_host))
       ∷ home_if (a.remote_sender k) (Sender (sender_side m.to_remote)) ∷ home_if (a.remote_receiver k) (Receiver (receiver_side m.to_remote)) ∷ (sh.host ++ sh.remote)
 
-  opened_shelves : (m : LaneLink (RingState D)) (sh : Shelves) → ((e : End) → HoldsBuffers (lane_to m e) (shelf_to sh e)) → AreManagers m → (e : End) → HoldsBuffers (lane_to (link_after_opening desk m) e) (shelf_to sh e)
+  opened_shelves : (m : LaneLink (RingState (PlacedDesk kc kz))) (sh : Shelves) → ((e : End) → HoldsBuffers (lane_to m e) (shelf_to sh e)) → AreManagers m → (e : End) → HoldsBuffers (lane_to (link_after_opening desk m) e) (shelf_to sh e)
   opened_shelves m sh old a side.Host = opened_shelf m.to_host (link_after_opening desk m).to_host sh.host (old side.Host) a.host_sender a.host_receiver refl refl
   opened_shelves m sh old a side.Remote = opened_shelf m.to_remote (link_after_opening desk m).to_remote sh.remote (old side.Remote) a.remote_sender a.remote_receiver refl refl
 
@@ -193,7 +196,7 @@ module _ {D : Type 0} (cd : Coded D) (desk : DeskMeaning D) (z : LinkSizes) wher
           suc p,
           put_together ((λ k. set (r.words_are k) (six k) new) ∙ ap front (reset_one p fresh old new (as_long m (state_in r)) here))
               r.shelves r.homes_are
-              (state_in r) (sizes_in r) (buffers_in r) (one_more desk m _ Nothing r.reached tt refl)
+              (state_in r) (told_in r) (buffers_in r) (one_more desk m _ Nothing r.reached tt refl)
               (record {
                 calls = each (HasCall m p) (HasCall m (suc p)) r.numbers.places r.turns.calls
                     (λ j l u there apart. still_call m m p (suc p) h.2.1 u.number (λ same. apart (h.0 ∙ same)) u.call (λ kept. apart (r.turns.keepers side.Host id o.place j l o.pass u (me.0, at, o.here) there (ap (has_for_manager side.Host) call) kept)) (λ kept. apart (r.turns.keepers side.Remote id o.place j l o.pass u (me.0, at, o.here) there (ap (has_for_manager side.Remote) call) kept)) refl h.2.1) (h.0, ap suc h.1, h.2, h.3, h.4);
@@ -208,6 +211,7 @@ module _ {D : Type 0} (cd : Coded D) (desk : DeskMeaning D) (z : LinkSizes) wher
                 places = numbers_set st.views id me.0 (with_pass me.0 o (with_call o.pass w) (Some (copied cd m))) o (with_call o.pass w) at refl refl r.numbers.places;
                 manager = manager_set st.views id me.0 (with_pass me.0 o (with_call o.pass w) (Some (copied cd m))) o (with_call o.pass w) at refl cd m m refl refl refl refl (λ old. old) (λ j y apart there manages. refl) (λ n none was not. was not) (λ n none Q was not. was not) (λ old. old) (λ j y apart there manages old. old) (λ k same _. sym (some_copy (copied cd m) k same)) r.numbers.manager;
                 many = r.numbers.many;
+                short = r.numbers.short;
               }),
         ),
         refl,
@@ -215,15 +219,15 @@ module _ {D : Type 0} (cd : Coded D) (desk : DeskMeaning D) (z : LinkSizes) wher
 
   -- the era is opened, where all is reset and nothing is held: the one step of the ring form
   pub opens : (n id : ℕ) (me : SeatState) (o : Mover me.0) (q inc new : ℕ) → o.pass.call ≡ Reopens q inc → q ≡ length (fresh_of z)
-      → new ≡ era_word (record { inc = inc + 1; is_live = true })
-      → Allows (WordsRule cd desk z) n id me 1 (λ _. new) (λ _ me'. me' ≡ (opened_view me.0 o me'.0.copy, me.1))
-  opens n id me o q inc new call all new_is st (m, p, r) wide at _ =
+      → new ≡ era_word (record { inc = inc + 1; is_live = true }) → inc + 1 < 4294967296
+      → Allows (WordsRule cd desk z) n id me 1 (λ _. new) (λ _ me'. (host : DeskRight) × (remote : DeskRight) × (me' ≡ (opened_view me.0 o host remote me'.0.copy, me.1)))
+  opens n id me o q inc new call all new_is more st (m, p, r) wide at _ =
       let h : IsCallOf m p o.pass.number (Reopens q inc) = subst (IsCallOf m p o.pass.number) call (r.turns.calls id o.place o.pass (me.0, at, o.here)) in let a = h.2.1 in
       let fresh = fresh_block desk m in let old = reset_block (lane_words m.to_host) (lane_words m.to_remote) in
       let full : p ≡ length fresh = sym h.1 ∙ (all ∙ ap length (sym (fresh_is m (sizes_in r)))) in
       let m' = link_after_opening desk m in let may : MayDo desk m Opens = (h.2, h.4) in
       let word : new ≡ era_word m'.era = new_is ∙ ap (λ (k : ℕ). era_word (record { inc = k + 1; is_live = true })) (sym h.3) in
-      let w : Call = HoldsAll (record { handed = 0; returned = 0; hands = [] }) (record { handed = 0; returned = 0; hands = [] }) in let u = opened_view me.0 o (Some (copied cd m')) in let each = each_set st.views id me.0 u o (with_call o.pass w) at refl in (
+      let host = right_to m'.to_host.lane.desk in let remote = right_to m'.to_remote.lane.desk in let w : Call = HoldsAll (opened_receiver host) (opened_receiver remote) in let u = opened_view me.0 o host remote (Some (copied cd m')) in let each = each_set st.views id me.0 u o (with_call o.pass w) at refl in (
         u,
         keeps,
         tt,
@@ -233,7 +237,7 @@ module _ {D : Type 0} (cd : Coded D) (desk : DeskMeaning D) (z : LinkSizes) wher
           put_together ((λ k. set (r.words_are k) 1 (word k))
               ∙ (λ k. 0 ∷ era_word m'.era ∷ turn_word (a.host_sender k) ∷ turn_word (a.host_receiver k) ∷ turn_word (a.remote_sender k) ∷ turn_word (a.remote_receiver k) ∷ reset_all p fresh old (as_long m (state_in r)) full k))
               r.shelves (r.homes_are ∙ (λ k. homes_still m r.shelves a k))
-              (deed_kept desk m Opens may (state_in r)) (sizes_in r) (opened_shelves m r.shelves (buffers_in r) a) (one_more desk m _ Opens r.reached may refl)
+              (deed_kept desk m Opens may (state_in r)) (told_in r) (opened_shelves m r.shelves (buffers_in r) a) (one_more desk m _ Opens r.reached may refl)
               (record {
                 calls = each (HasCall m p) (HasCall m' 0) r.numbers.places r.turns.calls
                     (λ j l u there apart. still_call m m' p 0 a u.number (λ same. apart (h.0 ∙ same)) u.call (λ kept. apart (r.turns.keepers side.Host id o.place j l o.pass u (me.0, at, o.here) there (ap (has_for_manager side.Host) call) kept)) (λ kept. apart (r.turns.keepers side.Remote id o.place j l o.pass u (me.0, at, o.here) there (ap (has_for_manager side.Remote) call) kept)) refl (record { host_sender = refl; host_receiver = refl; remote_sender = refl; remote_receiver = refl }))
@@ -251,7 +255,8 @@ module _ {D : Type 0} (cd : Coded D) (desk : DeskMeaning D) (z : LinkSizes) wher
                     (λ j y apart there manages. absurd (apart (r.numbers.places j manages.0 id o.place manages.1 o.pass (y, there, manages.2) (me.0, at, o.here) (manages.3 ∙ sym h.0)).0)) (λ n none was not. none_opened desk m n) (λ n none Q was not. none_opened desk m n) (λ old never. absurd (true-false (sym never)))
                     (λ j y apart there manages old. absurd (apart (r.numbers.places j manages.0 id o.place manages.1 o.pass (y, there, manages.2) (me.0, at, o.here) (manages.3 ∙ sym h.0)).0)) (λ k same _. sym (some_copy (copied cd m') k same)) r.numbers.manager;
                 many = r.numbers.many;
+                short = subst (λ (k : ℕ). k + 1 < 4294967296) (sym h.3) more;
               }),
         ),
-        refl,
+        (host, remote, refl),
       )

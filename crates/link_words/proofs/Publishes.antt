@@ -1,4 +1,6 @@
 -- step 6 of a send: the message is accepted and its buffer comes home, on either lane.
+use Rattle.link_words.specs.declared.codes.DeskTables.{DeskTables}
+use Rattle.link_words.specs.PlacedDesks.{PlacedDesk}
 use Rattle.std.proofs.Common.{◌≡◌, ℕ, zero, suc, ◌+◌, ◌%◌, ◌<◌, ◌≤◌, true, List, [], ◌∷◌, ◌++◌, length, set, refl, sym, ap, ◌∙◌, subst, arith, length-set, length-append}
 use Rattle.std.specs.Prelude.{None}
 use Rattle.std.specs.Prelude.{Some}
@@ -65,12 +67,12 @@ message_last (b ∷ book) entry zero at = absurd (omega arith)
 message_last (b ∷ book) entry (suc k) at = message_last book entry k (omega arith)
 
 -- the slots when a buffer that a send had out is at home with something in it, and no send has one out
-pub shelved_home : {D : Type 0} (s s' : RingState D) (l : List (Option_of Slot)) (y : Slot) → IsSoundRings s → sender_is_out s.lane.sender ≡ true → HoldsBuffers s l
+pub shelved_home : {B : Type 0} {kc : Coded B} {kz : DeskTables} (s s' : RingState (PlacedDesk kc kz)) (l : List (Option_of Slot)) (y : Slot) → IsSoundRings s → sender_is_out s.lane.sender ≡ true → HoldsBuffers s l
     → s'.rings.sizes ≡ s.rings.sizes → s'.rings.forward ≡ s.rings.forward → s'.rings.taking ≡ s.rings.taking → s'.lane.receiver ≡ s.lane.receiver → s'.lane.lane.takers ≡ s.lane.lane.takers
     → ((k : ℕ) → k < length s'.lane.lane.accepted → (k < length s.lane.lane.accepted → ⊥) → (buffer_at s.rings.sizes.entries s.rings.forward k ≡ s.rings.sending) × (y ≡ Buffer (message_at s'.lane.lane.accepted k)))
     → ((k : ℕ) → k < length s.lane.lane.accepted → message_at s'.lane.lane.accepted k ≡ message_at s.lane.lane.accepted k)
     → HoldsBuffers s' (set l s.rings.sending (some y))
-shelved_home {D} s s' l y sound out q sizes forward taking receiver takers newer older =
+shelved_home s s' l y sound out q sizes forward taking receiver takers newer older =
     let a = length s.lane.lane.accepted in let hd = length s.lane.lane.takers in let size = s.rings.sizes in
     let sends = sending_is s sound out in let cap : s.lane.lane.capacity ≡ size.capacity = sound.sized.lane in let room : a < s.lane.lane.returned + size.capacity = omega (arith, sends.1, cap) in
     let id : ℕ = s.rings.sending in
@@ -98,7 +100,7 @@ shelved_home {D} s s' l y sound out q sizes forward taking receiver takers newer
       ];
     }
 
-module _ {D : Type 0} (cd : Coded D) (desk : DeskMeaning D) (z : LinkSizes) where
+module _ {B : Type 0} {kc : Coded B} {kz : DeskTables} (cd : Coded (PlacedDesk kc kz)) (desk : DeskMeaning (PlacedDesk kc kz)) (z : LinkSizes) where
   pub publishes : (n id : ℕ) (me : SeatState) (o : Mover me.0) (e : End) (c f : ℕ) (message : List ℕ) (x : SenderSide) (b first new : ℕ) → o.pass.call ≡ Sends e (turn.Taken c (record { follows = f; message = message; stage = stage.Entry })) x b → first ≡ z.to_host.capacity
       → me.1 ≡ (buffer_slot first e b, Buffer message) ∷ rest me.1 → new ≡ (x.accepted + 1) % 65536
       → Allows (WordsRule cd desk z) n id me (forward_word e) (λ _. new) (λ _ me'. SendPublishesBy me o e c f message x b me' × StepBy cd desk (WritesAt (forward_word e) new) me o (Steps o.pass.number 0 None) me')
@@ -106,20 +108,20 @@ module _ {D : Type 0} (cd : Coded D) (desk : DeskMeaning D) (z : LinkSizes) wher
       let sending : Sending = record { follows = f; message = message; stage = stage.Entry } in let t : Turn Sending = turn.Taken c sending in
       let h : IsCallOf m p o.pass.number (Sends e t x b) = subst (IsCallOf m p o.pass.number) call (r₀.turns.calls id o.place o.pass (me.0, at, o.here)) in
       let r = at_zero cd desk z st m p e t h.1.0 refl r₀ in let s₀ = lane_to m e in let s = with_turn s₀ t in let is : s₀ ≡ s = λ k. with_turn s₀ (h.1.0 k) in
-      let sound : IsSoundRings s = subst IsSoundRings is (rings_to m e (rings_in r)) in let q : HoldsBuffers s (shelf_to r.shelves e) = subst (λ (u : RingState D). HoldsBuffers u (shelf_to r.shelves e)) is ((buffers_in r) e) in
+      let sound : IsSoundRings s = subst IsSoundRings is (rings_to m e (rings_in r)) in let q : HoldsBuffers s (shelf_to r.shelves e) = subst (λ (u : RingState (PlacedDesk kc kz)). HoldsBuffers u (shelf_to r.shelves e)) is ((buffers_in r) e) in
       let a = length s.lane.lane.accepted in let out : s₀.rings.sending ≡ b = h.1.3 refl in let side : x.accepted ≡ a = ap (λ (u : SenderSide). u.accepted) h.1.2 in
       let stands = sound.source in let sends = sending_is s sound refl in let cap : s.lane.lane.capacity ≡ s.rings.sizes.capacity = sound.sized.lane in
       let room : a < s.lane.lane.returned + s.rings.sizes.capacity = omega (arith, sends.1, cap) in
       let low : s.rings.sending < s.rings.sizes.capacity = subst (λ (k : ℕ). k < s.rings.sizes.capacity) (sym sends.0) (source-below s.rings.sizes a (length s.lane.lane.takers) s.lane.lane.returned s.rings.forward s.rings.returns s.rings.hands s.rings.aside sound.owned room) in
       let near : b < length (shelf_to r.shelves e) = omega (arith, low, q.long, out) in
-      let s' : RingState D = (ring_form desk).sent_on s m.era in let entry : BookEntry = record { caller = c; message = message } in
+      let s' : RingState (PlacedDesk kc kz) = (ring_form desk).sent_on s m.era in let entry : BookEntry = record { caller = c; message = message } in
       let t' : Turn Sending = turn.Leaving c (end.Sent x.accepted) in let x' : SenderSide = record { accepted = x.accepted + 1 } in let w : Pass = record o.pass { call = Sends e t' x' b; own = Publish e f x.accepted message ∷ o.pass.own } in let who : c ≡ o.pass.number = some_number c o.pass.number h.1.1 in let hist = r.histories.own id o.place o.pass (me.0, at, o.here) in
       let has : has_call s₀.lane.sender o.pass.number ≡ true = has_of s₀.lane.sender o.pass.number (ap holder h.1.0 ∙ h.1.1) (ap is_manager h.1.0) in
       let l' = set (shelf_to r.shelves e) b (some (Buffer message)) in
       let index : new ≡ next_index s.rings.forward_index = new_is ∙ (ap (λ (k : ℕ). (k + 1) % 65536) side ∙ (sym (mod-add-mod a 65536 1) ∙ ap (λ (k : ℕ). (k + 1) % 65536) (sym sound.forward_index))) in
       let more : length (s.lane.lane.accepted ++ entry ∷ []) ≡ a + 1 = length-append s.lane.lane.accepted (entry ∷ []) in
       let may = send_may desk m e o.pass.number 0 h.0 has in
-      let deed : with_lane m e s' ≡ after_deed desk m (Steps o.pass.number 0 None) = ap (λ (u : RingState D). with_lane m e ((ring_form desk).sent_on u m.era)) (sym is) ∙ send_deed desk m e o.pass.number 0 h.0 has in
+      let deed : with_lane m e s' ≡ after_deed desk m (Steps o.pass.number 0 None) = ap (λ (u : RingState (PlacedDesk kc kz)). with_lane m e ((ring_form desk).sent_on u m.era)) (sym is) ∙ send_deed desk m e o.pass.number 0 h.0 has in
       let mine : IsCallOf (with_lane m e s') 0 o.pass.number (Sends e t' x' b) = here_sends desk m e s' o.pass.number t' x' b h.0
       (ap (λ (k : ℕ). turn.Leaving c (end.Sent k)) (sym side), h.1.1, (λ i. record { accepted = (ap (λ (k : ℕ). k + 1) side ∙ sym more) i }), λ o. absurd (true-false (sym o))) tt in (
         _,
@@ -138,11 +140,11 @@ module _ {D : Type 0} (cd : Coded D) (desk : DeskMeaning D) (z : LinkSizes) wher
             (λ k old. message_before s.lane.lane.accepted entry k old)))
             mine
             (λ j l q there apart. others_send desk m e s' t o.pass.number h.1.0 h.1.1 refl refl refl (λ o. let tk = taking_is s sound o in message_before s.lane.lane.accepted entry (length s.lane.lane.takers) tk.1) (λ k apart. no_call desk t' o.pass.number k h.1.1 apart) q.number apart q.call) refl refl
-            (history_published m e s' entry refl o.pass.number o.pass.first f x.accepted o.pass.own (sym (ap (λ (u : RingState D). u.lane.lane.takers) is)) who (h.2 refl) side hist)
-            (λ u apart has. history_other m e s' entry (sym (ap (λ (y : RingState D). y.lane.lane.accepted ++ entry ∷ []) is)) u.number u.first u.own (sym (ap (λ (y : RingState D). y.lane.lane.takers) is)) (λ same. apart (sym who ∙ same)) has)
-            (hands_kept desk m e s' o.pass (λ was. ap (λ (u : RingState D). hands_of o.pass.number u.lane.lane.held) (sym is) ∙ was) (r.histories.hands id o.place o.pass (me.0, at, o.here)))
-            (λ u apart. hands_kept desk m e s' u (λ was. ap (λ (y : RingState D). hands_of u.number y.lane.lane.held) (sym is) ∙ was))
-            (λ n none. none_published m e s' entry (sym (ap (λ (y : RingState D). y.lane.lane.accepted ++ entry ∷ []) is)) (sym (ap (λ (y : RingState D). y.lane.lane.takers) is)) n (λ same. not_used m.callers o.pass.number n (other e) h.0 none (sym who ∙ same)))
+            (history_published m e s' entry refl o.pass.number o.pass.first f x.accepted o.pass.own (sym (ap (λ (u : RingState (PlacedDesk kc kz)). u.lane.lane.takers) is)) who (h.2 refl) side hist)
+            (λ u apart has. history_other m e s' entry (sym (ap (λ (y : RingState (PlacedDesk kc kz)). y.lane.lane.accepted ++ entry ∷ []) is)) u.number u.first u.own (sym (ap (λ (y : RingState (PlacedDesk kc kz)). y.lane.lane.takers) is)) (λ same. apart (sym who ∙ same)) has)
+            (hands_kept desk m e s' o.pass (λ was. ap (λ (u : RingState (PlacedDesk kc kz)). hands_of o.pass.number u.lane.lane.held) (sym is) ∙ was) (r.histories.hands id o.place o.pass (me.0, at, o.here)))
+            (λ u apart. hands_kept desk m e s' u (λ was. ap (λ (y : RingState (PlacedDesk kc kz)). hands_of u.number y.lane.lane.held) (sym is) ∙ was))
+            (λ n none. none_published m e s' entry (sym (ap (λ (y : RingState (PlacedDesk kc kz)). y.lane.lane.accepted ++ entry ∷ []) is)) (sym (ap (λ (y : RingState (PlacedDesk kc kz)). y.lane.lane.takers) is)) n (λ same. not_used m.callers o.pass.number n (other e) h.0 none (sym who ∙ same)))
             (keepers_set st.views id me.0 (with_pass me.0 o w (Some (copied cd (with_lane m e s')))) o w at refl refl (λ i k. absurd (true-false (sym k))) r.turns.keepers),
         (refl, write_by (forward_word e) new cd desk z st m r id me o w (Steps o.pass.number 0 None) (with_lane m e s') (rest me.1) (index ∙ forward_in m e s') at may deed mine),
       )

@@ -1,4 +1,6 @@
 -- A send's leave, and the leave by which a reclaim ends a send from each of its steps: what was out comes home.
+use Rattle.link_words.specs.declared.codes.DeskTables.{DeskTables}
+use Rattle.link_words.specs.PlacedDesks.{PlacedDesk}
 use Rattle.std.proofs.Common.{◌≡◌, ℕ, ◌+◌, ◌<◌, Bool, true, false, cond, List, ◌∷◌, length, get_or, set, refl, sym, ap, ◌∙◌, subst, arith}
 use Rattle.std.specs.Prelude.{Some, None}
 use mathlib.Core.Option.{some}
@@ -49,14 +51,14 @@ use Rattle.link_words.proofs.Publishes.{shelved_home}
 use Rattle.link_words.proofs.Exact.{StepBy, write_by, WritesAt}
 use Rattle.link_words.proofs.Parts.{rings_in, buffers_in}
 
-rests_after : {D : Type 0} (m : LaneLink (RingState D)) (e : End) (s : RingState D) (number : ℕ) → end_of m.callers number ≡ Some (other e) → has_call s.lane.sender number ≡ false → has_call (lane_to m (other e)).lane.receiver number ≡ false
+rests_after : {B : Type 0} {kc : Coded B} {kz : DeskTables} (m : LaneLink (RingState (PlacedDesk kc kz))) (e : End) (s : RingState (PlacedDesk kc kz)) (number : ℕ) → end_of m.callers number ≡ Some (other e) → has_call s.lane.sender number ≡ false → has_call (lane_to m (other e)).lane.receiver number ≡ false
     → IsCallOf (with_lane m e s) 0 number (Rests (other e))
 rests_after m side.Host s number user sends receives = (user, sends, receives)
 rests_after m side.Remote s number user sends receives = (user, sends, receives)
 
-module _ {D : Type 0} (cd : Coded D) (desk : DeskMeaning D) (z : LinkSizes) where
+module _ {B : Type 0} {kc : Coded B} {kz : DeskTables} (cd : Coded (PlacedDesk kc kz)) (desk : DeskMeaning (PlacedDesk kc kz)) (z : LinkSizes) where
   -- a caller that has the sender's turn is in no other call
-  no_receive : (m : LaneLink (RingState D)) (e : End) (number : ℕ) → SoundLink (link_of (ring_form desk) m) → has_call (lane_to m e).lane.sender number ≡ true → has_call (lane_to m (other e)).lane.receiver number ≡ false
+  no_receive : (m : LaneLink (RingState (PlacedDesk kc kz))) (e : End) (number : ℕ) → SoundLink (link_of (ring_form desk) m) → has_call (lane_to m e).lane.sender number ≡ true → has_call (lane_to m (other e)).lane.receiver number ≡ false
   no_receive m side.Host number sound has = sound.remotes number has
   no_receive m side.Remote number sound has = sound.hosts number has
 
@@ -68,9 +70,9 @@ module _ {D : Type 0} (cd : Coded D) (desk : DeskMeaning D) (z : LinkSizes) wher
       let h : IsCallOf m p o.pass.number (Sends e t x b) = subst (IsCallOf m p o.pass.number) call (r₀.turns.calls id o.place o.pass (me.0, at, o.here)) in
       let r = at_zero cd desk z st m p e t h.1.0 refl r₀ in let s₀ = lane_to m e in let s = with_turn s₀ t in let is : s₀ ≡ s = λ k. with_turn s₀ (h.1.0 k) in
       let has : has_call s₀.lane.sender o.pass.number ≡ true = has_of s₀.lane.sender o.pass.number (ap holder h.1.0 ∙ h.1.1) (ap is_manager h.1.0) in
-      let s' : RingState D = (ring_form desk).sent_on s m.era in let w : Call = Rests (other e) in
+      let s' : RingState (PlacedDesk kc kz) = (ring_form desk).sent_on s m.era in let w : Call = Rests (other e) in
       let may = send_may desk m e o.pass.number 0 h.0 has in
-      let deed : with_lane m e s' ≡ after_deed desk m (Steps o.pass.number 0 None) = ap (λ (u : RingState D). with_lane m e ((ring_form desk).sent_on u m.era)) (sym is) ∙ send_deed desk m e o.pass.number 0 h.0 has in
+      let deed : with_lane m e s' ≡ after_deed desk m (Steps o.pass.number 0 None) = ap (λ (u : RingState (PlacedDesk kc kz)). with_lane m e ((ring_form desk).sent_on u m.era)) (sym is) ∙ send_deed desk m e o.pass.number 0 h.0 has in
       let mine : IsCallOf (with_lane m e s') 0 o.pass.number w = rests_after m e s' o.pass.number h.0 refl (no_receive m e o.pass.number r.sound has) in (
         _,
         gives,
@@ -82,7 +84,7 @@ module _ {D : Type 0} (cd : Coded D) (desk : DeskMeaning D) (z : LinkSizes) wher
             (ap (λ (cs : List (ℕ × Slot)). homes_after (homes_at e (lane_homes s (shelf_to r.shelves e)) (lane_homes (lane_to m (other e)) (shelf_to r.shelves (other e)))) cs gives) has_slot
             ∙ (side_set e (some (Sender x)) (lane_homes s (shelf_to r.shelves e)) (lane_homes (lane_to m (other e)) (shelf_to r.shelves (other e)))
             ∙ ap (λ (u : SenderSide). homes_at e (record (lane_homes s (shelf_to r.shelves e)) { sender = some (Sender u) }) (lane_homes (lane_to m (other e)) (shelf_to r.shelves (other e)))) h.1.2))
-            (shelved_turn cd desk z s turn.Free (shelf_to r.shelves e) refl (subst (λ (u : RingState D). HoldsBuffers u (shelf_to r.shelves e)) is ((buffers_in r) e)))
+            (shelved_turn cd desk z s turn.Free (shelf_to r.shelves e) refl (subst (λ (u : RingState (PlacedDesk kc kz)). HoldsBuffers u (shelf_to r.shelves e)) is ((buffers_in r) e)))
             mine (others_send desk m e s' t o.pass.number h.1.0 h.1.1 refl refl refl (λ _. refl) (λ k apart. refl)) refl refl refl refl (λ i k. absurd (true-false (sym k))),
         (refl, write_by (sender_word e) 0 cd desk z st m r id me o (with_call o.pass w) (Steps o.pass.number 0 None) (with_lane m e s') (rest me.1) (sender_in m e s') at may deed mine),
       )
@@ -112,7 +114,7 @@ module _ {D : Type 0} (cd : Coded D) (desk : DeskMeaning D) (z : LinkSizes) wher
       )
 
   -- what both leaves of a reclaimed send share
-  module _ (st : State Slot View) (m : LaneLink (RingState D)) (r : Shows cd desk z st m 0) (e : End) (id number : ℕ) (me : SeatState) (o : Mover me.0) (t : Turn Sending) (x : SenderSide) (b : ℕ) where
+  module _ (st : State Slot View) (m : LaneLink (RingState (PlacedDesk kc kz))) (r : Shows cd desk z st m 0) (e : End) (id number : ℕ) (me : SeatState) (o : Mover me.0) (t : Turn Sending) (x : SenderSide) (b : ℕ) where
     ended : (at : get_elem? st.views id ≡ some me.0) (h : IsCallOf m 0 o.pass.number (EndsSend e t x b)) → is_manager t ≡ false → (a : Act Slot) (l' : List (Option_of Slot))
         → homes_after (homes_at e (lane_homes (with_turn (lane_to m e) t) (shelf_to r.shelves e)) (lane_homes (lane_to m (other e)) (shelf_to r.shelves (other e)))) me.1 a
         ≡ homes_at e (record (lane_homes (lane_to m e) l') { sender = some (Sender (sender_side (lane_to m e))) }) (lane_homes (lane_to m (other e)) (shelf_to r.shelves (other e)))

@@ -1,4 +1,6 @@
 -- Each step of a send is one of the ring form, on either lane.
+use Rattle.link_words.specs.declared.codes.DeskTables.{DeskTables}
+use Rattle.link_words.specs.PlacedDesks.{PlacedDesk}
 use Rattle.std.proofs.Common.{◌≡◌, ℕ, suc, Bool, true, false, cond, eqb, ◌&&◌, List, get_or, set, refl, sym, ap, ◌∙◌, subst, ⊎_elim, eq-eqb}
 use Rattle.std.specs.Prelude.{Option, Some, None}
 use mathlib.Core.Option.{some, none}
@@ -71,19 +73,19 @@ era_again side.Remote era a b = refl
 pub true-false : true ≡ false → ⊥
 true-false e = absurd (cc)
 
-module _ {D : Type 0} (cd : Coded D) (desk : DeskMeaning D) (z : LinkSizes) where
+module _ {B : Type 0} {kc : Coded B} {kz : DeskTables} (cd : Coded (PlacedDesk kc kz)) (desk : DeskMeaning (PlacedDesk kc kz)) (z : LinkSizes) where
   -- while a call has a turn, nothing is reset
-  pub at_zero : (st : State Slot View) (m : LaneLink (RingState D)) (p : ℕ) (e : End) (t : Turn Sending) → (lane_to m e).lane.sender ≡ t → is_manager t ≡ false → Shows cd desk z st m p → Shows cd desk z st m 0
+  pub at_zero : (st : State Slot View) (m : LaneLink (RingState (PlacedDesk kc kz))) (p : ℕ) (e : End) (t : Turn Sending) → (lane_to m e).lane.sender ≡ t → is_manager t ≡ false → Shows cd desk z st m p → Shows cd desk z st m 0
   at_zero st m p e t is bare r = ⊎_elim
       (λ (none_reset : p ≡ 0). subst (Shows cd desk z st m) none_reset r)
       (λ (still : IsStill m). absurd (true-false (ap is_manager (sym (still_sender desk m e still.1) ∙ is) ∙ bare)))
       r.turns.still
 
-  pub shelved_turn : (s : RingState D) (t' : Turn Sending) (l : List (Option_of Slot)) → sender_is_out t' ≡ sender_is_out s.lane.sender → HoldsBuffers s l → HoldsBuffers (with_turn s t') l
+  pub shelved_turn : (s : RingState (PlacedDesk kc kz)) (t' : Turn Sending) (l : List (Option_of Slot)) → sender_is_out t' ≡ sender_is_out s.lane.sender → HoldsBuffers s l → HoldsBuffers (with_turn s t') l
   shelved_turn s t' l out q = record { long = q.long; full = q.full; home = λ id low a b. q.home id low (λ o. a (out ∙ o)) b }
 
   -- a load after which the sender's turn alone is another, with the same holder
-  pub turn_only : (st : State Slot View) (m : LaneLink (RingState D)) (r : Shows cd desk z st m 0) (e : End) (t t' : Turn Sending) → (lane_to m e).lane.sender ≡ t
+  pub turn_only : (st : State Slot View) (m : LaneLink (RingState (PlacedDesk kc kz))) (r : Shows cd desk z st m 0) (e : End) (t t' : Turn Sending) → (lane_to m e).lane.sender ≡ t
       → (i n id : ℕ) (cs : List (ℕ × Slot)) (v : View) (o : Mover v) (call : Call) (d : Deed) → get_elem? st.views id ≡ some v → holder t ≡ Some o.pass.number
       → MayDo desk m d → with_lane m e (with_turn (lane_to m e) t') ≡ after_deed desk m d
       → set (words_at e (era_word m.era) (lane_words (lane_to m e)) (lane_words (lane_to m (other e)))) i n ≡ words_at e (era_word m.era) (lane_words (lane_to m e)) (lane_words (lane_to m (other e)))
@@ -144,5 +146,5 @@ module _ {D : Type 0} (cd : Coded D) (desk : DeskMeaning D) (z : LinkSizes) wher
             (ap (set (words_at e (era_word m.era) (lane_words (lane_to m e)) (lane_words (lane_to m (other e)))) 1) word ∙ era_again e (era_word m.era) (lane_words (lane_to m e)) (lane_words (lane_to m (other e))))
             (era_word_of live c sending m.era) (era_home_of live c sending m.era) (era_out_of live c sending m.era)
             mine (λ i k. absurd (true-false (sym k))) (era_holder_of live c sending m.era ∙ h.1.1),
-        ((m.era, word, refl), read_by 1 cd desk z st m r id me o (with_call o.pass w) (Steps o.pass.number 0 None) m' me.1 at may same_deed mine),
+        ((m.era, word, r.numbers.short, refl), read_by 1 cd desk z st m r id me o (with_call o.pass w) (Steps o.pass.number 0 None) m' me.1 at may same_deed mine),
       )

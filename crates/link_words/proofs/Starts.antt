@@ -1,4 +1,6 @@
 -- Step 1 of a send: one attempt to take the sender's turn, on either lane. It needs that the caller is in no call, which its view says.
+use Rattle.link_words.specs.declared.codes.DeskTables.{DeskTables}
+use Rattle.link_words.specs.PlacedDesks.{PlacedDesk}
 use Rattle.std.proofs.Common.{◌≡◌, ◌≢◌, ℕ, zero, suc, ◌<◌, ◌≤◌, arith, Bool, true, false, eqb, ◌||◌, List, [], ◌∷◌, length, get_or, refl, sym, ap, ◌∙◌, subst, ⊎_elim}
 use Rattle.std.specs.Prelude.{Option, Some}
 use mathlib.Core.Option.{some, none}
@@ -9,7 +11,7 @@ use Rattle.atomic_table.specs.Table.{State, Me, Act, keeps, takes, Valid, carrie
 use Rattle.atomic_table.proofs.Lists.{exchanged}
 use Rattle.rp_base.specs.declared.kinds.End.{End}
 use Rattle.rp_base.specs.declared.kinds.End.TheVariants as side
-use Rattle.rp_base.specs.declared.limits.TheConstants.{MESSAGE_MOST}
+use Rattle.rp_base.specs.declared.limits.TheConstants.{MESSAGE_MOST, BOOK_MOST}
 use Rattle.lane_model.specs.declared.lane_links.LaneLink.{LaneLink}
 use Rattle.lane_model.specs.declared.stages.Turn.{Turn}
 use Rattle.lane_model.specs.declared.stages.Turn.TheVariants as turn
@@ -44,18 +46,18 @@ use Rattle.link_words.proofs.Buffers.{homes_here}
 use Rattle.link_words.proofs.Held.{free_if, is_free}
 use Rattle.link_words.proofs.Exact.{StepBy, busy_by, ReadsAt, read_by}
 use Rattle.lane_model.specs.Soundness.{SoundLink, IsSoundTurn}
-use Rattle.link_words.proofs.Parts.{buffers_in}
+use Rattle.link_words.proofs.Parts.{accepted_most, rings_at, buffers_in}
 
 start_of : (follows : ℕ) (message : List ℕ) → Sending
 start_of follows message = record { follows = follows; message = message; stage = stage.Turn }
 
-module _ {D : Type 0} (desk : DeskMeaning D) where
-  start_done : (m : LaneLink (RingState D)) (e : End) (caller follows : ℕ) (message : List ℕ)
+module _ {B : Type 0} {kc : Coded B} {kz : DeskTables} (desk : DeskMeaning (PlacedDesk kc kz)) where
+  start_done : (m : LaneLink (RingState (PlacedDesk kc kz))) (e : End) (caller follows : ℕ) (message : List ℕ)
       → with_lane m e ((ring_form desk).after_send_start (lane_to m e) caller follows message) ≡ (on_lanes m (Some (other e)) (λ lanes. lanes_step (ring_form desk) desk m.era lanes caller follows (Some (wish.Send message)))).state
   start_done m side.Host caller follows message = refl
   start_done m side.Remote caller follows message = refl
 
-  start_deed : (m : LaneLink (RingState D)) (e : End) (caller follows : ℕ) (message : List ℕ) → end_of m.callers caller ≡ Some (other e)
+  start_deed : (m : LaneLink (RingState (PlacedDesk kc kz))) (e : End) (caller follows : ℕ) (message : List ℕ) → end_of m.callers caller ≡ Some (other e)
       → with_lane m e ((ring_form desk).after_send_start (lane_to m e) caller follows message) ≡ after_deed desk m (Steps caller follows (Some (wish.Send message)))
   start_deed m e caller follows message user = start_done m e caller follows message
       ∙ ap (λ (o : Option End). (on_lanes m o (λ lanes. lanes_step (ring_form desk) desk m.era lanes caller follows (Some (wish.Send message)))).state) (sym user)
@@ -64,11 +66,11 @@ module _ {D : Type 0} (desk : DeskMeaning D) where
   or_false true b x y = x
   or_false false b x y = y
 
-  in_none : (m : LaneLink (RingState D)) (p : ℕ) (e : End) (caller : ℕ) → IsCallOf m p caller (Rests (other e)) → is_in_call (lanes_of (link_of (ring_form desk) m) (other e)) caller ≡ false
+  in_none : (m : LaneLink (RingState (PlacedDesk kc kz))) (p : ℕ) (e : End) (caller : ℕ) → IsCallOf m p caller (Rests (other e)) → is_in_call (lanes_of (link_of (ring_form desk) m) (other e)) caller ≡ false
   in_none m p side.Host caller rests = or_false (has_call m.to_host.lane.sender caller) (has_call m.to_remote.lane.receiver caller) rests.1 rests.2
   in_none m p side.Remote caller rests = or_false (has_call m.to_remote.lane.sender caller) (has_call m.to_host.lane.receiver caller) rests.1 rests.2
 
-  start_may : (m : LaneLink (RingState D)) (p : ℕ) (e : End) (caller follows : ℕ) (message : List ℕ) → length message ≤ MESSAGE_MOST → IsCallOf m p caller (Rests (other e)) → MayDo desk m (Steps caller follows (Some (wish.Send message)))
+  start_may : (m : LaneLink (RingState (PlacedDesk kc kz))) (p : ℕ) (e : End) (caller follows : ℕ) (message : List ℕ) → length message ≤ MESSAGE_MOST → IsCallOf m p caller (Rests (other e)) → MayDo desk m (Steps caller follows (Some (wish.Send message)))
   start_may m p e caller follows message fits rests = record {
     may = subst (λ (o : Option End). MayEndStep (link_of (ring_form desk) m) o caller (Some (wish.Send message))) (sym rests.0) (in_none m p e caller rests, fits);
   }
@@ -79,12 +81,12 @@ module _ {D : Type 0} (desk : DeskMeaning D) where
   not_free (turn.Leaving c y) caller x held = refl
   not_free turn.Manager caller x held = refl
 
-  seen_sender : (m : LaneLink (RingState D)) (p : ℕ) (i : End) → get_or (words_of p (fresh_block desk m) m) (sender_word i) 0 ≡ turn_word (lane_to m i).lane.sender
+  seen_sender : (m : LaneLink (RingState (PlacedDesk kc kz))) (p : ℕ) (i : End) → get_or (words_of p (fresh_block desk m) m) (sender_word i) 0 ≡ turn_word (lane_to m i).lane.sender
   seen_sender m p side.Host = refl
   seen_sender m p side.Remote = refl
 
 -- the word of a sender's turn
-sender_of : {D : Type 0} (m : LaneLink (RingState D)) (e : End) → turn_word (lane_to m e).lane.sender ≡ get_or (words_of 0 [] m) (sender_word e) 0
+sender_of : {B : Type 0} {kc : Coded B} {kz : DeskTables} (m : LaneLink (RingState (PlacedDesk kc kz))) (e : End) → turn_word (lane_to m e).lane.sender ≡ get_or (words_of 0 [] m) (sender_word e) 0
 sender_of m side.Host = refl
 sender_of m side.Remote = refl
 
@@ -100,25 +102,25 @@ turn_word_most callers e (turn.Taken c x) many is = let low = in_range callers c
 turn_word_most callers e (turn.Leaving c x) many is = let low = in_range callers c e is in omega (arith, low, many)
 turn_word_most callers e turn.Manager many is = omega arith
 
-module _ {D : Type 0} (desk : DeskMeaning D) where
+module _ {B : Type 0} {kc : Coded B} {kz : DeskTables} (desk : DeskMeaning (PlacedDesk kc kz)) where
   -- the word of a turn is at most that of the manager's
-  pub sender_word_most : (m : LaneLink (RingState D)) (e : End) → length m.callers ≡ 64 → SoundLink (link_of (ring_form desk) m) → turn_word (lane_to m e).lane.sender ≤ 65
+  pub sender_word_most : (m : LaneLink (RingState (PlacedDesk kc kz))) (e : End) → length m.callers ≡ 64 → SoundLink (link_of (ring_form desk) m) → turn_word (lane_to m e).lane.sender ≤ 65
   sender_word_most m side.Host many sound = turn_word_most m.callers side.Remote m.to_host.lane.sender many sound.to_host.sender
   sender_word_most m side.Remote many sound = turn_word_most m.callers side.Host m.to_remote.lane.sender many sound.to_remote.sender
 
-  pub receiver_word_most : (m : LaneLink (RingState D)) (e : End) → length m.callers ≡ 64 → SoundLink (link_of (ring_form desk) m) → turn_word (lane_to m e).lane.receiver ≤ 65
+  pub receiver_word_most : (m : LaneLink (RingState (PlacedDesk kc kz))) (e : End) → length m.callers ≡ 64 → SoundLink (link_of (ring_form desk) m) → turn_word (lane_to m e).lane.receiver ≤ 65
   receiver_word_most m side.Host many sound = turn_word_most m.callers side.Host m.to_host.lane.receiver many sound.to_host.receiver
   receiver_word_most m side.Remote many sound = turn_word_most m.callers side.Remote m.to_remote.lane.receiver many sound.to_remote.receiver
 
-module _ {D : Type 0} (cd : Coded D) (desk : DeskMeaning D) (z : LinkSizes) where
+module _ {B : Type 0} {kc : Coded B} {kz : DeskTables} (cd : Coded (PlacedDesk kc kz)) (desk : DeskMeaning (PlacedDesk kc kz)) (z : LinkSizes) where
   abbrev pub SendBeginsBy : (me : SeatState) → Mover me.0 → End → ℕ → List ℕ → ℕ → SeatState → Type 0
   SendBeginsBy me o e follows message n me' =
-      (n ≡ 0 → (x : SenderSide) × (me' ≡ (with_pass me.0 o (with_call o.pass (Sends e (turn.Taken o.pass.number (record { follows = follows; message = message; stage = stage.Turn })) x 0)) me'.0.copy, (sender_slot e, Sender x) ∷ me.1)))
+      (n ≡ 0 → (x : SenderSide) × (x.accepted ≤ BOOK_MOST) × (me' ≡ (with_pass me.0 o (with_call o.pass (Sends e (turn.Taken o.pass.number (record { follows = follows; message = message; stage = stage.Turn })) x 0)) me'.0.copy, (sender_slot e, Sender x) ∷ me.1)))
       × (n ≢ 0 → me' ≡ me)
 
-  starts_free : (id : ℕ) (me : SeatState) (o : Mover me.0) (e : End) (follows : ℕ) (message : List ℕ) → length message ≤ MESSAGE_MOST → o.pass.call ≡ Rests (other e) → (st : State Slot View) (m : LaneLink (RingState D)) (r : Shows cd desk z st m 0) → get_elem? st.views id ≡ some me.0 → (lane_to m e).lane.sender ≡ turn.Free
+  starts_free : (id : ℕ) (me : SeatState) (o : Mover me.0) (e : End) (follows : ℕ) (message : List ℕ) → length message ≤ MESSAGE_MOST → o.pass.call ≡ Rests (other e) → (st : State Slot View) (m : LaneLink (RingState (PlacedDesk kc kz))) (r : Shows cd desk z st m 0) → get_elem? st.views id ≡ some me.0 → (lane_to m e).lane.sender ≡ turn.Free
       → (w : View) × (a : Act Slot) × Valid st.homes me.1 a × WordsRule cd desk z (stepped st (sender_word e) (suc o.pass.number) id me.1 w a)
-      × ((x : SenderSide) × Path (Me Slot View) (w, carried_after me.1 a) (with_pass me.0 o (with_call o.pass (Sends e (turn.Taken o.pass.number (record { follows = follows; message = message; stage = stage.Turn })) x 0)) w.copy, (sender_slot e, Sender x) ∷ me.1))
+      × ((x : SenderSide) × (x.accepted ≤ BOOK_MOST) × Path (Me Slot View) (w, carried_after me.1 a) (with_pass me.0 o (with_call o.pass (Sends e (turn.Taken o.pass.number (record { follows = follows; message = message; stage = stage.Turn })) x 0)) w.copy, (sender_slot e, Sender x) ∷ me.1))
       × StepBy cd desk (ReadsAt (sender_word e) (get_or st.words (sender_word e) 0)) me o (Steps o.pass.number follows (Some (wish.Send message))) (w, carried_after me.1 a)
   starts_free id me o e follows message fits call st m r at free =
       let c = o.pass.number in let rests : IsCallOf m 0 c (Rests (other e)) = subst (IsCallOf m 0 c) call (r.turns.calls id o.place o.pass (me.0, at, o.here)) in
@@ -136,11 +138,11 @@ module _ {D : Type 0} (cd : Coded D) (desk : DeskMeaning D) (z : LinkSizes) wher
             deed
             (turn_set e (era_word m.era) (suc c) (lane_words s) (lane_words (lane_to m (other e))))
             (side_set e none (lane_homes s (shelf_to r.shelves e)) hb)
-            (shelved_turn cd desk z s t' (shelf_to r.shelves e) refl (subst (λ (u : RingState D). HoldsBuffers u (shelf_to r.shelves e)) is ((buffers_in r) e)))
+            (shelved_turn cd desk z s t' (shelf_to r.shelves e) refl (subst (λ (u : RingState (PlacedDesk kc kz)). HoldsBuffers u (shelf_to r.shelves e)) is ((buffers_in r) e)))
             mine
             (λ k apart. others_free_send desk m e s' free refl refl refl (λ _. refl) k (no_call desk t' c k refl apart))
             refl refl refl refl (λ i k. absurd (true-false (sym k))),
-        (x, refl),
+        (x, accepted_most s₀ (rings_at r e), refl),
         read_by (sender_word e) cd desk z st m r id me o (with_call o.pass w) (Steps c follows (Some (wish.Send message))) (with_lane m e s') ((sender_slot e, Sender x) ∷ me.1) at may deed mine,
       )
 

@@ -1,4 +1,6 @@
 -- A take's leave, and what a reclaim does to a caller that has the receiver's turn with no buffer out.
+use Rattle.link_words.specs.declared.codes.DeskTables.{DeskTables}
+use Rattle.link_words.specs.PlacedDesks.{PlacedDesk}
 use Rattle.std.proofs.Common.{◌≡◌, ℕ, Bool, true, false, cond, List, [], ◌∷◌, get_or, refl, sym, ap, ◌∙◌, subst}
 use Rattle.std.specs.Prelude.{None}
 use Rattle.std.specs.Prelude.{Some}
@@ -42,7 +44,7 @@ use Rattle.link_words.proofs.Held.{shelved_receiver}
 use Rattle.link_words.proofs.Exact.{StepBy, write_by, WritesAt}
 use Rattle.link_words.proofs.Parts.{buffers_in}
 
-module _ {D : Type 0} (cd : Coded D) (desk : DeskMeaning D) (z : LinkSizes) where
+module _ {B : Type 0} {kc : Coded B} {kz : DeskTables} (cd : Coded (PlacedDesk kc kz)) (desk : DeskMeaning (PlacedDesk kc kz)) (z : LinkSizes) where
   -- the last step of a call that has the receiver's turn
   pub leaves_take : (n id : ℕ) (me : SeatState) (o : Mover me.0) (e : End) (c : ℕ) (end : CallEnd) (x : ReceiverSide) (b : ℕ) (msg : List ℕ) → o.pass.call ≡ Receives e (turn.Leaving c end) x b msg → me.1 ≡ (receiver_slot e, Receiver x) ∷ rest me.1
       → Allows (WordsRule cd desk z) n id me (receiver_word e) (λ _. 0) (λ _ me'. (me' ≡ (with_pass me.0 o (with_call o.pass (Rests e)) me'.0.copy, rest me.1)) × StepBy cd desk (WritesAt (receiver_word e) 0) me o (Steps o.pass.number 0 None) me')
@@ -52,9 +54,9 @@ module _ {D : Type 0} (cd : Coded D) (desk : DeskMeaning D) (z : LinkSizes) wher
       let r = at_zero' cd desk z st m p e t h.1.0 refl r₀ in let s₀ = lane_to m e in let s = with_receiver s₀ t in let is : s₀ ≡ s = λ k. with_receiver s₀ (h.1.0 k) in
       let has : has_call s₀.lane.receiver o.pass.number ≡ true = has_of s₀.lane.receiver o.pass.number (ap holder h.1.0 ∙ h.1.1) (ap is_manager h.1.0) in
       let sends = no_send desk m e o.pass.number r.sound has in
-      let s' : RingState D = (ring_form desk).received_on s m.era in let ha = lane_homes s (shelf_to r.shelves e) in let hb = lane_homes (lane_to m (other e)) (shelf_to r.shelves (other e)) in
+      let s' : RingState (PlacedDesk kc kz) = (ring_form desk).received_on s m.era in let ha = lane_homes s (shelf_to r.shelves e) in let hb = lane_homes (lane_to m (other e)) (shelf_to r.shelves (other e)) in
       let may = receive_may desk m e o.pass.number 0 h.0 has in
-      let deed : with_lane m e s' ≡ after_deed desk m (Steps o.pass.number 0 None) = ap (λ (u : RingState D). with_lane m e ((ring_form desk).received_on u m.era)) (sym is) ∙ receive_deed desk m e o.pass.number 0 h.0 sends in
+      let deed : with_lane m e s' ≡ after_deed desk m (Steps o.pass.number 0 None) = ap (λ (u : RingState (PlacedDesk kc kz)). with_lane m e ((ring_form desk).received_on u m.era)) (sym is) ∙ receive_deed desk m e o.pass.number 0 h.0 sends in
       let mine : IsCallOf (with_lane m e s') 0 o.pass.number (Rests e) = receive_rests cd desk z m e s' o.pass.number h.0 refl sends in (
         _,
         gives,
@@ -102,7 +104,7 @@ module _ {D : Type 0} (cd : Coded D) (desk : DeskMeaning D) (z : LinkSizes) wher
       let h : IsCallOf m p o.pass.number (EndsReceive e t x b msg) = subst (IsCallOf m p o.pass.number) call (r₀.turns.calls id o.place o.pass (me.0, at, o.here)) in let bare = h.1.4 in
       let r = at_zero' cd desk z st m p e t h.1.0 bare r₀ in let s₀ = lane_to m e in let c = o.pass.number in
       let has : has_call s₀.lane.receiver c ≡ true = has_of s₀.lane.receiver c (ap holder h.1.0 ∙ h.1.1) (ap is_manager h.1.0 ∙ bare) in
-      let freed : Bool → RingState D = λ y. record ((ring_form desk).after_receive_end s₀ c) { lane = record ((ring_form desk).after_receive_end s₀ c).lane { receiver = cond y turn.Free s₀.lane.receiver } } in
+      let freed : Bool → RingState (PlacedDesk kc kz) = λ y. record ((ring_form desk).after_receive_end s₀ c) { lane = record ((ring_form desk).after_receive_end s₀ c).lane { receiver = cond y turn.Free s₀.lane.receiver } } in
       let s' = freed true in let s = with_receiver s₀ t in let is : s₀ ≡ s = λ k. with_receiver s₀ (h.1.0 k) in
       let ha = lane_homes s (shelf_to r.shelves e) in let hb = lane_homes (lane_to m (other e)) (shelf_to r.shelves (other e)) in
       let side : x' ≡ receiver_side s' = side_is ∙ ap (λ (u : ReceiverSide). record u { hands = hands_of_others u.hands c }) h.1.2 in let sends = no_send desk m e c r.sound has in (

@@ -1,4 +1,6 @@
 -- The first three steps of a take: its turn, the era, and the look for a message.
+use Rattle.link_words.specs.declared.codes.DeskTables.{DeskTables}
+use Rattle.link_words.specs.PlacedDesks.{PlacedDesk}
 use Rattle.std.proofs.Common.{◌≡◌, ℕ, suc, ◌≤◌, Bool, true, false, cond, eqb, List, [], ◌∷◌, length, get_or, refl, sym, ap, ◌∙◌, subst, ⊎_elim, arith}
 use Rattle.std.specs.Prelude.{Option, Some, None}
 use mathlib.Core.Option.{some, none}
@@ -21,6 +23,7 @@ use Rattle.lane_model.specs.declared.stages.Work.{Work}
 use Rattle.lane_model.specs.declared.calls.CallEnd.{CallEnd}
 use Rattle.lane_model.specs.declared.calls.CallEnd.TheVariants as end
 use base.Stored.{Coded}
+use Rattle.rp_base.specs.declared.limits.TheConstants.{BOOK_MOST}
 use Rattle.lane_model.specs.Desks.{DeskMeaning}
 use Rattle.lane_model.specs.Lanes.{holder, has_call, taken_by, is_live_in}
 use Rattle.lane_model.specs.Receives.{after_take_era, after_take_look}
@@ -60,7 +63,7 @@ use Rattle.link_words.proofs.Held.{receiver_home, free_if, is_free, free_for_all
 use Rattle.link_words.proofs.Frames.{same_lane}
 use Rattle.link_words.proofs.Starts.{or_false, not_free, receiver_word_most}
 use Rattle.link_words.proofs.Looks.{sizes_is}
-use Rattle.link_words.proofs.Parts.{rings_in, buffers_in}
+use Rattle.link_words.proofs.Parts.{handed_most, returned_most, rings_at, rings_in, buffers_in}
 use Rattle.link_words.specs.Words.{sizes_at}
 
 -- a turn that goes on or is settled, by one test
@@ -111,27 +114,27 @@ es_out true c q ended inside = refl
 es_out false c q ended inside = inside
 
 -- the word of a receiver's turn
-receiver_of : {D : Type 0} (m : LaneLink (RingState D)) (e : End) → turn_word (lane_to m e).lane.receiver ≡ get_or (words_of 0 [] m) (receiver_word e) 0
+receiver_of : {B : Type 0} {kc : Coded B} {kz : DeskTables} (m : LaneLink (RingState (PlacedDesk kc kz))) (e : End) → turn_word (lane_to m e).lane.receiver ≡ get_or (words_of 0 [] m) (receiver_word e) 0
 receiver_of m side.Host = refl
 receiver_of m side.Remote = refl
 
-module _ {D : Type 0} (desk : DeskMeaning D) (wished : Wish) (first : Work) (follows : ℕ) (begins : (lanes : Lanes (RingState D)) (caller : ℕ) → first_step (ring_form desk) lanes caller follows wished ≡ receive_first (ring_form desk) lanes caller follows first) where
-  work_done : (m : LaneLink (RingState D)) (e : End) (caller : ℕ)
+module _ {B : Type 0} {kc : Coded B} {kz : DeskTables} (desk : DeskMeaning (PlacedDesk kc kz)) (wished : Wish) (first : Work) (follows : ℕ) (begins : (lanes : Lanes (RingState (PlacedDesk kc kz))) (caller : ℕ) → first_step (ring_form desk) lanes caller follows wished ≡ receive_first (ring_form desk) lanes caller follows first) where
+  work_done : (m : LaneLink (RingState (PlacedDesk kc kz))) (e : End) (caller : ℕ)
       → with_lane m e ((ring_form desk).after_receive_start (lane_to m e) caller follows first) ≡ (on_lanes m (Some e) (λ lanes. receive_first (ring_form desk) lanes caller follows first)).state
   work_done m side.Host caller = refl
   work_done m side.Remote caller = refl
 
-  work_deed : (m : LaneLink (RingState D)) (e : End) (caller : ℕ) → end_of m.callers caller ≡ Some e
+  work_deed : (m : LaneLink (RingState (PlacedDesk kc kz))) (e : End) (caller : ℕ) → end_of m.callers caller ≡ Some e
       → with_lane m e ((ring_form desk).after_receive_start (lane_to m e) caller follows first) ≡ after_deed desk m (Steps caller follows (Some wished))
   work_deed m e caller user = work_done m e caller
       ∙ ((λ i. (on_lanes m (Some e) (λ lanes. sym (begins lanes caller) i)).state)
       ∙ ap (λ (o : Option End). (on_lanes m o (λ lanes. lanes_step (ring_form desk) desk m.era lanes caller follows (Some wished))).state) (sym user))
 
-  in_no_call : (m : LaneLink (RingState D)) (p : ℕ) (e : End) (caller : ℕ) → IsCallOf m p caller (Rests e) → is_in_call (lanes_of (link_of (ring_form desk) m) e) caller ≡ false
+  in_no_call : (m : LaneLink (RingState (PlacedDesk kc kz))) (p : ℕ) (e : End) (caller : ℕ) → IsCallOf m p caller (Rests e) → is_in_call (lanes_of (link_of (ring_form desk) m) e) caller ≡ false
   in_no_call m p side.Host caller rests = or_false desk (has_call m.to_remote.lane.sender caller) (has_call m.to_host.lane.receiver caller) rests.1 rests.2
   in_no_call m p side.Remote caller rests = or_false desk (has_call m.to_host.lane.sender caller) (has_call m.to_remote.lane.receiver caller) rests.1 rests.2
 
-  work_may : (m : LaneLink (RingState D)) (p : ℕ) (e : End) (caller : ℕ) → IsFitWish wished (lane_to m e).lane.lane.held caller → IsCallOf m p caller (Rests e) → MayDo desk m (Steps caller follows (Some wished))
+  work_may : (m : LaneLink (RingState (PlacedDesk kc kz))) (p : ℕ) (e : End) (caller : ℕ) → IsFitWish wished (lane_to m e).lane.lane.held caller → IsCallOf m p caller (Rests e) → MayDo desk m (Steps caller follows (Some wished))
   work_may m p e caller fits rests = record {
     may = subst (λ (o : Option End). MayEndStep (link_of (ring_form desk) m) o caller (Some wished)) (sym rests.0) (go e (in_no_call m p e caller rests) fits);
   }
@@ -140,11 +143,11 @@ module _ {D : Type 0} (desk : DeskMeaning D) (wished : Wish) (first : Work) (fol
       go side.Host free fit = (free, fit)
       go side.Remote free fit = (free, fit)
 
-  module _ (cd : Coded D) (z : LinkSizes) (id : ℕ) (me : SeatState) (o : Mover me.0) (e : End) (call : o.pass.call ≡ Rests e) (inside : work_is_out first ≡ false)
-      (fits : (st : State Slot View) (m : LaneLink (RingState D)) (p : ℕ) → Shows cd desk z st m p → get_elem? st.views id ≡ some me.0 → IsFitWish wished (lane_to m e).lane.lane.held o.pass.number) where
-    work_free : (st : State Slot View) (m : LaneLink (RingState D)) (r : Shows cd desk z st m 0) → get_elem? st.views id ≡ some me.0 → (lane_to m e).lane.receiver ≡ turn.Free
+  module _ (cd : Coded (PlacedDesk kc kz)) (z : LinkSizes) (id : ℕ) (me : SeatState) (o : Mover me.0) (e : End) (call : o.pass.call ≡ Rests e) (inside : work_is_out first ≡ false)
+      (fits : (st : State Slot View) (m : LaneLink (RingState (PlacedDesk kc kz))) (p : ℕ) → Shows cd desk z st m p → get_elem? st.views id ≡ some me.0 → IsFitWish wished (lane_to m e).lane.lane.held o.pass.number) where
+    work_free : (st : State Slot View) (m : LaneLink (RingState (PlacedDesk kc kz))) (r : Shows cd desk z st m 0) → get_elem? st.views id ≡ some me.0 → (lane_to m e).lane.receiver ≡ turn.Free
         → (w : View) × (a : Act Slot) × Valid st.homes me.1 a × WordsRule cd desk z (stepped st (receiver_word e) (suc o.pass.number) id me.1 w a)
-        × ((x : ReceiverSide) × Path (Me Slot View) (w, carried_after me.1 a) (with_pass me.0 o (with_call o.pass (Receives e (turn.Taken o.pass.number (record { follows = follows; work = first })) x 0 [])) w.copy, (receiver_slot e, Receiver x) ∷ me.1))
+        × ((x : ReceiverSide) × (x.handed ≤ BOOK_MOST) × (x.returned ≤ BOOK_MOST) × Path (Me Slot View) (w, carried_after me.1 a) (with_pass me.0 o (with_call o.pass (Receives e (turn.Taken o.pass.number (record { follows = follows; work = first })) x 0 [])) w.copy, (receiver_slot e, Receiver x) ∷ me.1))
         × StepBy cd desk (ReadsAt (receiver_word e) (get_or st.words (receiver_word e) 0)) me o (Steps o.pass.number follows (Some wished)) (w, carried_after me.1 a)
     work_free st m r at free =
         let c = o.pass.number in let rests : IsCallOf m 0 c (Rests e) = subst (IsCallOf m 0 c) call (r.turns.calls id o.place o.pass (me.0, at, o.here)) in
@@ -166,7 +169,7 @@ module _ {D : Type 0} (desk : DeskMeaning D) (wished : Wish) (first : Work) (fol
               mine
               (λ k apart call had. others_beside desk m e s' refl refl refl k (no_call desk t' c k refl apart) call (λ having has. free_for_all cd desk z m e 0 free k call having has) had)
               refl refl refl refl (λ i k. absurd (true-false (sym k))),
-          (x, refl),
+          (x, handed_most s₀ (rings_at r e), returned_most s₀ (rings_at r e), refl),
           read_by (receiver_word e) cd desk z st m r id me o (with_call o.pass w) (Steps c follows (Some wished)) (with_lane m e s') ((receiver_slot e, Receiver x) ∷ me.1) at may deed mine,
         )
 
@@ -200,9 +203,9 @@ module _ {D : Type 0} (desk : DeskMeaning D) (wished : Wish) (first : Work) (fol
           ),
         ))
 
-module _ {D : Type 0} (cd : Coded D) (desk : DeskMeaning D) (z : LinkSizes) where
+module _ {B : Type 0} {kc : Coded B} {kz : DeskTables} (cd : Coded (PlacedDesk kc kz)) (desk : DeskMeaning (PlacedDesk kc kz)) (z : LinkSizes) where
   -- a load after which the receiver's turn alone is another, with the same holder
-  receiver_only : (st : State Slot View) (m : LaneLink (RingState D)) (r : Shows cd desk z st m 0) (e : End) (t t' : Turn Receiving) → (lane_to m e).lane.receiver ≡ t
+  receiver_only : (st : State Slot View) (m : LaneLink (RingState (PlacedDesk kc kz))) (r : Shows cd desk z st m 0) (e : End) (t t' : Turn Receiving) → (lane_to m e).lane.receiver ≡ t
       → (i id : ℕ) (me : SeatState) (o : Mover me.0) (call : Call) (f : ℕ) → get_elem? st.views id ≡ some me.0 → holder t ≡ Some o.pass.number → is_manager t ≡ false → receiver_is_out t ≡ false → end_of m.callers o.pass.number ≡ Some e
       → (ring_form desk).received_on (with_receiver (lane_to m e) t) m.era ≡ with_receiver (lane_to m e) t'
       → turn_word t' ≡ turn_word t → ((y : Slot) → home_if t' y ≡ home_if t y) → receiver_is_out t' ≡ false
@@ -213,7 +216,7 @@ module _ {D : Type 0} (cd : Coded D) (desk : DeskMeaning D) (z : LinkSizes) wher
       let s = lane_to m e in let c = o.pass.number in
       let here : has_call s.lane.receiver c ≡ true = has_of s.lane.receiver c (ap holder is ∙ mine) (ap is_manager is ∙ bare) in
       let may = receive_may desk m e c 0 user here in
-      let deed : with_lane m e (with_receiver s t') ≡ after_deed desk m (Steps c 0 None) = ap (with_lane m e) (sym (ap (λ (u : RingState D). (ring_form desk).received_on u m.era) (λ k. with_receiver s (is k)) ∙ does)) ∙ receive_deed desk m e c 0 user (no_send desk m e c r.sound here) in (
+      let deed : with_lane m e (with_receiver s t') ≡ after_deed desk m (Steps c 0 None) = ap (with_lane m e) (sym (ap (λ (u : RingState (PlacedDesk kc kz)). (ring_form desk).received_on u m.era) (λ k. with_receiver s (is k)) ∙ does)) ∙ receive_deed desk m e c 0 user (no_send desk m e c r.sound here) in (
         lane_moves cd desk z st m r e s (with_receiver s t') refl i (get_or st.words i 0) id me.1 me.0 o call keeps (Steps c 0 None) (shelf_to r.shelves e) at
             may
             deed
@@ -242,7 +245,7 @@ module _ {D : Type 0} (cd : Coded D) (desk : DeskMeaning D) (z : LinkSizes) wher
         keeps,
         tt,
         all.0,
-        ((m.era, word, refl), all.1),
+        ((m.era, word, r.numbers.short, refl), all.1),
       )
 
   index_seen : (e : End) (era : ℕ) (a b : LaneWords) → get_or (words_at e era a b) (forward_word e) 0 ≡ a.forward_index

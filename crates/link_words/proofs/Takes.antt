@@ -1,4 +1,6 @@
 -- The steps of a take at which a buffer goes out and comes home, with the era loaded again; and the leave by which a reclaim ends it.
+use Rattle.link_words.specs.declared.codes.DeskTables.{DeskTables}
+use Rattle.link_words.specs.PlacedDesks.{PlacedDesk, right_to}
 use Rattle.std.proofs.Common.{◌≡◌, ◌≢◌, ℕ, ◌+◌, ◌-◌, ◌<◌, ◌≤◌, Bool, true, false, cond, List, [], ◌∷◌, ◌++◌, length, get_or, set, refl, sym, ap, ◌∙◌, subst, inl, inr, ⊎_elim, arith, length-set, length-append, le_refl}
 use Rattle.std.specs.Prelude.{Some, None}
 use mathlib.Core.Option.{some, none}
@@ -20,6 +22,7 @@ use Rattle.lane_model.specs.declared.stages.Work.TheVariants as work
 use Rattle.lane_model.specs.declared.stages.TakeStage.TheVariants as take_stage
 use Rattle.lane_model.specs.declared.calls.CallEnd.TheVariants as end
 use base.Stored.{Coded}
+use Rattle.rp_base.specs.declared.limits.TheConstants.{CAPACITY_MOST}
 use Rattle.lane_model.specs.Desks.{DeskMeaning}
 use Rattle.lane_model.specs.Lanes.{holder, has_call, message_at, is_live_in}
 use Rattle.lane_model.specs.Links.{end_of}
@@ -64,10 +67,10 @@ use Rattle.link_words.proofs.LaneSteps.{lane_moves_with}
 use Rattle.link_words.proofs.Sends.{live_now, some_number, has_of, true-false}
 use Rattle.link_words.proofs.Buffers.{rings_to, homes_here, loaded, first_is}
 use Rattle.link_words.proofs.Exact.{StepBy, ReadsAt, read_by}
-use Rattle.link_words.proofs.Parts.{rings_in, buffers_in}
+use Rattle.link_words.proofs.Parts.{hands_most, rings_in, buffers_in}
 
 -- the lane, with the receiver's turn written out
-abbrev pub with_receiver : {D : Type 0} → RingState D → Turn Receiving → RingState D
+abbrev pub with_receiver : {B : Type 0} {kc : Coded B} {kz : DeskTables} → RingState (PlacedDesk kc kz) → Turn Receiving → RingState (PlacedDesk kc kz)
 with_receiver s t = record s { lane = record s.lane { receiver = t } }
 
 pub receiver_turn_set : (e : End) (era n : ℕ) (a b : LaneWords) → set (words_at e era a b) (receiver_word e) n ≡ words_at e era (record a { receiver = n }) b
@@ -85,7 +88,7 @@ one_at_most id bound = elim (cases_lt id bound) [
 ]
 
 -- no two messages of the forward ring stand in one buffer
-forward_apart : {D : Type 0} (s : RingState D) → IsSoundRings s → (k : ℕ) → length s.lane.lane.takers ≤ k → k < length s.lane.lane.accepted → k ≢ length s.lane.lane.takers
+forward_apart : {B : Type 0} {kc : Coded B} {kz : DeskTables} (s : RingState (PlacedDesk kc kz)) → IsSoundRings s → (k : ℕ) → length s.lane.lane.takers ≤ k → k < length s.lane.lane.accepted → k ≢ length s.lane.lane.takers
     → buffer_at s.rings.sizes.entries s.rings.forward k ≢ buffer_at s.rings.sizes.entries s.rings.forward (length s.lane.lane.takers)
 forward_apart s sound k from to other same =
     let f = buffer_at s.rings.sizes.entries s.rings.forward in let h = length s.lane.lane.takers in let a = length s.lane.lane.accepted in
@@ -96,11 +99,11 @@ forward_apart s sound k from to other same =
     omega arith
 
 -- the slots when the buffer that a take had out is at home, with the message still in it
-shelved_back : {D : Type 0} (s s' : RingState D) (l : List (Option_of Slot)) → IsSoundRings s → receiver_is_out s.lane.receiver ≡ true → HoldsBuffers s l
+shelved_back : {B : Type 0} {kc : Coded B} {kz : DeskTables} (s s' : RingState (PlacedDesk kc kz)) (l : List (Option_of Slot)) → IsSoundRings s → receiver_is_out s.lane.receiver ≡ true → HoldsBuffers s l
     → s'.rings.sizes ≡ s.rings.sizes → s'.rings.forward ≡ s.rings.forward → s'.rings.sending ≡ s.rings.sending → s'.lane.sender ≡ s.lane.sender → s'.lane.lane.accepted ≡ s.lane.lane.accepted
     → length s.lane.lane.takers ≤ length s'.lane.lane.takers
     → HoldsBuffers s' (set l s.rings.taking (some (Buffer (message_at s.lane.lane.accepted (length s.lane.lane.takers)))))
-shelved_back {D} s s' l sound out q sizes forward sending sender book more =
+shelved_back s s' l sound out q sizes forward sending sender book more =
     let a = length s.lane.lane.accepted in let hd = length s.lane.lane.takers in let size = s.rings.sizes in let tk = taking_is s sound out in
     let id : ℕ = s.rings.taking in let y : Slot = Buffer (message_at s.lane.lane.accepted hd) in
     let low : id < size.capacity = subst (λ (k : ℕ). k < size.capacity) (sym tk.0)
@@ -136,13 +139,13 @@ has_receiver e (EndsHeld i x) = same_end e i
 has_receiver e (Reopens q inc) = true
 has_receiver e (HoldsAll x y) = true
 
-module _ {D : Type 0} (desk : DeskMeaning D) where
-  pub still_receiver : (m : LaneLink (RingState D)) (e : End) → AreManagers m → (lane_to m e).lane.receiver ≡ turn.Manager
+module _ {B : Type 0} {kc : Coded B} {kz : DeskTables} (desk : DeskMeaning (PlacedDesk kc kz)) where
+  pub still_receiver : (m : LaneLink (RingState (PlacedDesk kc kz))) (e : End) → AreManagers m → (lane_to m e).lane.receiver ≡ turn.Manager
   still_receiver m side.Host still = still.host_receiver
   still_receiver m side.Remote still = still.remote_receiver
 
   -- the calls of the others, where the receiver's end of a lane moves and none of them has it
-  pub others_beside : (m : LaneLink (RingState D)) (e : End) (s : RingState D) → (s.lane.sender ≡ (lane_to m e).lane.sender) → (sender_side s ≡ sender_side (lane_to m e)) → (s.rings.sending ≡ (lane_to m e).rings.sending) → (k : ℕ) → has_call s.lane.receiver k ≡ false
+  pub others_beside : (m : LaneLink (RingState (PlacedDesk kc kz))) (e : End) (s : RingState (PlacedDesk kc kz)) → (s.lane.sender ≡ (lane_to m e).lane.sender) → (sender_side s ≡ sender_side (lane_to m e)) → (s.rings.sending ≡ (lane_to m e).rings.sending) → (k : ℕ) → has_call s.lane.receiver k ≡ false
       → (call : Call) → (has_receiver e call ≡ true → IsCallOf m 0 k call → ⊥) → IsCallOf m 0 k call → IsCallOf (with_lane m e s) 0 k call
   others_beside m side.Host s sender beside sending k after Idle never has = has
   others_beside m side.Host s sender beside sending k after (Rests side.Host) never has = (has.0, has.1, after)
@@ -180,7 +183,7 @@ module _ {D : Type 0} (desk : DeskMeaning D) where
   others_beside m side.Remote s sender beside sending k after (HoldsAll x y) never has = absurd (never refl has)
 
   -- another cannot have a receiver's turn that a caller has
-  no_other_has : (m : LaneLink (RingState D)) (e : End) (t : Turn Receiving) (number : ℕ) → (lane_to m e).lane.receiver ≡ t → holder t ≡ Some number → is_manager t ≡ false → (k : ℕ) → number ≢ k → (call : Call) → has_receiver e call ≡ true → IsCallOf m 0 k call → ⊥
+  no_other_has : (m : LaneLink (RingState (PlacedDesk kc kz))) (e : End) (t : Turn Receiving) (number : ℕ) → (lane_to m e).lane.receiver ≡ t → holder t ≡ Some number → is_manager t ≡ false → (k : ℕ) → number ≢ k → (call : Call) → has_receiver e call ≡ true → IsCallOf m 0 k call → ⊥
   no_other_has m e t number is mine bare k apart Idle having has = true-false (sym having)
   no_other_has m e t number is mine bare k apart (Rests i) having has = true-false (sym having)
   no_other_has m e t number is mine bare k apart (Sends i u x buffer) having has = true-false (sym having)
@@ -206,47 +209,47 @@ module _ {D : Type 0} (desk : DeskMeaning D) where
   no_other_has m side.Remote t number is mine bare k apart (Reopens p inc) having has = true-false (sym (ap is_manager (sym is ∙ has.2.1.remote_receiver)) ∙ bare)
   no_other_has m side.Remote t number is mine bare k apart (HoldsAll x y) having has = true-false (sym (ap is_manager (sym is ∙ has.2.remote_receiver)) ∙ bare)
 
-  pub others_receive : (m : LaneLink (RingState D)) (e : End) (s : RingState D) (t : Turn Receiving) (number : ℕ) → (lane_to m e).lane.receiver ≡ t → holder t ≡ Some number → is_manager t ≡ false
+  pub others_receive : (m : LaneLink (RingState (PlacedDesk kc kz))) (e : End) (s : RingState (PlacedDesk kc kz)) (t : Turn Receiving) (number : ℕ) → (lane_to m e).lane.receiver ≡ t → holder t ≡ Some number → is_manager t ≡ false
       → (s.lane.sender ≡ (lane_to m e).lane.sender) → (sender_side s ≡ sender_side (lane_to m e)) → (s.rings.sending ≡ (lane_to m e).rings.sending) → ((k : ℕ) → number ≢ k → has_call s.lane.receiver k ≡ false)
       → (k : ℕ) → number ≢ k → (call : Call) → IsCallOf m 0 k call → IsCallOf (with_lane m e s) 0 k call
   others_receive m e s t number is mine bare sender beside sending after k apart call has = others_beside m e s sender beside sending k (after k apart) call (no_other_has m e t number is mine bare k apart call) has
 
-  pub here_receives : (m : LaneLink (RingState D)) (e : End) (s : RingState D) (number : ℕ) (t : Turn Receiving) (x : ReceiverSide) (buffer : ℕ) (message : List ℕ) → end_of m.callers number ≡ Some e → ReceivesAt (turns_of s) number t x buffer message
+  pub here_receives : (m : LaneLink (RingState (PlacedDesk kc kz))) (e : End) (s : RingState (PlacedDesk kc kz)) (number : ℕ) (t : Turn Receiving) (x : ReceiverSide) (buffer : ℕ) (message : List ℕ) → end_of m.callers number ≡ Some e → ReceivesAt (turns_of s) number t x buffer message
       → IsCallOf (with_lane m e s) 0 number (Receives e t x buffer message)
   here_receives m side.Host s number t x buffer message user at = (user, at)
   here_receives m side.Remote s number t x buffer message user at = (user, at)
 
-module _ {D : Type 0} (cd : Coded D) (desk : DeskMeaning D) (z : LinkSizes) where
-  pub at_zero' : (st : State Slot View) (m : LaneLink (RingState D)) (p : ℕ) (e : End) (t : Turn Receiving) → (lane_to m e).lane.receiver ≡ t → is_manager t ≡ false → Shows cd desk z st m p → Shows cd desk z st m 0
+module _ {B : Type 0} {kc : Coded B} {kz : DeskTables} (cd : Coded (PlacedDesk kc kz)) (desk : DeskMeaning (PlacedDesk kc kz)) (z : LinkSizes) where
+  pub at_zero' : (st : State Slot View) (m : LaneLink (RingState (PlacedDesk kc kz))) (p : ℕ) (e : End) (t : Turn Receiving) → (lane_to m e).lane.receiver ≡ t → is_manager t ≡ false → Shows cd desk z st m p → Shows cd desk z st m 0
   at_zero' st m p e t is bare r = ⊎_elim
       (λ (none_reset : p ≡ 0). subst (Shows cd desk z st m) none_reset r)
       (λ (still : IsStill m). absurd (true-false (ap is_manager (sym (still_receiver desk m e still.1) ∙ is) ∙ bare)))
       r.turns.still
 
-  pub receive_rests : (m : LaneLink (RingState D)) (e : End) (s : RingState D) (number : ℕ) → end_of m.callers number ≡ Some e → has_call s.lane.receiver number ≡ false → has_call (lane_to m (other e)).lane.sender number ≡ false → IsCallOf (with_lane m e s) 0 number (Rests e)
+  pub receive_rests : (m : LaneLink (RingState (PlacedDesk kc kz))) (e : End) (s : RingState (PlacedDesk kc kz)) (number : ℕ) → end_of m.callers number ≡ Some e → has_call s.lane.receiver number ≡ false → has_call (lane_to m (other e)).lane.sender number ≡ false → IsCallOf (with_lane m e s) 0 number (Rests e)
   receive_rests m side.Host s number user receives sends = (user, sends, receives)
   receive_rests m side.Remote s number user receives sends = (user, sends, receives)
 
   -- step 4 of a take, whatever word it loads
   pub draws : (n id : ℕ) (me : SeatState) (o : Mover me.0) (e : End) (c f : ℕ) (x : ReceiverSide) (b i first : ℕ) (msg : List ℕ) → o.pass.call ≡ Receives e (turn.Taken c (record { follows = f; work = work.Take take_stage.Look })) x b msg → first ≡ z.to_host.capacity
       → (told : ℕ → ℕ)
-      → ((st : State Slot View) (m : LaneLink (RingState D)) (r : Shows cd desk z st m 0) → x ≡ receiver_side (lane_to m e) → IsSoundRings (lane_to m e) → buffer_at (lane_to m e).rings.sizes.entries (lane_to m e).rings.forward (length (lane_to m e).lane.lane.takers) < (lane_to m e).rings.sizes.capacity
+      → ((st : State Slot View) (m : LaneLink (RingState (PlacedDesk kc kz))) (r : Shows cd desk z st m 0) → x ≡ receiver_side (lane_to m e) → IsSoundRings (lane_to m e) → buffer_at (lane_to m e).rings.sizes.entries (lane_to m e).rings.forward (length (lane_to m e).lane.lane.takers) < (lane_to m e).rings.sizes.capacity
       → told (get_or st.words i 0) ≡ buffer_at (lane_to m e).rings.sizes.entries (lane_to m e).rings.forward (length (lane_to m e).lane.lane.takers))
       → Allows (WordsRule cd desk z) n id me i (λ y. y) (λ y me'. TakeTakesBufferBy me o first e c f x (told y) me' × StepBy cd desk (ReadsAt i y) me o (Steps o.pass.number 0 None) me')
   draws n id me o e c f x b i first msg call first_at told knows st (m, p, r₀) wide at _ =
       let t : Turn Receiving = turn.Taken c (record { follows = f; work = work.Take take_stage.Look }) in
       let h : IsCallOf m p o.pass.number (Receives e t x b msg) = subst (IsCallOf m p o.pass.number) call (r₀.turns.calls id o.place o.pass (me.0, at, o.here)) in
       let r = at_zero' st m p e t h.1.0 refl r₀ in let s₀ = lane_to m e in let s = with_receiver s₀ t in let is : s₀ ≡ s = λ k. with_receiver s₀ (h.1.0 k) in
-      let sound : IsSoundRings s = subst IsSoundRings is (rings_to m e (rings_in r)) in let q : HoldsBuffers s (shelf_to r.shelves e) = subst (λ (u : RingState D). HoldsBuffers u (shelf_to r.shelves e)) is ((buffers_in r) e) in
+      let sound : IsSoundRings s = subst IsSoundRings is (rings_to m e (rings_in r)) in let q : HoldsBuffers s (shelf_to r.shelves e) = subst (λ (u : RingState (PlacedDesk kc kz)). HoldsBuffers u (shelf_to r.shelves e)) is ((buffers_in r) e) in
       let a = length s.lane.lane.accepted in let hd = length s.lane.lane.takers in let found : hd < a = sound.fit refl in
       let own : ℕ = buffer_at s.rings.sizes.entries s.rings.forward hd in let message : List ℕ = message_at s.lane.lane.accepted hd in
       let low : own < s.rings.sizes.capacity = message-below s.rings.sizes a hd s.lane.lane.returned s.rings.forward s.rings.returns s.rings.hands s.rings.aside sound.owned hd (le_refl hd) found in
       let near : own < length (shelf_to r.shelves e) = omega (arith, low, q.long) in let home = q.full hd (le_refl hd) found (λ out. absurd (true-false (sym out))) in
       let first_here = first_is cd desk z st m r e first first_at in let t' : Turn Receiving = turn.Taken c (record { follows = f; work = work.Take take_stage.Buffer }) in
-      let w : Call = Receives e t' x own message in let s' : RingState D = (ring_form desk).received_on s m.era in let l' = set (shelf_to r.shelves e) own none in
+      let w : Call = Receives e t' x own message in let s' : RingState (PlacedDesk kc kz) = (ring_form desk).received_on s m.era in let l' = set (shelf_to r.shelves e) own none in
       let has : has_call s₀.lane.receiver o.pass.number ≡ true = has_of s₀.lane.receiver o.pass.number (ap holder h.1.0 ∙ h.1.1) (ap is_manager h.1.0) in
       let id_is : told (get_or st.words i 0) ≡ own = knows st m r h.1.2 (rings_to m e (rings_in r)) low in let may = receive_may desk m e o.pass.number 0 h.0 has in
-      let deed : with_lane m e s' ≡ after_deed desk m (Steps o.pass.number 0 None) = ap (λ (u : RingState D). with_lane m e ((ring_form desk).received_on u m.era)) (sym is) ∙ receive_deed desk m e o.pass.number 0 h.0 (no_send desk m e o.pass.number r.sound has) in
+      let deed : with_lane m e s' ≡ after_deed desk m (Steps o.pass.number 0 None) = ap (λ (u : RingState (PlacedDesk kc kz)). with_lane m e ((ring_form desk).received_on u m.era)) (sym is) ∙ receive_deed desk m e o.pass.number 0 h.0 (no_send desk m e o.pass.number r.sound has) in
       let mine : IsCallOf (with_lane m e s') 0 o.pass.number w = here_receives desk m e s' o.pass.number t' x own message h.0 (refl, h.1.1, h.1.2, (λ _. (refl, refl)), refl) in (
         _,
         takes (buffer_slot first e own) (Buffer message),
@@ -270,35 +273,35 @@ module _ {D : Type 0} (cd : Coded D) (desk : DeskMeaning D) (z : LinkSizes) wher
       )
 
   hands_live : (n id : ℕ) (me : SeatState) (o : Mover me.0) (e : End) (c f : ℕ) (x : ReceiverSide) (b first : ℕ) (msg : List ℕ) → first ≡ z.to_host.capacity → me.1 ≡ (buffer_slot first e b, Buffer msg) ∷ rest me.1
-      → (st : State Slot View) (m : LaneLink (RingState D)) → is_live_in m.era f ≡ true → get_elem? st.views id ≡ some me.0
+      → (st : State Slot View) (m : LaneLink (RingState (PlacedDesk kc kz))) → is_live_in m.era f ≡ true → get_elem? st.views id ≡ some me.0
       → IsCallOf m 0 o.pass.number (Receives e (turn.Taken c (record { follows = f; work = work.Take take_stage.Buffer })) x b msg) → Shows cd desk z st m 0
-      → (w : View) × (a : Act Slot) × Valid st.homes me.1 a × WordsRule cd desk z (stepped st 1 (get_or st.words 1 0) id me.1 w a) × (TakeHandsBy me o e c f x b msg (get_or st.words 1 0) (w, carried_after me.1 a) × StepBy cd desk (ReadsAt 1 (get_or st.words 1 0)) me o (Steps o.pass.number 0 None) (w, carried_after me.1 a))
+      → (w : View) × (a : Act Slot) × Valid st.homes me.1 a × WordsRule cd desk z (stepped st 1 (get_or st.words 1 0) id me.1 w a) × (TakeHandsBy desk me o e c f x b msg (get_or st.words 1 0) (w, carried_after me.1 a) × StepBy cd desk (ReadsAt 1 (get_or st.words 1 0)) me o (Steps o.pass.number 0 None) (w, carried_after me.1 a))
   hands_live n id me o e c f x b first msg first_at has_slot st m is_live at h r =
       let t : Turn Receiving = turn.Taken c (record { follows = f; work = work.Take take_stage.Buffer }) in
       let s₀ = lane_to m e in let s = with_receiver s₀ t in let is : s₀ ≡ s = λ k. with_receiver s₀ (h.1.0 k) in let era = m.era in
-      let sound : IsSoundRings s = subst IsSoundRings is (rings_to m e (rings_in r)) in let q : HoldsBuffers s (shelf_to r.shelves e) = subst (λ (u : RingState D). HoldsBuffers u (shelf_to r.shelves e)) is ((buffers_in r) e) in
-      let hd = length s.lane.lane.takers in let message : List ℕ = message_at s.lane.lane.accepted hd in let out = h.1.3 refl in let tk = taking_is s sound refl in
+      let sound : IsSoundRings s = subst IsSoundRings is (rings_to m e (rings_in r)) in let q : HoldsBuffers s (shelf_to r.shelves e) = subst (λ (u : RingState (PlacedDesk kc kz)). HoldsBuffers u (shelf_to r.shelves e)) is ((buffers_in r) e) in
+      let hd = length s.lane.lane.takers in let message : List ℕ = message_at s.lane.lane.accepted hd in let out = h.1.3 refl in let tk = taking_is s sound refl in let few : length x.hands < CAPACITY_MOST = subst (λ (y : ReceiverSide). length y.hands < CAPACITY_MOST) (sym h.1.2) (hands_most s sound tk.1) in
       let low : s.rings.taking < s.rings.sizes.capacity = subst (λ (k : ℕ). k < s.rings.sizes.capacity) (sym tk.0)
       (message-below s.rings.sizes (length s.lane.lane.accepted) hd s.lane.lane.returned s.rings.forward s.rings.returns s.rings.hands s.rings.aside sound.owned hd (le_refl hd) tk.1) in
       let is_b : s.rings.taking ≡ b = out.0 in let near : b < length (shelf_to r.shelves e) = omega (arith, low, q.long, is_b) in
-      let leaves : Bool → RingState D = λ y. record {
+      let leaves : Bool → RingState (PlacedDesk kc kz) = λ y. record {
         lane = cond y (after_handing desk s.lane c) (record s.lane { receiver = turn.Leaving c (end.Dead era) });
         rings = cond y (record s.rings { hands = s.rings.hands ++ record { number = hd; caller = c; buffer = s.rings.taking } ∷ [] }) s.rings;
       } in
       let has : has_call s₀.lane.receiver o.pass.number ≡ true = has_of s₀.lane.receiver o.pass.number (ap holder h.1.0 ∙ h.1.1) (ap is_manager h.1.0) in
       let may = receive_may desk m e o.pass.number 0 h.0 has in let word : get_or st.words 1 0 ≡ era_word era = ap (λ (ws : List ℕ). get_or ws 1 0) r.words_are in
       let deed : with_lane m e (leaves true) ≡ after_deed desk m (Steps o.pass.number 0 None) =
-      ap (λ (y : Bool). with_lane m e (leaves y)) (sym is_live) ∙ (ap (λ (u : RingState D). with_lane m e ((ring_form desk).received_on u era)) (sym is) ∙ receive_deed desk m e o.pass.number 0 h.0 (no_send desk m e o.pass.number r.sound has)) in
+      ap (λ (y : Bool). with_lane m e (leaves y)) (sym is_live) ∙ (ap (λ (u : RingState (PlacedDesk kc kz)). with_lane m e ((ring_form desk).received_on u era)) (sym is) ∙ receive_deed desk m e o.pass.number 0 h.0 (no_send desk m e o.pass.number r.sound has)) in
       let hb = lane_homes (lane_to m (other e)) (shelf_to r.shelves (other e)) in let l' = set (shelf_to r.shelves e) b (some (Buffer msg)) in let s' = leaves true in
-      let verdict : Verdict = desk.verdict s.lane.desk hd message in let nth : x.handed ≡ hd = ap (λ (y : ReceiverSide). y.handed) h.1.2 in
+      let verdict : Verdict = desk.verdict s.lane.desk x.handed msg in let left : PlacedDesk kc kz = desk.delivered s.lane.desk x.handed msg in let nth : x.handed ≡ hd = ap (λ (y : ReceiverSide). y.handed) h.1.2 in
       let t' : Turn Receiving = turn.Leaving c (end.Took x.handed verdict) in
-      let x' : ReceiverSide = record { handed = x.handed + 1; returned = x.returned; hands = x.hands ++ record { number = x.handed; caller = c; buffer = b } ∷ [] } in
+      let x' : ReceiverSide = record x { handed = x.handed + 1; hands = x.hands ++ record { number = x.handed; caller = c; buffer = b } ∷ []; desk = right_to left } in
       let more : length (s.lane.lane.takers ++ c ∷ []) ≡ hd + 1 = length-append s.lane.lane.takers (c ∷ []) in
-      let side : x' ≡ receiver_side s' = ap (λ (y : ReceiverSide). record { handed = y.handed + 1; returned = y.returned; hands = y.hands ++ record { number = y.handed; caller = c; buffer = b } ∷ [] }) h.1.2
-      ∙ (λ i. record { handed = sym more i; returned = s.lane.lane.returned; hands = s.rings.hands ++ record { number = hd; caller = c; buffer = sym is_b i } ∷ [] }) in
+      let side : x' ≡ receiver_side s' = ap (λ (y : ReceiverSide). record y { handed = y.handed + 1; hands = y.hands ++ record { number = y.handed; caller = c; buffer = b } ∷ []; desk = right_to left }) h.1.2
+      ∙ (λ i. record { handed = sym more i; returned = s.lane.lane.returned; hands = s.rings.hands ++ record { number = hd; caller = c; buffer = sym is_b i } ∷ []; desk = right_to (desk.delivered s.lane.desk (nth i) (out.1 i)) }) in
       let w : Call = Receives e t' x' b msg in let more_hands : List ℕ = o.pass.hands ++ x.handed ∷ [] in let pass : Pass = record o.pass { call = w; own = Take e f x.handed msg ∷ o.pass.own; hands = more_hands } in let new : Holding = record { number = hd; caller = c } in let who : c ≡ o.pass.number = some_number c o.pass.number h.1.1 in
       let held_now : hands_of o.pass.number s.lane.lane.held ≡ o.pass.hands = hands_at m e o.pass h.0 (r.histories.hands id o.place o.pass (me.0, at, o.here)) in
-      let mine : IsCallOf (with_lane m e s') 0 o.pass.number w = here_receives desk m e s' o.pass.number t' x' b msg h.0 ((λ i. turn.Leaving c (end.Took (sym nth i) verdict)), h.1.1, side, (λ o. absurd (true-false (sym o))), refl) in (
+      let mine : IsCallOf (with_lane m e s') 0 o.pass.number w = here_receives desk m e s' o.pass.number t' x' b msg h.0 ((λ i. turn.Leaving c (end.Took (sym nth i) (desk.verdict s.lane.desk (sym nth i) (sym out.1 i)))), h.1.1, side, (λ o. absurd (true-false (sym o))), refl) in (
         _,
         gives,
         tt,
@@ -311,35 +314,35 @@ module _ {D : Type 0} (cd : Coded D) (desk : DeskMeaning D) (z : LinkSizes) wher
             (history_took m e s' c refl refl o.pass.number o.pass.first f x.handed msg o.pass.own who (live_now era f is_live) nth (subst (λ (k : ℕ). k < length s.lane.lane.accepted) (sym nth) tk.1, out.1 ∙ ap (message_at s.lane.lane.accepted) (sym nth)) (r.histories.own id o.place o.pass (me.0, at, o.here)))
             (λ u apart has. history_handed m e s' c refl refl u.number u.first u.own (λ same. apart (sym who ∙ same)) has)
             (hands_here m e s' pass h.0 (hands_more o.pass.number s.lane.lane.held new who ∙ (λ i. held_now i ++ sym nth i ∷ [])))
-            (λ u apart. hands_kept desk m e s' u (λ was. hands_same u.number s.lane.lane.held new (λ same. apart (sym who ∙ same)) ∙ (ap (λ (y : RingState D). hands_of u.number y.lane.lane.held) (sym is) ∙ was)))
+            (λ u apart. hands_kept desk m e s' u (λ was. hands_same u.number s.lane.lane.held new (λ same. apart (sym who ∙ same)) ∙ (ap (λ (y : RingState (PlacedDesk kc kz)). hands_of u.number y.lane.lane.held) (sym is) ∙ was)))
             (λ n none. none_handed m e s' c refl refl n (λ same. not_used m.callers o.pass.number n e h.0 none (sym who ∙ same)))
             (keepers_set st.views id me.0 (with_pass me.0 o pass (Some (copied cd (with_lane m e s')))) o pass at refl refl (λ i k. absurd (true-false (sym k))) r.turns.keepers),
         (
-          (m.era, word, (λ _. (verdict, refl)), λ dead. absurd (true-false (sym is_live ∙ dead))),
+          (m.era, word, r.numbers.short, few, s.lane.desk, ap (λ (y : ReceiverSide). y.desk) h.1.2, (λ _. refl), λ dead. absurd (true-false (sym is_live ∙ dead))),
           read_by 1 cd desk z st m r id me o pass (Steps o.pass.number 0 None) (with_lane m e s') (rest me.1) at may deed mine,
         ),
       )
 
   hands_dead : (n id : ℕ) (me : SeatState) (o : Mover me.0) (e : End) (c f : ℕ) (x : ReceiverSide) (b first : ℕ) (msg : List ℕ) → first ≡ z.to_host.capacity → me.1 ≡ (buffer_slot first e b, Buffer msg) ∷ rest me.1
-      → (st : State Slot View) (m : LaneLink (RingState D)) → is_live_in m.era f ≡ false → get_elem? st.views id ≡ some me.0
+      → (st : State Slot View) (m : LaneLink (RingState (PlacedDesk kc kz))) → is_live_in m.era f ≡ false → get_elem? st.views id ≡ some me.0
       → IsCallOf m 0 o.pass.number (Receives e (turn.Taken c (record { follows = f; work = work.Take take_stage.Buffer })) x b msg) → Shows cd desk z st m 0
-      → (w : View) × (a : Act Slot) × Valid st.homes me.1 a × WordsRule cd desk z (stepped st 1 (get_or st.words 1 0) id me.1 w a) × (TakeHandsBy me o e c f x b msg (get_or st.words 1 0) (w, carried_after me.1 a) × StepBy cd desk (ReadsAt 1 (get_or st.words 1 0)) me o (Steps o.pass.number 0 None) (w, carried_after me.1 a))
+      → (w : View) × (a : Act Slot) × Valid st.homes me.1 a × WordsRule cd desk z (stepped st 1 (get_or st.words 1 0) id me.1 w a) × (TakeHandsBy desk me o e c f x b msg (get_or st.words 1 0) (w, carried_after me.1 a) × StepBy cd desk (ReadsAt 1 (get_or st.words 1 0)) me o (Steps o.pass.number 0 None) (w, carried_after me.1 a))
   hands_dead n id me o e c f x b first msg first_at has_slot st m is_live at h r =
       let t : Turn Receiving = turn.Taken c (record { follows = f; work = work.Take take_stage.Buffer }) in
       let s₀ = lane_to m e in let s = with_receiver s₀ t in let is : s₀ ≡ s = λ k. with_receiver s₀ (h.1.0 k) in let era = m.era in
-      let sound : IsSoundRings s = subst IsSoundRings is (rings_to m e (rings_in r)) in let q : HoldsBuffers s (shelf_to r.shelves e) = subst (λ (u : RingState D). HoldsBuffers u (shelf_to r.shelves e)) is ((buffers_in r) e) in
-      let hd = length s.lane.lane.takers in let message : List ℕ = message_at s.lane.lane.accepted hd in let out = h.1.3 refl in let tk = taking_is s sound refl in
+      let sound : IsSoundRings s = subst IsSoundRings is (rings_to m e (rings_in r)) in let q : HoldsBuffers s (shelf_to r.shelves e) = subst (λ (u : RingState (PlacedDesk kc kz)). HoldsBuffers u (shelf_to r.shelves e)) is ((buffers_in r) e) in
+      let hd = length s.lane.lane.takers in let message : List ℕ = message_at s.lane.lane.accepted hd in let out = h.1.3 refl in let tk = taking_is s sound refl in let few : length x.hands < CAPACITY_MOST = subst (λ (y : ReceiverSide). length y.hands < CAPACITY_MOST) (sym h.1.2) (hands_most s sound tk.1) in
       let low : s.rings.taking < s.rings.sizes.capacity = subst (λ (k : ℕ). k < s.rings.sizes.capacity) (sym tk.0)
       (message-below s.rings.sizes (length s.lane.lane.accepted) hd s.lane.lane.returned s.rings.forward s.rings.returns s.rings.hands s.rings.aside sound.owned hd (le_refl hd) tk.1) in
       let is_b : s.rings.taking ≡ b = out.0 in let near : b < length (shelf_to r.shelves e) = omega (arith, low, q.long, is_b) in
-      let leaves : Bool → RingState D = λ y. record {
+      let leaves : Bool → RingState (PlacedDesk kc kz) = λ y. record {
         lane = cond y (after_handing desk s.lane c) (record s.lane { receiver = turn.Leaving c (end.Dead era) });
         rings = cond y (record s.rings { hands = s.rings.hands ++ record { number = hd; caller = c; buffer = s.rings.taking } ∷ [] }) s.rings;
       } in
       let has : has_call s₀.lane.receiver o.pass.number ≡ true = has_of s₀.lane.receiver o.pass.number (ap holder h.1.0 ∙ h.1.1) (ap is_manager h.1.0) in
       let may = receive_may desk m e o.pass.number 0 h.0 has in let word : get_or st.words 1 0 ≡ era_word era = ap (λ (ws : List ℕ). get_or ws 1 0) r.words_are in
       let deed : with_lane m e (leaves false) ≡ after_deed desk m (Steps o.pass.number 0 None) =
-      ap (λ (y : Bool). with_lane m e (leaves y)) (sym is_live) ∙ (ap (λ (u : RingState D). with_lane m e ((ring_form desk).received_on u era)) (sym is) ∙ receive_deed desk m e o.pass.number 0 h.0 (no_send desk m e o.pass.number r.sound has)) in
+      ap (λ (y : Bool). with_lane m e (leaves y)) (sym is_live) ∙ (ap (λ (u : RingState (PlacedDesk kc kz)). with_lane m e ((ring_form desk).received_on u era)) (sym is) ∙ receive_deed desk m e o.pass.number 0 h.0 (no_send desk m e o.pass.number r.sound has)) in
       let hb = lane_homes (lane_to m (other e)) (shelf_to r.shelves (other e)) in let l' = set (shelf_to r.shelves e) b (some (Buffer msg)) in let s' = leaves false in
       let t' : Turn Receiving = turn.Leaving c (end.Dead era) in let x' : ReceiverSide = x in let w : Call = Receives e t' x' b msg in
       let mine : IsCallOf (with_lane m e s') 0 o.pass.number w = here_receives desk m e s' o.pass.number t' x' b msg h.0 (refl, h.1.1, h.1.2, (λ o. absurd (true-false (sym o))), refl) in (
@@ -353,7 +356,7 @@ module _ {D : Type 0} (cd : Coded D) (desk : DeskMeaning D) (z : LinkSizes) wher
             mine
             (others_receive desk m e s' t o.pass.number h.1.0 h.1.1 refl refl refl refl (λ k apart. no_call desk t' o.pass.number k h.1.1 apart)) refl refl refl refl (λ i k. absurd (true-false (sym k))),
         (
-          (m.era, word, (λ live. absurd (true-false (sym live ∙ is_live))), λ _. refl),
+          (m.era, word, r.numbers.short, few, s.lane.desk, ap (λ (y : ReceiverSide). y.desk) h.1.2, (λ live. absurd (true-false (sym live ∙ is_live))), λ _. refl),
           read_by 1 cd desk z st m r id me o (with_call o.pass w) (Steps o.pass.number 0 None) (with_lane m e s') (rest me.1) at may deed mine,
         ),
       )
@@ -361,14 +364,14 @@ module _ {D : Type 0} (cd : Coded D) (desk : DeskMeaning D) (z : LinkSizes) wher
   -- step 5 of a take: the era again. Live: the desk judges the message and it is handed; else the take is dead. The slot is at home either way, with the message
   pub hands : (n id : ℕ) (me : SeatState) (o : Mover me.0) (e : End) (c f : ℕ) (x : ReceiverSide) (b first : ℕ) (msg : List ℕ) → o.pass.call ≡ Receives e (turn.Taken c (record { follows = f; work = work.Take take_stage.Buffer })) x b msg → first ≡ z.to_host.capacity
       → me.1 ≡ (buffer_slot first e b, Buffer msg) ∷ rest me.1
-      → Allows (WordsRule cd desk z) n id me 1 (λ y. y) (λ y me'. TakeHandsBy me o e c f x b msg y me' × StepBy cd desk (ReadsAt 1 y) me o (Steps o.pass.number 0 None) me')
+      → Allows (WordsRule cd desk z) n id me 1 (λ y. y) (λ y me'. TakeHandsBy desk me o e c f x b msg y me' × StepBy cd desk (ReadsAt 1 y) me o (Steps o.pass.number 0 None) me')
   hands n id me o e c f x b first msg call first_at has_slot st (m, p, r₀) wide at _ =
       let h : IsCallOf m p o.pass.number (Receives e (turn.Taken c (record { follows = f; work = work.Take take_stage.Buffer })) x b msg) = subst (IsCallOf m p o.pass.number) call (r₀.turns.calls id o.place o.pass (me.0, at, o.here)) in
       let r = at_zero' st m p e (turn.Taken c (record { follows = f; work = work.Take take_stage.Buffer })) h.1.0 refl r₀ in
       go (is_live_in m.era f) refl h r
     where
       go : (live : Bool) → is_live_in m.era f ≡ live → IsCallOf m 0 o.pass.number (Receives e (turn.Taken c (record { follows = f; work = work.Take take_stage.Buffer })) x b msg) → Shows cd desk z st m 0
-          → (w : View) × (a : Act Slot) × Valid st.homes me.1 a × WordsRule cd desk z (stepped st 1 (get_or st.words 1 0) id me.1 w a) × (TakeHandsBy me o e c f x b msg (get_or st.words 1 0) (w, carried_after me.1 a) × StepBy cd desk (ReadsAt 1 (get_or st.words 1 0)) me o (Steps o.pass.number 0 None) (w, carried_after me.1 a))
+          → (w : View) × (a : Act Slot) × Valid st.homes me.1 a × WordsRule cd desk z (stepped st 1 (get_or st.words 1 0) id me.1 w a) × (TakeHandsBy desk me o e c f x b msg (get_or st.words 1 0) (w, carried_after me.1 a) × StepBy cd desk (ReadsAt 1 (get_or st.words 1 0)) me o (Steps o.pass.number 0 None) (w, carried_after me.1 a))
       go true live h r = hands_live n id me o e c f x b first msg first_at has_slot st m live at h r
       go false dead h r = hands_dead n id me o e c f x b first msg first_at has_slot st m dead at h r
 
@@ -385,7 +388,7 @@ module _ {D : Type 0} (cd : Coded D) (desk : DeskMeaning D) (z : LinkSizes) wher
       (message-below s₀.rings.sizes (length s₀.lane.lane.accepted) hd s₀.lane.lane.returned s₀.rings.forward s₀.rings.returns s₀.rings.hands s₀.rings.aside sound.owned hd (le_refl hd) tk.1) in
       let taken : s₀.rings.taking ≡ b = is_b.0 in let near : b < length (shelf_to r.shelves e) = omega (arith, low, ((buffers_in r) e).long, taken) in
       let has : has_call s₀.lane.receiver c ≡ true = has_of s₀.lane.receiver c (ap holder h.1.0 ∙ h.1.1) (ap is_manager h.1.0 ∙ bare) in
-      let freed : Bool → RingState D = λ y. record ((ring_form desk).after_receive_end s₀ c) { lane = record ((ring_form desk).after_receive_end s₀ c).lane { receiver = cond y turn.Free s₀.lane.receiver } } in
+      let freed : Bool → RingState (PlacedDesk kc kz) = λ y. record ((ring_form desk).after_receive_end s₀ c) { lane = record ((ring_form desk).after_receive_end s₀ c).lane { receiver = cond y turn.Free s₀.lane.receiver } } in
       let s' = freed true in let ha = lane_homes s₀ (shelf_to r.shelves e) in let hb = lane_homes (lane_to m (other e)) (shelf_to r.shelves (other e)) in let l' = set (shelf_to r.shelves e) b (some (Buffer msg)) in
       let side : x' ≡ receiver_side s' = side_is ∙ ap (λ (u : ReceiverSide). record u { hands = hands_of_others u.hands c }) h.1.2 in (
         _,

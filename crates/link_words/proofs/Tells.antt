@@ -1,6 +1,8 @@
 -- What each step tells its seat: the view after, as a function of the one before and of what was found.
 use Rattle.lane_model.specs.declared.stages.Receiving.{Receiving}
-use Rattle.std.specs.Prelude.{◌≢◌, ◌%◌, ◌≤◌}
+use Rattle.std.proofs.Common.{cond}
+use Rattle.std.specs.Prelude.{◌≢◌, ◌%◌, ◌≤◌, ◌<◌, length}
+use Rattle.rp_base.specs.declared.limits.TheConstants.{BOOK_MOST, CAPACITY_MOST}
 use Rattle.ring_core.specs.declared.states.RingSizes.{RingSizes}
 use Rattle.ring_core.specs.Rings.{return_count}
 use Rattle.lane_model.specs.Receives.{after_take_era}
@@ -19,7 +21,11 @@ use Rattle.lane_model.specs.declared.stages.Work.{Work}
 use Rattle.lane_model.specs.declared.stages.Work.TheVariants as work
 use Rattle.lane_model.specs.declared.stages.TakeStage.TheVariants as take_stage
 use Rattle.lane_model.specs.Lanes.{is_live_in}
-use Rattle.rp_base.specs.declared.kinds.Verdict.{Verdict}
+use base.Stored.{Coded}
+use Rattle.lane_model.specs.Desks.{DeskMeaning}
+use Rattle.lane_model.specs.declared.calls.CallEnd.{CallEnd}
+use Rattle.link_words.specs.declared.codes.DeskTables.{DeskTables}
+use Rattle.link_words.specs.PlacedDesks.{PlacedDesk, right_to}
 use Rattle.lane_model.specs.Sends.{after_send_era}
 use Rattle.link_words.specs.declared.rule.Slot.{Slot}
 use Rattle.link_words.specs.declared.rule.Slot.TheVariants.{Buffer, Receiver}
@@ -32,7 +38,7 @@ use Rattle.link_words.specs.Words.{receiver_slot, other, era_word, buffer_slot}
 
 -- step 2 of a send: the era that was found decides
 abbrev pub SendLoadsEraBy : (me : SeatState) → Mover me.0 → End → ℕ → Sending → SenderSide → ℕ → ℕ → SeatState → Type 0
-SendLoadsEraBy me o e c s x b n me' = (era : Era) × (n ≡ era_word era) × (me' ≡ (with_pass me.0 o (with_call o.pass (Sends e (after_send_era era c s) x b)) me'.0.copy, me.1))
+SendLoadsEraBy me o e c s x b n me' = (era : Era) × (n ≡ era_word era) × (era.inc < 4294967296) × (me' ≡ (with_pass me.0 o (with_call o.pass (Sends e (after_send_era era c s) x b)) me'.0.copy, me.1))
 
 -- step 4 of a send: the buffer is out
 abbrev pub SendTakesBufferBy : (me : SeatState) → Mover me.0 → ℕ → End → ℕ → Sending → SenderSide → ℕ → SeatState → Type 0
@@ -61,22 +67,22 @@ TakeTakesBufferBy me o first e c f x id me' = (message : List ℕ)
     × (me' ≡ (with_pass me.0 o (with_call o.pass (Receives e (turn.Taken c (record { follows = f; work = work.Take take_stage.Buffer })) x id message)) me'.0.copy, (buffer_slot first e id, Buffer message) ∷ me.1))
 
 -- step 5 of a take: the era that was found decides; the buffer's slot is at home either way
-abbrev pub TakeHandsBy : (me : SeatState) → Mover me.0 → End → ℕ → ℕ → ReceiverSide → ℕ → List ℕ → ℕ → SeatState → Type 0
-TakeHandsBy me o e c f x b message n me' = (era : Era) × (n ≡ era_word era)
-    × (is_live_in era f ≡ true → (v : Verdict) × (me' ≡ (
+abbrev pub TakeHandsBy : {B : Type 0} {kc : Coded B} {kz : DeskTables} → DeskMeaning (PlacedDesk kc kz) → (me : SeatState) → Mover me.0 → End → ℕ → ℕ → ReceiverSide → ℕ → List ℕ → ℕ → SeatState → Type 0
+TakeHandsBy {kc = kc} {kz = kz} desk me o e c f x b message n me' = (era : Era) × (n ≡ era_word era) × (era.inc < 4294967296) × (length x.hands < CAPACITY_MOST) × (at : PlacedDesk kc kz) × (x.desk ≡ right_to at)
+    × (is_live_in era f ≡ true → me' ≡ (
       with_pass me.0 o (record o.pass {
-        call = Receives e (turn.Leaving c (end.Took x.handed v))
-            (record { handed = x.handed + 1; returned = x.returned; hands = x.hands ++ record { number = x.handed; caller = c; buffer = b } ∷ [] }) b message;
+        call = Receives e (turn.Leaving c (end.Took x.handed (desk.verdict at x.handed message)))
+            (record x { handed = x.handed + 1; hands = x.hands ++ record { number = x.handed; caller = c; buffer = b } ∷ []; desk = right_to (desk.delivered at x.handed message) }) b message;
         own = Take e f x.handed message ∷ o.pass.own;
         hands = o.pass.hands ++ x.handed ∷ [];
       }) me'.0.copy,
       rest me.1,
-    )))
+    ))
     × (is_live_in era f ≡ false → me' ≡ (with_pass me.0 o (with_call o.pass (Receives e (turn.Leaving c (end.Dead era)) x b message)) me'.0.copy, rest me.1))
 
 -- step 3 of a send: the return index that was found tells how many buffers are back
-abbrev pub SendLooksBy : (me : SeatState) → Mover me.0 → RingSizes → End → ℕ → Sending → SenderSide → ℕ → ℕ → SeatState → Type 0
-SendLooksBy me o sizes e c s x b n me' = (returned : ℕ) × (book : ℕ) × (n ≡ return_count sizes returned % 65536) × (returned ≤ x.accepted) × (x.accepted ≤ returned + sizes.capacity)
+abbrev pub SendLooksBy : (me : SeatState) → Mover me.0 → RingSizes → ℕ → End → ℕ → Sending → SenderSide → ℕ → ℕ → SeatState → Type 0
+SendLooksBy me o sizes book e c s x b n me' = (returned : ℕ) × (n ≡ return_count sizes returned % 65536) × (returned ≤ x.accepted) × (x.accepted ≤ returned + sizes.capacity)
     × (me' ≡ (with_pass me.0 o (with_call o.pass (Sends e (look_turn x.accepted returned sizes.capacity book c s) x b)) me'.0.copy, me.1))
 
 -- step 5 of a send: the forward entry names the buffer
@@ -85,7 +91,7 @@ SendStoresEntryBy me o e c s x b me' = me' ≡ (with_pass me.0 o (with_call o.pa
 
 -- step 2 of a take: the era that was found decides
 abbrev pub TakeLoadsEraBy : (me : SeatState) → Mover me.0 → End → ℕ → Receiving → ReceiverSide → ℕ → List ℕ → ℕ → SeatState → Type 0
-TakeLoadsEraBy me o e c q x b message n me' = (era : Era) × (n ≡ era_word era) × (me' ≡ (with_pass me.0 o (with_call o.pass (Receives e (after_take_era era c q) x b message)) me'.0.copy, me.1))
+TakeLoadsEraBy me o e c q x b message n me' = (era : Era) × (n ≡ era_word era) × (era.inc < 4294967296) × (me' ≡ (with_pass me.0 o (with_call o.pass (Receives e (after_take_era era c q) x b message)) me'.0.copy, me.1))
 
 -- step 3 of a take: the forward index that was found tells how many messages there are
 abbrev pub TakeLooksBy : (me : SeatState) → Mover me.0 → RingSizes → End → ℕ → Receiving → ReceiverSide → ℕ → List ℕ → ℕ → SeatState → Type 0
@@ -95,5 +101,14 @@ TakeLooksBy me o sizes e c q x b message n me' = (accepted : ℕ) × (n ≡ acce
 -- step 1 of a call that needs the receiver's turn
 abbrev pub TakeBeginsBy : (me : SeatState) → Mover me.0 → End → ℕ → Work → ℕ → SeatState → Type 0
 TakeBeginsBy me o e follows first n me' =
-    (n ≡ 0 → (x : ReceiverSide) × (me' ≡ (with_pass me.0 o (with_call o.pass (Receives e (turn.Taken o.pass.number (record { follows = follows; work = first })) x 0 [])) me'.0.copy, (receiver_slot e, Receiver x) ∷ me.1)))
+    (n ≡ 0 → (x : ReceiverSide) × (x.handed ≤ BOOK_MOST) × (x.returned ≤ BOOK_MOST) × (me' ≡ (with_pass me.0 o (with_call o.pass (Receives e (turn.Taken o.pass.number (record { follows = follows; work = first })) x 0 [])) me'.0.copy, (receiver_slot e, Receiver x) ∷ me.1)))
     × (n ≢ 0 → me' ≡ me)
+
+-- step 2 of a binding or an unbinding: the era that was found decides, and the desk says how the call ends
+abbrev pub BindLoadsEraBy : {B : Type 0} {kc : Coded B} {kz : DeskTables} → (PlacedDesk kc kz → ℕ → PlacedDesk kc kz) → (PlacedDesk kc kz → ℕ → CallEnd) → (me : SeatState) → Mover me.0 → End → ℕ → ℕ → ReceiverSide → ℕ → List ℕ → ℕ → SeatState → Type 0
+BindLoadsEraBy {kc = kc} {kz = kz} leaves says me o e c f x b message n me' = (era : Era) × (n ≡ era_word era) × (era.inc < 4294967296) × (at : PlacedDesk kc kz) × (x.desk ≡ right_to at)
+    × (me' ≡ (
+      with_pass me.0 o (with_call o.pass (Receives e (cond (is_live_in era f) (turn.Leaving c (says at x.handed)) (turn.Leaving c (end.Dead era)))
+          (cond (is_live_in era f) (record x { desk = right_to (leaves at x.handed) }) x) b message)) me'.0.copy,
+      me.1,
+    ))

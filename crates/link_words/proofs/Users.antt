@@ -1,4 +1,7 @@
 -- The callers in use: what changes where one is made or its number is free.
+use Rattle.link_words.specs.declared.codes.DeskTables.{DeskTables}
+use Rattle.link_words.specs.PlacedDesks.{PlacedDesk}
+use base.Stored.{Coded}
 use Rattle.std.proofs.Common.{◌≡◌, ◌≢◌, ◌⊎◌, ℕ, zero, suc, ◌<◌, Bool, true, false, cond, List, [], ◌∷◌, length, refl, sym, ap, ◌∙◌, subst, inl, inr, arith, ne_eqb}
 use Rattle.std.specs.Prelude.{Option, Some, None, is_none, slice_set, nat_lt}
 use Rattle.std.specs.List.{position_or_len}
@@ -61,11 +64,11 @@ end_else (c ∷ callers) zero (suc k) x apart = refl
 end_else (c ∷ callers) (suc n) zero x apart = refl
 end_else (c ∷ callers) (suc n) (suc k) x apart = end_else callers n k x (λ same. apart (ap suc same))
 
-managers_with : {D : Type 0} (m : LaneLink (RingState D)) (cs : List (Option End)) → AreManagers m → AreManagers (record m { callers = cs })
+managers_with : {B : Type 0} {kc : Coded B} {kz : DeskTables} (m : LaneLink (RingState (PlacedDesk kc kz))) (cs : List (Option End)) → AreManagers m → AreManagers (record m { callers = cs })
 managers_with m cs a = record { host_sender = a.host_sender; host_receiver = a.host_receiver; remote_sender = a.remote_sender; remote_receiver = a.remote_receiver }
 
 -- a call, a history and hands stand where their caller is in use as it was
-pub call_with : {D : Type 0} (m : LaneLink (RingState D)) (cs : List (Option End)) (p k : ℕ) (call : Call) → end_of cs k ≡ end_of m.callers k → IsCallOf m p k call → IsCallOf (record m { callers = cs }) p k call
+pub call_with : {B : Type 0} {kc : Coded B} {kz : DeskTables} (m : LaneLink (RingState (PlacedDesk kc kz))) (cs : List (Option End)) (p k : ℕ) (call : Call) → end_of cs k ≡ end_of m.callers k → IsCallOf m p k call → IsCallOf (record m { callers = cs }) p k call
 call_with m cs p k Idle same has = has
 call_with m cs p k (Rests side.Host) same has = (same ∙ has.0, has.1, has.2)
 call_with m cs p k (Rests side.Remote) same has = (same ∙ has.0, has.1, has.2)
@@ -84,7 +87,7 @@ call_with m cs p k (EndsHeld side.Remote x) same has = (same ∙ has.0, has.1, h
 call_with m cs p k (Reopens q inc) same has = (has.0, has.1, (has.2.0, managers_with m cs has.2.1), has.3, has.4)
 call_with m cs p k (HoldsAll x y) same has = (has.0, has.1, managers_with m cs has.2, has.3, has.4)
 
-pub history_with : {D : Type 0} (m : LaneLink (RingState D)) (cs : List (Option End)) (q : Pass) → HistoryOf m q → HistoryOf (record m { callers = cs }) q
+pub history_with : {B : Type 0} {kc : Coded B} {kz : DeskTables} (m : LaneLink (RingState (PlacedDesk kc kz))) (cs : List (Option End)) (q : Pass) → HistoryOf m q → HistoryOf (record m { callers = cs }) q
 history_with m cs q has = record { sent = λ i. go i; taken = λ i. took i; read = λ i. red i; none_later = has.none_later }
   where
     red : (i : End) → ReadsIn i m.era.inc (lane_to (record m { callers = cs }) i).lane.lane.accepted q.own
@@ -99,7 +102,7 @@ history_with m cs q has = record { sent = λ i. go i; taken = λ i. took i; read
     go side.Host since = has.sent side.Host since
     go side.Remote since = has.sent side.Remote since
 
-pub hands_with : {D : Type 0} (m : LaneLink (RingState D)) (cs : List (Option End)) (q : Pass) → end_of cs q.number ≡ end_of m.callers q.number → HandsOf m q → HandsOf (record m { callers = cs }) q
+pub hands_with : {B : Type 0} {kc : Coded B} {kz : DeskTables} (m : LaneLink (RingState (PlacedDesk kc kz))) (cs : List (Option End)) (q : Pass) → end_of cs q.number ≡ end_of m.callers q.number → HandsOf m q → HandsOf (record m { callers = cs }) q
 hands_with m cs q same has side.Host user = has side.Host (sym same ∙ user)
 hands_with m cs q same has side.Remote user = has side.Remote (sym same ∙ user)
 
@@ -116,7 +119,7 @@ unused_hands callers e n (h ∷ hs) unused users =
     ap (λ (y : Bool). cond y (h.number ∷ hands_of n hs) (hands_of n hs)) (ne_eqb h.caller n (λ same. none_some e (sym unused ∙ (ap (end_of callers) (sym same) ∙ users.0)))) ∙ unused_hands callers e n hs unused users.1
 
 -- who is in a call, or rests, is in use, or is the manager
-pub in_use : {D : Type 0} (m : LaneLink (RingState D)) (p k : ℕ) (call : Call) → IsCallOf m p k call → (k ≡ 64) ⊎ ((e : End) × (end_of m.callers k ≡ Some e))
+pub in_use : {B : Type 0} {kc : Coded B} {kz : DeskTables} (m : LaneLink (RingState (PlacedDesk kc kz))) (p k : ℕ) (call : Call) → IsCallOf m p k call → (k ≡ 64) ⊎ ((e : End) × (end_of m.callers k ≡ Some e))
 in_use m p k Idle has = inl has
 in_use m p k (Rests e) has = inr (e, has.0)
 in_use m p k (Sends e t x b) has = inr (_, has.0)

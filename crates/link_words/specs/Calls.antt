@@ -16,6 +16,8 @@ use Rattle.link_words.specs.declared.rule.ReceiverSide.{ReceiverSide}
 use Rattle.link_words.specs.declared.rule.Call.{Call}
 use Rattle.link_words.specs.declared.rule.Call.TheVariants.{Idle, Sends, Rests, Reclaims, EndsHeld, Receives, EndsReceive, EndsSend, Reopens, HoldsAll}
 use Rattle.link_words.specs.declared.rule.Pass.{Pass}
+use Rattle.link_words.specs.declared.rule.Made.{Made}
+use Rattle.link_words.specs.declared.rule.Event.TheVariants.{Step}
 use Rattle.link_words.specs.declared.rule.View.{View}
 use Rattle.link_words.specs.Passes.{Mover, with_call, place_of_number}
 use Rattle.link_words.specs.Words.{sender_slot, receiver_slot}
@@ -118,6 +120,14 @@ number_at (suc k) (p ∷ ps) = number_at k ps
 -- the pass at this place becomes another, these slots are out with the seat, and of the view nothing else but the copy changes
 abbrev pub Becomes : (Pass → Pass) → ℕ → List (ℕ × Slot) → SeatState → SeatState → Type 0
 Becomes f k slots me me' = me' ≡ (record me.0 { copy = me'.0.copy; passes = with_pass_at f k me.0.passes }, slots)
+
+-- a step more in the own list of a pass
+abbrev pub noted : Made → Pass → Pass
+noted made p = record p { own = Step made ∷ p.own }
+
+-- the same, with the step noted in the pass's own list
+abbrev pub Notes : Made → (Pass → Pass) → ℕ → List (ℕ × Slot) → SeatState → SeatState → Type 0
+Notes made f k slots me me' = Becomes (λ p. noted made (f p)) k slots me me'
 
 -- the pass that steps has a send on the lane to this end, which has done the step of this stage last
 pub record SendAt (me : SeatState) (lane : End) (stage : SendStage) : Type 0 where

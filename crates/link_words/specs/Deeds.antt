@@ -13,7 +13,7 @@ use Rattle.lane_laws.specs.Parts.{with_manager, turn_left_without, MayPart}
 use Rattle.lane_model.specs.declared.recoveries.LaneTurn.TheVariants as lane_turn
 use Rattle.lane_model.specs.declared.recoveries.ReclaimPart.TheVariants as part
 use Rattle.link_words.specs.Words.{lane_to, with_lane}
-use Rattle.link_words.specs.Turns.{HasFourTurns, turns_of}
+use Rattle.link_words.specs.Turns.{HasFourTurns}
 use Rattle.lane_model.specs.Soundness.{SoundLink}
 use Rattle.ring_core.specs.declared.states.RingState.{RingState}
 use Rattle.ring_core.specs.RingSteps.{ring_form}
@@ -40,7 +40,7 @@ pub data Deed : Type 0 where
 
 -- the four turns are the manager's
 abbrev pub AreManagers : {D : Type 0} → LaneLink (RingState D) → Type 0
-AreManagers m = HasFourTurns (λ e. turns_of (lane_to m e))
+AreManagers m = HasFourTurns (λ e. (lane_to m e).lane.sender) (λ e. (lane_to m e).lane.receiver)
 
 -- and the era is closed, so that nobody steps
 abbrev pub IsStill : {D : Type 0} → LaneLink (RingState D) → Type 0

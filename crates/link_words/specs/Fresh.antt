@@ -5,6 +5,10 @@ use Rattle.ring_core.specs.Rings.{opened_returns, return_count, entry_of, sizes_
 use Rattle.link_words.specs.declared.rule.LinkSizes.{LinkSizes}
 use Rattle.link_words.specs.Words.{LaneWords, reset_block}
 use Rattle.lane_model.specs.declared.calls.LinkConfig.{LinkConfig}
+use Rattle.link_words.specs.declared.codes.DeskRight.{DeskRight}
+use Rattle.link_words.specs.declared.codes.DeskTables.{DeskTables}
+use Rattle.link_words.specs.declared.rule.SenderSide.{SenderSide}
+use Rattle.link_words.specs.declared.rule.ReceiverSide.{ReceiverSide}
 use Rattle.link_words.specs.declared.rule.Slot.{Slot}
 use Rattle.link_words.specs.declared.rule.Slot.TheVariants.{Sender, Receiver, Buffer}
 
@@ -17,10 +21,17 @@ abbrev pub fresh_of : LinkSizes → List ℕ
 fresh_of z = reset_block (fresh_lane z.to_host) (fresh_lane z.to_remote)
 
 -- the sizes of a new link: the device, which is the remote, sends on the lane to the host, and the driver on the other
-abbrev pub sizes_for : LinkConfig → LinkSizes
-sizes_for config = record { to_host = sizes_of config.num0 true; to_remote = sizes_of config.num1 false; first = config.first }
+abbrev pub sizes_for : LinkConfig → DeskTables → LinkSizes
+sizes_for config desks = record { to_host = sizes_of config.num0 true; to_remote = sizes_of config.num1 false; book = config.book; first = config.first; desks = desks }
 
--- the slots of a new link: each side state counts nothing, and in the buffers is something
-abbrev pub opened_slots : List (List ℕ) → List (List ℕ) → List Slot
-opened_slots to_host to_remote = Sender (record { accepted = 0 }) ∷ Receiver (record { handed = 0; returned = 0; hands = [] })
-    ∷ Sender (record { accepted = 0 }) ∷ Receiver (record { handed = 0; returned = 0; hands = [] }) ∷ (map Buffer to_host ++ map Buffer to_remote)
+-- the side states of a new lane count nothing, and the receiver's has the right to a desk
+abbrev pub opened_sender : SenderSide
+opened_sender = record { accepted = 0 }
+
+abbrev pub opened_receiver : DeskRight → ReceiverSide
+opened_receiver right = record { handed = 0; returned = 0; hands = []; desk = right }
+
+-- the slots of a new link, with the right to the desk of each end, and something in the buffers
+abbrev pub opened_slots : DeskRight → DeskRight → List (List ℕ) → List (List ℕ) → List Slot
+opened_slots host remote to_host to_remote = Sender opened_sender ∷ Receiver (opened_receiver host)
+    ∷ Sender opened_sender ∷ Receiver (opened_receiver remote) ∷ (map Buffer to_host ++ map Buffer to_remote)

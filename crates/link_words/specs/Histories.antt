@@ -13,7 +13,7 @@ use Rattle.lane_model.specs.Lanes.{OfCall, message_at}
 use Rattle.lane_model.specs.Links.{end_of}
 use Rattle.ring_core.specs.declared.states.RingState.{RingState}
 use Rattle.link_words.specs.declared.rule.Event.{Event}
-use Rattle.link_words.specs.declared.rule.Event.TheVariants.{Publish, Take}
+use Rattle.link_words.specs.declared.rule.Event.TheVariants.{Publish, Step, Take}
 use Rattle.link_words.specs.Words.{lane_to}
 
 -- the two ends are one
@@ -31,12 +31,14 @@ entries_by caller number (b ∷ bs) = if b.caller == caller then (number, b.mess
 -- what a pass sent on the lane to this end in this incarnation, with the numbers
 abbrev pub sends_in : End → ℕ → List Event → List (ℕ × List ℕ)
 sends_in e inc [] = []
+sends_in e inc (Step made ∷ es) = sends_in e inc es
 sends_in e inc (Take lane i number message ∷ es) = sends_in e inc es
 sends_in e inc (Publish lane i number message ∷ es) = if same_end lane e && (i == inc) then sends_in e inc es ++ (number, message) ∷ [] else sends_in e inc es
 
 -- no step is of a later incarnation
 abbrev pub NoneLater : ℕ → List Event → Type 0
 NoneLater inc [] = Unit {0}
+NoneLater inc (Step made ∷ es) = NoneLater inc es
 NoneLater inc (Publish lane i number message ∷ es) = (i ≤ inc) × NoneLater inc es
 NoneLater inc (Take lane i number message ∷ es) = (i ≤ inc) × NoneLater inc es
 
@@ -48,12 +50,14 @@ takes_by caller number (c ∷ cs) = if c == caller then number ∷ takes_by call
 -- what a pass took on the lane to this end in this incarnation
 abbrev pub takes_in : End → ℕ → List Event → List ℕ
 takes_in e inc [] = []
+takes_in e inc (Step made ∷ es) = takes_in e inc es
 takes_in e inc (Publish lane i number message ∷ es) = takes_in e inc es
 takes_in e inc (Take lane i number message ∷ es) = if same_end lane e && (i == inc) then takes_in e inc es ++ number ∷ [] else takes_in e inc es
 
 -- each message that was taken on this lane in this incarnation is the entry of its number
 abbrev pub ReadsIn : End → ℕ → List BookEntry → List Event → Type 0
 ReadsIn e inc book [] = Unit {0}
+ReadsIn e inc book (Step made ∷ es) = ReadsIn e inc book es
 ReadsIn e inc book (Publish lane i number message ∷ es) = ReadsIn e inc book es
 ReadsIn e inc book (Take lane i number message ∷ es) = (same_end lane e ≡ true → i ≡ inc → (number < length book) × (message ≡ message_at book number)) × ReadsIn e inc book es
 

@@ -1,3 +1,5 @@
+pub mod DeskSeats
+pub mod PlacedDesks
 pub mod Words
 pub mod Layouts
 pub mod Passes

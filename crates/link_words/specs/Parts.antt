@@ -54,9 +54,9 @@ IsCallAt t p number (EndsSend e u x buffer) = (end_of t.callers number ≡ Some 
 IsCallAt t p number (Rests e) = (end_of t.callers number ≡ Some e) × (has_call (t.lanes (other e)).sender number ≡ false) × (has_call (t.lanes e).receiver number ≡ false)
 IsCallAt t p number (Reclaims e x) = (end_of t.callers number ≡ Some e) × ((t.lanes e).receiver ≡ turn.Manager) × (x ≡ (t.lanes e).receiver_side) × (p ≡ 0) × (has_call (t.lanes (other e)).sender number ≡ false)
 IsCallAt t p number (EndsHeld e x) = (end_of t.callers number ≡ Some e) × ((t.lanes e).receiver ≡ turn.Manager) × (x ≡ (t.lanes e).receiver_side) × (p ≡ 0) × (t.era.is_live ≡ false) × (has_call (t.lanes (other e)).sender number ≡ false)
-IsCallAt t p number (Reopens q inc) = (number ≡ 64) × (q ≡ p) × ((t.era.is_live ≡ false) × HasFourTurns t.lanes) × (t.era.inc ≡ inc)
+IsCallAt t p number (Reopens q inc) = (number ≡ 64) × (q ≡ p) × ((t.era.is_live ≡ false) × HasFourTurns (λ e. (t.lanes e).sender) (λ e. (t.lanes e).receiver)) × (t.era.inc ≡ inc)
     × (((t.lanes side.Host).held ≡ []) × ((t.lanes side.Remote).held ≡ []))
-IsCallAt t p number (HoldsAll host remote) = (number ≡ 64) × (p ≡ 0) × HasFourTurns t.lanes × (host ≡ (t.lanes side.Host).receiver_side) × (remote ≡ (t.lanes side.Remote).receiver_side)
+IsCallAt t p number (HoldsAll host remote) = (number ≡ 64) × (p ≡ 0) × HasFourTurns (λ e. (t.lanes e).sender) (λ e. (t.lanes e).receiver) × (host ≡ (t.lanes side.Host).receiver_side) × (remote ≡ (t.lanes side.Remote).receiver_side)
 
 -- a call that has the receiver's turn of the lane to this end for the manager
 abbrev pub has_for_manager : End → Call → Bool
@@ -79,7 +79,7 @@ AreKeepersApart views = (e : End) (i k j l : ℕ) (p q : Pass) → PassAt views 
 pub record TurnsPart (t : LinkTurns) (p : ℕ) (views : List View) : Type 0 where
   pub calls : EachPass (λ q. IsCallAt t p q.number q.call) views
   pub keepers : AreKeepersApart views
-  pub still : (p ≡ 0) ⊎ ((t.era.is_live ≡ false) × HasFourTurns t.lanes)
+  pub still : (p ≡ 0) ⊎ ((t.era.is_live ≡ false) × HasFourTurns (λ e. (t.lanes e).sender) (λ e. (t.lanes e).receiver))
 
 -- two counts of a lane are at most its capacity apart: a buffer is given back after it was accepted, and no more are out than there are.
 -- So an index, which is a count modulo 65,536, tells the count
@@ -96,8 +96,9 @@ pub record HoldsBuffers {D : Type 0} (s : RingState D) (shelf : List (Option_of 
       → (y : Slot) × (get_elem? shelf id ≡ some (some y))
 
 -- the part on a lane: its indexes, its entries and its buffers agree with each other and with the calls of its two holders
-pub record LanePart {D : Type 0} (s : RingState D) (told : RingSizes) (shelf : List (Option_of Slot)) : Type 0 where
+pub record LanePart {D : Type 0} (s : RingState D) (told : RingSizes) (told_book : ℕ) (shelf : List (Option_of Slot)) : Type 0 where
   pub sizes : s.rings.sizes ≡ told
+  pub book : s.lane.lane.book ≡ told_book
   pub rings : IsSoundRings s
   pub near : AreNear told.capacity (length s.lane.lane.accepted) s.lane.lane.returned
   pub buffers : HoldsBuffers s shelf
@@ -124,8 +125,9 @@ pub record Knows {D : Type 0} (coded : Coded D) (m : LaneLink (RingState D)) (vi
 abbrev pub ManagerKnows : {D : Type 0} → Coded D → LaneLink (RingState D) → List View → Type 0
 ManagerKnows coded m views = (i : ℕ) (v : View) → get_elem? views i ≡ some v → Manages v → Knows coded m views i v
 
--- the part on numbers: which callers are in use, which passes are out, and who carries the others
+-- the part on numbers: which callers are in use, which passes are out, and who carries the others; an incarnation has 32 bits
 pub record NumbersPart {D : Type 0} (coded : Coded D) (m : LaneLink (RingState D)) (views : List View) : Type 0 where
   pub places : AreNumbersApart views
   pub manager : ManagerKnows coded m views
   pub many : length m.callers ≡ 64
+  pub short : m.era.inc < 4294967296

@@ -10,6 +10,7 @@ use Rattle.link_words.specs.declared.rule.Call.{Call}
 use Rattle.link_words.specs.declared.copies.LinkCopy.{LinkCopy}
 use Rattle.link_words.specs.declared.rule.Pass.{Pass}
 use Rattle.link_words.specs.declared.rule.View.{View}
+use Rattle.link_words.specs.PlacedDesks.{no_tables}
 
 -- the seat j has this pass at the place l of its list
 abbrev pub PassAt : List View → ℕ → ℕ → Pass → Type 0
@@ -55,7 +56,7 @@ spent_view = record {
   reclaims = [];
   is_closed = false;
   copy = None;
-  sizes = record { to_host = record { entries = 0; capacity = 0; own = 0 }; to_remote = record { entries = 0; capacity = 0; own = 0 }; first = 0 };
+  sizes = record { to_host = record { entries = 0; capacity = 0; own = 0 }; to_remote = record { entries = 0; capacity = 0; own = 0 }; book = 0; first = 0; desks = no_tables };
 }
 
 -- all passes but the last

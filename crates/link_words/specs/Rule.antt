@@ -1,4 +1,6 @@
 -- The rule of the table of a link: there is a state of the ring form that its words, its slots and its views show (own).
+use Rattle.link_words.specs.declared.codes.DeskTables.{DeskTables}
+use Rattle.link_words.specs.PlacedDesks.{PlacedDesk, placed_coded, placed_meaning}
 use Rattle.std.specs.Prelude.{◌≡◌, ℕ, false, replicate, List, [], ◌∷◌, None}
 use Rattle.atomic_table.specs.Table.{State}
 use base.Stored.{Coded}
@@ -37,10 +39,10 @@ first_view z n = record {
 }
 
 -- a pass of this number is in this call of a link, of which a reopening has reset so many words
-abbrev pub IsCallOf : {D : Type 0} → LaneLink (RingState D) → ℕ → ℕ → Call → Type 0
+abbrev pub IsCallOf : {B : Type 0} {kc : Coded B} {kz : DeskTables} → LaneLink (RingState (PlacedDesk kc kz)) → ℕ → ℕ → Call → Type 0
 IsCallOf m p number call = IsCallAt (turns_in m) p number call
 
-abbrev pub HasCall : {D : Type 0} → LaneLink (RingState D) → ℕ → Pass → Type 0
+abbrev pub HasCall : {B : Type 0} {kc : Coded B} {kz : DeskTables} → LaneLink (RingState (PlacedDesk kc kz)) → ℕ → Pass → Type 0
 HasCall m p q = IsCallOf m p q.number q.call
 
 abbrev pub IsHistory : {D : Type 0} → LaneLink (RingState D) → ℕ → ℕ → List Event → Type 0
@@ -68,25 +70,29 @@ module _ {D : Type 0} (desk : DeskMeaning D) where
     pub run : List Deed
     pub by_run : Reaches start run m
 
-module _ {D : Type 0} (coded : Coded D) (desk : DeskMeaning D) where
+module _ {B : Type 0} {kc : Coded B} {kz : DeskTables} (coded : Coded (PlacedDesk kc kz)) (desk : DeskMeaning (PlacedDesk kc kz)) where
   -- the words and the slots at home are those of this state, of which a reopening has reset so many words; the state is sound and was
   -- reached by deeds of the ring form; and the five parts hold: on turns, on the lane to each end, on histories, on numbers
-  pub record Shows (z : LinkSizes) (s : State Slot View) (m : LaneLink (RingState D)) (p : ℕ) : Type 0 where
+  pub record Shows (z : LinkSizes) (s : State Slot View) (m : LaneLink (RingState (PlacedDesk kc kz))) (p : ℕ) : Type 0 where
     pub words_are : s.words ≡ words_of p (fresh_block desk m) m
     pub shelves : Shelves
     pub homes_are : s.homes ≡ homes_of m shelves
     pub sound : SoundLink (link_of (ring_form desk) m)
     pub reached : IsReached desk m
     pub turns : TurnsPart (turns_in m) p s.views
-    pub to_host : LanePart m.to_host z.to_host shelves.host
-    pub to_remote : LanePart m.to_remote z.to_remote shelves.remote
+    pub to_host : LanePart m.to_host z.to_host z.book shelves.host
+    pub to_remote : LanePart m.to_remote z.to_remote z.book shelves.remote
     pub histories : HistoriesPart m.era.inc m.callers (λ e. books_of (lane_to m e)) s.views
     pub numbers : NumbersPart coded m s.views
 
   -- the rule over the words alone, one after the other
   abbrev pub WordsRule : LinkSizes → State Slot View → Type 0
-  WordsRule z s = (m : LaneLink (RingState D)) × (p : ℕ) × Shows z s m p
+  WordsRule z s = (m : LaneLink (RingState (PlacedDesk kc kz))) × (p : ℕ) × Shows z s m p
 
   -- the rule over the words of the table, which stand apart
-  abbrev pub LinkRule : LinkSizes → State Slot View → Type 0
-  LinkRule z s = (words : List ℕ) × (s.words ≡ layout words) × WordsRule z (record s { words = words })
+  abbrev pub PlacedRule : LinkSizes → State Slot View → Type 0
+  PlacedRule z s = (words : List ℕ) × (s.words ≡ layout words) × WordsRule z (record s { words = words })
+
+-- the rule of the table of a link whose desks lie in the tables that the sizes name
+abbrev pub LinkRule : {D : Type 0} → Coded D → DeskMeaning D → LinkSizes → State Slot View → Type 0
+LinkRule coded meaning z s = PlacedRule (placed_coded coded z.desks) (placed_meaning coded z.desks meaning) z s

@@ -1,5 +1,7 @@
 -- What each step tells its seat: the number that was found in the word, and the view and the slots after (own; the indexes and the entries are
 -- those of a split virtqueue, VIRTIO 1.2 sections 2.7.6 and 2.7.8).
+use Rattle.link_words.specs.declared.codes.DeskTables.{DeskTables}
+use Rattle.link_words.specs.PlacedDesks.{PlacedDesk, placed_coded, placed_meaning, no_right, IsRightTo}
 use Rattle.lane_model.specs.declared.calls.CallEnd.{CallEnd}
 use Rattle.ring_core.specs.RingSteps.{held_buffer, hands_without}
 use Rattle.std.specs.Prelude.{◌≡◌, ◌≢◌, ℕ, ◌+◌, ◌%◌, ◌==◌, ◌<◌, ◌≤◌, if◌then◌else◌, List, [], ◌∷◌, ◌++◌, length, Some, None, filter, not, ◌⊎◌, slice_index}
@@ -8,8 +10,8 @@ use Rattle.atomic_table.specs.Table.{rest}
 use Rattle.rp_base.specs.declared.kinds.End.{End}
 use Rattle.rp_base.specs.declared.kinds.End.TheVariants as side
 use Rattle.rp_base.specs.declared.kinds.Era.{Era}
-use Rattle.rp_base.specs.declared.kinds.Verdict.{Verdict}
-use Rattle.rp_base.specs.declared.limits.TheConstants.{MESSAGE_MOST}
+use Rattle.link_words.specs.declared.codes.DeskRight.{DeskRight}
+use Rattle.rp_base.specs.declared.limits.TheConstants.{MESSAGE_MOST, BOOK_MOST, CAPACITY_MOST}
 use Rattle.lane_model.specs.declared.calls.CallEnd.TheVariants as end
 use Rattle.lane_model.specs.declared.calls.Wish.{Wish}
 use Rattle.lane_model.specs.declared.calls.Wish.TheVariants as wish
@@ -25,10 +27,11 @@ use Rattle.lane_model.specs.declared.stages.Work.{Work}
 use Rattle.lane_model.specs.declared.stages.Work.TheVariants as work
 use Rattle.lane_model.specs.Desks.{DeskMeaning}
 use Rattle.lane_model.specs.Lanes.{is_live_in}
-use Rattle.lane_model.specs.Receives.{after_take_era}
+use Rattle.lane_model.specs.Receives.{after_take_era, desk_end}
 use Rattle.lane_model.specs.Sends.{after_send_era}
 use Rattle.ring_core.specs.declared.states.RingSizes.{RingSizes}
 use Rattle.ring_core.specs.declared.states.RingState.{RingState}
+use Rattle.ring_core.specs.declared.states.Hand.{Hand}
 use Rattle.ring_core.specs.Rings.{return_count, entry_length, entry_of}
 use Rattle.vring_layout.specs.declared.words.UsedWord.{UsedWord}
 use Rattle.lane_model.specs.declared.recoveries.LaneTurn.{LaneTurn}
@@ -40,6 +43,7 @@ use Rattle.link_words.specs.declared.rule.Call.{Call}
 use Rattle.link_words.specs.declared.rule.Call.TheVariants.{Sends, Receives, Rests}
 use Rattle.link_words.specs.declared.rule.Event.TheVariants.{Publish, Take}
 use Rattle.link_words.specs.declared.rule.Pass.{Pass}
+use Rattle.link_words.specs.declared.rule.Made.TheVariants as made
 use Rattle.link_words.specs.declared.rule.ReceiverSide.{ReceiverSide}
 use Rattle.link_words.specs.declared.rule.SenderSide.{SenderSide}
 use Rattle.link_words.specs.declared.rule.Slot.{Slot}
@@ -51,7 +55,7 @@ use Rattle.link_words.specs.declared.loads.EraUse.TheVariants as era
 use Rattle.link_words.specs.declared.rule.Ring.{Ring}
 use Rattle.link_words.specs.declared.rule.Ring.TheVariants as ring
 use Rattle.link_words.specs.Calls.{SendAt, WorkAt, SendEnds, ReceiveEnds}
-use Rattle.link_words.specs.Calls.{SeatState, send_or, receive_or, under_way_or, with_send, with_receive, place_of, call_at, number_at, Becomes}
+use Rattle.link_words.specs.Calls.{SeatState, send_or, receive_or, under_way_or, with_send, with_receive, place_of, call_at, number_at, Becomes, Notes}
 use Rattle.link_words.specs.Codes.{copied}
 use Rattle.link_words.specs.Deeds.{Deed, Steps, after_deed, MayDo, IsSoundState}
 use Rattle.link_words.specs.Parts.{AreNear}
@@ -71,8 +75,8 @@ StoresWord place n before after = n ≡ slice_index (layout (words_of 0 [] after
 -- the step of a seat is this deed of the ring form, by the pass of this number: in some sound state, in which the word was what was found and the
 -- pass was in its call, the deed may be done, and in the state after it the pass is in its next call. Where the manager has a copy of the state, and none of its callers
 -- is out, that state is the copy's, and the copy follows
-pub record IsStepOf {D : Type 0} (coded : Coded D) (desk : DeskMeaning D) (Reads : LaneLink (RingState D) → LaneLink (RingState D) → Type 0) (d : Deed) (number : ℕ) (call next : Call) (me me' : SeatState) : Type 0 where
-  pub state : LaneLink (RingState D)
+pub record IsStepOf {B : Type 0} {kc : Coded B} {kz : DeskTables} (coded : Coded (PlacedDesk kc kz)) (desk : DeskMeaning (PlacedDesk kc kz)) (Reads : LaneLink (RingState (PlacedDesk kc kz)) → LaneLink (RingState (PlacedDesk kc kz)) → Type 0) (d : Deed) (number : ℕ) (call next : Call) (me me' : SeatState) : Type 0 where
+  pub state : LaneLink (RingState (PlacedDesk kc kz))
   pub sound : IsSoundState desk state
   pub read : Reads state (after_deed desk state d)
   pub may : MayDo desk state d
@@ -81,14 +85,21 @@ pub record IsStepOf {D : Type 0} (coded : Coded D) (desk : DeskMeaning D) (Reads
   pub copy : (k : LinkCopy) → Manages me.0 → me.0.out ≡ [] → me.0.copy ≡ Some k → (k ≡ copied coded state) × (me'.0.copy ≡ Some (copied coded (after_deed desk state d)))
 
 -- the step is a later one of the call of the pass that steps
-abbrev pub GoesOn : {D : Type 0} → Coded D → DeskMeaning D → (LaneLink (RingState D) → LaneLink (RingState D) → Type 0) → SeatState → SeatState → Type 0
-GoesOn coded desk Reads me me' = let k = place_of me in
+abbrev pub GoesOnWith : {B : Type 0} {kc : Coded B} {kz : DeskTables} → Coded (PlacedDesk kc kz) → DeskMeaning (PlacedDesk kc kz) → (LaneLink (RingState (PlacedDesk kc kz)) → LaneLink (RingState (PlacedDesk kc kz)) → Type 0) → SeatState → SeatState → Type 0
+GoesOnWith coded desk Reads me me' = let k = place_of me in
     IsStepOf coded desk Reads (Steps (number_at k me.0.passes) 0 None) (number_at k me.0.passes) (call_at k me.0.passes) (call_at k me'.0.passes) me me'
 
 -- the step is the first one of what this caller wishes, in a call that follows this incarnation
-abbrev pub Begins : {D : Type 0} → Coded D → DeskMeaning D → (LaneLink (RingState D) → LaneLink (RingState D) → Type 0) → ℕ → ℕ → Wish → SeatState → SeatState → Type 0
-Begins coded desk Reads number follows wished me me' = let k = place_of_number number me.0.passes in
+abbrev pub BeginsWith : {B : Type 0} {kc : Coded B} {kz : DeskTables} → Coded (PlacedDesk kc kz) → DeskMeaning (PlacedDesk kc kz) → (LaneLink (RingState (PlacedDesk kc kz)) → LaneLink (RingState (PlacedDesk kc kz)) → Type 0) → ℕ → ℕ → Wish → SeatState → SeatState → Type 0
+BeginsWith coded desk Reads number follows wished me me' = let k = place_of_number number me.0.passes in
     IsStepOf coded desk Reads (Steps number follows (Some wished)) number (call_at k me.0.passes) (call_at k me'.0.passes) me me'
+
+-- the same, with the desks in the tables that the seat knows
+abbrev pub GoesOn : {D : Type 0} (coded : Coded D) → DeskMeaning D → (me : SeatState) → (LaneLink (RingState (PlacedDesk coded me.0.sizes.desks)) → LaneLink (RingState (PlacedDesk coded me.0.sizes.desks)) → Type 0) → SeatState → Type 0
+GoesOn coded meaning me Reads me' = GoesOnWith (placed_coded coded me.0.sizes.desks) (placed_meaning coded me.0.sizes.desks meaning) Reads me me'
+
+abbrev pub Begins : {D : Type 0} (coded : Coded D) → DeskMeaning D → (me : SeatState) → (LaneLink (RingState (PlacedDesk coded me.0.sizes.desks)) → LaneLink (RingState (PlacedDesk coded me.0.sizes.desks)) → Type 0) → ℕ → ℕ → Wish → SeatState → Type 0
+Begins coded meaning me Reads number follows wished me' = BeginsWith (placed_coded coded me.0.sizes.desks) (placed_meaning coded me.0.sizes.desks meaning) Reads number follows wished me me'
 
 -- the work of a call that has done its first step
 abbrev pub first_work : Wish → Work
@@ -109,16 +120,16 @@ IsFit (wish.Unbind address) hands = Unit {0}
 -- step 1 of a send: where the turn was free, the pass has it, and the sender's side state is out; else nothing has changed
 abbrev pub TakesSender : End → ℕ → ℕ → List ℕ → SeatState → ℕ → SeatState → Type 0
 TakesSender lane number follows message me n me' =
-    (n ≡ 0 → (x : SenderSide) × Becomes (λ p. with_call p (Sends lane (turn.Taken number (record { follows = follows; message = message; stage = stage.Turn })) x 0))
+    (n ≡ 0 → (x : SenderSide) × (x.accepted ≤ BOOK_MOST) × Notes (made.Turn n) (λ p. with_call p (Sends lane (turn.Taken number (record { follows = follows; message = message; stage = stage.Turn })) x 0))
     (place_of_number number me.0.passes) ((sender_slot lane, Sender x) ∷ me.1) me me')
-    × (n ≢ 0 → me' ≡ me)
+    × (n ≢ 0 → Notes (made.Turn n) (λ p. p) (place_of_number number me.0.passes) me.1 me me')
 
 -- step 1 of a call that needs the receiver's turn
 abbrev pub TakesReceiver : End → ℕ → ℕ → Work → SeatState → ℕ → SeatState → Type 0
 TakesReceiver lane number follows first me n me' =
-    (n ≡ 0 → (x : ReceiverSide) × Becomes (λ p. with_call p (Receives lane (turn.Taken number (record { follows = follows; work = first })) x 0 []))
+    (n ≡ 0 → (x : ReceiverSide) × (x.handed ≤ BOOK_MOST) × (x.returned ≤ BOOK_MOST) × Notes (made.Turn n) (λ p. with_call p (Receives lane (turn.Taken number (record { follows = follows; work = first })) x 0 []))
     (place_of_number number me.0.passes) ((receiver_slot lane, Receiver x) ∷ me.1) me me')
-    × (n ≢ 0 → me' ≡ me)
+    × (n ≢ 0 → Notes (made.Turn n) (λ p. p) (place_of_number number me.0.passes) me.1 me me')
 
 -- the turn that a caller of this end needs for what it wishes: the sender's of the lane to the other end, or the receiver's of the lane to its own
 abbrev pub turn_word_for : End → Wish → ℕ
@@ -138,7 +149,7 @@ TakesTurn end number follows (wish.Unbind address) = TakesReceiver end number fo
 
 -- step 2 of a send: it goes on where the era that was found is its incarnation, live
 abbrev pub SendLoadsEra : SeatState → ℕ → SeatState → Type 0
-SendLoadsEra me n me' = (era : Era) × (n ≡ era_word era) × Becomes (with_send (λ x caller s. after_send_era era caller s)) (place_of me) me.1 me me'
+SendLoadsEra me n me' = (era : Era) × (n ≡ era_word era) × (era.inc < 4294967296) × Notes (made.Era era) (with_send (λ x caller s. after_send_era era caller s)) (place_of me) me.1 me me'
 
 -- the lane of the call of the pass that steps, by its end
 abbrev pub lane_by : SeatState → End
@@ -155,6 +166,13 @@ slot_by me id = buffer_slot me.0.sizes.to_host.capacity (lane_by me) id
 abbrev pub accepted_by : SeatState → ℕ
 accepted_by me = send_or 0 (λ e t x b. x.accepted) (call_at (place_of me) me.0.passes)
 
+-- and of buffers that are back
+abbrev pub returned_by : SeatState → ℕ
+returned_by me = receive_or 0 (λ e t x b message. x.returned) (call_at (place_of me) me.0.passes)
+
+abbrev pub hands_by : SeatState → List Hand
+hands_by me = receive_or [] (λ e t x b message. x.hands) (call_at (place_of me) me.0.passes)
+
 abbrev pub handed_by : SeatState → ℕ
 handed_by me = receive_or 0 (λ e t x b message. x.handed) (call_at (place_of me) me.0.passes)
 
@@ -166,17 +184,17 @@ look_turn accepted returned capacity book caller s =
 
 -- step 3 of a send: the return index that was found is that of a count near the count of accepted messages, which decides
 abbrev pub SendLooks : SeatState → ℕ → SeatState → Type 0
-SendLooks me n me' = let sizes = sizes_by me in (returned : ℕ) × (book : ℕ) × (n ≡ return_count sizes returned % 65536) × AreNear sizes.capacity (accepted_by me) returned
-    × Becomes (with_send (λ x caller s. look_turn x.accepted returned sizes.capacity book caller s)) (place_of me) me.1 me me'
+SendLooks me n me' = let sizes = sizes_by me in (returned : ℕ) × (n ≡ return_count sizes returned % 65536) × AreNear sizes.capacity (accepted_by me) returned
+    × Notes (made.Room (accepted_by me) returned) (with_send (λ x caller s. look_turn x.accepted returned sizes.capacity me.0.sizes.book caller s)) (place_of me) me.1 me me'
 
 -- step 4 of a send: this buffer is out
 abbrev pub SendTakesBuffer : ℕ → SeatState → SeatState → Type 0
-SendTakesBuffer id me me' = (y : Slot) × Becomes (λ p. with_call p (send_or p.call (λ e t x b. Sends e (under_way_or t (λ caller s. turn.Taken caller (record s { stage = stage.Buffer })) t) x id) p.call))
+SendTakesBuffer id me me' = (y : Slot) × Notes (made.Buffer id) (λ p. with_call p (send_or p.call (λ e t x b. Sends e (under_way_or t (λ caller s. turn.Taken caller (record s { stage = stage.Buffer })) t) x id) p.call))
     (place_of me) ((slot_by me id, y) ∷ me.1) me me'
 
 -- step 5 of a send: the forward entry names its buffer
 abbrev pub SendStoresEntry : SeatState → SeatState → Type 0
-SendStoresEntry me me' = Becomes (with_send (λ x caller s. turn.Taken caller (record s { stage = stage.Entry }))) (place_of me) me.1 me me'
+SendStoresEntry me me' = Notes made.Entry (with_send (λ x caller s. turn.Taken caller (record s { stage = stage.Entry }))) (place_of me) me.1 me me'
 
 -- a pass whose send was accepted: its message is the next of what it sent
 abbrev pub with_publish : Pass → Pass
@@ -191,11 +209,11 @@ SendPublishes me me' = Becomes with_publish (place_of me) (rest me.1) me me'
 
 -- the last step of a send: the turn is free, and its side state is at home
 abbrev pub LeavesSender : SeatState → SeatState → Type 0
-LeavesSender me me' = Becomes (λ p. with_call p (send_or p.call (λ e t x b. Rests (other e)) p.call)) (place_of me) (rest me.1) me me'
+LeavesSender me me' = Notes made.Left (λ p. with_call p (send_or p.call (λ e t x b. Rests (other e)) p.call)) (place_of me) (rest me.1) me me'
 
 -- step 2 of a take
 abbrev pub TakeLoadsEra : SeatState → ℕ → SeatState → Type 0
-TakeLoadsEra me n me' = (era : Era) × (n ≡ era_word era) × Becomes (with_receive (λ x caller r. after_take_era era caller r)) (place_of me) me.1 me me'
+TakeLoadsEra me n me' = (era : Era) × (n ≡ era_word era) × (era.inc < 4294967296) × Notes (made.Era era) (with_receive (λ x caller r. after_take_era era caller r)) (place_of me) me.1 me me'
 
 -- what a look for a message decides, by the counts
 abbrev pub take_look_turn : ℕ → ℕ → ℕ → Receiving → Turn Receiving
@@ -204,28 +222,41 @@ take_look_turn handed accepted caller r = if handed == accepted then turn.Leavin
 -- step 3 of a take: the forward index that was found is that of a count, which is at most the capacity above the count of handed messages
 abbrev pub TakeLooks : SeatState → ℕ → SeatState → Type 0
 TakeLooks me n me' = let sizes = sizes_by me in (accepted : ℕ) × (n ≡ accepted % 65536) × (handed_by me ≤ accepted) × (accepted ≤ handed_by me + sizes.capacity)
-    × Becomes (with_receive (λ x caller r. take_look_turn x.handed accepted caller r)) (place_of me) me.1 me me'
+    × Notes (made.Waiting (handed_by me) accepted) (with_receive (λ x caller r. take_look_turn x.handed accepted caller r)) (place_of me) me.1 me me'
 
 -- step 4 of a take: this buffer is out, with its message
 abbrev pub TakeTakesBuffer : ℕ → SeatState → SeatState → Type 0
 TakeTakesBuffer id me me' = (message : List ℕ)
-    × Becomes (λ p. with_call p (receive_or p.call (λ e t x b old. Receives e (under_way_or t (λ caller r. turn.Taken caller (record r { work = work.Take take_stage.Buffer })) t) x id message) p.call))
+    × Notes (made.Buffer id) (λ p. with_call p (receive_or p.call (λ e t x b old. Receives e (under_way_or t (λ caller r. turn.Taken caller (record r { work = work.Take take_stage.Buffer })) t) x id message) p.call))
     (place_of me) ((slot_by me id, Buffer message) ∷ me.1) me me'
 
--- a pass at a take's second look at the era: where it is its incarnation, live, the message is handed to it, with some verdict of the desk;
+-- the right to the desk that goes with the receiver's turn of the pass that steps
+abbrev pub desk_by : SeatState → DeskRight
+desk_by me = receive_or no_right (λ e t x b message. x.desk) (call_at (place_of me) me.0.passes)
+
+-- the side state after a handing, whose right is to the desk as the handing leaves it
+abbrev pub handed_side : {D : Type 0} → Coded D → DeskMeaning D → D → ReceiverSide → ℕ → ℕ → List ℕ → ReceiverSide
+handed_side coded meaning desk x caller buffer message = record x {
+  handed = x.handed + 1;
+  hands = x.hands ++ record { number = x.handed; caller = caller; buffer = buffer } ∷ [];
+  desk = record x.desk { code = coded.code (meaning.delivered desk x.handed message) };
+}
+
+-- a pass at a take's second look at the era: where it is its incarnation, live, the message is handed to it, with the verdict of the desk;
 -- else the take is dead
-abbrev pub with_handing : Era → Verdict → Pass → Pass
-with_handing era verdict p = receive_or p (λ e t x b message. under_way_or p (λ caller r. if is_live_in era r.follows
+abbrev pub with_handing : {D : Type 0} → Coded D → DeskMeaning D → Era → D → Pass → Pass
+with_handing coded meaning era desk p = receive_or p (λ e t x b message. under_way_or p (λ caller r. if is_live_in era r.follows
     then record p {
-      call = Receives e (turn.Leaving caller (end.Took x.handed verdict)) (record x { handed = x.handed + 1; hands = x.hands ++ record { number = x.handed; caller = caller; buffer = b } ∷ [] }) b message;
+      call = Receives e (turn.Leaving caller (end.Took x.handed (meaning.verdict desk x.handed message))) (handed_side coded meaning desk x caller b message) b message;
       own = Take e r.follows x.handed message ∷ p.own;
       hands = p.hands ++ x.handed ∷ [];
     }
     else with_call p (Receives e (turn.Leaving caller (end.Dead era)) x b message)) t) p.call
 
--- step 5 of a take: the buffer's slot is at home either way
-abbrev pub TakeHands : SeatState → ℕ → SeatState → Type 0
-TakeHands me n me' = (era : Era) × (n ≡ era_word era) × (verdict : Verdict) × Becomes (with_handing era verdict) (place_of me) (rest me.1) me me'
+-- step 5 of a take: the desk that it has the right to judges the message; the buffer's slot is at home either way
+abbrev pub TakeHands : {D : Type 0} → Coded D → DeskMeaning D → DeskTables → SeatState → ℕ → SeatState → Type 0
+TakeHands coded meaning tables me n me' = (era : Era) × (n ≡ era_word era) × (era.inc < 4294967296) × (length (hands_by me) < CAPACITY_MOST) × (desk : _) × IsRightTo coded tables (desk_by me) desk
+    × Notes (made.Era era) (with_handing coded meaning era desk) (place_of me) (rest me.1) me me'
 
 -- the numbers in hand but for this one
 abbrev pub hands_but : List ℕ → ℕ → List ℕ
@@ -240,7 +271,7 @@ with_entry (work.Unbind address) = work.Unbind address
 
 -- step 2 of a give: the return entry names the buffer in hand
 abbrev pub GiveStoresEntry : SeatState → SeatState → Type 0
-GiveStoresEntry me me' = Becomes (with_receive (λ x caller r. turn.Taken caller (record r { work = with_entry r.work }))) (place_of me) me.1 me me'
+GiveStoresEntry me me' = Notes made.Entry (with_receive (λ x caller r. turn.Taken caller (record r { work = with_entry r.work }))) (place_of me) me.1 me me'
 
 -- the number of a give, else something else
 abbrev pub given_or : {A : Type 0} → A → (ℕ → A) → Work → A
@@ -252,22 +283,42 @@ given_or otherwise f (work.Unbind address) = otherwise
 -- a pass whose buffer is back: it is in hand no more
 abbrev pub with_given : Pass → Pass
 with_given p = receive_or p (λ e t x b message. under_way_or p (λ caller r. given_or p (λ number. record p {
-  call = Receives e (turn.Leaving caller (end.Gave number)) (record { handed = x.handed; returned = x.returned + 1; hands = hands_without x.hands number }) b message;
+  call = Receives e (turn.Leaving caller (end.Gave number)) (record x { returned = x.returned + 1; hands = hands_without x.hands number }) b message;
   hands = hands_but p.hands number;
 }) r.work) t) p.call
 
 -- step 3 of a give
 abbrev pub GivePublishes : SeatState → SeatState → Type 0
-GivePublishes me me' = Becomes with_given (place_of me) me.1 me me'
+GivePublishes me me' = Notes (made.Gave (returned_by me + 1)) with_given (place_of me) me.1 me me'
 
--- step 2 of a binding or an unbinding: in its incarnation, live, the desk says how the call ends
-abbrev pub BindLoadsEra : SeatState → ℕ → SeatState → Type 0
-BindLoadsEra me n me' = (era : Era) × (n ≡ era_word era) × (ended : CallEnd)
-    × Becomes (with_receive (λ x caller r. if is_live_in era r.follows then turn.Leaving caller ended else turn.Leaving caller (end.Dead era))) (place_of me) me.1 me me'
+-- how a binding or an unbinding ends, by what the desk says
+abbrev pub desk_says : {D : Type 0} → DeskMeaning D → D → ℕ → Work → CallEnd
+desk_says meaning desk handed (work.Take stage) = end.Gave 0
+desk_says meaning desk handed (work.Give number stage) = end.Gave number
+desk_says meaning desk handed (work.Bind address) = desk_end end.Bound (meaning.bind_answer desk address handed)
+desk_says meaning desk handed (work.Unbind address) = desk_end end.Unbound (meaning.unbind_answer desk address)
+
+-- and the desk that it leaves
+abbrev pub desk_after : {D : Type 0} → DeskMeaning D → D → ℕ → Work → D
+desk_after meaning desk handed (work.Take stage) = desk
+desk_after meaning desk handed (work.Give number stage) = desk
+desk_after meaning desk handed (work.Bind address) = meaning.bound desk address handed
+desk_after meaning desk handed (work.Unbind address) = meaning.unbound desk address
+
+-- a pass at step 2 of a binding or an unbinding
+abbrev pub with_binding : {D : Type 0} → Coded D → DeskMeaning D → Era → D → Pass → Pass
+with_binding coded meaning era desk p = receive_or p (λ e t x b message. under_way_or p (λ caller r. if is_live_in era r.follows
+    then with_call p (Receives e (turn.Leaving caller (desk_says meaning desk x.handed r.work)) (record x { desk = record x.desk { code = coded.code (desk_after meaning desk x.handed r.work) } }) b message)
+    else with_call p (Receives e (turn.Leaving caller (end.Dead era)) x b message)) t) p.call
+
+-- step 2 of a binding or an unbinding: in its incarnation, live, the desk changes and says how the call ends
+abbrev pub BindLoadsEra : {D : Type 0} → Coded D → DeskMeaning D → DeskTables → SeatState → ℕ → SeatState → Type 0
+BindLoadsEra coded meaning tables me n me' = (era : Era) × (n ≡ era_word era) × (era.inc < 4294967296) × (desk : _) × IsRightTo coded tables (desk_by me) desk
+    × Notes (made.Era era) (with_binding coded meaning era desk) (place_of me) me.1 me me'
 
 -- the last step of a call that has the receiver's turn
 abbrev pub LeavesReceiver : SeatState → SeatState → Type 0
-LeavesReceiver me me' = Becomes (λ p. with_call p (receive_or p.call (λ e t x b message. Rests e) p.call)) (place_of me) (rest me.1) me me'
+LeavesReceiver me me' = Notes made.Left (λ p. with_call p (receive_or p.call (λ e t x b message. Rests e) p.call)) (place_of me) (rest me.1) me me'
 
 -- the index that is loaded for this
 abbrev pub index_number : IndexUse → End → ℕ
@@ -322,11 +373,11 @@ MayLoadEra era.Take me = (lane : End) × WorkAt me lane (work.Take take_stage.Tu
 MayLoadEra era.Hand me = HandsAt me
 MayLoadEra era.Bind me = BindsAt me
 
-abbrev pub LoadsEra : EraUse → SeatState → ℕ → SeatState → Type 0
-LoadsEra era.Send me n me' = SendLoadsEra me n me'
-LoadsEra era.Take me n me' = TakeLoadsEra me n me'
-LoadsEra era.Hand me n me' = TakeHands me n me'
-LoadsEra era.Bind me n me' = BindLoadsEra me n me'
+abbrev pub LoadsEra : {D : Type 0} → Coded D → DeskMeaning D → EraUse → SeatState → ℕ → SeatState → Type 0
+LoadsEra coded meaning era.Send me n me' = SendLoadsEra me n me'
+LoadsEra coded meaning era.Take me n me' = TakeLoadsEra me n me'
+LoadsEra coded meaning era.Hand me n me' = TakeHands coded meaning me.0.sizes.desks me n me'
+LoadsEra coded meaning era.Bind me n me' = BindLoadsEra coded meaning me.0.sizes.desks me n me'
 
 -- a send stores the forward entry of its number, with its buffer and the length of its message
 pub record SendStoresAt (lane : End) (number : ℕ) (stored : UsedWord) (me : SeatState) : Type 0 where
@@ -386,4 +437,4 @@ TakesTurnAs coded desk place (some (Sender x)) me n me' = Unit {0}
 TakesTurnAs coded desk place (some (Receiver x)) me n me' = Unit {0}
 TakesTurnAs coded desk place (some (Buffer x)) me n me' = Unit {0}
 TakesTurnAs coded desk place (some (Caller x)) me n me' = Unit {0}
-TakesTurnAs coded desk place (some (Start x)) me n me' = TakesTurn x.end x.caller x.follows x.wish me n me' × (n ≤ 65) × Begins coded desk (HasWord place n) x.caller x.follows x.wish me me'
+TakesTurnAs coded desk place (some (Start x)) me n me' = TakesTurn x.end x.caller x.follows x.wish me n me' × (n ≤ 65) × Begins coded desk me (HasWord place n) x.caller x.follows x.wish me'

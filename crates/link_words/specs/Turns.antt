@@ -1,4 +1,7 @@
 -- What the part on turns reads of a link: who has each turn, what goes with the turn, and the buffers that are out (own).
+use Rattle.link_words.specs.declared.codes.DeskTables.{DeskTables}
+use Rattle.link_words.specs.PlacedDesks.{PlacedDesk}
+use base.Stored.{Coded}
 use Rattle.std.specs.Prelude.{◌≡◌, ℕ, Bool, true, false, List, length, Option}
 use Rattle.rp_base.specs.declared.kinds.End.{End}
 use Rattle.rp_base.specs.declared.kinds.End.TheVariants as side
@@ -34,7 +37,7 @@ pub record LaneTurns : Type 0 where
   pub held : List Holding
   pub next : List ℕ
 
-abbrev pub turns_of : {D : Type 0} → RingState D → LaneTurns
+abbrev pub turns_of : {B : Type 0} {kc : Coded B} {kz : DeskTables} → RingState (PlacedDesk kc kz) → LaneTurns
 turns_of s = record {
   sender = s.lane.sender;
   receiver = s.lane.receiver;
@@ -52,12 +55,12 @@ pub record LinkTurns : Type 0 where
   pub callers : List (Option End)
   pub lanes : End → LaneTurns
 
-abbrev pub turns_in : {D : Type 0} → LaneLink (RingState D) → LinkTurns
+abbrev pub turns_in : {B : Type 0} {kc : Coded B} {kz : DeskTables} → LaneLink (RingState (PlacedDesk kc kz)) → LinkTurns
 turns_in m = record { era = m.era; callers = m.callers; lanes = λ e. turns_of (lane_to m e) }
 
 -- the four turns are the manager's
-pub record HasFourTurns (lanes : End → LaneTurns) : Type 0 where
-  pub host_sender : (lanes side.Host).sender ≡ turn.Manager
-  pub host_receiver : (lanes side.Host).receiver ≡ turn.Manager
-  pub remote_sender : (lanes side.Remote).sender ≡ turn.Manager
-  pub remote_receiver : (lanes side.Remote).receiver ≡ turn.Manager
+pub record HasFourTurns (sender : End → Turn Sending) (receiver : End → Turn Receiving) : Type 0 where
+  pub host_sender : sender side.Host ≡ turn.Manager
+  pub host_receiver : receiver side.Host ≡ turn.Manager
+  pub remote_sender : sender side.Remote ≡ turn.Manager
+  pub remote_receiver : receiver side.Remote ≡ turn.Manager

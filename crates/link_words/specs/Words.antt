@@ -19,6 +19,9 @@ use Rattle.link_words.specs.declared.rule.Slot.{Slot}
 use Rattle.link_words.specs.declared.rule.Slot.TheVariants.{Sender, Receiver}
 use Rattle.link_words.specs.declared.rule.SenderSide.{SenderSide}
 use Rattle.link_words.specs.declared.rule.ReceiverSide.{ReceiverSide}
+use Rattle.link_words.specs.declared.codes.DeskTables.{DeskTables}
+use Rattle.link_words.specs.PlacedDesks.{PlacedDesk, right_to}
+use base.Stored.{Coded}
 
 -- the other end
 abbrev pub other : End → End
@@ -132,27 +135,29 @@ with_shelf sh side.Host l = record sh { host = l }
 with_shelf sh side.Remote l = record sh { remote = l }
 
 module _ {D : Type 0} where
-  -- what goes with the turns of a lane
+  -- what goes with the sender's turn of a lane
   abbrev pub sender_side : RingState D → SenderSide
   sender_side s = record { accepted = length s.lane.lane.accepted }
 
-  abbrev pub receiver_side : RingState D → ReceiverSide
-  receiver_side s = record { handed = length s.lane.lane.takers; returned = s.lane.lane.returned; hands = s.rings.hands }
+  -- the words of a link, of which a reopening has reset so many
+  abbrev pub words_of : ℕ → List ℕ → LaneLink (RingState D) → List ℕ
+  words_of p fresh m = words_from p fresh (era_word m.era) (lane_words m.to_host) (lane_words m.to_remote)
+
+module _ {B : Type 0} {kc : Coded B} {kz : DeskTables} where
+  -- what goes with the receiver's turn of a lane
+  abbrev pub receiver_side : RingState (PlacedDesk kc kz) → ReceiverSide
+  receiver_side s = record { handed = length s.lane.lane.takers; returned = s.lane.lane.returned; hands = s.rings.hands; desk = right_to s.lane.desk }
 
   -- the slots of a lane that are at home
-  abbrev pub lane_homes : RingState D → List (Option Slot) → LaneHomes
+  abbrev pub lane_homes : RingState (PlacedDesk kc kz) → List (Option Slot) → LaneHomes
   lane_homes s shelf = record {
     sender = home_if s.lane.sender (Sender (sender_side s));
     receiver = home_if s.lane.receiver (Receiver (receiver_side s));
     shelf = shelf;
   }
 
-  -- the words of a link, of which a reopening has reset so many
-  abbrev pub words_of : ℕ → List ℕ → LaneLink (RingState D) → List ℕ
-  words_of p fresh m = words_from p fresh (era_word m.era) (lane_words m.to_host) (lane_words m.to_remote)
-
-  -- its slots
-  abbrev pub homes_of : LaneLink (RingState D) → Shelves → List (Option Slot)
+  -- the slots of a link
+  abbrev pub homes_of : LaneLink (RingState (PlacedDesk kc kz)) → Shelves → List (Option Slot)
   homes_of m sh = homes_from (lane_homes m.to_host sh.host) (lane_homes m.to_remote sh.remote)
 
 -- the sizes of the lane to an end

@@ -3,6 +3,7 @@
 
 mod codes;
 mod copies;
+mod desks;
 pub mod laws;
 mod loads;
 mod moves;
@@ -15,12 +16,13 @@ mod slots;
 mod stores;
 mod turns;
 
-pub use codes::DeskCode;
+pub use codes::{DeskCode, DeskRight, DeskTables, DeskView};
 pub use copies::LinkCopy;
+pub use desks::{DeskRule, DeskTable};
 pub use loads::{EraUse, IndexUse, load_entry, load_era, load_index};
 pub use rule::{
-    Call, CallStart, Event, LinkSeat, LinkSizes, LinkTable, LinkWords, Pass, ReceiverSide, Ring,
-    SenderSide, Slot, View,
+    Call, CallStart, Event, LinkSeat, LinkSizes, LinkTable, LinkWords, Made, Pass, ReceiverSide,
+    Ring, SenderSide, Slot, View,
 };
 pub use seats::{
     close_era, end_carried, enlist_carried, join, learn_era, let_go, settle, split, take_in,

@@ -49,7 +49,7 @@ pub fn load_index<D: Desk>(
     requires call { MayLoadIndex index lane seat.old.me }
     ensures same { (seat.new.table_id ≡ seat.old.table_id) × (seat.new.id ≡ seat.old.id) }
     ensures told { LoadsIndex index seat.old.me result seat.new.me }
-    ensures step { GoesOn D.row.coded D.meaning (HasWord (place_in (index_number index lane)) result) seat.old.me seat.new.me }
+    ensures step { GoesOn D.row.coded D.meaning seat.old.me (HasWord (place_in (index_number index lane)) result) seat.new.me }
 {
     match index {
         IndexUse::Room => table.load::<TellsSendLooks<D>>(seat, return_place(lane)),
@@ -73,7 +73,7 @@ pub fn load_entry<D: Desk>(
     requires call { MayLoadEntry ring lane count seat.old.me }
     ensures same { (seat.new.table_id ≡ seat.old.table_id) × (seat.new.id ≡ seat.old.id) }
     ensures told { LoadsEntry ring seat.old.me result seat.new.me }
-    ensures step { GoesOn D.row.coded D.meaning (HasWord (place_in (entry_number sizes.now lane ring count)) result) seat.old.me seat.new.me }
+    ensures step { GoesOn D.row.coded D.meaning seat.old.me (HasWord (place_in (entry_number sizes.now lane ring count)) result) seat.new.me }
 {
     let word = entry_place(sizes, lane, ring, count);
     match ring {
@@ -88,8 +88,8 @@ pub fn load_era<D: Desk>(table: &LinkTable<D>, seat: &mut LinkSeat, era: EraUse)
     requires table { (seat.old.table_id ≡ table.now.table_id) × (words_in table.now.key ≤ table.now.table_id.words) × (seat.old.me.0.sizes ≡ table.now.key) }
     requires call { MayLoadEra era seat.old.me }
     ensures same { (seat.new.table_id ≡ seat.old.table_id) × (seat.new.id ≡ seat.old.id) }
-    ensures told { LoadsEra era seat.old.me result seat.new.me }
-    ensures step { GoesOn D.row.coded D.meaning (HasWord 16 result) seat.old.me seat.new.me }
+    ensures told { LoadsEra D.row.coded D.meaning era seat.old.me result seat.new.me }
+    ensures step { GoesOn D.row.coded D.meaning seat.old.me (HasWord 16 result) seat.new.me }
 {
     match era {
         EraUse::Send => table.load::<TellsSendLoadsEra<D>>(seat, ERA_PLACE),

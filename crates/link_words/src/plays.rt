@@ -23,7 +23,7 @@ pub struct TellsLeavesSender<D> {
 impl<D: Desk> Play<Slot, View> for TellsLeavesSender<D> {
     ghost use Rattle.link_words.specs.Steps.{GoesOn, StoresWord, LeavesSender};
 
-    ghost then = { λ st m r m'. LeavesSender m m' × GoesOn D.row.coded D.meaning (StoresWord st.word r) m m' };
+    ghost then = { λ st m r m'. LeavesSender m m' × GoesOn D.row.coded D.meaning m (StoresWord st.word r) m' };
 }
 
 /// The last step of a call that has the receiver's turn.
@@ -34,7 +34,7 @@ pub struct TellsLeavesReceiver<D> {
 impl<D: Desk> Play<Slot, View> for TellsLeavesReceiver<D> {
     ghost use Rattle.link_words.specs.Steps.{GoesOn, StoresWord, LeavesReceiver};
 
-    ghost then = { λ st m r m'. LeavesReceiver m m' × GoesOn D.row.coded D.meaning (StoresWord st.word r) m m' };
+    ghost then = { λ st m r m'. LeavesReceiver m m' × GoesOn D.row.coded D.meaning m (StoresWord st.word r) m' };
 }
 
 /// Step 2 of a send.
@@ -45,7 +45,7 @@ pub struct TellsSendLoadsEra<D> {
 impl<D: Desk> Play<Slot, View> for TellsSendLoadsEra<D> {
     ghost use Rattle.link_words.specs.Steps.{GoesOn, HasWord, SendLoadsEra};
 
-    ghost then = { λ st m r m'. SendLoadsEra m r m' × GoesOn D.row.coded D.meaning (HasWord st.word r) m m' };
+    ghost then = { λ st m r m'. SendLoadsEra m r m' × GoesOn D.row.coded D.meaning m (HasWord st.word r) m' };
 }
 
 /// Step 3 of a send.
@@ -56,7 +56,7 @@ pub struct TellsSendLooks<D> {
 impl<D: Desk> Play<Slot, View> for TellsSendLooks<D> {
     ghost use Rattle.link_words.specs.Steps.{GoesOn, HasWord, SendLooks};
 
-    ghost then = { λ st m r m'. SendLooks m r m' × GoesOn D.row.coded D.meaning (HasWord st.word r) m m' };
+    ghost then = { λ st m r m'. SendLooks m r m' × GoesOn D.row.coded D.meaning m (HasWord st.word r) m' };
 }
 
 /// Step 4 of a send, from the sender's own list.
@@ -67,7 +67,7 @@ pub struct TellsSendTakesOwn<D> {
 impl<D: Desk> Play<Slot, View> for TellsSendTakesOwn<D> {
     ghost use Rattle.link_words.specs.Steps.{GoesOn, HasWord, SendTakesBuffer, accepted_by};
 
-    ghost then = { λ st m r m'. SendTakesBuffer (accepted_by m) m m' × GoesOn D.row.coded D.meaning (HasWord st.word r) m m' };
+    ghost then = { λ st m r m'. SendTakesBuffer (accepted_by m) m m' × GoesOn D.row.coded D.meaning m (HasWord st.word r) m' };
 }
 
 /// Step 4 of a send, from the return ring.
@@ -79,7 +79,7 @@ impl<D: Desk> Play<Slot, View> for TellsSendLoadsEntry<D> {
     ghost use Rattle.std.specs.Prelude.{◌%◌};
     ghost use Rattle.link_words.specs.Steps.{GoesOn, HasWord, SendTakesBuffer};
 
-    ghost then = { λ st m r m'. SendTakesBuffer (r % 4294967296) m m' × GoesOn D.row.coded D.meaning (HasWord st.word r) m m' };
+    ghost then = { λ st m r m'. SendTakesBuffer (r % 4294967296) m m' × GoesOn D.row.coded D.meaning m (HasWord st.word r) m' };
 }
 
 /// Step 5 of a send.
@@ -90,7 +90,7 @@ pub struct TellsSendStoresEntry<D> {
 impl<D: Desk> Play<Slot, View> for TellsSendStoresEntry<D> {
     ghost use Rattle.link_words.specs.Steps.{GoesOn, StoresWord, SendStoresEntry};
 
-    ghost then = { λ st m r m'. SendStoresEntry m m' × GoesOn D.row.coded D.meaning (StoresWord st.word r) m m' };
+    ghost then = { λ st m r m'. SendStoresEntry m m' × GoesOn D.row.coded D.meaning m (StoresWord st.word r) m' };
 }
 
 /// Step 6 of a send.
@@ -101,7 +101,7 @@ pub struct TellsSendPublishes<D> {
 impl<D: Desk> Play<Slot, View> for TellsSendPublishes<D> {
     ghost use Rattle.link_words.specs.Steps.{GoesOn, StoresWord, SendPublishes};
 
-    ghost then = { λ st m r m'. SendPublishes m m' × GoesOn D.row.coded D.meaning (StoresWord st.word r) m m' };
+    ghost then = { λ st m r m'. SendPublishes m m' × GoesOn D.row.coded D.meaning m (StoresWord st.word r) m' };
 }
 
 /// Step 2 of a take.
@@ -112,7 +112,7 @@ pub struct TellsTakeLoadsEra<D> {
 impl<D: Desk> Play<Slot, View> for TellsTakeLoadsEra<D> {
     ghost use Rattle.link_words.specs.Steps.{GoesOn, HasWord, TakeLoadsEra};
 
-    ghost then = { λ st m r m'. TakeLoadsEra m r m' × GoesOn D.row.coded D.meaning (HasWord st.word r) m m' };
+    ghost then = { λ st m r m'. TakeLoadsEra m r m' × GoesOn D.row.coded D.meaning m (HasWord st.word r) m' };
 }
 
 /// Step 3 of a take.
@@ -123,7 +123,7 @@ pub struct TellsTakeLooks<D> {
 impl<D: Desk> Play<Slot, View> for TellsTakeLooks<D> {
     ghost use Rattle.link_words.specs.Steps.{GoesOn, HasWord, TakeLooks};
 
-    ghost then = { λ st m r m'. TakeLooks m r m' × GoesOn D.row.coded D.meaning (HasWord st.word r) m m' };
+    ghost then = { λ st m r m'. TakeLooks m r m' × GoesOn D.row.coded D.meaning m (HasWord st.word r) m' };
 }
 
 /// Step 4 of a take.
@@ -135,7 +135,7 @@ impl<D: Desk> Play<Slot, View> for TellsTakeLoadsEntry<D> {
     ghost use Rattle.std.specs.Prelude.{◌%◌};
     ghost use Rattle.link_words.specs.Steps.{GoesOn, HasWord, TakeTakesBuffer};
 
-    ghost then = { λ st m r m'. TakeTakesBuffer (r % 4294967296) m m' × GoesOn D.row.coded D.meaning (HasWord st.word r) m m' };
+    ghost then = { λ st m r m'. TakeTakesBuffer (r % 4294967296) m m' × GoesOn D.row.coded D.meaning m (HasWord st.word r) m' };
 }
 
 /// Step 5 of a take.
@@ -146,7 +146,7 @@ pub struct TellsTakeHands<D> {
 impl<D: Desk> Play<Slot, View> for TellsTakeHands<D> {
     ghost use Rattle.link_words.specs.Steps.{GoesOn, HasWord, TakeHands};
 
-    ghost then = { λ st m r m'. TakeHands m r m' × GoesOn D.row.coded D.meaning (HasWord st.word r) m m' };
+    ghost then = { λ st m r m'. TakeHands D.row.coded D.meaning m.0.sizes.desks m r m' × GoesOn D.row.coded D.meaning m (HasWord st.word r) m' };
 }
 
 /// Step 2 of a give.
@@ -157,7 +157,7 @@ pub struct TellsGiveStoresEntry<D> {
 impl<D: Desk> Play<Slot, View> for TellsGiveStoresEntry<D> {
     ghost use Rattle.link_words.specs.Steps.{GoesOn, StoresWord, GiveStoresEntry};
 
-    ghost then = { λ st m r m'. GiveStoresEntry m m' × GoesOn D.row.coded D.meaning (StoresWord st.word r) m m' };
+    ghost then = { λ st m r m'. GiveStoresEntry m m' × GoesOn D.row.coded D.meaning m (StoresWord st.word r) m' };
 }
 
 /// Step 3 of a give.
@@ -168,7 +168,7 @@ pub struct TellsGivePublishes<D> {
 impl<D: Desk> Play<Slot, View> for TellsGivePublishes<D> {
     ghost use Rattle.link_words.specs.Steps.{GoesOn, StoresWord, GivePublishes};
 
-    ghost then = { λ st m r m'. GivePublishes m m' × GoesOn D.row.coded D.meaning (StoresWord st.word r) m m' };
+    ghost then = { λ st m r m'. GivePublishes m m' × GoesOn D.row.coded D.meaning m (StoresWord st.word r) m' };
 }
 
 /// Step 2 of a binding or an unbinding.
@@ -179,5 +179,5 @@ pub struct TellsBindLoadsEra<D> {
 impl<D: Desk> Play<Slot, View> for TellsBindLoadsEra<D> {
     ghost use Rattle.link_words.specs.Steps.{GoesOn, HasWord, BindLoadsEra};
 
-    ghost then = { λ st m r m'. BindLoadsEra m r m' × GoesOn D.row.coded D.meaning (HasWord st.word r) m m' };
+    ghost then = { λ st m r m'. BindLoadsEra D.row.coded D.meaning m.0.sizes.desks m r m' × GoesOn D.row.coded D.meaning m (HasWord st.word r) m' };
 }

@@ -1,19 +1,25 @@
 //! The words, the slots, what a seat knows, and the rule.
+use crate::codes::{DeskRight, DeskTables};
 use crate::copies::LinkCopy;
 use crate::sides::ReceiverState;
 use atomic_table::{Seat, Shared, TableRule};
 use lane_model::{Desk, Receiving, Sending, Turn, Wish};
 use ring_core::{Hand, RingSizes};
-use rp_base::{CallerNo, End, Inc, Message};
+use rp_base::{CallerNo, End, Era, Inc, Message};
 use std::collections::LinkedList;
 use std::marker::PhantomData;
 
 /// The sizes of a link, which its table is told once, when it is made.
+#[derive(Drop)]
 pub struct LinkSizes {
     pub to_host: RingSizes,
     pub to_remote: RingSizes,
+    /// How many messages each lane accepts in one incarnation.
+    pub book: u32,
     /// The first incarnation.
     pub first: Inc,
+    /// Where the desks lie.
+    pub desks: DeskTables,
 }
 
 /// What goes with the sender's turn of a lane: how many messages were accepted.
@@ -31,6 +37,8 @@ pub struct ReceiverSide {
     pub returned: u64,
     /// The buffers that are in hand, with the messages' numbers.
     pub hands: LinkedList<Hand>,
+    /// The right to the desk of this end.
+    pub desk: DeskRight,
 }
 
 /// What a caller begins.
@@ -121,8 +129,29 @@ pub struct View {
     pub sizes: LinkSizes,
 }
 
-/// A step of a seat, with what it read or made.
+/// What a step read or made.
+pub enum Made {
+    /// The word of a turn: 0 where it was free and this caller has it, else the holder's number and 1.
+    Turn(u64),
+    Era(Era),
+    /// A look for room: how many messages were accepted, and how many buffers are back.
+    Room(u64, u64),
+    /// A look for a message: how many were handed over, and how many are accepted.
+    Waiting(u64, u64),
+    /// This buffer is out.
+    Buffer(u64),
+    /// An entry is stored.
+    Entry,
+    /// A buffer was given back: how many are back now.
+    Gave(u64),
+    /// The turn is free.
+    Left,
+}
+
+/// A step of a seat, with what it read or made. The acceptance of a message has one entry, and so has each other step, but that a handing
+/// has two: the message, and the era that was read.
 pub enum Event {
+    Step(Made),
     /// Of the lane to this end, in this incarnation: the message of this number was accepted.
     Publish(End, Inc, u64, Message),
     /// Of the lane to this end, in this incarnation: the message of this number was handed to it.

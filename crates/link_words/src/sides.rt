@@ -3,40 +3,81 @@ ghost use Rattle.std.specs.Prelude.{◌≡◌, ◌+◌, ◌<◌, ◌≤◌, ◌^
 ghost use Rattle.ring_core.specs.RingSteps.{held_buffer, hands_without};
 ghost use Rattle.rp_base.specs.declared.limits.TheConstants.{CAPACITY_MOST};
 
+use crate::codes::DeskView;
+use crate::desks::{DeskTable, open, shut};
+use atomic_table::Badge;
+use lane_model::Desk;
 use ring_core::Hand;
-use rp_base::{CAPACITY_MOST, CallerNo, NoMemory};
+use rp_base::{CAPACITY_MOST, CallerNo, End, Message, NoMemory, Verdict};
 use std::alloc::Global;
 use std::marker::Model;
+use std::mem;
 
-/// The counts and the hands of a lane. It takes its room at once, for as many hands as a lane has buffers.
+/// The counts and the hands of a lane, and the right to the desk of its receivers' end. It takes its room at once, for as many hands as
+/// a lane has buffers.
 #[derive(Drop)]
 pub struct ReceiverState {
     handed: u64,
     returned: u64,
     hands: Vec<Hand>,
+    end: End,
+    desk: Badge<DeskView>,
 }
 
 impl Model for ReceiverState {
-    ghost use Rattle.std.specs.Prelude.{◌≤◌, vec_capacity};
+    ghost use Rattle.std.specs.Prelude.{◌≡◌, ◌≤◌, ◌∷◌, [], vec_capacity};
     ghost use Rattle.link_words.specs.declared.rule.ReceiverSide.{ReceiverSide};
+    ghost use Rattle.link_words.specs.DeskSeats.{code_in, home_view};
 
     ghost Value = { ReceiverSide };
 
-    ghost view = { λ r. record { handed = r.handed; returned = r.returned; hands = r.hands.items } };
+    ghost view = { λ r. record { handed = r.handed; returned = r.returned; hands = r.hands.items; desk = record { end = r.end; table = r.desk.table_id; code = code_in r.desk.views } } };
 
-    ghost invariant = { λ r. 256 ≤ vec_capacity r.hands };
+    ghost invariant = { λ r. (256 ≤ vec_capacity r.hands) × (r.desk.views ≡ home_view (code_in r.desk.views) ∷ []) };
 }
 
 impl ReceiverState {
-    /// Of a lane on which nothing was handed over.
-    pub fn empty(alloc: Global) -> Result<ReceiverState, NoMemory>
-        ensures { IfOk result (λ side. side ≡ record { handed = 0; returned = 0; hands = [] }) }
+    ghost use Rattle.link_words.specs.DeskSeats.{code_in, home_view};
+    ghost use Rattle.link_words.specs.Fresh.{opened_receiver};
+
+    /// Of a lane on which nothing was handed over, with the seat of the desk's table.
+    pub fn make(alloc: Global, end: End, desk: Badge<DeskView>) -> Result<ReceiverState, NoMemory>
+        requires { desk.views ≡ home_view (code_in desk.views) ∷ [] }
+        ensures { IfOk result (λ side. side ≡ opened_receiver (record { end = end; table = desk.table_id; code = code_in desk.views })) }
     {
         Ok(ReceiverState {
             handed: 0,
             returned: 0,
             hands: Vec::with_capacity(alloc, CAPACITY_MOST as usize)?,
+            end,
+            desk,
         })
+    }
+
+    /// The desk judges a message.
+    pub fn deliver<D: Desk>(
+        &mut self,
+        desks: &DeskTable<D>,
+        number: u64,
+        message: &Message,
+    ) -> Verdict
+        requires { (self.old.desk.table ≡ desks.now.table_id) × (0 < desks.now.table_id.words) }
+        ensures { (d : D) → self.old.desk.code ≡ D.row.coded.code d → (result ≡ D.meaning.verdict d number message.now)
+            × (self.new ≡ record self.old { desk = record self.old.desk { code = D.row.coded.code (D.meaning.delivered d number message.now) } }) }
+    {
+        let mut seat = mem::replace(&mut self.desk, Badge::blank()).into_seat();
+        open(desks, &mut seat);
+        let verdict = seat.slot_mut(desks, 0).deliver(number, message);
+        shut(desks, &mut seat);
+        self.desk = seat.into_badge();
+        verdict
+    }
+
+    /// The end whose desk it has the right to.
+    pub fn end(&self) -> End
+        ensures { result ≡ self.now.desk.end }
+    {
+        self.end
     }
 
     /// How many messages were handed over.

@@ -29,7 +29,7 @@ pub fn store_entry<D: Desk>(
     requires call { MayStoreEntry ring lane count entry seat.old.me }
     ensures same { (seat.new.table_id ≡ seat.old.table_id) × (seat.new.id ≡ seat.old.id) }
     ensures told { StoresEntry ring seat.old.me seat.new.me }
-    ensures step { GoesOn D.row.coded D.meaning (StoresWord (place_in (entry_number sizes.now lane ring count)) (entry.id + entry.len * 4294967296)) seat.old.me seat.new.me }
+    ensures step { GoesOn D.row.coded D.meaning seat.old.me (StoresWord (place_in (entry_number sizes.now lane ring count)) (entry.id + entry.len * 4294967296)) seat.new.me }
 {
     let word = entry_place(sizes, lane, ring, count);
     let new = entry.id as u64 + entry.len as u64 * 4_294_967_296;
@@ -53,7 +53,7 @@ pub fn publish_index<D: Desk>(
     requires call { MayPublish ring lane count seat.old.me }
     ensures same { (seat.new.table_id ≡ seat.old.table_id) × (seat.new.id ≡ seat.old.id) }
     ensures told { PublishesIndex ring seat.old.me seat.new.me }
-    ensures step { GoesOn D.row.coded D.meaning (StoresWord (place_in (ring_index ring lane)) (count % 65536)) seat.old.me seat.new.me }
+    ensures step { GoesOn D.row.coded D.meaning seat.old.me (StoresWord (place_in (ring_index ring lane)) (count % 65536)) seat.new.me }
 {
     match ring {
         Ring::Forward => {

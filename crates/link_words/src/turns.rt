@@ -30,12 +30,12 @@ fn wish_place(end: End, wish: &Wish) -> usize
 /// where it was free, and the caller has it now; else the number of the one who has it, and 1.
 #[inline(always)]
 pub fn take_turn<D: Desk>(table: &LinkTable<D>, seat: &mut LinkSeat, start: CallStart) -> u64
-    requires table { (seat.old.table_id ≡ table.now.table_id) × (words_in table.now.key ≤ table.now.table_id.words) }
+    requires table { (seat.old.table_id ≡ table.now.table_id) × (words_in table.now.key ≤ table.now.table_id.words) × (seat.old.me.0.sizes ≡ table.now.key) }
     requires caller { (r : RestsAt seat.old.me start.end start.caller) × IsFit start.wish r.mover.pass.hands × (start.caller < 64) }
     ensures same { (seat.new.table_id ≡ seat.old.table_id) × (seat.new.id ≡ seat.old.id) }
     ensures told { TakesTurn start.end start.caller start.follows start.wish seat.old.me result seat.new.me }
     ensures holder { result ≤ 65 }
-    ensures step { Begins D.row.coded D.meaning (HasWord (place_in (turn_word_for start.end start.wish)) result) start.caller start.follows start.wish seat.old.me seat.new.me }
+    ensures step { Begins D.row.coded D.meaning seat.old.me (HasWord (place_in (turn_word_for start.end start.wish)) result) start.caller start.follows start.wish seat.new.me }
 {
     let word = wish_place(start.end, &start.wish);
     let new = start.caller as u64 + 1;
@@ -45,11 +45,11 @@ pub fn take_turn<D: Desk>(table: &LinkTable<D>, seat: &mut LinkSeat, start: Call
 /// The last step of a call: its turn is free, and the side state is at home.
 #[inline(always)]
 pub fn leave_turn<D: Desk>(table: &LinkTable<D>, seat: &mut LinkSeat, lane: End, turn: LaneTurn)
-    requires table { (seat.old.table_id ≡ table.now.table_id) × (words_in table.now.key ≤ table.now.table_id.words) }
+    requires table { (seat.old.table_id ≡ table.now.table_id) × (words_in table.now.key ≤ table.now.table_id.words) × (seat.old.me.0.sizes ≡ table.now.key) }
     requires call { EndsAt turn seat.old.me lane }
     ensures same { (seat.new.table_id ≡ seat.old.table_id) × (seat.new.id ≡ seat.old.id) }
     ensures told { LeavesTurn turn seat.old.me seat.new.me }
-    ensures step { GoesOn D.row.coded D.meaning (StoresWord (place_in (turn_number turn lane)) 0) seat.old.me seat.new.me }
+    ensures step { GoesOn D.row.coded D.meaning seat.old.me (StoresWord (place_in (turn_number turn lane)) 0) seat.new.me }
 {
     match turn {
         LaneTurn::Sender => table.store::<TellsLeavesSender<D>>(seat, sender_place(lane), 0),
