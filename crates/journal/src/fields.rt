@@ -14,6 +14,7 @@ pub(crate) struct Fields<'a> {
 }
 
 impl<'a> Fields<'a> {
+    /// The form of a line with one field.
     pub(crate) fn one(form: Form, a: Piece<'a>) -> Fields<'a>
         ensures form { result.form ≡ form }
         ensures values { map word_of result.values ≡ word_of a.entry ∷ Fixed [] ∷ Fixed [] ∷ Fixed [] ∷ Fixed [] ∷ Fixed [] ∷ [] }
@@ -25,6 +26,7 @@ impl<'a> Fields<'a> {
         }
     }
 
+    /// The form of a line with two fields.
     pub(crate) fn two(form: Form, a: Piece<'a>, b: Piece<'a>) -> Fields<'a>
         ensures form { result.form ≡ form }
         ensures values { map word_of result.values ≡ word_of a.entry ∷ word_of b.entry ∷ Fixed [] ∷ Fixed [] ∷ Fixed [] ∷ Fixed [] ∷ [] }
@@ -36,6 +38,7 @@ impl<'a> Fields<'a> {
         }
     }
 
+    /// The form of a line with three fields.
     pub(crate) fn three(form: Form, a: Piece<'a>, b: Piece<'a>, c: Piece<'a>) -> Fields<'a>
         ensures form { result.form ≡ form }
         ensures values { map word_of result.values ≡ word_of a.entry ∷ word_of b.entry ∷ word_of c.entry ∷ Fixed [] ∷ Fixed [] ∷ Fixed [] ∷ [] }
@@ -47,6 +50,7 @@ impl<'a> Fields<'a> {
         }
     }
 
+    /// The form of a line with four fields.
     pub(crate) fn four(
         form: Form,
         a: Piece<'a>,
@@ -64,6 +68,7 @@ impl<'a> Fields<'a> {
         }
     }
 
+    /// The form of a line with five fields.
     pub(crate) fn five(
         form: Form,
         a: Piece<'a>,
@@ -82,6 +87,7 @@ impl<'a> Fields<'a> {
         }
     }
 
+    /// The form of a line with six fields.
     pub(crate) fn six(
         form: Form,
         a: Piece<'a>,

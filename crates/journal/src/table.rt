@@ -277,10 +277,12 @@ macro_rules! with_lines {
     };
 }
 
+/// The forms of the entries.
 macro_rules! all_forms {
     ($($form:ident: $event:tt [$($word:tt)+];)+) => { [$(Form::$form),+] };
 }
 
+/// What stands in the place of a word of the table.
 macro_rules! slot {
     ((Row $most:literal $field:ident)) => { Slot::Row($most) };
     ((Inc $field:ident)) => { Slot::Number };
@@ -288,6 +290,7 @@ macro_rules! slot {
     ($text:literal) => { Slot::Text($text) };
 }
 
+/// The places of a form.
 macro_rules! slots_by_form {
     (($form_now:ident) $($form:ident: $event:tt [$($word:tt)+];)+) => {
         match $form_now { $(Form::$form => &[$(slot!($word)),+],)+ }
@@ -316,12 +319,14 @@ macro_rules! empty {
     ($count:ident) => { Piece::Fixed("") };
 }
 
+/// A field as the piece of its kind.
 macro_rules! piece {
     (Inc $field:ident) => { Piece::Short($field) };
     (Row $most:literal $field:ident) => { Piece::Row($most, $field) };
     ($kind:ident $($field:ident)+) => { Piece::$kind($($field),+) };
 }
 
+/// The fields of an event.
 macro_rules! fields_by_event {
     (($event_now:ident) $($form:ident: ($($event:tt)+) [$($word:tt)+];)+) => {
         match $event_now {
@@ -337,6 +342,7 @@ macro_rules! field {
     (($kind:ident $field:ident)) => { $field };
 }
 
+/// The value that a word of the table has in a place.
 macro_rules! value {
     ((Name $field:ident) $alloc:ident $($at:tt)+) => { name_at($($at)+) };
     ((Number $field:ident) $alloc:ident $($at:tt)+) => { decimal_at($($at)+) };
@@ -364,17 +370,26 @@ macro_rules! event {
         $($read)*
         Ok($($event)+)
     }};
-    ($words:ident $alloc:ident $event:tt [$($read:tt)*] [$place:literal $($places:literal)*] $text:literal $($word:tt)*) => {
+    ($words:ident $alloc:ident $event:tt [$($read:tt)*] [$place:literal $($places:literal)*]
+        $text:literal $($word:tt)*) => {
         event!($words $alloc $event [$($read)*] [$($places)*] $($word)*)
     };
-    ($words:ident $alloc:ident $event:tt [$($read:tt)*] [$place:literal $($places:literal)*] $named:tt $($word:tt)*) => {
-        event!($words $alloc $event [$($read)* let field!($named) = value!($named $alloc $words, $place);] [$($places)*] $($word)*)
+    ($words:ident $alloc:ident $event:tt [$($read:tt)*] [$place:literal $($places:literal)*]
+        $named:tt $($word:tt)*) => {
+        event!(
+            $words $alloc $event
+            [$($read)* let field!($named) = value!($named $alloc $words, $place);]
+            [$($places)*] $($word)*
+        )
     };
 }
 
+/// The event of a form that some words say.
 macro_rules! event_by_form {
     (($form_now:ident $words:ident $alloc:ident) $($form:ident: $event:tt [$($word:tt)+];)+) => {
-        match $form_now { $(Form::$form => event!($words $alloc $event [] [0 1 2 3 4 5 6 7 8] $($word)+),)+ }
+        match $form_now {
+            $(Form::$form => event!($words $alloc $event [] [0 1 2 3 4 5 6 7 8] $($word)+),)+
+        }
     };
 }
 
