@@ -238,10 +238,8 @@ impl Core {
         ensures { IfOk result (λ bench. bench ≡ option_map (core_bench (driver_names self.now.actors) self.now.book inc) rings.now) }
     {
         let names = self.actors.drivers.names(alloc)?;
-        match rings {
-            Some(rings) => Ok(Some(core_bench(alloc, rings, names, self.book, inc)?)),
-            None => Ok(None),
-        }
+        let bench = bench_of(alloc, rings, names, self.book, inc)?;
+        Ok(bench)
     }
 
     /// The link over the rings of what is loaded, in an incarnation.
@@ -299,6 +297,23 @@ fn name_of(text: &str) -> Name
         unreachable!()
     };
     name
+}
+
+/// The link of a core in an incarnation, with drivers of these names, where its device has rings.
+fn bench_of(
+    alloc: Global,
+    rings: &Option<RingPair>,
+    names: Vec<Name>,
+    book: u32,
+    first: Inc,
+) -> Result<Option<Bench>, NoMemory>
+    requires { IfSome rings.now (λ rings. IsConfig (config_of rings book first)) }
+    ensures { IfOk result (λ bench. bench ≡ option_map (core_bench names.items book first) rings.now) }
+{
+    match rings {
+        Some(rings) => Ok(Some(core_bench(alloc, rings, names, book, first)?)),
+        None => Ok(None),
+    }
 }
 
 /// The link of a core over its device's rings, with drivers of these names and a caller at each end. It keeps no address of its

@@ -60,11 +60,19 @@ impl Core {
         if live.is_some() && !may_step {
             return Ok(Leave::Limit);
         }
+        self.unload(life);
+        Ok(Leave::Last(live))
+    }
+
+    /// Leaves the core in this life, with nothing loaded.
+    fn unload(&mut self, life: Life)
+        requires { life.state ≡ state.Offline }
+        ensures { self.new ≡ unloaded_core life self.old }
+    {
         self.life = life;
         self.image = None;
         self.loaded = None;
         self.bench = None;
-        Ok(Leave::Last(live))
     }
 
     /// Counts one user of an attached core fewer. With the last one the core is left to the other
