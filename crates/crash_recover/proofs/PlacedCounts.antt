@@ -1,11 +1,10 @@
 -- How many blocks are placed for a table.
-use Rattle.std.proofs.Common.{◌≡◌, ℕ, ◌+◌, ◌*◌, ◌≤◌, Bool, true, false, cond, not, List, [], ◌∷◌, ◌++◌, length, Option, Some, None, Ok, refl, ap, sym, arith, inl, inr, length-append}
+use Rattle.std.proofs.Common.{◌≡◌, ℕ, ◌+◌, ◌*◌, ◌≤◌, Bool, true, false, cond, not, List, [], ◌∷◌, ◌++◌, length, Option, Some, None, Result, Ok, Err, refl, ap, sym, arith, inl, inr, length-append}
 use Rattle.std.specs.Prelude.{◌==◌, nat_lt}
 use Rattle.std.specs.List.{filter}
 use Rattle.std.specs.Option.{is_none, is_some, option_map, option_or}
 use Rattle.std.proofs.lemmas.Bool.{cases_Bool}
 use Rattle.std.proofs.lemmas.List.Filters.{length-filter_both}
-use Rattle.rp_base.specs.Limits.{ring_capacity}
 use Rattle.elf_image.specs.Images.{entry_of, image_fault}
 use Rattle.elf_image.specs.Segments.{segments_of}
 use Rattle.elf_image.specs.declared.sections.Section.{Section}
@@ -21,51 +20,65 @@ use Rattle.memory_pool.specs.Wanted.{buffers_wanted, in_order, is_anywhere, memo
 use Rattle.memory_pool.specs.declared.blocks.Block.{Block}
 use Rattle.memory_pool.specs.declared.blocks.Use.TheVariants as usage
 use Rattle.memory_pool.specs.declared.regions.Region.{Region}
-use Rattle.memory_pool.specs.declared.wanted.Wanted.{Wanted}
-use Rattle.memory_pool.specs.declared.wanted.Wanted.TheVariants as wanted
-use Rattle.memory_pool.proofs.Sound.{ok_then, option_cases}
+use Rattle.memory_pool.proofs.Sound.{option_cases}
 use Rattle.fw_load.specs.Loading.{entry_unmapped, load_fault, mapped_fault, placed_fault, segments_unmapped}
 use Rattle.fw_load.specs.Memory.{memory_at}
 use Rattle.fw_load.specs.Tables.{bytes_in, entries_in, section_fault, table_of, table_section}
 use Rattle.fw_load.specs.declared.faults.LoadFault.TheVariants as fault
 use Rattle.crash_recover.specs.Cores.{blocks_most}
 
+went_on : {A B E : Type 0} (next : A → Result B E) (r : Result A E) (y : B) → then_ok next r ≡ Ok y → (x : A) × (r ≡ Ok x) × (next x ≡ Ok y)
+went_on next (Ok x) y e = (x, refl, e)
+went_on next (Err refused) y e = absurd (cc)
+
 -- as many blocks are placed as are wanted
-placed_count : (regions : List Region) (before : List Block) (all : List Wanted) (blocks : List Block) → placed_from regions before all ≡ Ok blocks → length blocks ≡ length before + length all
+placed_count : (regions : List Region) (before : List Block) (all : List _) (blocks : List Block) → placed_from regions before all ≡ Ok blocks → length blocks ≡ length before + length all
 placed_count regions before [] blocks is =
     let same : before ≡ blocks = cc in
     omega (arith, ap length same)
 placed_count regions before (one ∷ more) blocks is =
-    let step = ok_then (λ block. placed_from regions (before ++ block ∷ []) more) (next_block regions before one) blocks is in
+    let step = went_on (λ block. placed_from regions (before ++ block ∷ []) more) (next_block regions before one) blocks is in
     omega (arith, placed_count regions (before ++ step.0 ∷ []) more blocks step.2, length-append before (step.0 ∷ []))
 
-few_if : (test : Bool) (one : Wanted) → length (cond test (one ∷ []) []) ≤ 1
+few_if : {X : Type 0} (test : Bool) (one : X) → length (cond test (one ∷ []) []) ≤ 1
 few_if true one = omega arith
 few_if false one = omega arith
 
-few_unless : (test : Bool) (one : Wanted) → length (cond test [] (one ∷ [])) ≤ 1
+few_unless : {X : Type 0} (test : Bool) (one : X) → length (cond test [] (one ∷ [])) ≤ 1
 few_unless true one = omega arith
 few_unless false one = omega arith
+
+few_buffers : (index : ℕ) (device : Vdev) → length (buffers_wanted index device) ≤ 1
+few_buffers index device =
+    elim (cases_Bool (device.id == 7)) [
+      | inl is ↦ rw is (omega arith)
+      | inr other ↦ rw other (omega arith)
+    ]
 
 -- a device asks for two rings and its buffers at most
 few_of_device : (index : ℕ) (device : Vdev) → length (rings_wanted index device ++ buffers_wanted index device) ≤ 3
 few_of_device index device =
     let first = cond (nat_lt 0 device.count) (ring_wanted index 0 device.first ∷ []) [] in
     let second = cond (nat_lt 1 device.count) (ring_wanted index 1 device.second ∷ []) [] in
-    let buffers = wanted.Any (usage.Buffers index) (512 * (ring_capacity device.first.num + ring_capacity device.second.num)) 4096 in
-    let third = cond (device.id == 7) (buffers ∷ []) [] in
     omega (
       arith,
-      length-append (first ++ second) third,
+      length-append (first ++ second) (buffers_wanted index device),
       length-append first second,
       few_if (nat_lt 0 device.count) (ring_wanted index 0 device.first),
       few_if (nat_lt 1 device.count) (ring_wanted index 1 device.second),
-      few_if (device.id == 7) buffers,
+      few_buffers index device,
     )
+
+few_windows : (index da pa len : ℕ) (name : List ℕ) → length (wanted_by index (entry.Devmem da pa len name)) ≤ 1
+few_windows index da pa len name =
+    elim (cases_Bool (len == 0)) [
+      | inl is ↦ rw is (omega arith)
+      | inr other ↦ rw other (omega arith)
+    ]
 
 few_by : (index : ℕ) (one : Entry) → length (wanted_by index one) ≤ 3
 few_by index (entry.Carveout da pa len name) = omega (arith, few_unless (len == 0) (memory_wanted (usage.Carveout index) da len 4096))
-few_by index (entry.Devmem da pa len name) = omega (arith, few_unless (len == 0) (wanted.Window index da pa len))
+few_by index (entry.Devmem da pa len name) = omega (arith, few_windows index da pa len name)
 few_by index (entry.Trace da len name) = omega arith
 few_by index (entry.Device device) = few_of_device index device
 few_by index (entry.Skipped type) = omega arith
@@ -79,17 +92,15 @@ opposite : (test : Bool) → test ≡ not (not test)
 opposite true = refl
 opposite false = refl
 
+parted : {X : Type 0} (p : X → Bool) (all : List X) → length (filter (λ one. not (p one)) all ++ filter p all) ≡ length all
+parted p all =
+    omega
+    (arith, length-append (filter (λ one. not (p one)) all) (filter p all), length-filter_both (λ one. not (p one)) p (λ one. opposite (p one)) all)
+
 few_placed : (regions : List Region) (entries : List Entry) (blocks : List Block) → placement regions entries ≡ Ok blocks → length entries ≤ 256 → length blocks ≤ blocks_most
 few_placed regions entries blocks is few =
     let all = wanted_from 0 entries in
-    let pinned = λ (one : Wanted). not (is_anywhere one) in
-    omega (
-      arith,
-      placed_count regions [] (in_order all) blocks is,
-      length-append (filter pinned all) (filter is_anywhere all),
-      length-filter_both pinned is_anywhere (λ one. opposite (is_anywhere one)) all,
-      few_from 0 entries,
-    )
+    omega (arith, placed_count regions [] (in_order all) blocks is, parted is_anywhere all, few_from 0 entries)
 
 both_none : {F : Type 0} (a b : Option F) → option_or a b ≡ None → (a ≡ None) × (b ≡ None)
 both_none None b none = (refl, none)
