@@ -4,7 +4,6 @@ use Rattle.std.proofs.lemmas.List.Elements.{filter_map-append}
 use Rattle.crash_recover.proofs.cores.Core.parts.Goals as goal
 use Rattle.crash_recover.proofs.cores.Core.parts.Goals.{in-Some+in_ok-push, in_default}
 
--- (not proved yet)
 pub loop-range-preserved : goal.loop-range-preserved
 loop-range-preserved c =
     elim c.match-memory.branch [
