@@ -3,7 +3,7 @@ use Rattle.crash_recover.proofs.Loads.{load_sound, rings_config}
 use Rattle.crash_recover.proofs.cores.Core.load_image.Goals as goal
 
 pub returns-clause-loaded : goal.returns-clause-loaded
-returns-clause-loaded c = rw (← c.self.view_is) (load_is c.args.image.now c.self.inside.regions c.in_ok-loaded.loaded c.in_ok-loaded.ensures.loads c.in_ok-loaded.ensures.loaded)
+returns-clause-loaded c = rw (← c.self.view_is) (load_is c.args.image.now c.self.inside.regions c.in_ok-loaded.loaded c.in_ok-loaded.ensures.loaded)
 
 pub returns-clause-sound : goal.returns-clause-sound
 returns-clause-sound c = rw (← c.self.view_is) (load_sound c.args.image.now c.self.inside.regions c.in_ok-loaded.loaded c.in_ok-loaded.ensures.loads c.in_ok-loaded.ensures.loaded)
