@@ -75,3 +75,8 @@ did_unfound {A} IsHad does core why answer had is same = record {
   core = sym (ap (λ (out : CoreOutcome A CoreFault). out.core) is);
   answers = same ∙ sym (ap (λ (out : CoreOutcome A CoreFault). out.answer) is);
 }
+
+-- what never fails where it is not needed was needed
+pub is_needed : (needed : Bool) → (needed ≡ false → ⊥) → needed ≡ true
+is_needed true never = refl
+is_needed false never = absurd (never refl)

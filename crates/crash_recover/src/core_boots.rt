@@ -183,6 +183,13 @@ impl Core {
         Ok(Start::Detached)
     }
 
+    /// Whether a handover needs an image: the core is offline.
+    fn is_offline(&self) -> bool
+        ensures { result ≡ is_offline self.now.life.state }
+    {
+        self.life.state() == LifeState::Offline
+    }
+
     /// Hands the core over with the image that a store has under a name, as [`Core::handover_found`]
     /// does. The store is only asked where the core is offline.
     ///
@@ -207,8 +214,7 @@ impl Core {
         ensures failed { IsErrOf result (fault.Fetch fetch.Failed) → Rose (F.faults store.old) (F.faults store.new) }
         ensures same { result ≢ Err (fault.Fetch fetch.Failed) → F.faults store.new ≡ F.faults store.old }
     {
-        let is_offline = self.life.state() == LifeState::Offline;
-        let image = fetch_where(is_offline, alloc, name, store)?;
+        let image = fetch_where(self.is_offline(), alloc, name, store)?;
         self.handover_found(alloc, name_of(name), Ok(image.as_slice()))?;
         Ok(())
     }
