@@ -1,5 +1,5 @@
 -- A recovery that nothing refuses starts the core again.
-use Rattle.std.proofs.Common.{◌≡◌, ◌≢◌, ◌==◌, ℕ, Bool, true, false, cond, Option, Some, None, Ok, is_some, refl, sym, ap, subst, ◌∙◌}
+use Rattle.std.proofs.Common.{◌≡◌, ◌≢◌, ◌==◌, ℕ, Bool, true, false, cond, Option, Some, None, Ok, Err, is_some, refl, sym, ap, subst, ◌∙◌}
 use Rattle.std.specs.Option.{option_or, unwrap_or}
 use Rattle.std.proofs.lemmas.Bool.{cond_both, true≢false}
 use Rattle.rp_base.specs.declared.kinds.LifeState.{LifeState}
@@ -8,7 +8,8 @@ use Rattle.proc_state.specs.Lives.{CoreLife, Outcome, first_start, life_after_re
 use Rattle.crash_recover.specs.declared.core_faults.CoreFault.{CoreFault}
 use Rattle.crash_recover.specs.declared.core_faults.CoreFault.TheVariants as fault
 use Rattle.link_bench.specs.Benches.{BenchState}
-use Rattle.crash_recover.specs.CoreRecoveries.{fault_with, recovery_fault, reopen_fault, spent_fault, unrecovered_to}
+use Rattle.crash_recover.specs.CoreBoots.{Found}
+use Rattle.crash_recover.specs.CoreRecoveries.{fault_with, readied_core, recovery_fault, recovery_of, reload_fault, reopen_fault, spent_fault, unrecovered_to}
 use Rattle.crash_recover.specs.Cores.{CoreState}
 
 some_same : {A : Type 0} {x y : A} → Some x ≡ Some y → x ≡ y
@@ -42,3 +43,9 @@ recovers_to (Some state) life may more =
 -- the life of a core that is recovered goes on
 pub recovers : (core : CoreState) → recovery_fault core.life ≡ None → reopen_fault core ≡ None → (life_after_recovery core.life).answer ≡ Ok tt
 recovers core may opens = recovers_to (line_of core.life.state).recovery core.life may (not_spent (core.life.incarnation == most) (left_with core.bench (core.life.incarnation == most) opens))
+
+-- a recovery whose link is not reopened
+pub unopened_recovery : (core : CoreState) (found : Found) (why : CoreFault) → recovery_fault core.life ≡ None → reload_fault core found ≡ None → reopen_fault core ≡ Some why
+    → recovery_of core found ≡ record { core = readied_core core; answer = Err why }
+unfolding recovery_of
+unopened_recovery core found why may loads closed = rw may (rw loads (rw closed refl))
