@@ -4,7 +4,7 @@ use Rattle.std.proofs.lemmas.Bool.{cond_both, eq-eqb, lt-ltb, false≢true, true
 use Rattle.std.proofs.lemmas.Bool.Decides.{eqb_tells}
 use Rattle.rp_base.specs.declared.kinds.End.{End}
 use Rattle.rp_base.specs.declared.kinds.End.TheVariants as side
-use Rattle.proc_state.specs.Lives.{CoreLife}
+use Rattle.proc_state.specs.Lives.{CoreLife, is_up}
 use Rattle.lane_model.specs.declared.recoveries.ReclaimRefusal.TheVariants as refusal
 use Rattle.lane_model.specs.declared.states.LaneState.{LaneState}
 use Rattle.lane_model.specs.declared.stages.Receiving.{Receiving}
@@ -25,7 +25,7 @@ use Rattle.link_bench.specs.BenchCrashes.{after_close, after_reclaim}
 use Rattle.core_laws.specs.BenchMoves.{IsReached}
 use Rattle.link_bench.specs.Benches.{BenchState}
 use Rattle.link_bench.specs.BenchEnds.{crashed_bench, is_first, is_remote, with_fresh_caller, without_one, without_other, without_others, without_remote}
-use Rattle.core_laws.specs.KeptCores.{AreOwnUsed, IsKeptBench, IsKeptLink, IsUnmanaged, IsUnmanagedTurn, crash_reaches, is_running}
+use Rattle.core_laws.specs.KeptCores.{AreOwnUsed, crash_reaches, IsKeptBench, IsKeptLink, IsUnmanaged, IsUnmanagedTurn}
 
 -- ---- numbers of callers
 
@@ -284,7 +284,7 @@ close_is link =
     (λ _. record { inc = refl; callers = refl; unmanaged = λ is. is })
 
 -- the link of a core that crashed
-pub crash_kept : (before after : CoreLife) (bench : BenchState) → after.incarnation ≡ before.incarnation → is_running after.state ≡ false
+pub crash_kept : (before after : CoreLife) (bench : BenchState) → after.incarnation ≡ before.incarnation → is_up after.state ≡ false
     → IsKeptBench before bench → IsKeptBench after (crashed_bench bench)
 crash_kept before after bench same stopped is =
     let closed = close_is bench.link in

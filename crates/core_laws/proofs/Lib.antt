@@ -16,3 +16,4 @@ pub mod PendingCores
 pub mod PendingDrives
 pub mod PendingOthers
 pub mod PendingTurns
+pub mod Outcomes

@@ -2,8 +2,6 @@
 use Rattle.std.proofs.Common.{◌≡◌, ◌≢◌, ℕ, zero, suc, ◌+◌, eqb, cond, Bool, true, false, not, List, [], ◌∷◌, ◌++◌, length, Option, Some, None, IfSome, Result, Ok, Err, is_some, option_map, option_and_then, slice_get, slice_set, refl, sym, ap, subst, ◌∙◌, arith}
 use Rattle.std.proofs.lemmas.Bool.{cond_both, false≢true, or_parts, true≢false}
 use Rattle.rp_base.specs.declared.kinds.End.TheVariants as side
-use Rattle.rp_base.specs.declared.kinds.LifeState.{LifeState}
-use Rattle.rp_base.specs.declared.kinds.LifeState.TheVariants.{Offline, Running, Crashed}
 use Rattle.addr_translate.specs.Maps.{Mapping}
 use Rattle.remote_code.specs.declared.records.Record.{Record}
 use Rattle.remote_code.specs.declared.records.Record.TheVariants as record_kind
@@ -13,7 +11,7 @@ use Rattle.remote_core.specs.Works.{work_of, work_of_next, work_of_record}
 use Rattle.remote_core.specs.declared.workers.Work.{Work}
 use Rattle.remote_core.specs.declared.workers.Work.TheVariants as work
 use Rattle.remote_code.specs.declared.faults.WorkerFault.{WorkerFault}
-use Rattle.proc_state.specs.Lives.{CoreLife}
+use Rattle.proc_state.specs.Lives.{CoreLife, is_up}
 use Rattle.lane_model.specs.declared.calls.Wish.{Wish}
 use Rattle.lane_model.specs.declared.states.LaneState.{LaneState}
 use Rattle.lane_model.specs.Lanes.{has_call, holder}
@@ -34,11 +32,11 @@ use Rattle.link_bench.specs.BenchEnds.{crashed_bench, is_first, is_remote, with_
 use Rattle.crash_recover.specs.CoreCrashes.{after_report, crashed_core}
 use Rattle.crash_recover.specs.Cores.{CoreState, LoadState}
 use Rattle.crash_recover.specs.Drives.{DriveStep, acting, actor_step, actors_after_record, asked_by, drive_step, end_answer, first_or_take, gives_of, has_calls, host_begun, host_begun_as, host_reached, host_step, is_idle, left_of, link_step, message_of, number_taken, placed_map, record_run, record_step, reported_by, sends_of, with_turn_after, worker_call, worker_reached, worker_step}
-use Rattle.core_laws.specs.KeptCores.{AreOwnUsed, IsKeptBench, IsKeptCore, is_running}
+use Rattle.core_laws.specs.KeptCores.{AreOwnUsed, IsKeptBench, IsKeptCore}
 use Rattle.core_laws.specs.PendingCalls.{AreFitLanes, AreGivable, HasNoneBegun, IsReadyBench, IsReadyCore, given_by}
 use Rattle.link_bench.proofs.Begun.{begin_may}
 use Rattle.core_laws.proofs.CoreMoves.{first_sendable}
-use Rattle.core_laws.proofs.KeptCores.{stopped_life}
+use Rattle.core_laws.proofs.Outcomes.{IsStopped, report_left}
 use Rattle.core_laws.proofs.KeptCrashes.{reached_sound}
 use Rattle.core_laws.proofs.PendingCores.{begins, calling, given_both, given_now, host_calls_left, linked, next_of_host, next_of_worker, none_behind, sends_nothing, silent, worker_calls_left}
 use Rattle.core_laws.proofs.PendingSteps.{ReachFollows, other_call, other_later, own_call, own_later}
@@ -166,7 +164,7 @@ link_begun bench caller wanted none is =
     (λ _. is) (λ _. record { host = is.host; worker = is.worker }))
 
 host_ready : (core : CoreState) (found : Option BenchState) → IsReadyCore core → AreSendable core.actors → IfSome found IsReachedBench → IfSome found (IsKeptBench core.life)
-    → IfSome found HasNoneBegun → (is_running core.life.state ≡ true → IfSome found (IsReadyBench core.actors)) → IsReadyCore (host_step core found).core
+    → IfSome found HasNoneBegun → (is_up core.life.state ≡ true → IfSome found (IsReadyBench core.actors)) → IsReadyCore (host_step core found).core
 host_ready core None is sendable reached kept begun ready = is
 host_ready core (Some bench) is sendable reached kept begun ready =
     let walk = link_step bench 0 (first_or_take core.actors.host_calls) in
@@ -179,7 +177,7 @@ host_ready core (Some bench) is sendable reached kept begun ready =
     }
 
 worker_ready : (core : CoreState) (found : Option BenchState) → IsReadyCore core → AreSendable core.actors → IfSome found IsReachedBench → IfSome found (IsKeptBench core.life)
-    → IfSome found HasNoneBegun → (is_running core.life.state ≡ true → IfSome found (IsReadyBench core.actors)) → IsReadyCore (worker_call core found).core
+    → IfSome found HasNoneBegun → (is_up core.life.state ≡ true → IfSome found (IsReadyBench core.actors)) → IsReadyCore (worker_call core found).core
 worker_ready core None is sendable reached kept begun ready = is
 worker_ready core (Some bench) is sendable reached kept begun ready =
     let walk = link_step bench 1 (first_or_take core.actors.worker_calls) in
@@ -290,16 +288,14 @@ map_begun None f each is = tt
 map_begun (Some bench) f each is = each bench is
 
 -- a core that has crashed makes no call
-reported_at : (state : LifeState) (core : CoreState) → core.life.state ≡ state → IsReadyCore core → IsReadyCore (crashed_core state core)
-reported_at Offline core is ready = ready
-reported_at Running core is ready = record {
-  begun = map_begun core.bench crashed_bench crash_begun ready.begun;
-  calls = λ running. absurd (false≢true (sym (stopped_life core.life.state core.life is).stopped ∙ running));
+pub crashed_ready : (core : CoreState) (life : CoreLife) → IsStopped core.life life → IsReadyCore core → IsReadyCore (crashed_core life core)
+crashed_ready core life stops is = record {
+  begun = map_begun core.bench crashed_bench crash_begun is.begun;
+  calls = λ running. absurd (false≢true (sym stops.stopped ∙ running));
 }
-reported_at Crashed core is ready = ready
 
 pub report_ready : (core : CoreState) → IsReadyCore core → IsReadyCore (after_report core)
-report_ready core is = reported_at core.life.state core refl is
+report_ready core is = report_left IsReadyCore true core is (λ life stops. crashed_ready core life stops is)
 
 event_ready : (event : Driven) (core : CoreState) → IsReadyCore core → IsReadyCore (reported_by event core)
 event_ready driven.Idle core is = is

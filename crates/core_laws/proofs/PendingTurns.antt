@@ -1,5 +1,6 @@
 -- Turns of other callers on the link of a core leave calls of its actors that may begin.
 use Rattle.std.proofs.Common.{◌≡◌, ◌<◌, ℕ, zero, suc, ◌+◌, true, Option, Some, None, IfSome, Result, Ok, Err, refl}
+use Rattle.proc_state.specs.Lives.{is_up}
 use Rattle.std.proofs.lemmas.Bool.{cond_both}
 use Rattle.rp_base.specs.declared.kinds.LifeState.{LifeState}
 use Rattle.lane_model.specs.declared.calls.Wish.{Wish}
@@ -15,7 +16,6 @@ use Rattle.link_bench.specs.Benches.{BenchState, IsSendable, begin_fault, call_w
 use Rattle.crash_recover.specs.CoreTurns.{LinkPumped, actors_after_take, core_turns, core_turns_on, one_turn_on, pump_turns_on, take_turn_on, then_give, then_take}
 use Rattle.crash_recover.specs.Cores.{CoreState}
 use Rattle.crash_recover.specs.Drives.{message_of}
-use Rattle.core_laws.specs.KeptCores.{is_running}
 use Rattle.core_laws.specs.PendingCalls.{HasNoneBegun, IsReadyBench, IsReadyCore}
 use Rattle.link_bench.specs.Turns.{TurnCall, Turns, give_turn, is_whole, tested_call, then_more, turn_call, turn_message}
 use Rattle.core_laws.proofs.BenchMoves.{turn_sendable}
@@ -24,7 +24,7 @@ use Rattle.core_laws.proofs.PendingOthers.{call_ready, seen_ready}
 -- the link of a core in this state, with its actors
 pub record Stands (state : LifeState) (actors : ActorsState) (bench : BenchState) : Type 0 where
   pub begun : HasNoneBegun bench
-  pub calls : is_running state ≡ true → IsReadyBench actors bench
+  pub calls : is_up state ≡ true → IsReadyBench actors bench
 
 module _ (state : LifeState) where
   tested_stands : (actors : ActorsState) (bench : BenchState) (steps caller : ℕ) (wanted : Wish) (why : Option BenchFault) → begin_fault bench caller wanted ≡ why → 1 < caller → IsSendable wanted
@@ -97,7 +97,7 @@ module _ (state : LifeState) where
       (λ _. turns_stand more (done + 1) sender receiver turn.bench turn.actors turn.steps sends receives left) (λ _. left)
 
 found_turned : (count sender receiver : ℕ) (core : CoreState) (steps : ℕ) (found : Option BenchState) → 1 < sender → 1 < receiver → IsReadyCore core → IfSome found HasNoneBegun
-    → (is_running core.life.state ≡ true → IfSome found (IsReadyBench core.actors)) → IsReadyCore (core_turns_on count sender receiver core steps found).core
+    → (is_up core.life.state ≡ true → IfSome found (IsReadyBench core.actors)) → IsReadyCore (core_turns_on count sender receiver core steps found).core
 found_turned count sender receiver core steps None sends receives is begun ready = is
 found_turned count sender receiver core steps (Some bench) sends receives is begun ready =
     let left = turns_stand core.life.state count 0 sender receiver bench core.actors steps sends receives (record { begun = begun; calls = ready }) in

@@ -1,10 +1,9 @@
 -- What the link of a core keeps: the core's own two callers, turns of callers alone, and the incarnation of its life (own).
-use Rattle.std.specs.Prelude.{◌≡◌, ℕ, ◌+◌, ◌==◌, Bool, true, false, List, Option, Some, None, IfSome, if◌then◌else◌}
+use Rattle.std.specs.Prelude.{◌≡◌, ℕ, ◌+◌, ◌==◌, List, Option, Some, None, IfSome, if◌then◌else◌}
 use Rattle.rp_base.specs.declared.kinds.End.{End}
 use Rattle.rp_base.specs.declared.kinds.End.TheVariants as side
-use Rattle.rp_base.specs.declared.kinds.LifeState.{LifeState}
-use Rattle.rp_base.specs.declared.kinds.LifeState.TheVariants.{Offline, Running, Crashed}
-use Rattle.proc_state.specs.Lives.{CoreLife}
+use Rattle.rp_base.specs.declared.kinds.LifeState.TheVariants.{Running}
+use Rattle.proc_state.specs.Lives.{CoreLife, is_up}
 use Rattle.lane_model.specs.declared.states.LaneState.{LaneState}
 use Rattle.lane_model.specs.declared.stages.Turn.{Turn}
 use Rattle.lane_model.specs.declared.stages.Turn.TheVariants as turn
@@ -38,18 +37,12 @@ pub record AreOwnUsed (callers : List (Option End)) : Type 0 where
   pub host : end_of callers 0 ≡ Some side.Host
   pub remote : end_of callers 1 ≡ Some side.Remote
 
--- whether a core runs
-abbrev pub is_running : LifeState → Bool
-is_running Offline = false
-is_running Running = true
-is_running Crashed = false
-
--- the link of a core in this life: it is in the life's incarnation, and live exactly while the core runs
+-- the link of a core in this life: it is in the life's incarnation, and live exactly while the core is up
 pub record IsKeptLink (life : CoreLife) (link : LinkState EndState) : Type 0 where
   pub unmanaged : IsUnmanaged link
   pub own : AreOwnUsed link.callers
   pub inc : link.era.inc ≡ life.incarnation
-  pub live : link.era.is_live ≡ is_running life.state
+  pub live : link.era.is_live ≡ is_up life.state
 
 abbrev pub IsKeptBench : CoreLife → BenchState → Type 0
 IsKeptBench life bench = IsKeptLink life bench.link

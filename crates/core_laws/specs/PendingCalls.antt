@@ -1,5 +1,6 @@
 -- The calls that a core's actors are yet to make, beside the calls under way and the buffers that they hold (own).
 use Rattle.std.specs.Prelude.{◌≡◌, ℕ, ◌==◌, Bool, true, false, IsTrue, not, List, [], ◌∷◌, drop, None, IfSome}
+use Rattle.proc_state.specs.Lives.{is_up}
 use Rattle.std.specs.List.{list_any}
 use Rattle.rp_base.specs.declared.kinds.End.TheVariants as side
 use Rattle.lane_model.specs.declared.calls.CallEnd.{CallEnd}
@@ -20,7 +21,6 @@ use Rattle.channel_bus.specs.Sides.{EndState}
 use Rattle.crash_recover.specs.Actors.{ActorsState}
 use Rattle.link_bench.specs.Benches.{BenchState, begun_of}
 use Rattle.crash_recover.specs.Cores.{CoreState}
-use Rattle.core_laws.specs.KeptCores.{is_running}
 
 -- the numbers of the messages whose buffers these calls give back
 abbrev pub given_by : List Wish → List ℕ
@@ -100,4 +100,4 @@ pub record HasNoneBegun (bench : BenchState) : Type 0 where
 -- a core whose actors hold, while it runs, what their calls give back
 pub record IsReadyCore (core : CoreState) : Type 0 where
   pub begun : IfSome core.bench HasNoneBegun
-  pub calls : is_running core.life.state ≡ true → IfSome core.bench (IsReadyBench core.actors)
+  pub calls : is_up core.life.state ≡ true → IfSome core.bench (IsReadyBench core.actors)

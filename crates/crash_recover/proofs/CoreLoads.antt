@@ -1,8 +1,7 @@
 -- What a load is to a core: its view, its memory, and the link over its rings.
-use Rattle.std.proofs.Common.{◌≡◌, ℕ, ◌≤◌, List, [], Option, Some, IfSome, Result, Ok, ap, sym, ◌∙◌, inl, inr}
+use Rattle.std.proofs.Common.{◌≡◌, ℕ, ◌≤◌, List, [], Option, Some, Result, Ok, ap, sym, ◌∙◌}
 use Rattle.std.specs.Option.{option_and_then, option_map, unwrap_or}
 use Rattle.std.specs.Result.{result_ok}
-use Rattle.rp_base.specs.declared.limits.TheConstants.{BOOK_MOST}
 use Rattle.elf_image.specs.Images.{entry_of}
 use Rattle.memory_pool.specs.Placements.{placement}
 use Rattle.memory_pool.specs.Regions.{memory_len}
@@ -10,7 +9,6 @@ use Rattle.memory_pool.specs.Soundness.{SoundRegions}
 use Rattle.memory_pool.specs.declared.blocks.Block.{Block}
 use Rattle.memory_pool.specs.declared.faults.PlaceFault.{PlaceFault}
 use Rattle.memory_pool.specs.declared.regions.Region.{Region}
-use Rattle.memory_pool.proofs.Sound.{option_cases}
 use Rattle.addr_translate.specs.Mapped.{mapped_blocks}
 use Rattle.addr_translate.specs.Maps.{place_in}
 use Rattle.addr_translate.specs.declared.mapped.Place.{Place}
@@ -23,10 +21,8 @@ use Rattle.fw_load.specs.Tables.{entries_in, patched_in, table_of}
 use Rattle.fw_load.specs.declared.loading.Loaded.{Loaded}
 use Rattle.fw_load.specs.declared.rings.RingPair.{RingPair}
 use Rattle.fw_load.specs.declared.traces.TraceAt.{TraceAt}
-use Rattle.lane_model.specs.Conditions.{IsConfig}
-use Rattle.crash_recover.specs.CoreBoots.{config_of, loaded_at, loaded_from}
+use Rattle.crash_recover.specs.CoreBoots.{loaded_at, loaded_from}
 use Rattle.crash_recover.specs.Cores.{CoreState, IsSoundLoad, LoadState, bytes_at, core_memory, load_view}
-use Rattle.crash_recover.proofs.Loads.{load_config}
 
 abbrev given : List Block → List ℕ → List ℕ → ℕ → Option RingPair → List TraceAt → LoadState
 given placed memory table entry rings traces = record { memory = memory; placed = placed; table = table; entry = entry; rings = rings; traces = traces }
@@ -66,12 +62,3 @@ pub memory_read : (core : CoreState) (load : LoadState) (da len : ℕ) (at : Opt
 memory_read core load da len at is place =
     ap (bytes_at load.memory len) place
     ∙ sym (ap (λ found. option_and_then (λ (load : LoadState). bytes_at load.memory len (memory_at core.regions load.placed da len)) found) is)
-
--- the link over the rings of a load may be made
-pub load_configs : (image : List ℕ) (regions : List Region) (loaded : Loaded) (book first : ℕ) → IsLoaded image regions loaded
-    → 1 ≤ book → book ≤ BOOK_MOST → 1 ≤ first → IfSome loaded.rings (λ rings. IsConfig (config_of rings book first))
-load_configs image regions loaded book first is some most begun =
-    elim (option_cases loaded.rings) [
-      | inl none ↦ rw none tt
-      | inr found ↦ rw found.1 (load_config image regions loaded found.0 book first is found.1 some most begun)
-    ]

@@ -1,12 +1,13 @@
 pub mod Loads
 pub mod CoreBenches
 pub mod CoreLoads
-pub mod CoreFaults
+pub mod Names
 pub mod RecordRuns
 pub mod CoreTurnWalks
 pub mod DriveSteps
-pub mod Recovered
 pub mod PlacedCounts
 pub mod PartSums
 pub mod KeptParts
 pub mod CoreParts
+pub mod Unfound
+pub mod Restarts

@@ -1,5 +1,5 @@
 -- What a load leaves: a sound placement, and rings over which a link may be made.
-use Rattle.std.proofs.Common.{◌≡◌, ℕ, ◌≤◌, List, None, Some, IfSome, arith, ap, leb, subst, ◌∙◌}
+use Rattle.std.proofs.Common.{◌≡◌, ℕ, ◌≤◌, List, Option, None, Some, IfSome, arith, ap, leb, subst, ◌∙◌}
 use Rattle.std.specs.Option.{is_some}
 use Rattle.std.specs.Int.{is_power_of_two}
 use Rattle.std.proofs.lemmas.Bool.{leb-true}
@@ -42,15 +42,18 @@ ring_is_sized ring sound =
     let parts = both_true (is_power_of_two ring.num) (leb ring.num RING_MOST) sound.size in
     (parts.0, leb-true ring.num RING_MOST parts.1)
 
--- the link of a core over the rings of a load may be made
-pub load_config : (image : List ℕ) (regions : List Region) (loaded : Loaded) (rings : RingPair) (book first : ℕ) → IsLoaded image regions loaded
-    → loaded.rings ≡ Some rings → 1 ≤ book → book ≤ BOOK_MOST → 1 ≤ first → IsConfig (config_of rings book first)
-load_config image regions loaded rings book first is found some most begun =
-    let pair : IsSoundPair rings = subst (λ found. IfSome found IsSoundPair) found is.sound in
-    record {
-      to_host = ring_is_sized rings.to_host pair.0;
-      to_remote = ring_is_sized rings.to_remote pair.1;
-      book = (some, most);
-      first = begun;
-      buffers = omega (arith, capacity_most rings.to_host.num, capacity_most rings.to_remote.num);
-    }
+-- the link of a core over sound rings may be made
+pub pair_config : (rings : RingPair) (book first : ℕ) → IsSoundPair rings → 1 ≤ book → book ≤ BOOK_MOST → 1 ≤ first → IsConfig (config_of rings book first)
+pair_config rings book first pair some most begun = record {
+  to_host = ring_is_sized rings.to_host pair.0;
+  to_remote = ring_is_sized rings.to_remote pair.1;
+  book = (some, most);
+  first = begun;
+  buffers = omega (arith, capacity_most rings.to_host.num, capacity_most rings.to_remote.num);
+}
+
+-- the same of rings that may be none
+pub rings_config : (rings : Option RingPair) (book first : ℕ) → IfSome rings IsSoundPair → 1 ≤ book → book ≤ BOOK_MOST → 1 ≤ first
+    → IfSome rings (λ rings. IsConfig (config_of rings book first))
+rings_config None book first pair some most begun = tt
+rings_config (Some rings) book first pair some most begun = pair_config rings book first pair some most begun

@@ -1,9 +1,9 @@
--- What a boot and a shutdown of a core answer and leave (`rproc_boot`, `rproc_shutdown` and `rproc_fw_boot` of Linux remoteproc_core.c; the faults and their order are own).
-use Rattle.std.specs.Prelude.{◌≡◌, ◌≢◌, ℕ, ◌+◌, ◌==◌, Bool, true, false, not, ◌&&◌, List, [], Option, Some, None, option_map, option_and_then, unwrap_or, Ok, Err, if◌then◌else◌}
-use Rattle.std.specs.Option.{option_or}
-use Rattle.std.specs.Result.{result_err, result_ok}
+-- What a boot and a handover of a core answer and leave (`rproc_boot`, `rproc_fw_boot` and `rproc_attach` of Linux remoteproc_core.c; the handover, the faults and their order are own).
+use Rattle.std.specs.Prelude.{◌≡◌, ◌≢◌, ℕ, ◌==◌, Bool, true, false, not, ◌&&◌, List, [], Option, Some, None, option_map, unwrap_or, Result, Ok, Err, if◌then◌else◌}
+use Rattle.std.specs.Result.{result_err, result_map_both, result_ok}
 use Rattle.rp_base.specs.declared.kinds.End.TheVariants as side
-use Rattle.rp_io.specs.Images.{IsFetched, fetch_answer}
+use Rattle.rp_base.specs.declared.kinds.LifeState.{LifeState}
+use Rattle.rp_io.specs.Images.{fetch_answer}
 use Rattle.rp_io.specs.declared.faults.FetchFault.{FetchFault}
 use Rattle.rp_io.specs.declared.faults.FetchFault.TheVariants as fetch
 use Rattle.elf_image.specs.Images.{entry_of}
@@ -17,16 +17,20 @@ use Rattle.fw_load.specs.Tables.{entries_in, patched_in, table_of}
 use Rattle.fw_load.specs.declared.faults.LoadFault.{LoadFault}
 use Rattle.fw_load.specs.declared.faults.LoadFault.TheVariants as load
 use Rattle.fw_load.specs.declared.rings.RingPair.{RingPair}
-use Rattle.proc_state.specs.Lives.{life_after_boot, most, life_after_shutdown}
+use Rattle.proc_state.specs.Lives.{CoreLife, Outcome, is_offline, life_after_boot, life_after_handover, most}
+use Rattle.proc_state.specs.declared.answers.LifeFault.{LifeFault}
+use Rattle.proc_state.specs.declared.answers.Power.{Power}
+use Rattle.proc_state.specs.declared.answers.Power.TheVariants as power
 use Rattle.endpoint_map.specs.Bindings.{no_bindings}
 use Rattle.channel_bus.specs.Sides.{EndState}
 use Rattle.lane_model.specs.declared.calls.LinkConfig.{LinkConfig}
+use Rattle.crash_recover.specs.declared.core_answers.Start.{Start}
+use Rattle.crash_recover.specs.declared.core_answers.Start.TheVariants as start
 use Rattle.crash_recover.specs.declared.core_faults.CoreFault.{CoreFault}
 use Rattle.crash_recover.specs.declared.core_faults.CoreFault.TheVariants as fault
 use Rattle.link_bench.specs.Benches.{BenchState, new_bench_of, with_new_caller}
 use Rattle.crash_recover.specs.Actors.{driver_names, fresh_actors}
-use Rattle.link_bench.specs.BenchHolds.{caller_out}
-use Rattle.crash_recover.specs.Cores.{CoreState, LoadState}
+use Rattle.crash_recover.specs.Cores.{CoreOutcome, CoreState, LoadState, loaded_rings, refuse_or}
 
 -- the refusal of a load, where want of memory stands alone
 abbrev pub core_fault_of_load : LoadFault → CoreFault
@@ -72,66 +76,104 @@ unfoldable pub core_bench : List (List ℕ) → ℕ → ℕ → RingPair → Ben
 core_bench names book first rings =
     with_new_caller (with_new_caller (new_bench_of (config_of rings book first) (fresh_end rings.service names) (fresh_end false [])) side.Host (Some 0)) side.Remote (Some 1)
 
--- whether a boot needs an image: a core with users counts one more, and one whose incarnations are spent is refused
-abbrev pub needs_image : CoreState → Bool
-needs_image core = (core.life.users == 0) && not (core.life.incarnation == most)
+-- ---- images
 
--- why a core does not boot this image, which counts only where one is needed
-abbrev pub boot_fault : CoreState → List ℕ → Option CoreFault
-boot_fault core image =
-    if needs_image core then option_map fault.Load (load_fault image core.regions) else option_map fault.Life (result_err (life_after_boot core.life).answer)
+-- an image that was found under a name, or why there is none
+abbrev pub Found : Type 0
+Found = Result (List ℕ) FetchFault
 
--- the core in its next incarnation, with what an image of this name became
-abbrev pub first_start : CoreState → List ℕ → LoadState → CoreState
-first_start core name given = record core {
-  life = (life_after_boot core.life).life;
-  image = Some name;
-  loaded = Some given;
-  bench = option_map (core_bench (driver_names core.actors) core.book (core.life.incarnation + 1)) given.rings;
-  actors = fresh_actors core.actors given.entry;
+-- why an image is not loaded into a core: there is none, or it may not be loaded
+abbrev pub image_fault : CoreState → Found → Option CoreFault
+image_fault core (Ok image) = option_map fault.Load (load_fault image core.regions)
+image_fault core (Err why) = Some (core_fault_of_fetch why)
+
+-- what an image that was found becomes in a core
+abbrev pub loaded_in : CoreState → Found → LoadState
+loaded_in core (Ok image) = loaded_from image core.regions
+loaded_in core (Err why) = loaded_from [] core.regions
+
+-- the core with an image of this name loaded
+abbrev pub with_load : CoreState → List ℕ → LoadState → CoreState
+with_load core name given = record core { image = Some name; loaded = Some given }
+
+-- ---- boots
+
+-- where the first record stands of what was loaded
+abbrev pub loaded_entry : Option LoadState → ℕ
+loaded_entry loaded = unwrap_or (option_map (λ (given : LoadState). given.entry) loaded) 0
+
+-- the core started in this life, over what it has loaded: its memory is as it was
+abbrev pub started_core : CoreLife → CoreState → CoreState
+started_core life core = record core {
+  life = life;
+  bench = option_map (core_bench (driver_names core.actors) core.book life.incarnation) (loaded_rings core.loaded);
+  actors = fresh_actors core.actors (loaded_entry core.loaded);
 }
 
--- the core after a boot of this image under this name, where nothing refuses it
-abbrev pub after_boot : CoreState → List ℕ → List ℕ → CoreState
-after_boot core name image =
-    if needs_image core then first_start core name (loaded_from image core.regions) else record core { life = (life_after_boot core.life).life }
+-- whether a boot needs an image: the core is offline, and an incarnation is left
+abbrev pub needs_image : CoreState → Bool
+needs_image core = is_offline core.life.state && not (core.life.incarnation == most)
 
--- where told: the image is what the store has under this name
-abbrev pub IsImageIn : Option (List (List ℕ × List ℕ)) → List ℕ → List ℕ → Type 0
-IsImageIn None name image = Unit {0}
-IsImageIn (Some images) name image = fetch_answer images name ≡ Ok image
+-- the first user of a core starts it in this life: an offline core loads an image, and a detached one is attached as it is
+abbrev pub first_boot : CoreLife → CoreState → List ℕ → Found → CoreOutcome Start CoreFault
+first_boot life core name found =
+    if is_offline core.life.state then refuse_or core (image_fault core found) (record {
+      core = started_core life (with_load core name (loaded_in core found));
+      answer = Ok (start.Running life.incarnation);
+    })
+    else record { core = started_core life core; answer = Ok (start.Attached life.incarnation) }
 
--- a boot from a store of these images: the core has booted an image that the store has, if it needs one
-pub record BootsFrom (images : Option (List (List ℕ × List ℕ))) (core : CoreState) (name : List ℕ) (left : CoreState) : Type 0 where
-  pub image : List ℕ
-  pub found : needs_image core ≡ true → IsImageIn images name image
-  pub fits : boot_fault core image ≡ None
-  pub after : left ≡ after_boot core name image
+-- a boot that leaves this life, by what the life answers
+abbrev pub boot_as : CoreLife → Result Power LifeFault → CoreState → List ℕ → Found → CoreOutcome Start CoreFault
+boot_as life (Err why) core name found = record { core = core; answer = Err (fault.Life why) }
+boot_as life (Ok (power.Counted users)) core name found = record { core = record core { life = life }; answer = Ok (start.Users users) }
+boot_as life (Ok power.First) core name found = first_boot life core name found
 
--- a load that is refused of an image that the store has
-pub record IsUnloadable (images : Option (List (List ℕ × List ℕ))) (core : CoreState) (name : List ℕ) (why : LoadFault) : Type 0 where
-  pub image : List ℕ
-  pub found : IsImageIn images name image
-  pub refused : load_fault image core.regions ≡ Some why
+-- a boot with an image that was found under this name, or wasn't
+unfoldable pub boot_of : CoreState → List ℕ → Found → CoreOutcome Start CoreFault
+boot_of core name found = boot_as (life_after_boot core.life).life (life_after_boot core.life).answer core name found
 
--- why a boot from a store of these images is refused: its life's fault comes before the store is asked
-abbrev pub IsBootFault : Option (List (List ℕ × List ℕ)) → CoreState → List ℕ → CoreFault → Type 0
-IsBootFault images core name (fault.Life why) = (needs_image core ≡ false) × (result_err (life_after_boot core.life).answer ≡ Some why)
-IsBootFault images core name (fault.Fetch why) = (needs_image core ≡ true) × (why ≢ fetch.NoMemory) × IsFetched images name (Err why)
-IsBootFault images core name (fault.Load why) = (needs_image core ≡ true) × IsUnloadable images core name why
-IsBootFault images core name fault.NoMemory = needs_image core ≡ true
-IsBootFault images core name fault.RingsChanged = ⊥
-IsBootFault images core name (fault.CallerOut caller) = ⊥
-IsBootFault images core name (fault.Reopen why) = ⊥
+-- ---- handovers
 
--- why a core is not shut down: it isn't running, or a host caller other than 0 is out when the last user leaves
-abbrev pub shutdown_fault : CoreState → Option CoreFault
-shutdown_fault core =
-    option_or (option_map fault.Life (result_err (life_after_shutdown core.life).answer))
-    (if core.life.users == 1 then option_map fault.CallerOut (option_and_then caller_out core.bench) else None)
+-- a handover that leaves this life, by what the life answers: the other party has loaded the image
+abbrev pub handover_as : CoreLife → Result (Unit {0}) LifeFault → CoreState → List ℕ → Found → CoreOutcome Start CoreFault
+handover_as life (Err why) core name found = record { core = core; answer = Err (fault.Life why) }
+handover_as life (Ok done) core name found = refuse_or core (image_fault core found) (record {
+  core = record (with_load core name (loaded_in core found)) { life = life };
+  answer = Ok start.Detached;
+})
 
--- the core after a shutdown that nothing refuses: with the last user go its image, what it became, and its link
-abbrev pub after_shutdown : CoreState → CoreState
-after_shutdown core =
-    if core.life.users == 1 then record core { life = (life_after_shutdown core.life).life; image = None; loaded = None; bench = None }
-    else record core { life = (life_after_shutdown core.life).life }
+-- a handover with an image that was found under this name, or wasn't
+unfoldable pub handover_of : CoreState → List ℕ → Found → CoreOutcome Start CoreFault
+handover_of core name found = handover_as (life_after_handover core.life).life (life_after_handover core.life).answer core name found
+
+-- ---- calls that ask a store
+
+-- where told: what a store of these images has under a name; what it answers where it fails or memory runs out says nothing of them
+abbrev pub IsFoundIn : Option (List (List ℕ × List ℕ)) → List ℕ → Found → Type 0
+IsFoundIn None name found = Unit {0}
+IsFoundIn (Some images) name (Err fetch.Failed) = Unit {0}
+IsFoundIn (Some images) name (Err fetch.NoMemory) = Unit {0}
+IsFoundIn (Some images) name found = fetch_answer images name ≡ found
+
+-- a call of a core did what this does with what a store has
+pub record DidWith {A : Type 0} (IsHad : Found → Type 0) (does : Found → CoreOutcome A CoreFault) (left : CoreState) (answer : Result A CoreFault) : Type 0 where
+  pub found : Found
+  pub had : IsHad found
+  pub core : left ≡ (does found).core
+  pub answers : answer ≡ (does found).answer
+
+-- the answer of a boot in short: whether it started the core
+abbrev pub power_of : Start → Power
+power_of (start.Users users) = power.Counted users
+power_of (start.Running inc) = power.First
+power_of (start.Attached inc) = power.First
+power_of start.Detached = power.First
+
+-- the same outcome, answered in short
+abbrev pub in_short : {A B : Type 0} → (A → B) → CoreOutcome A CoreFault → CoreOutcome B CoreFault
+in_short short outcome = record { core = outcome.core; answer = result_map_both short (λ why. why) outcome.answer }
+
+-- that a call was done
+abbrev pub done : {A : Type 0} → A → Unit {0}
+done answer = tt

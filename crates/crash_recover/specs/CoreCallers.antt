@@ -21,8 +21,7 @@ use Rattle.link_bench.specs.Benches.{BenchState, BenchWalk, advance_walk, begin_
 use Rattle.link_bench.specs.BenchCrashes.{reclaim_answer, reclaim_leaves}
 use Rattle.link_bench.specs.BenchRings.{bench_snapshot, snapshot_at, turn_holder}
 use Rattle.crash_recover.specs.CoreLinks.{with_link}
-use Rattle.crash_recover.specs.CoreRecoveries.{loaded_rings}
-use Rattle.crash_recover.specs.Cores.{CoreState}
+use Rattle.crash_recover.specs.Cores.{CoreState, loaded_rings}
 use Rattle.crash_recover.specs.Drives.{actors_after_end, after_call_end}
 
 -- the callers 0 and 1 are those of the core's own actors

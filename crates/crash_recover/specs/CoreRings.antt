@@ -5,8 +5,7 @@ use Rattle.resource_table.specs.declared.entries.Ring.{Ring}
 use Rattle.fw_load.specs.declared.rings.RingPair.{RingPair}
 use Rattle.link_bench.specs.Benches.{BenchState, RingsState}
 use Rattle.link_bench.specs.BenchRings.{lane_base, placed_bytes}
-use Rattle.crash_recover.specs.CoreRecoveries.{loaded_rings}
-use Rattle.crash_recover.specs.Cores.{CoreState}
+use Rattle.crash_recover.specs.Cores.{CoreState, loaded_rings}
 
 -- the ring of a lane
 abbrev pub ring_of_lane : RingPair → ℕ → Ring

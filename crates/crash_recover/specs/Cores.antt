@@ -1,8 +1,6 @@
 -- A remote core: its regions, its life, and what a boot gave it (the calls and states of the Linux remoteproc documentation; the rest is own).
-use Rattle.std.specs.Prelude.{◌≡◌, ℕ, ◌+◌, ◌≤◌, Bool, true, false, List, [], ◌∷◌, ◌++◌, length, All, slice_get, slice_range, Option, Some, None, IfSome, is_some, option_map, option_and_then, if◌then◌else◌}
+use Rattle.std.specs.Prelude.{◌≡◌, ℕ, ◌+◌, ◌≤◌, Bool, true, false, not, is_some, List, [], ◌∷◌, ◌++◌, length, All, slice_get, slice_range, Option, Some, None, IfSome, option_map, option_and_then, Result, Err, if◌then◌else◌}
 use Rattle.rp_base.specs.declared.limits.TheConstants.{BOOK_MOST}
-use Rattle.rp_base.specs.declared.kinds.LifeState.{LifeState}
-use Rattle.rp_base.specs.declared.kinds.LifeState.TheVariants.{Offline, Running, Crashed}
 use Rattle.memory_pool.specs.Regions.{region_fault}
 use Rattle.memory_pool.specs.Soundness.{SoundPlacement}
 use Rattle.memory_pool.specs.declared.blocks.Block.{Block}
@@ -15,7 +13,7 @@ use Rattle.fw_load.specs.Rings.{HasBuffers, IsSoundPair, IsTraceIn}
 use Rattle.fw_load.specs.declared.loading.Loaded.{Loaded}
 use Rattle.fw_load.specs.declared.rings.RingPair.{RingPair}
 use Rattle.fw_load.specs.declared.traces.TraceAt.{TraceAt}
-use Rattle.proc_state.specs.Lives.{CoreLife, new_life}
+use Rattle.proc_state.specs.Lives.{CoreLife, is_offline, new_life}
 use Rattle.host_driver.specs.Drivers.{Declared, driver_fault}
 use Rattle.host_driver.specs.declared.drivers.DriverFault.{DriverFault}
 use Rattle.host_driver.specs.declared.drivers.DriverFault.TheVariants as driver
@@ -44,7 +42,7 @@ load_view loaded = record {
   traces = loaded.traces.items;
 }
 
--- a core: its regions, how many messages a lane of its link accepts in one incarnation, its life, and from a boot to the last shutdown the name of the image, what it became, its link where the image has a device for RPMsg, and its actors
+-- a core: its regions, how many messages a lane of its link accepts in one incarnation, its life, the name of the image that it was booted or handed over with and what that became, while it is not offline, its link while it has users and where the image has a device for RPMsg, and its actors
 pub record CoreState : Type 0 where
   pub regions : List Region
   pub book : ℕ
@@ -58,11 +56,19 @@ pub record CoreState : Type 0 where
 abbrev pub new_core : List Region → List Declared → ℕ → CoreState
 new_core regions kinds book = record { regions = regions; book = book; life = new_life; image = None; loaded = None; bench = None; actors = new_actors kinds }
 
--- whether a core has no power
-abbrev pub is_offline : LifeState → Bool
-is_offline Offline = true
-is_offline Running = false
-is_offline Crashed = false
+-- the core that a call leaves, and what it answers
+pub record CoreOutcome (A E : Type 0) : Type 0 where
+  pub core : CoreState
+  pub answer : Result A E
+
+-- a call that is refused for this, if it is, and else does that
+abbrev pub refuse_or : {A E : Type 0} → CoreState → Option E → CoreOutcome A E → CoreOutcome A E
+refuse_or core None done = done
+refuse_or core (Some why) done = record { core = core; answer = Err why }
+
+-- the rings of what was loaded
+abbrev pub loaded_rings : Option LoadState → Option RingPair
+loaded_rings loaded = option_and_then (λ (load : LoadState). load.rings) loaded
 
 -- why a region is not added to a core
 abbrev pub add_fault : CoreState → Region → Option AddFault
@@ -119,14 +125,10 @@ pub record IsSoundLoad (regions : List Region) (loaded : Loaded) : Type 0 where
   pub buffers : IfSome loaded.rings HasBuffers
   pub entry : is_some (memory_at regions loaded.placed.blocks.items loaded.entry 16) ≡ true
 
--- a core without users has no image, no load and no link
-pub record IsUnloaded {L B : Type 0} (name : Option (List ℕ)) (given : Option L) (link : Option B) : Type 0 where
-  pub image : name ≡ None
-  pub loaded : given ≡ None
-  pub bench : link ≡ None
-
--- what a core keeps: its book is one that a lane may have, and what it was given is sound
+-- what a core keeps: its book is one that a lane may have, what it was given is sound, it has an image and what that became exactly while it is not offline, and no link without users
 pub record SoundCore (regions : List Region) (messages : ℕ) (life : CoreLife) (name : Option (List ℕ)) (given : Option Loaded) (link : Option BenchState) : Type 0 where
   pub book : (1 ≤ messages) × (messages ≤ BOOK_MOST)
   pub loaded : IfSome given (IsSoundLoad regions)
-  pub offline : life.users ≡ 0 → IsUnloaded name given link
+  pub has_image : is_some name ≡ not (is_offline life.state)
+  pub has_load : is_some given ≡ not (is_offline life.state)
+  pub unlinked : life.users ≡ 0 → link ≡ None

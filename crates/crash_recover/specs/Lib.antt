@@ -1,6 +1,7 @@
 pub mod Cores
 pub mod CoreBoots
 pub mod CoreCrashes
+pub mod CoreLeaves
 pub mod CoreRecoveries
 pub mod CoreLinks
 pub mod CoreRings

@@ -1,46 +1,46 @@
-ghost use Rattle.std.specs.Prelude.{◌≡◌, ◌≢◌, ◌≤◌, ◌+◌, true, length, Some, None, Ok, Err, OnOk, OnErr, IfOk, IfErr, IfSome, IsErrOf, option_map, option_and_then};
-ghost use Rattle.std.specs.Result.{result_err};
-ghost use Rattle.link_bench.specs.BenchHolds.{caller_out};
+ghost use Rattle.std.specs.Prelude.{◌≡◌, ◌≢◌, ◌≤◌, ℕ, true, false, length, Some, None, Ok, Err, OnOk, OnErr, IfOk, IfErr, IfSome, IsErrOf, option_map};
+ghost use Rattle.std.specs.Result.{result_map_both};
 ghost use Rattle.rp_base.specs.declared.limits.TheConstants.{NAME_MOST};
 ghost use Rattle.rp_base.specs.Texts.{text_before_zero};
 ghost use Rattle.rp_io.specs.Causes.{Rose};
+ghost use Rattle.rp_io.specs.declared.faults.FetchFault.{FetchFault};
 ghost use Rattle.rp_io.specs.declared.faults.FetchFault.TheVariants as fetch;
 ghost use Rattle.lane_model.specs.Conditions.{IsConfig};
-ghost use Rattle.proc_state.specs.Lives.{life_after_boot, life_after_shutdown};
-ghost use Rattle.crash_recover.specs.Actors.{driver_names, fresh_actors};
-ghost use Rattle.crash_recover.specs.Cores.{IsSoundLoad, load_view};
+ghost use Rattle.proc_state.specs.Lives.{is_offline, life_after_boot};
+ghost use Rattle.proc_state.specs.declared.answers.Power.TheVariants as power;
+ghost use Rattle.crash_recover.specs.Actors.{driver_names};
+ghost use Rattle.crash_recover.specs.Cores.{IsSoundLoad, load_view, loaded_rings};
 ghost use Rattle.fw_load.specs.Loading.{load_fault};
-ghost use Rattle.crash_recover.specs.CoreBoots.{BootsFrom, IsBootFault, after_boot, after_shutdown, boot_fault, config_of, core_bench, loaded_from, needs_image, shutdown_fault};
+ghost use Rattle.crash_recover.specs.CoreBoots.{DidWith, Found, IsFoundIn, boot_of, config_of, core_bench, done, handover_of, in_short, loaded_entry, loaded_from, needs_image, power_of, started_core, with_load};
+ghost use Rattle.crash_recover.specs.declared.core_answers.Start.TheVariants as start;
 ghost use Rattle.crash_recover.specs.declared.core_faults.CoreFault.TheVariants as fault;
 
+use crate::core_answers::Start;
 use crate::core_faults::CoreFault;
 use crate::cores::Core;
 use channel_bus::Side;
 use fw_load::{Loaded, RingPair, load};
 use lane_model::LinkConfig;
 use link_bench::Bench;
-use proc_state::{Left, Power};
-use rp_base::{End, Inc, LifeState, Name, NoMemory};
-use rp_io::FirmwareStore;
+use proc_state::{Life, Power};
+use rp_base::{Da, End, Inc, LifeState, Name, NoMemory};
+use rp_io::{FetchFault, FirmwareStore};
 use std::alloc::Global;
 
 impl Core {
-    /// Whether a boot needs an image. A core with users only counts one more, and one whose incarnations
-    /// are spent is refused, whatever the image.
+    /// Whether a boot needs an image: the core is offline, and its incarnations are not spent.
     pub fn needs_image(&self) -> bool
         ensures { result ≡ needs_image self.now }
     {
-        self.life.users() == 0 && self.life.incarnation() != Inc::MAX
+        self.life.state() == LifeState::Offline && self.life.incarnation() != Inc::MAX
     }
 
-    /// Boots the core with the image that a store has under a name. A core with users counts one more
-    /// and doesn't look at the store.
+    /// Boots the core with the image that a store has under a name, as [`Core::boot_found`] does. The
+    /// store is only asked where the core needs an image.
     ///
     /// # Errors
     ///
-    /// [`CoreFault::Life`] where the users or the incarnations can't be counted on, then
-    /// [`CoreFault::Fetch`] and [`CoreFault::Load`] as the store and [`load`] answer, and
-    /// [`CoreFault::NoMemory`] where memory ran out. The core is as it was then.
+    /// Those of [`Core::boot_found`]. The core is as it was then.
     pub fn boot<F: FirmwareStore>(
         &mut self,
         alloc: Global,
@@ -49,127 +49,260 @@ impl Core {
     ) -> Result<Power, CoreFault>
         requires short { length name.now ≤ NAME_MOST }
         requires nonzero { text_before_zero name.now ≡ name.now }
-        ensures answer { IfOk result (λ power. (life_after_boot self.old.life).answer ≡ Ok power) }
-        ensures booted { OnOk result (BootsFrom (F.images store.old) self.old name.now self.new) }
-        ensures refused { IfErr result (λ why. IsBootFault (F.images store.old) self.old name.now why) }
+        ensures booted { result ≢ Err fault.NoMemory
+            → DidWith (λ (found : Found). needs_image self.old ≡ true → IsFoundIn (F.images store.old) name.now found)
+            (λ (found : Found). in_short power_of (boot_of self.old name.now found)) self.new result }
         ensures unchanged { OnErr result (self.new ≡ self.old) }
+        ensures unasked { needs_image self.old ≡ false → store.new ≡ store.old }
         ensures kept { F.images store.new ≡ F.images store.old }
         ensures later { F.faults store.old ≤ F.faults store.new }
         ensures failed { IsErrOf result (fault.Fetch fetch.Failed) → Rose (F.faults store.old) (F.faults store.new) }
         ensures same { result ≢ Err (fault.Fetch fetch.Failed) → F.faults store.new ≡ F.faults store.old }
     {
-        if !self.needs_image() {
-            return Ok(self.life.boot()?);
-        }
-        let image = store.fetch(alloc, name)?;
-        let Some(name) = Name::of(name.as_bytes()) else {
-            unreachable!()
-        };
-        self.boot_image(alloc, name, &image)
+        let image = fetch_where(self.needs_image(), alloc, name, store)?;
+        let start = self.boot_found(alloc, name_of(name), Ok(image.as_slice()))?;
+        Ok(start.power())
     }
 
-    /// Boots the core with this image, whose name it keeps. A core with users counts one more and
-    /// doesn't look at the image.
+    /// Boots the core with an image that was found under this name, or wasn't. An offline core loads it
+    /// and runs, with a link where the image has a device for RPMsg. A detached core is attached: it
+    /// keeps its memory and the name of its image, and gets such a link. A core with users counts one
+    /// more.
     ///
     /// # Errors
     ///
-    /// [`CoreFault::Life`] where the users or the incarnations can't be counted on, then
-    /// [`CoreFault::Load`] as [`load`] answers, and [`CoreFault::NoMemory`] where memory ran out,
-    /// which only a boot that needs an image answers. The core is as it was then.
-    pub fn boot_image(
+    /// [`CoreFault::Life`] where the users or the incarnations can't be counted on, then, of an offline
+    /// core, [`CoreFault::Fetch`] where no image was found and [`CoreFault::Load`] as [`load`] answers,
+    /// and [`CoreFault::NoMemory`] where memory ran out, which only a boot that starts the core
+    /// answers. The core is as it was then.
+    #[tactic(auto, unfolding(crate::specs::CoreBoots::boot_of))]
+    pub fn boot_found(
         &mut self,
         alloc: Global,
         name: Name,
+        found: Result<&[u8], FetchFault>,
+    ) -> Result<Start, CoreFault>
+        ensures answer { result ≢ Err fault.NoMemory → result ≡ (boot_of self.old name (result_map_both (λ image. image.now) (λ why. why) found.entry)).answer }
+        ensures left { result ≢ Err fault.NoMemory → self.new ≡ (boot_of self.old name (result_map_both (λ image. image.now) (λ why. why) found.entry)).core }
+        ensures fetched { (why : FetchFault) → result ≡ Err (fault.Fetch why) → found.entry ≡ Err why }
+        ensures memory { IsErrOf result fault.NoMemory → (life_after_boot self.old.life).answer ≡ Ok power.First }
+        ensures unchanged { OnErr result (self.new ≡ self.old) }
+        ensures attached { is_offline self.old.life.state ≡ false → self.new.loaded ≡ self.old.loaded }
+    {
+        let mut life = self.life.copy();
+        match life.boot()? {
+            Power::Counted(users) => {
+                self.life = life;
+                Ok(Start::Users(users))
+            }
+            Power::First => match self.life.state() {
+                LifeState::Offline => self.boot_image(alloc, life, name, found?),
+                LifeState::Running
+                | LifeState::Crashed
+                | LifeState::Attached
+                | LifeState::Detached => self.attach(alloc, life),
+            },
+        }
+    }
+
+    /// Starts an offline core in this life with an image.
+    fn boot_image(
+        &mut self,
+        alloc: Global,
+        life: Life,
+        name: Name,
         image: &[u8],
-    ) -> Result<Power, CoreFault>
-        ensures answer { IfOk result (λ power. (life_after_boot self.old.life).answer ≡ Ok power) }
-        ensures booted { OnOk result (self.new ≡ after_boot self.old name image.now) }
-        ensures fits { OnOk result (boot_fault self.old image.now ≡ None) }
-        ensures refused { IfErr result (λ why. why ≢ fault.NoMemory → boot_fault self.old image.now ≡ Some why) }
-        ensures memory { IsErrOf result fault.NoMemory → needs_image self.old ≡ true }
+    ) -> Result<Start, CoreFault>
+        requires loaded { is_offline life.state ≡ false }
+        requires users { 1 ≤ life.users }
+        requires first { 1 ≤ life.incarnation }
+        ensures loads { OnOk result (load_fault image.now self.old.regions ≡ None) }
+        ensures answer { IfOk result (λ did. did ≡ start.Running life.incarnation) }
+        ensures left { OnOk result (self.new ≡ started_core life (with_load self.old name (loaded_from image.now self.old.regions))) }
+        ensures refused { IfErr result (λ why. why ≢ fault.NoMemory → option_map fault.Load (load_fault image.now self.old.regions) ≡ Some why) }
+        ensures unfetched { (why : FetchFault) → result ≢ Err (fault.Fetch why) }
         ensures unchanged { OnErr result (self.new ≡ self.old) }
     {
-        if !self.needs_image() {
-            return Ok(self.life.boot()?);
-        }
-        let (loaded, bench) = self.made_of(alloc, image)?;
-        Ok(self.start(name, loaded, bench))
-    }
-
-    /// What an image becomes, and the link over its rings in the next incarnation.
-    fn made_of(&self, alloc: Global, image: &[u8]) -> Result<(Loaded, Option<Bench>), CoreFault>
-        requires { needs_image self.now ≡ true }
-        ensures loads { OnOk result (load_fault image.now self.now.regions ≡ None) }
-        ensures loaded { IfOk result (λ made. load_view made.0 ≡ loaded_from image.now self.now.regions) }
-        ensures sound { IfOk result (λ made. IsSoundLoad self.now.regions made.0) }
-        ensures bench { IfOk result (λ made. made.1 ≡ option_map (core_bench (driver_names self.now.actors) self.now.book (self.now.life.incarnation + 1)) made.0.rings) }
-        ensures refused { IfErr result (λ why. why ≢ fault.NoMemory → option_map fault.Load (load_fault image.now self.now.regions) ≡ Some why) }
-    {
-        let first = self.life.incarnation() + 1;
-        let loaded = load(alloc, image, &self.regions)?;
-        let names = self.actors.drivers.names(alloc)?;
-        let bench = bench_of(alloc, &loaded.rings, names, self.book, first)?;
-        Ok((loaded, bench))
-    }
-
-    /// Starts a core that needs an image with what one became.
-    fn start(&mut self, name: Name, loaded: Loaded, bench: Option<Bench>) -> Power
-        requires needs { needs_image self.old ≡ true }
-        requires sound { IsSoundLoad self.old.regions loaded }
-        ensures answer { (life_after_boot self.old.life).answer ≡ Ok result }
-        ensures left { self.new ≡ record self.old { life = (life_after_boot self.old.life).life; image = Some name; loaded = Some (load_view loaded); bench = bench; actors = fresh_actors self.old.actors loaded.entry } }
-    {
-        let _ = self.life.boot();
+        let inc = life.incarnation();
+        let loaded = self.load_image(alloc, image)?;
+        let bench = self.link_over(alloc, &loaded.rings, inc)?;
         self.actors.restart(loaded.entry);
-        self.put(Some(name), Some(loaded), bench);
-        Power::First
-    }
-
-    /// Puts an image, what it became and its link in place of those of a core that has users.
-    fn put(&mut self, image: Option<Name>, loaded: Option<Loaded>, bench: Option<Bench>)
-        requires users { 1 ≤ self.old.life.users }
-        requires sound { IfSome loaded (IsSoundLoad self.old.regions) }
-        ensures { self.new ≡ record self.old { image = image; loaded = option_map load_view loaded; bench = bench } }
-    {
-        self.image = image;
-        self.loaded = loaded;
+        self.life = life;
+        self.image = Some(name);
+        self.loaded = Some(loaded);
         self.bench = bench;
+        Ok(Start::Running(inc))
     }
 
-    /// Counts one user fewer. With the last one the core goes offline, and its image and its link are
-    /// gone.
+    /// Starts a detached core in this life, over what it has loaded.
+    fn attach(&mut self, alloc: Global, life: Life) -> Result<Start, CoreFault>
+        requires loaded { is_offline self.old.life.state ≡ false }
+        requires stays { is_offline life.state ≡ false }
+        requires users { 1 ≤ life.users }
+        requires first { 1 ≤ life.incarnation }
+        ensures answer { IfOk result (λ did. did ≡ start.Attached life.incarnation) }
+        ensures left { OnOk result (self.new ≡ started_core life self.old) }
+        ensures refused { IfErr result (λ why. why ≡ fault.NoMemory) }
+        ensures unchanged { OnErr result (self.new ≡ self.old) }
+    {
+        let inc = life.incarnation();
+        let bench = self.link_again(alloc, inc)?;
+        let entry = self.entry();
+        self.actors.restart(entry);
+        self.life = life;
+        self.bench = bench;
+        Ok(Start::Attached(inc))
+    }
+
+    /// Hands the core over with an image that was found under this name, or wasn't: another party has
+    /// loaded it and started the core, which is detached.
     ///
     /// # Errors
     ///
-    /// [`CoreFault::Life`] where the core isn't running, then [`CoreFault::CallerOut`] with the least
-    /// host caller other than 0 that is in a call or holds a buffer, where the last user leaves. The
-    /// core is as it was then.
-    pub fn shutdown(&mut self) -> Result<Left, CoreFault>
-        ensures answer { IfOk result (λ left. (life_after_shutdown self.old.life).answer ≡ Ok left) }
-        ensures left { OnOk result (self.new ≡ after_shutdown self.old) }
-        ensures may { OnOk result (shutdown_fault self.old ≡ None) }
-        ensures refused { IfErr result (λ why. shutdown_fault self.old ≡ Some why) }
+    /// [`CoreFault::Life`] where the core isn't offline, then [`CoreFault::Fetch`] where no image was
+    /// found and [`CoreFault::Load`] as [`load`] answers, and [`CoreFault::NoMemory`] where memory ran
+    /// out. The core is as it was then.
+    #[tactic(auto, unfolding(crate::specs::CoreBoots::handover_of))]
+    pub fn handover_found(
+        &mut self,
+        alloc: Global,
+        name: Name,
+        found: Result<&[u8], FetchFault>,
+    ) -> Result<Start, CoreFault>
+        ensures answer { result ≢ Err fault.NoMemory → result ≡ (handover_of self.old name (result_map_both (λ image. image.now) (λ why. why) found.entry)).answer }
+        ensures left { result ≢ Err fault.NoMemory → self.new ≡ (handover_of self.old name (result_map_both (λ image. image.now) (λ why. why) found.entry)).core }
+        ensures fetched { (why : FetchFault) → result ≡ Err (fault.Fetch why) → found.entry ≡ Err why }
         ensures unchanged { OnErr result (self.new ≡ self.old) }
     {
-        if self.life.state() == LifeState::Running && self.life.users() == 1 {
-            self.test_callers()?;
-            self.put(None, None, None);
-        }
-        Ok(self.life.shutdown()?)
+        let mut life = self.life.copy();
+        life.handover()?;
+        let loaded = self.load_image(alloc, found?)?;
+        self.life = life;
+        self.image = Some(name);
+        self.loaded = Some(loaded);
+        Ok(Start::Detached)
     }
 
-    /// Tests that no host caller other than 0 is in a call or holds a buffer.
-    fn test_callers(&self) -> Result<(), CoreFault>
-        ensures { result_err result ≡ option_map fault.CallerOut (option_and_then caller_out self.now.bench) }
+    /// Whether a handover needs an image: the core is offline.
+    fn is_offline(&self) -> bool
+        ensures { result ≡ is_offline self.now.life.state }
     {
-        let Some(bench) = &self.bench else {
-            return Ok(());
-        };
-        match bench.caller_out() {
-            Some(caller) => Err(CoreFault::CallerOut(caller)),
-            None => Ok(()),
+        self.life.state() == LifeState::Offline
+    }
+
+    /// Hands the core over with the image that a store has under a name, as [`Core::handover_found`]
+    /// does. The store is only asked where the core is offline.
+    ///
+    /// # Errors
+    ///
+    /// Those of [`Core::handover_found`]. The core is as it was then.
+    pub fn handover<F: FirmwareStore>(
+        &mut self,
+        alloc: Global,
+        name: &str,
+        store: &mut F,
+    ) -> Result<(), CoreFault>
+        requires short { length name.now ≤ NAME_MOST }
+        requires nonzero { text_before_zero name.now ≡ name.now }
+        ensures done { result ≢ Err fault.NoMemory
+            → DidWith (λ (found : Found). is_offline self.old.life.state ≡ true → IsFoundIn (F.images store.old) name.now found)
+            (λ (found : Found). in_short done (handover_of self.old name.now found)) self.new result }
+        ensures unchanged { OnErr result (self.new ≡ self.old) }
+        ensures unasked { is_offline self.old.life.state ≡ false → store.new ≡ store.old }
+        ensures kept { F.images store.new ≡ F.images store.old }
+        ensures later { F.faults store.old ≤ F.faults store.new }
+        ensures failed { IsErrOf result (fault.Fetch fetch.Failed) → Rose (F.faults store.old) (F.faults store.new) }
+        ensures same { result ≢ Err (fault.Fetch fetch.Failed) → F.faults store.new ≡ F.faults store.old }
+    {
+        let image = fetch_where(self.is_offline(), alloc, name, store)?;
+        self.handover_found(alloc, name_of(name), Ok(image.as_slice()))?;
+        Ok(())
+    }
+
+    /// What an image becomes in the memory of the core.
+    pub(crate) fn load_image(&self, alloc: Global, image: &[u8]) -> Result<Loaded, CoreFault>
+        ensures loads { OnOk result (load_fault image.now self.now.regions ≡ None) }
+        ensures loaded { IfOk result (λ loaded. load_view loaded ≡ loaded_from image.now self.now.regions) }
+        ensures sound { IfOk result (IsSoundLoad self.now.regions) }
+        ensures config { IfOk result (λ loaded. (inc : ℕ) → 1 ≤ inc → IfSome loaded.rings (λ rings. IsConfig (config_of rings self.now.book inc))) }
+        ensures refused { IfErr result (λ why. why ≢ fault.NoMemory → option_map fault.Load (load_fault image.now self.now.regions) ≡ Some why) }
+        ensures unfetched { (why : FetchFault) → result ≢ Err (fault.Fetch why) }
+    {
+        let loaded = load(alloc, image, &self.regions)?;
+        Ok(loaded)
+    }
+
+    /// The link over these rings in an incarnation, with the drivers of the core, where there are
+    /// rings.
+    fn link_over(
+        &self,
+        alloc: Global,
+        rings: &Option<RingPair>,
+        inc: Inc,
+    ) -> Result<Option<Bench>, NoMemory>
+        requires { IfSome rings.now (λ rings. IsConfig (config_of rings self.now.book inc)) }
+        ensures { IfOk result (λ bench. bench ≡ option_map (core_bench (driver_names self.now.actors) self.now.book inc) rings.now) }
+    {
+        let names = self.actors.drivers.names(alloc)?;
+        let bench = bench_of(alloc, rings, names, self.book, inc)?;
+        Ok(bench)
+    }
+
+    /// The link over the rings of what is loaded, in an incarnation.
+    fn link_again(&self, alloc: Global, inc: Inc) -> Result<Option<Bench>, NoMemory>
+        requires { 1 ≤ inc }
+        ensures { IfOk result (λ bench. bench ≡ option_map (core_bench (driver_names self.now.actors) self.now.book inc) (loaded_rings self.now.loaded)) }
+    {
+        match &self.loaded {
+            Some(loaded) => self.link_over(alloc, &loaded.rings, inc),
+            None => Ok(None),
         }
     }
+
+    /// Where the first record stands of what is loaded.
+    fn entry(&self) -> Da
+        ensures { result ≡ loaded_entry self.now.loaded }
+    {
+        match &self.loaded {
+            Some(loaded) => loaded.entry,
+            None => 0,
+        }
+    }
+}
+
+/// The image that a store has under a name, where it is needed; else the store is not asked.
+#[tactic(auto, using(crate::proofs::Unfound::found_in))]
+fn fetch_where<F: FirmwareStore>(
+    is_needed: bool,
+    alloc: Global,
+    name: &str,
+    store: &mut F,
+) -> Result<Vec<u8>, FetchFault>
+    ensures had { is_needed ≡ true → IsFoundIn (F.images store.old) name.now (result_map_both (λ image. image.items) (λ why. why) result) }
+    ensures unneeded { is_needed ≡ false → OnErr result ⊥ }
+    ensures unasked { is_needed ≡ false → store.new ≡ store.old }
+    ensures kept { F.images store.new ≡ F.images store.old }
+    ensures later { F.faults store.old ≤ F.faults store.new }
+    ensures failed { IsErrOf result fetch.Failed → Rose (F.faults store.old) (F.faults store.new) }
+    ensures same { result ≢ Err fetch.Failed → F.faults store.new ≡ F.faults store.old }
+{
+    if is_needed {
+        store.fetch(alloc, name)
+    } else {
+        Ok(Vec::new(alloc))
+    }
+}
+
+/// The name that a text is.
+fn name_of(text: &str) -> Name
+    requires short { length text.now ≤ NAME_MOST }
+    requires nonzero { text_before_zero text.now ≡ text.now }
+    ensures { result ≡ text.now }
+{
+    let Some(name) = Name::of(text.as_bytes()) else {
+        unreachable!()
+    };
+    name
 }
 
 /// The link of a core in an incarnation, with drivers of these names, where its device has rings.

@@ -1,29 +1,62 @@
-ghost use Rattle.std.specs.Prelude.{◌≡◌};
-ghost use Rattle.proc_state.specs.Lives.{life_after_crash};
-ghost use Rattle.crash_recover.specs.CoreCrashes.{after_report};
+ghost use Rattle.std.specs.Prelude.{◌≡◌, ℕ, true, Ok, Some};
+ghost use Rattle.std.specs.Result.{result_map_both};
+ghost use Rattle.proc_state.specs.Lives.{is_offline};
+ghost use Rattle.crash_recover.specs.CoreCrashes.{after_report, first_report, report_in_short, report_of};
+ghost use Rattle.crash_recover.specs.declared.core_answers.Crash.TheVariants as crash;
 
+use crate::core_answers::Crash;
 use crate::cores::Core;
-use proc_state::{LifeFault, Report};
+use proc_state::{Life, LifeFault, Report};
 use rp_base::CrashKind;
 
 impl Core {
     /// Reports a crash of the core, of a kind that the report names. The first report closes the
     /// incarnation of its link and ends all remote callers; as soon as caller 1 is gone, a new remote
-    /// caller is made. Its users stay.
+    /// caller is made. Its users and its memory stay.
     ///
     /// # Errors
     ///
-    /// [`LifeFault::NotPowered`] exactly where the core is offline. It is as it was then.
-    pub fn report(&mut self, _kind: CrashKind) -> Result<Report, LifeFault>
-        ensures answer { result ≡ (life_after_crash self.old.life).answer }
+    /// [`LifeFault::NotPowered`] exactly where the core is offline or detached. It is as it was then.
+    pub fn report(&mut self, kind: CrashKind) -> Result<Report, LifeFault>
+        ensures answer { result ≡ result_map_both report_in_short (λ why. why) (report_of true self.old).answer }
         ensures left { self.new ≡ after_report self.old }
     {
-        let report = self.life.crash()?;
-        if let Report::First = report {
-            if let Some(bench) = &mut self.bench {
-                bench.crash();
-            }
+        Ok(self.report_within(kind, true)?.report())
+    }
+
+    /// The same, where a step may be taken or not: the close of a link is one. Where it may not, the
+    /// answer is [`Crash::Limit`], and the core is as it was.
+    #[tactic(auto, unfolding(crate::specs::CoreCrashes::report_of))]
+    pub fn report_within(&mut self, _kind: CrashKind, may_step: bool) -> Result<Crash, LifeFault>
+        ensures answer { result ≡ (report_of may_step self.old).answer }
+        ensures left { self.new ≡ (report_of may_step self.old).core }
+        ensures step { (inc : ℕ) → result ≡ Ok (crash.First (Some inc)) → may_step ≡ true }
+    {
+        let mut life = self.life.copy();
+        match life.crash()? {
+            Report::Already => Ok(Crash::Already),
+            Report::First => Ok(self.crash_first(life, may_step)),
         }
-        Ok(report)
+    }
+
+    /// Reports the first crash of a core, which leaves it in this life.
+    fn crash_first(&mut self, life: Life, may_step: bool) -> Crash
+        requires loaded { is_offline life.state ≡ is_offline self.old.life.state }
+        requires users { life.users ≡ self.old.life.users }
+        ensures answer { Ok result ≡ (first_report may_step life self.old self.old.bench).answer }
+        ensures left { self.new ≡ (first_report may_step life self.old self.old.bench).core }
+        ensures step { (inc : ℕ) → result ≡ crash.First (Some inc) → may_step ≡ true }
+    {
+        let Some(bench) = &mut self.bench else {
+            self.life = life;
+            return Crash::First(None);
+        };
+        if !may_step {
+            return Crash::Limit;
+        }
+        let inc = bench.era().inc;
+        bench.crash();
+        self.life = life;
+        Crash::First(Some(inc))
     }
 }

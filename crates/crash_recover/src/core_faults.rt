@@ -50,7 +50,13 @@ impl From<DriverFault> for AddFault {
     }
 }
 
-/// Why a core is not booted, shut down or recovered. A fault inside another is never want of memory.
+/// The number of the fault of a recovery whose image has other rings than the one before.
+pub const RINGS_CHANGED: u8 = 42;
+
+/// The number of the fault of a host caller that keeps a core from being shut down or detached.
+pub const CALLER_OUT: u8 = 54;
+
+/// Why a core is not booted, handed over, shut down, detached or recovered. A fault inside another is never want of memory.
 #[derive(Debug, Drop)]
 pub enum CoreFault {
     /// The store gives no image.

@@ -3,6 +3,7 @@ ghost use Rattle.core_dump.specs.Parts.{AreParts};
 ghost use Rattle.crash_recover.specs.CoreParts.{AreBlocksOf, core_parts, core_ranges, memory_ranges, part_at};
 
 use crate::cores::Core;
+use core_dump::Part;
 use memory_pool::{Block, Region};
 use rp_base::{Da, NoMemory};
 use std::alloc::Global;
@@ -23,10 +24,27 @@ impl Core {
         }
     }
 
-    /// Where the blocks of memory stand, in order: the device address of each, and its length.
+    /// All blocks of memory, in that order.
     ///
     /// Errors: only for want of memory.
-    pub fn ranges(&self, alloc: Global) -> Result<Vec<(Da, u32)>, NoMemory>
+    pub fn parts(&self, alloc: Global) -> Result<Vec<Part<'_>>, NoMemory>
+        ensures parts { IfOk result (λ parts. parts.items ≡ core_parts self.now) }
+        ensures blocks { AreBlocksOf self.now (core_parts self.now) }
+        ensures fit { is_some self.now.loaded ≡ true → AreParts (core_parts self.now) }
+    {
+        let ranges = self.ranges(alloc)?;
+        let mut parts = Vec::with_capacity(alloc, ranges.len())?;
+        for range in &ranges {
+            let (da, len) = *range;
+            if let Some(bytes) = self.memory(da, len) {
+                parts.push(Part { da, bytes })?;
+            }
+        }
+        Ok(parts)
+    }
+
+    /// Where the blocks of memory stand, in order: the device address of each, and its length.
+    fn ranges(&self, alloc: Global) -> Result<Vec<(Da, u32)>, NoMemory>
         ensures ranges { IfOk result (λ ranges. ranges.items ≡ core_ranges self.now) }
         ensures some { All (λ range. 1 ≤ range.1) (core_ranges self.now) }
         ensures blocks { AreBlocksOf self.now (core_parts self.now) }

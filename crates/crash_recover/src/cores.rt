@@ -1,8 +1,9 @@
-ghost use Rattle.std.specs.Prelude.{◌≡◌, ◌≤◌, ◌+◌, ◌++◌, [], ◌∷◌, length, Some, OnOk, OnErr, IfOk, IfErr, IfSome, option_map};
+ghost use Rattle.std.specs.Prelude.{◌≡◌, ◌≤◌, ◌+◌, ◌++◌, [], ◌∷◌, length, None, Some, is_some, not, OnOk, OnErr, IfOk, IfErr, IfSome, option_map};
 ghost use Rattle.fw_load.specs.Memory.{place_at};
 ghost use Rattle.std.specs.Option.{option_copied, option_or};
 ghost use Rattle.rp_base.specs.declared.limits.TheConstants.{BOOK_MOST};
 ghost use Rattle.crash_recover.specs.Cores.{add_fault, core_memory, core_trace, driver_add_fault, load_view, new_core, with_driver};
+ghost use Rattle.proc_state.specs.Lives.{is_offline};
 ghost use Rattle.crash_recover.specs.declared.core_faults.AddFault.TheVariants as add;
 
 use crate::actors::Actors;
@@ -16,9 +17,9 @@ use rp_base::{Da, DriverKind, LifeState, Name, NoMemory};
 use std::alloc::Global;
 use std::marker::Model;
 
-/// A remote core: its regions, its life, and from a boot to the last shutdown the name of its image,
-/// what that became in its memory, and its link where the image has a device for RPMsg. Its actors are
-/// the drivers of the host and the worker of the remote.
+/// A remote core: its regions, its life, while it isn't offline the name of its image and what that
+/// became in its memory, and while it has users its link, where the image has a device for RPMsg. Its
+/// actors are the drivers of the host and the worker of the remote.
 #[derive(Drop)]
 pub struct Core {
     pub(crate) regions: Regions,
@@ -134,16 +135,19 @@ impl Core {
         self.life.set_recovery(on);
     }
 
-    /// The name of the image that was booted. There is none exactly where the core has no users.
+    /// The name of the image that was booted or handed over. There is none exactly where the core is
+    /// offline.
     pub fn image(&self) -> Option<&Name>
-        ensures { option_copied result ≡ self.now.image }
+        ensures name { option_copied result ≡ self.now.image }
+        ensures there { is_some result ≡ not (is_offline self.now.life.state) }
     {
         self.image.as_ref()
     }
 
-    /// What the image became. There is nothing exactly where the core has no users.
+    /// What the image became. There is nothing exactly where the core is offline.
     pub fn loaded(&self) -> Option<&Loaded>
-        ensures { option_map load_view (option_copied result) ≡ self.now.loaded }
+        ensures load { option_map load_view (option_copied result) ≡ self.now.loaded }
+        ensures there { is_some result ≡ not (is_offline self.now.life.state) }
     {
         self.loaded.as_ref()
     }
@@ -151,13 +155,14 @@ impl Core {
     /// The link of the core. There is none where the core has no users, or its image no device for
     /// RPMsg.
     pub fn link(&self) -> Option<&Bench>
-        ensures { option_copied result ≡ self.now.bench }
+        ensures link { option_copied result ≡ self.now.bench }
+        ensures unlinked { self.now.life.users ≡ 0 → result ≡ None }
     {
         self.bench.as_ref()
     }
 
     /// The `len` bytes at the device address `da`, of which there is at least one. There are none
-    /// exactly where the core has no users, or no single block of memory holds them all.
+    /// exactly where the core is offline, or no single block of memory holds them all.
     pub fn memory(&self, da: Da, len: u32) -> Option<&[u8]>
         requires { 1 ≤ len }
         ensures { option_copied result ≡ core_memory self.now da len }
@@ -172,7 +177,7 @@ impl Core {
         }
     }
 
-    /// The bytes of the trace of a number, from 0. There are none exactly where the core has no users,
+    /// The bytes of the trace of a number, from 0. There are none exactly where the core is offline,
     /// or there is no such trace, or it is not in memory.
     pub fn trace(&self, index: u16) -> Option<&[u8]>
         ensures { option_copied result ≡ core_trace self.now index }

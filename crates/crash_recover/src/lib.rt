@@ -4,11 +4,13 @@
 mod actor_ends;
 mod actor_steps;
 mod actors;
+mod core_answers;
 mod core_boots;
 mod core_callers;
 mod core_crashes;
 mod core_drives;
 mod core_faults;
+mod core_leaves;
 mod core_links;
 mod core_parts;
 mod core_recoveries;
@@ -17,8 +19,9 @@ mod core_turns;
 mod cores;
 
 pub use actors::{Actor, Actors};
+pub use core_answers::{Crash, Leave, Start};
 pub use core_callers::StepFault;
 pub use core_drives::{DriveProgress, Driven};
-pub use core_faults::{AddFault, CoreFault};
+pub use core_faults::{AddFault, CALLER_OUT, CoreFault, RINGS_CHANGED};
 pub use cores::Core;
 pub use link_bench::{BegunCall, Bench, BenchFault, Done, Progress, Reach, Reclaim, TurnEnd};

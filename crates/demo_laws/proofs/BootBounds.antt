@@ -1,18 +1,18 @@
 -- The steps of the actors of a core from its boot on.
-use Rattle.std.proofs.Common.{◌≤◌, ℕ, false, List, [], Option, Some, None, IfSome, option_map, refl, arith}
+use Rattle.std.proofs.Common.{◌≡◌, ◌≤◌, ℕ, true, false, List, [], Option, Some, None, IfSome, option_map, refl, arith}
 use Rattle.rp_base.specs.Limits.{ring_capacity}
 use Rattle.fw_load.specs.declared.rings.RingPair.{RingPair}
+use Rattle.proc_state.specs.Lives.{CoreLife, is_up}
 use Rattle.remote_core.specs.Workers.{WorkerState, new_worker}
 use Rattle.crash_recover.specs.Actors.{ActorsState, fresh_actors}
-use Rattle.core_laws.specs.BenchMoves.{IsReachedCore}
-use Rattle.crash_recover.specs.CoreBoots.{core_bench, first_start}
+use Rattle.crash_recover.specs.CoreBoots.{core_bench, started_core, with_load}
 use Rattle.crash_recover.specs.Cores.{CoreState, LoadState}
 use Rattle.crash_recover.specs.Drives.{placed_map}
-use Rattle.core_laws.specs.KeptCores.{IsKeptCore}
-use Rattle.core_laws.specs.PendingCalls.{IsReadyCore}
 use Rattle.demo_laws.proofs.ActorBounds.{LinkWithin}
 use Rattle.demo_laws.proofs.DriveBounds.{IsProgram, IsWithin, OnLink}
-use Rattle.core_laws.proofs.KeptCores.{found_same}
+use Rattle.core_laws.proofs.CoreMoves.{reached_stays}
+use Rattle.core_laws.proofs.KeptCores.{found_same, kept_stays}
+use Rattle.core_laws.proofs.PendingOthers.{ready_stays}
 
 -- both rings have room for three messages
 abbrev pub AreRoomy : RingPair → Type 0
@@ -52,21 +52,22 @@ module _ (Fits : WorkerState → Type 0) (records credit : WorkerState → ℕ) 
   new_on actors entry within names book first None roomy few one = few
   new_on actors entry within names book first (Some rings) roomy few one = new_link (records (new_worker entry)) (credit (new_worker entry)) within names book first rings roomy few one
 
-  -- a core that was booted
-  pub boot_within : (core : CoreState) (name : List ℕ) (load : LoadState) (within : ℕ) → IsProgram Fits records credit load.memory (placed_map core.regions load) → Fits (new_worker load.entry)
+  -- a core that was booted, in this life
+  pub boot_within : (core : CoreState) (name : List ℕ) (load : LoadState) (life : CoreLife) (within : ℕ) → is_up life.state ≡ true
+      → IsProgram Fits records credit load.memory (placed_map core.regions load) → Fits (new_worker load.entry)
       → IfSome load.rings AreRoomy → records (new_worker load.entry) ≤ within → credit (new_worker load.entry) ≤ 1
-      → IsReachedCore (first_start core name load) → IsKeptCore (first_start core name load) → IsReadyCore (first_start core name load)
-      → IsWithin Fits records credit (first_start core name load) within
-  boot_within core name load within program fits roomy few one reached kept ready = record {
-    load = load;
-    loaded = refl;
-    program = program;
-    fits = fits;
-    reached = reached;
-    kept = kept;
-    ready = ready;
-    on = new_on core.actors load.entry within _ core.book _ load.rings roomy few one;
-  }
+      → IsWithin Fits records credit (started_core life (with_load core name load)) within
+  boot_within core name load life within up program fits roomy few one =
+      let core = with_load core name load in record {
+        load = load;
+        loaded = refl;
+        program = program;
+        fits = fits;
+        reached = reached_stays.started core life up;
+        kept = kept_stays.started core life up;
+        ready = ready_stays.started core life up;
+        on = new_on core.actors load.entry within _ core.book _ load.rings roomy few one;
+      }
 
   -- users that come and go change nothing of that
   pub users_within : (core : CoreState) (users within : ℕ) → IsWithin Fits records credit core within
@@ -77,7 +78,7 @@ module _ (Fits : WorkerState → Type 0) (records credit : WorkerState → ℕ) 
     program = is.program;
     fits = is.fits;
     reached = record { bench = is.reached.bench; calls = is.reached.calls };
-    kept = found_same core.life (record core.life { users = users }) core.bench refl refl is.kept;
+    kept = found_same core.life (record core.life { users = users }) core.bench (record { inc = refl; up = refl }) is.kept;
     ready = record { begun = is.ready.begun; calls = is.ready.calls };
     on = is.on;
   }

@@ -5,13 +5,13 @@ use Rattle.std.proofs.lemmas.Bool.{cond_both, eq-eqb, eqb-false, false≢true, n
 use Rattle.rp_base.specs.declared.kinds.End.{End}
 use Rattle.rp_base.specs.declared.kinds.End.TheVariants as side
 use Rattle.rp_base.specs.declared.kinds.LifeState.{LifeState}
-use Rattle.rp_base.specs.declared.kinds.LifeState.TheVariants.{Offline, Running, Crashed}
+use Rattle.rp_base.specs.declared.kinds.LifeState.TheVariants.{Offline, Running, Crashed, Attached, Detached}
 use Rattle.addr_translate.specs.Maps.{Mapping}
 use Rattle.remote_core.specs.Workers.{WorkerState, after_take}
 use Rattle.remote_core.specs.Works.{after_work, memory_after, work_of}
 use Rattle.remote_core.specs.declared.workers.Work.{Work}
 use Rattle.remote_core.specs.declared.workers.Work.TheVariants as work
-use Rattle.proc_state.specs.Lives.{CoreLife}
+use Rattle.proc_state.specs.Lives.{CoreLife, crash_as, is_up, line_of}
 use Rattle.lane_model.specs.declared.calls.Outcome.{Outcome}
 use Rattle.lane_model.specs.declared.calls.Outcome.TheVariants as outcome
 use Rattle.lane_model.specs.declared.calls.Wish.{Wish}
@@ -45,21 +45,25 @@ use Rattle.core_laws.proofs.PendingSteps.{one_call, one_later, reach_by}
 use Rattle.std.proofs.Common.{◌≢◌, ⊎_elim}
 use Rattle.std.proofs.lemmas.Bool.{cases_lt}
 use Rattle.memory_pool.specs.declared.regions.Region.{Region}
-use Rattle.proc_state.specs.Lives.{life_after_crash_in}
 use Rattle.crash_recover.specs.declared.actors.Actor.{Actor}
 use Rattle.crash_recover.specs.declared.actors.Actor.TheVariants as actor
 use Rattle.crash_recover.specs.declared.core_drives.Driven.TheVariants as driven
 use Rattle.core_laws.specs.BenchMoves.{IsReachedCore}
-use Rattle.crash_recover.specs.CoreCrashes.{after_report, crashed_core}
+use Rattle.crash_recover.specs.CoreCrashes.{after_report, first_report, report_as, report_of}
 use Rattle.crash_recover.specs.Actors.{other_actor}
 use Rattle.crash_recover.specs.Drives.{DriveStep, acting, actor_step, asked_by, drive_step, driven_by_work, has_calls, is_idle, is_idle_actor, record_run, record_step, reported, reported_by, with_turn_after, worker_call, worker_is_idle, worker_step}
-use Rattle.core_laws.specs.KeptCores.{IsKeptBench, IsKeptCore, is_running}
+use Rattle.core_laws.specs.KeptCores.{IsKeptBench, IsKeptCore}
 use Rattle.core_laws.specs.PendingCalls.{IsReadyBench, IsReadyCore}
 use Rattle.core_laws.proofs.CoreMoves.{core_driven as core_moved}
 use Rattle.core_laws.proofs.KeptCores.{core_driven}
 use Rattle.demo_laws.proofs.OwnCalls.{handed_so_far}
 use Rattle.core_laws.proofs.PendingCores.{begins}
 use Rattle.core_laws.proofs.PendingDrives.{drive_ready}
+
+-- whether the host itself has started a core that is up
+is_booted : LifeState → Bool
+is_booted Running = true
+is_booted other = false
 
 -- ---- whether an actor is in a call
 
@@ -331,7 +335,7 @@ module _ (Fits : WorkerState → Type 0) (records credit : WorkerState → ℕ) 
         → IfSome found (IsReadyBench core.actors) → OnLink core.actors found within → Came core within (host_step core found).core
     host_came None busy reached kept begun ready on = absurd (true≢false busy)
     host_came (Some bench) busy reached kept begun ready on =
-        let live = kept.live ∙ ap is_running running in
+        let live = kept.live ∙ ap is_up running in
         let sound = reached_sound bench.link reached.link in
         let free = free_takes 0 bench.link.era.inc on.host_now bench.link.to_remote.sender bench.link.to_host.receiver on.host.turns in
         let left = host_walk core.actors bench within reached live kept.own begun on (is_in_call bench 0) refl on.host_now refl
@@ -352,7 +356,7 @@ module _ (Fits : WorkerState → Type 0) (records credit : WorkerState → ℕ) 
         → IfSome found HasNoneBegun → IfSome found (IsReadyBench core.actors) → OnLink core.actors found within → Came core within (worker_call core found).core
     worker_call_came None has busy reached kept begun ready on = absurd (false≢true has)
     worker_call_came (Some bench) has busy reached kept begun ready on =
-        let live = kept.live ∙ ap is_running running in
+        let live = kept.live ∙ ap is_up running in
         let sound = reached_sound bench.link reached.link in
         let free = free_takes 1 bench.link.era.inc on.worker_now bench.link.to_host.sender bench.link.to_remote.receiver on.worker.turns in
         let left = worker_walk core.actors bench within reached live kept.own begun on fits program.took (is_in_call bench 1) refl on.worker_now refl
@@ -384,10 +388,23 @@ module _ (Fits : WorkerState → Type 0) (records credit : WorkerState → ℕ) 
         → IsProgram (memory_after load.memory (placed_map core.regions load) (is_some core.bench) core.actors.worker) (placed_map core.regions load)
     same_program same = subst (λ (memory : List ℕ). IsProgram memory (placed_map core.regions load)) (sym same) program
 
-    crashed : (state : LifeState) (left : CoreState) → left.life.state ≡ state → state ≡ Running → ((crashed_core state left).life.state ≡ Crashed) × ((crashed_core state left).regions ≡ left.regions)
-    crashed Offline left is runs = absurd (false≢true (ap is_running runs))
-    crashed Crashed left is runs = absurd (false≢true (ap is_running runs))
-    crashed Running left is runs = (ap (λ (s : LifeState). (life_after_crash_in s left.life).life.state) is, refl)
+    crashed_with : (found : Option BenchState) (left : CoreState) (life : CoreLife) → life.state ≡ Crashed
+        → ((first_report true life left found).core.life.state ≡ Crashed) × ((first_report true life left found).core.regions ≡ left.regions)
+    crashed_with None left life is = (is, refl)
+    crashed_with (Some bench) left life is = (is, refl)
+
+    crashed_in : (state : LifeState) (left : CoreState) → state ≡ Running
+        → ((report_as true (crash_as (line_of state).crash left.life).life (crash_as (line_of state).crash left.life).answer left).core.life.state ≡ Crashed)
+        × ((report_as true (crash_as (line_of state).crash left.life).life (crash_as (line_of state).crash left.life).answer left).core.regions ≡ left.regions)
+    crashed_in Offline left runs = absurd (false≢true (ap is_up runs))
+    crashed_in Crashed left runs = absurd (false≢true (ap is_up runs))
+    crashed_in Detached left runs = absurd (false≢true (ap is_up runs))
+    crashed_in Attached left runs = absurd (false≢true (ap is_booted runs))
+    crashed_in Running left runs = crashed_with left.bench left (record left.life { state = Crashed }) refl
+
+    crashed : (left : CoreState) → left.life.state ≡ Running → ((after_report left).life.state ≡ Crashed) × ((after_report left).regions ≡ left.regions)
+    unfolding report_of
+    crashed left runs = crashed_in left.life.state left runs
 
     asks_on : (found : Option BenchState) (asked : List Wish) → has_calls found core.actors ≡ false → IfSome found (IsKeptBench core.life) → IfSome found HasNoneBegun → IfSome found IsReachedBench → OnLink core.actors found within
         → AreWorkerCalls asked → gives_in asked ≡ 0
@@ -396,7 +413,7 @@ module _ (Fits : WorkerState → Type 0) (records credit : WorkerState → ℕ) 
         → OnLink (record core.actors { worker = after; worker_calls = core.actors.worker_calls ++ asked }) found (within - 1) × (1 ≤ within)
     asks_on None asked none kept begun reached on are no_gives less flows = (omega (arith, less, on), omega (arith, less, on))
     asks_on (Some bench) asked none kept begun reached on are no_gives less flows =
-        let live = kept.live ∙ ap is_running running in
+        let live = kept.live ∙ ap is_up running in
         let parts = or_parts (is_in_call bench 1) _ none in
         let now = none_now on.worker_now (sym (worker_in_call core.actors bench within reached live kept.own begun on fits program.took) ∙ parts.0) in
         worker_asks (records core.actors.worker) (credit core.actors.worker) core.actors.host_calls core.actors.is_taking core.actors.worker_calls bench.link within (reached_sound bench.link reached.link) live on
@@ -405,7 +422,7 @@ module _ (Fits : WorkerState → Type 0) (records credit : WorkerState → ℕ) 
     some_left : (found : Option BenchState) → 1 ≤ records core.actors.worker → IfSome found (IsKeptBench core.life) → IfSome found IsReachedBench → OnLink core.actors found within → 1 ≤ within
     some_left None some kept reached on = omega (arith, some, on)
     some_left (Some bench) some kept reached on =
-        let pays = paid (records core.actors.worker) (credit core.actors.worker) core.actors.host_calls core.actors.is_taking core.actors.worker_calls bench.link within (reached_sound bench.link reached.link) (kept.live ∙ ap is_running running) on in
+        let pays = paid (records core.actors.worker) (credit core.actors.worker) core.actors.host_calls core.actors.is_taking core.actors.worker_calls bench.link within (reached_sound bench.link reached.link) (kept.live ∙ ap is_up running) on in
         omega (arith, some, pays, on.cost)
 
     module _ (none : has_calls core.bench core.actors ≡ false) (kept : IfSome core.bench (IsKeptBench core.life)) (begun : IfSome core.bench HasNoneBegun) (reached : IfSome core.bench IsReachedBench)
@@ -414,7 +431,7 @@ module _ (Fits : WorkerState → Type 0) (records credit : WorkerState → ℕ) 
       down : (left : CoreState) → left.life ≡ core.life → left.regions ≡ core.regions → 1 ≤ records core.actors.worker → Came core within (after_report left)
       down left life regions some =
           let state = ap (λ (l : CoreLife). l.state) life in
-          let gone = crashed left.life.state left refl (state ∙ running) in
+          let gone = crashed left (state ∙ running) in
           record { some = some_left core.bench some kept reached on; regions = gone.1 ∙ regions; came = inl gone.0 }
 
       record_by : (done : Work) → 1 ≤ records core.actors.worker
@@ -546,7 +563,7 @@ module _ (Fits : WorkerState → Type 0) (records credit : WorkerState → ℕ) 
       let who = acting core in
       let turned = with_turn_after who core in
       let moved = actor_came turned within is.load is.loaded is.program is.fits running who (idle_same core who (other_actor who) ∙ acting_busy core busy) is.reached.bench is.kept is.ready.begun
-      (turn_ready core.actors (other_actor who) core.bench (is.ready.calls (ap is_running running))) (turn_on core.actors (other_actor who) core.bench within is.on) in
+      (turn_ready core.actors (other_actor who) core.bench (is.ready.calls (ap is_up running))) (turn_on core.actors (other_actor who) core.bench within is.on) in
       let stepped : drive_step core ≡ actor_step who turned = ap (λ (b : Bool). cond b (record { core = core; driven = driven.Idle }) (actor_step who turned)) busy in
       let next = sym (ap (λ (step : DriveStep). step.core) stepped) in
       subst (Drove core within) next (record {

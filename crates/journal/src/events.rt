@@ -369,7 +369,7 @@ pub enum Event {
     Stopped {
         name: Name,
     },
-    /// The core doesn't run.
+    /// The core is neither running nor attached.
     NotRunning {
         name: Name,
     },

@@ -127,6 +127,7 @@ named : (e : Event) → IsWritten e → IfSome (mark_of e) (λ mark. is_name mar
 named (event.Offline x) good = good.0.0
 named (event.Open x inc) good = good.0.0
 named (event.Running x inc) good = good.0.0
+named (event.Attached x inc) good = good.0.0
 named (event.Closed x inc) good = good.0.0
 named (event.Caller x c end) good = good.0.0
 named (event.Sent x c k) good = good.0.0

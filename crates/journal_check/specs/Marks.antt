@@ -14,11 +14,12 @@ abbrev pub mark : List ℕ → What → Option Mark
 mark name what = Some (record { name = name; what = what })
 
 -- what an event says, if a rule speaks of it. A name is that of a core from its line `offline` on; an incarnation begins with the line
--- `open` of a link, or the line `running` of a core
+-- `open` of a link, or the line `running` or `attached` of a core
 abbrev pub mark_of : Event → Option Mark
 mark_of (event.Offline x) = mark x what.Core
 mark_of (event.Open x inc) = mark x (what.Opens inc)
 mark_of (event.Running x inc) = mark x (what.Opens inc)
+mark_of (event.Attached x inc) = mark x (what.Opens inc)
 mark_of (event.Closed x inc) = mark x (what.Closes inc)
 mark_of (event.Caller x c end) = mark x (what.Caller c end)
 mark_of (event.Sent x c k) = mark x (what.Sent c k)

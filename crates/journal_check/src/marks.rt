@@ -49,7 +49,8 @@ pub(crate) fn mark_of(event: &Event) -> Option<Mark>
 {
     let (name, what) = match event {
         Event::Offline { name } => (name, What::Core),
-        Event::Open { name, inc } | Event::Running { name, inc } => (name, What::Opens(*inc)),
+        Event::Open { name, inc } | Event::Running { name, inc } | Event::Attached { name, inc } =>
+            (name, What::Opens(*inc)),
         Event::Closed { name, inc } => (name, What::Closes(*inc)),
         Event::Caller { name, caller, end } => (name, What::Caller(*caller, *end)),
         Event::Sent {

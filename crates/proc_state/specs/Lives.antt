@@ -1,7 +1,7 @@
--- The life of a core, and what each call makes of it: a table of states and calls (the states and calls of the Linux remoteproc documentation; the counts are own).
-use Rattle.std.specs.Prelude.{◌≡◌, ℕ, ◌+◌, ◌-◌, ◌≤◌, ◌==◌, Bool, true, if◌then◌else◌, Result, Ok, Err, OnErr}
+-- The life of a core, and what each call makes of it: a table of states and calls (the states and calls of the Linux remoteproc documentation and of its remoteproc_core.c; the counts are own).
+use Rattle.std.specs.Prelude.{◌≡◌, ℕ, ◌+◌, ◌-◌, ◌≤◌, ◌==◌, Bool, true, is_some, Option, Some, None, if◌then◌else◌, Result, Ok, Err, OnErr}
 use Rattle.rp_base.specs.declared.kinds.LifeState.{LifeState}
-use Rattle.rp_base.specs.declared.kinds.LifeState.TheVariants.{Offline, Running, Crashed}
+use Rattle.rp_base.specs.declared.kinds.LifeState.TheVariants.{Offline, Running, Crashed, Attached, Detached}
 use Rattle.proc_state.specs.declared.answers.LifeFault.{LifeFault}
 use Rattle.proc_state.specs.declared.answers.LifeFault.TheVariants as fault
 use Rattle.proc_state.specs.declared.answers.Power.{Power}
@@ -31,16 +31,45 @@ most = 4294967295
 abbrev pub new_life : CoreLife
 new_life = record { state = Offline; users = 0; incarnation = 0; recovery = true }
 
+-- ---- the table
+
+-- a line of the table: the states that a handover, the first user's boot, the last user's shutdown and detach, and a recovery lead to, and what a crash is there; there is none where the call leads nowhere
+pub record StateLine : Type 0 where
+  pub handover : Option LifeState
+  pub boot : Option LifeState
+  pub shutdown : Option LifeState
+  pub detach : Option LifeState
+  pub crash : Option Report
+  pub recovery : Option LifeState
+
+-- the line of each state
+abbrev pub line_of : LifeState → StateLine
+line_of Offline = record { handover = Some Detached; boot = Some Running; shutdown = None; detach = None; crash = None; recovery = None }
+line_of Running = record { handover = None; boot = None; shutdown = Some Offline; detach = None; crash = Some report.First; recovery = None }
+line_of Crashed = record { handover = None; boot = None; shutdown = None; detach = None; crash = Some report.Already; recovery = Some Running }
+line_of Attached = record { handover = None; boot = None; shutdown = Some Offline; detach = Some Detached; crash = Some report.First; recovery = None }
+line_of Detached = record { handover = None; boot = Some Attached; shutdown = None; detach = None; crash = None; recovery = None }
+
+-- whether a core is up: its users may shut it down
+abbrev pub is_up : LifeState → Bool
+is_up state = is_some (line_of state).shutdown
+
+-- whether nothing is loaded: the core may be handed over
+abbrev pub is_offline : LifeState → Bool
+is_offline state = is_some (line_of state).handover
+
+-- ---- what a call leaves and answers, by its place in the table
+
 -- a refusal: the life is as it was
 abbrev pub refusal_of : {A : Type 0} → LifeFault → CoreLife → Outcome A
 refusal_of reason life = record { life = life; answer = Err reason }
 
--- the core runs in its next incarnation, for these users; there is none after the last
-abbrev pub first_start : {A : Type 0} → ℕ → A → CoreLife → Outcome A
-first_start users told life =
+-- the core starts in this state in its next incarnation, for these users; there is none after the last
+abbrev pub first_start : {A : Type 0} → LifeState → ℕ → A → CoreLife → Outcome A
+first_start state users told life =
     if life.incarnation == most then refusal_of fault.IncarnationsSpent life
     else record {
-      life = record life { state = Running; users = users; incarnation = life.incarnation + 1 };
+      life = record life { state = state; users = users; incarnation = life.incarnation + 1 };
       answer = Ok told;
     }
 
@@ -53,11 +82,11 @@ with_user life =
       answer = Ok (power.Counted (life.users + 1));
     }
 
--- one user fewer, and offline at none
-abbrev pub without_user : CoreLife → Outcome Left
-without_user life =
+-- one user fewer, and this state at none
+abbrev pub without_user : LifeState → CoreLife → Outcome Left
+without_user state life =
     if life.users == 1 then record {
-      life = record life { state = Offline; users = 0 };
+      life = record life { state = state; users = 0 };
       answer = Ok left.Last;
     }
     else record {
@@ -65,46 +94,67 @@ without_user life =
       answer = Ok (left.Users (life.users - 1));
     }
 
--- a boot, `rproc_boot`: it starts a core without users, and else counts one more
+-- a handover: another party starts the core
+abbrev pub handover_to : Option LifeState → CoreLife → Outcome (Unit {0})
+handover_to None life = refusal_of fault.NotOffline life
+handover_to (Some state) life = record { life = record life { state = state }; answer = Ok tt }
+
+-- a boot: the first user's starts the core, each other one is counted
+abbrev pub boot_to : Option LifeState → CoreLife → Outcome Power
+boot_to None life = with_user life
+boot_to (Some state) life = first_start state 1 power.First life
+
+-- a user leaves
+abbrev pub leave_to : LifeFault → Option LifeState → CoreLife → Outcome Left
+leave_to reason None life = refusal_of reason life
+leave_to reason (Some state) life = without_user state life
+
+-- a report of a crash
+abbrev pub crash_as : Option Report → CoreLife → Outcome Report
+crash_as None life = refusal_of fault.NotPowered life
+crash_as (Some told) life = record { life = record life { state = Crashed }; answer = Ok told }
+
+-- a recovery, which has to be on
+abbrev pub recovery_to : Option LifeState → CoreLife → Outcome (Unit {0})
+recovery_to None life = refusal_of fault.NotCrashed life
+recovery_to (Some state) life = if life.recovery then first_start state life.users tt life else refusal_of fault.RecoveryOff life
+
+-- ---- the calls
+
+-- a handover (own; Linux has such a core in the state `RPROC_DETACHED` from the start)
+abbrev pub life_after_handover : CoreLife → Outcome (Unit {0})
+life_after_handover life = handover_to (line_of life.state).handover life
+
+-- a boot, `rproc_boot`; that of a detached core is `rproc_attach`
 abbrev pub life_after_boot : CoreLife → Outcome Power
-life_after_boot life = if life.users == 0 then first_start 1 power.First life else with_user life
+life_after_boot life = boot_to (line_of life.state).boot life
 
--- a shutdown, by the state of the core
-abbrev pub life_after_shutdown_in : LifeState → CoreLife → Outcome Left
-life_after_shutdown_in Offline life = refusal_of fault.NotPowered life
-life_after_shutdown_in Running life = without_user life
-life_after_shutdown_in Crashed life = refusal_of fault.NotPowered life
-
--- a shutdown, `rproc_shutdown`: only of a core that runs
+-- a shutdown, `rproc_shutdown`
 abbrev pub life_after_shutdown : CoreLife → Outcome Left
-life_after_shutdown life = life_after_shutdown_in life.state life
+life_after_shutdown life = leave_to fault.NotPowered (line_of life.state).shutdown life
 
--- a report of a crash, by the state of the core
-abbrev pub life_after_crash_in : LifeState → CoreLife → Outcome Report
-life_after_crash_in Offline life = refusal_of fault.NotPowered life
-life_after_crash_in Running life = record { life = record life { state = Crashed }; answer = Ok report.First }
-life_after_crash_in Crashed life = record { life = life; answer = Ok report.Already }
+-- a detach, `rproc_detach`
+abbrev pub life_after_detach : CoreLife → Outcome Left
+life_after_detach life = leave_to fault.NotAttached (line_of life.state).detach life
 
 -- a report of a crash, `rproc_report_crash`
 abbrev pub life_after_crash : CoreLife → Outcome Report
-life_after_crash life = life_after_crash_in life.state life
+life_after_crash life = crash_as (line_of life.state).crash life
 
--- a recovery, by the state of the core
-abbrev pub life_after_recovery_in : LifeState → CoreLife → Outcome (Unit {0})
-life_after_recovery_in Offline life = refusal_of fault.NotCrashed life
-life_after_recovery_in Running life = refusal_of fault.NotCrashed life
-life_after_recovery_in Crashed life = if life.recovery then first_start life.users tt life else refusal_of fault.RecoveryOff life
-
--- a recovery, `rproc_trigger_recovery`: only of a crashed core, while recovery is on
+-- a recovery, `rproc_trigger_recovery`
 abbrev pub life_after_recovery : CoreLife → Outcome (Unit {0})
-life_after_recovery life = life_after_recovery_in life.state life
+life_after_recovery life = recovery_to (line_of life.state).recovery life
 
--- which users and incarnations there are in each state: a core is offline exactly where it has no
--- users, and a core with users was started
+-- ---- what calls keep
+
+-- which users and incarnations there are in each state: a core has users exactly where it is up or
+-- crashed, and then it was started
 abbrev pub AreIn : LifeState → ℕ → ℕ → Type 0
 AreIn Offline users incarnation = users ≡ 0
 AreIn Running users incarnation = (1 ≤ users) × (1 ≤ incarnation)
 AreIn Crashed users incarnation = (1 ≤ users) × (1 ≤ incarnation)
+AreIn Attached users incarnation = (1 ≤ users) × (1 ≤ incarnation)
+AreIn Detached users incarnation = users ≡ 0
 
 -- a life that calls lead to
 pub record IsReachable (life : CoreLife) : Type 0 where

@@ -7,7 +7,7 @@ use thiserror::Error;
 #[derive(Clone, Copy, Debug, PartialEq, Eq, Error)]
 #[error("fault {}", self.number())]
 pub enum LifeFault {
-    /// The core has no power, or a shutdown meets a crashed one.
+    /// The core has no user that a crash could reach, or a shutdown meets a crashed one.
     NotPowered,
     /// Only a crashed core is recovered.
     NotCrashed,
@@ -15,12 +15,16 @@ pub enum LifeFault {
     RecoveryOff,
     /// The core has as many users as can be counted.
     UsersFull,
+    /// Only an offline core is handed over.
+    NotOffline,
+    /// Only an attached core is detached.
+    NotAttached,
     /// The core has had as many lives as can be counted.
     IncarnationsSpent,
 }
 
 impl LifeFault {
-    /// The number of the fault: 50 to 53, or 82.
+    /// The number of the fault: 50 to 53, 55, 56 or 82.
     pub fn number(self) -> u8
         ensures { result ≡ fault_number self }
     {
@@ -29,6 +33,8 @@ impl LifeFault {
             LifeFault::NotCrashed => 51,
             LifeFault::RecoveryOff => 52,
             LifeFault::UsersFull => 53,
+            LifeFault::NotOffline => 55,
+            LifeFault::NotAttached => 56,
             LifeFault::IncarnationsSpent => 82,
         }
     }
@@ -43,12 +49,12 @@ pub enum Power {
     Counted(u32),
 }
 
-/// What a shutdown left.
+/// What a shutdown or a detach left.
 #[derive(Clone, Copy, Debug, PartialEq, Eq)]
 pub enum Left {
-    /// The core runs on, for this many users.
+    /// The core is up, for this many users.
     Users(u32),
-    /// It was the last user's, and the core is offline.
+    /// It was the last user's: the core is offline, or detached.
     Last,
 }
 

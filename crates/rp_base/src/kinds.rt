@@ -88,6 +88,10 @@ pub enum LifeState {
     Running,
     /// The core stopped by a fault, and waits to be recovered.
     Crashed,
+    /// Another party started the core, and it has users here.
+    Attached,
+    /// Another party started the core, and it has no users here.
+    Detached,
 }
 
 /// What the memory of a region serves for.

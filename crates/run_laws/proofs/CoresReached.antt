@@ -3,15 +3,12 @@ use Rattle.std.proofs.Common.{◌≡◌, ℕ, zero, suc, ◌+◌, ◌-◌, ◌==
 use Rattle.std.proofs.lemmas.Bool.{cond_both}
 use Rattle.rp_base.specs.declared.kinds.CrashKind.{CrashKind}
 use Rattle.rp_base.specs.declared.kinds.DriverKind.{DriverKind}
-use Rattle.rp_base.specs.declared.kinds.LifeState.{LifeState}
-use Rattle.rp_base.specs.declared.kinds.LifeState.TheVariants.{Offline, Running, Crashed}
 use Rattle.rp_base.specs.declared.kinds.Switch.{Switch}
 use Rattle.rp_base.specs.declared.limits.TheConstants.{STEPS_MOST}
 use Rattle.lane_model.specs.declared.calls.Wish.{Wish}
 use Rattle.lane_model.specs.declared.calls.Wish.TheVariants as wish
 use Rattle.lane_model.specs.Links.{end_of}
 use Rattle.memory_pool.specs.declared.regions.Region.{Region}
-use Rattle.proc_state.specs.declared.answers.LifeFault.{LifeFault}
 use Rattle.script_lang.specs.declared.commands.Command.{Command}
 use Rattle.script_lang.specs.declared.commands.Command.TheVariants as command
 use Rattle.script_lang.specs.Runnable.{IsRunnable}
@@ -20,20 +17,19 @@ use Rattle.journal.specs.declared.events.Event.TheVariants as event
 use Rattle.link_bench.specs.declared.benches.BenchFault.{BenchFault}
 use Rattle.link_bench.specs.declared.benches.Reach.{Reach}
 use Rattle.link_bench.specs.declared.benches.Reach.TheVariants as reach
+use Rattle.proc_state.specs.Lives.{is_up}
 use Rattle.crash_recover.specs.declared.core_faults.AddFault.{AddFault}
 use Rattle.crash_recover.specs.declared.core_faults.CoreFault.{CoreFault}
 use Rattle.link_bench.specs.Benches.{BenchState, IsSendable, advance_fault, advance_walk, begin_fault, call_walk, is_in_call}
+use Rattle.core_laws.proofs.Outcomes.{boot_stays, detach_stays, handover_stays, recovery_stays, report_stays, shutdown_stays}
 use Rattle.core_laws.specs.BenchMoves.{IsReachedBench, IsReachedCore}
-use Rattle.crash_recover.specs.CoreBoots.{after_shutdown, boot_fault, needs_image, shutdown_fault}
-use Rattle.crash_recover.specs.CoreCrashes.{after_report}
 use Rattle.crash_recover.specs.CoreLinks.{with_link}
-use Rattle.crash_recover.specs.CoreRecoveries.{recovery_fault, reopen_fault}
 use Rattle.crash_recover.specs.CoreRings.{core_ring}
 use Rattle.crash_recover.specs.CoreTurns.{core_turns}
 use Rattle.crash_recover.specs.Cores.{CoreState, LoadState, add_fault, driver_add_fault}
 use Rattle.crash_recover.specs.Drives.{drive_step}
 use Rattle.core_laws.proofs.BenchMoves.{advanced, called}
-use Rattle.core_laws.proofs.CoreMoves.{call_ended, core_booted, core_driven, core_readied, core_recovered, core_reported, core_shut}
+use Rattle.core_laws.proofs.CoreMoves.{call_ended, core_driven, reached_stays}
 use Rattle.core_laws.proofs.CoreTurnMoves.{core_turned}
 use Rattle.script_run.specs.Stores.{Answer}
 use Rattle.script_run.specs.NamedImages.{ImageState}
@@ -42,8 +38,7 @@ use Rattle.script_run.specs.CoreCommands.{core_effect}
 use Rattle.script_run.specs.CoreDrives.{drive_effect, drive_effect_in, drive_steps, rest_event, rests_or, step_then}
 use Rattle.script_run.specs.CoreEffects.{CoreEffect, added_effect, core_tells, core_tells_all, declared_effect, driver_effect, recovery_effect, region_effect, state_effect}
 use Rattle.script_run.specs.CoreLinks.{core_after_reach, core_bench_effect, core_call_effect, core_command_effect, core_link_effect, core_pump_effect, core_pumped_effect, core_ring_effect, core_shown_effect, core_step_effect, core_turn_holder, core_walk_effect, found_ring_effect, linked_effect, own_caller_in, pump_refusal, unless_core_refused, unless_own, unless_told}
-use Rattle.script_run.specs.CoreLives.{boot_effect, boot_unless, core_stops, crash_effect, crash_effect_in, fetched_boot_effect, first_crash_effect, found_or_told, image_boot_effect, image_bytes, last_shutdown_effect, live_inc, shutdown_effect, shutdown_unless}
-use Rattle.script_run.specs.CoreRestarts.{fetched_recovery_effect, image_recovery_effect, named_recovery_effect, recover_effect, recovery_unless, reload_fault, reloaded_effect, restarted_effect}
+use Rattle.script_run.specs.CoreLives.{boot_effect, booted_image, core_stops, crash_effect, detach_effect, found_image, handover_effect, may_step, recover_effect, shutdown_effect}
 use Rattle.script_run.specs.CoreViews.{loaded_table_effect, mem_effect, table_effect, trace_effect}
 use Rattle.run_laws.proofs.LinksReached.{in_call_at, link_reached}
 
@@ -167,84 +162,29 @@ module _ (name : List ℕ) (core : CoreState) (steps : ℕ) (is : IsReachedCore 
 -- ---- lives
 
 module _ (name : List ℕ) (core : CoreState) (steps : ℕ) (is : IsReachedCore core) where
-  boot_at : (image bytes : List ℕ) (why : Option CoreFault) → LeavesCore (boot_unless name image core steps bytes why)
-  boot_at image bytes None = core_booted core image bytes is
-  boot_at image bytes (Some why) = is
-
-  image_booted : (image bytes : List ℕ) → LeavesCore (image_boot_effect name image core steps bytes)
-  unfolding image_boot_effect
-  image_booted image bytes = boot_at image bytes (boot_fault core bytes)
-
-  fetched_booted : (image : List ℕ) (found : Answer) → LeavesCore (fetched_boot_effect name image core steps found)
-  fetched_booted image (Ok bytes) = image_booted image bytes
-  fetched_booted image (Err why) = is
-
   boot_reached : (images : List ImageState) (answer : Answer) (image : List ℕ) → LeavesCore (boot_effect images answer name core steps image)
   unfolding boot_effect
-  boot_reached images answer image =
-      cond_both (needs_image core) (fetched_boot_effect name image core steps (found_or_told answer (image_bytes images image))) (image_boot_effect name image core steps []) LeavesCore
-      (λ _. fetched_booted image (found_or_told answer (image_bytes images image))) (λ _. image_booted image [])
+  boot_reached images answer image = boot_stays IsReachedCore reached_stays core image (found_image images answer image) is
 
-  last_shut : (live : Option ℕ) → LeavesCore (last_shutdown_effect name core steps live)
-  unfolding last_shutdown_effect
-  last_shut None = core_shut core is
-  last_shut (Some inc) =
-      cond_both (steps == STEPS_MOST) (core_stops core steps) (core_tells_all (after_shutdown core) (steps + 1) (event.Closed name inc ∷ event.Offline name ∷ [])) LeavesCore
-      (λ _. is) (λ _. core_shut core is)
-
-  shut_at : (why : Option CoreFault) → LeavesCore (shutdown_unless name core steps why)
-  shut_at None =
-      cond_both (core.life.users == 1) (last_shutdown_effect name core steps (live_inc core.bench))
-      (core_tells (after_shutdown core) steps (event.Users name (after_shutdown core).life.users)) LeavesCore (λ _. last_shut (live_inc core.bench)) (λ _. core_shut core is)
-  shut_at (Some why) = is
-
-  shutdown_reached : LeavesCore (shutdown_effect name core steps)
-  unfolding shutdown_effect
-  shutdown_reached = shut_at (shutdown_fault core)
-
-  first_crash : (kind : CrashKind) (found : Option BenchState) → LeavesCore (first_crash_effect name core steps kind found)
-  unfolding first_crash_effect
-  first_crash kind None = core_reported core is
-  first_crash kind (Some bench) =
-      cond_both (steps == STEPS_MOST) (core_stops core steps)
-      (core_tells_all (after_report core) (steps + 1) (event.Closed name bench.link.era.inc ∷ event.Crashed name kind ∷ [])) LeavesCore (λ _. is) (λ _. core_reported core is)
-
-  crash_in : (state : LifeState) (kind : CrashKind) → LeavesCore (crash_effect_in state name core steps kind)
-  crash_in Offline kind = is
-  crash_in Running kind = first_crash kind core.bench
-  crash_in Crashed kind = is
-
-  crash_reached : (kind : CrashKind) → LeavesCore (crash_effect name core steps kind)
-  unfolding crash_effect
-  crash_reached kind = crash_in core.life.state kind
-
-  restarted : (image bytes : List ℕ) (why : Option CoreFault) → reopen_fault core ≡ why → LeavesCore (restarted_effect name image core steps bytes why)
-  restarted image bytes None clear = core_recovered core bytes is clear
-  restarted image bytes (Some why) refused = core_readied core is
-
-  reloaded : (image bytes : List ℕ) (why : Option CoreFault) → LeavesCore (reloaded_effect name image core steps bytes why)
-  reloaded image bytes None = restarted image bytes (reopen_fault core) refl
-  reloaded image bytes (Some why) = is
-
-  image_recovered : (image bytes : List ℕ) → LeavesCore (image_recovery_effect name image core steps bytes)
-  unfolding image_recovery_effect
-  image_recovered image bytes = reloaded image bytes (reload_fault core bytes)
-
-  fetched_recovered : (image : List ℕ) (found : Answer) → LeavesCore (fetched_recovery_effect name image core steps found)
-  fetched_recovered image (Ok bytes) = image_recovered image bytes
-  fetched_recovered image (Err why) = is
-
-  named_recovered : (images : List ImageState) (answer : Answer) (image : Option (List ℕ)) → LeavesCore (named_recovery_effect images answer name core steps image)
-  named_recovered images answer None = is
-  named_recovered images answer (Some image) = fetched_recovered image (found_or_told answer (image_bytes images image))
-
-  recover_unless : (images : List ImageState) (answer : Answer) (why : Option LifeFault) → LeavesCore (recovery_unless images answer name core steps why)
-  recover_unless images answer None = named_recovered images answer core.image
-  recover_unless images answer (Some why) = is
+  handover_reached : (images : List ImageState) (answer : Answer) (image : List ℕ) → LeavesCore (handover_effect images answer name core steps image)
+  unfolding handover_effect
+  handover_reached images answer image = handover_stays IsReachedCore reached_stays core image (found_image images answer image) is
 
   recover_reached : (images : List ImageState) (answer : Answer) → LeavesCore (recover_effect images answer name core steps)
   unfolding recover_effect
-  recover_reached images answer = recover_unless images answer (recovery_fault core.life)
+  recover_reached images answer = recovery_stays IsReachedCore reached_stays core (found_image images answer (booted_image name core)) is
+
+  shutdown_reached : LeavesCore (shutdown_effect name core steps)
+  unfolding shutdown_effect
+  shutdown_reached = shutdown_stays IsReachedCore reached_stays (may_step steps) core is
+
+  detach_reached : LeavesCore (detach_effect name core steps)
+  unfolding detach_effect
+  detach_reached = detach_stays IsReachedCore reached_stays (may_step steps) core is
+
+  crash_reached : (kind : CrashKind) → LeavesCore (crash_effect name core steps kind)
+  unfolding crash_effect
+  crash_reached kind = report_stays IsReachedCore reached_stays (may_step steps) core is
 
 -- ---- drives
 
@@ -260,15 +200,11 @@ driven (suc more) name is_quiet core steps is =
     (cond_both (steps == STEPS_MOST) (core_stops core steps) (step_then name is_quiet (drive_step core) (λ next. drive_steps more name is_quiet next (steps + 1))) LeavesCore
     (λ _. is) (λ _. driven more name is_quiet (drive_step core).core (steps + 1) (core_driven core is)))
 
-drive_in : (state : LifeState) (name : List ℕ) (is_quiet : Bool) (core : CoreState) (steps count : ℕ) → IsReachedCore core
-    → LeavesCore (drive_effect_in state name is_quiet core steps count)
-drive_in Offline name is_quiet core steps count is = is
-drive_in Running name is_quiet core steps count is = driven count name is_quiet core steps is
-drive_in Crashed name is_quiet core steps count is = is
-
 drive_reached : (name : List ℕ) (is_quiet : Bool) (core : CoreState) (steps count : ℕ) → IsReachedCore core → LeavesCore (drive_effect name is_quiet core steps count)
 unfolding drive_effect
-drive_reached name is_quiet core steps count is = drive_in core.life.state name is_quiet core steps count is
+drive_reached name is_quiet core steps count is =
+    cond_both (is_up core.life.state) (drive_steps count name is_quiet core steps) (core_tells core steps (event.NotRunning name)) LeavesCore
+    (λ _. driven count name is_quiet core steps is) (λ _. is)
 
 -- a command on a core
 pub core_reached : (images : List ImageState) (answer : Answer) (is_quiet : Bool) (named : NamedCoreState) (steps : ℕ) (wanted : Command)
@@ -284,8 +220,11 @@ core_reached images answer is_quiet named steps (command.State name) runs is = s
 core_reached images answer is_quiet named steps (command.Recovery name set) runs is = switch_reached named.name named.core steps is set
 core_reached images answer is_quiet named steps (command.Close name) runs is = is
 core_reached images answer is_quiet named steps (command.Reopen name) runs is = is
+core_reached images answer is_quiet named steps (command.Dump name image) runs is = is
 core_reached images answer is_quiet named steps (command.Boot name image) runs is = boot_reached named.name named.core steps is images answer image
+core_reached images answer is_quiet named steps (command.Handover name image) runs is = handover_reached named.name named.core steps is images answer image
 core_reached images answer is_quiet named steps (command.Shutdown name) runs is = shutdown_reached named.name named.core steps is
+core_reached images answer is_quiet named steps (command.Detach name) runs is = detach_reached named.name named.core steps is
 core_reached images answer is_quiet named steps (command.Table name) runs is = table_reached named.name named.core steps is
 core_reached images answer is_quiet named steps (command.Trace name index) runs is = trace_reached named.name named.core steps is index
 core_reached images answer is_quiet named steps (command.Mem name da len) runs is = mem_reached named.name named.core steps is da len

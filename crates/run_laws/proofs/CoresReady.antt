@@ -1,12 +1,11 @@
 -- Commands on a core keep that its actors hold what their calls give back, and so do runs.
-use Rattle.std.proofs.Common.{◌≡◌, ◌<◌, ℕ, zero, suc, ◌+◌, ◌-◌, ◌==◌, nat_le, cond, Bool, true, false, List, [], ◌∷◌, length, Option, Some, None, IfSome, Ok, Err, is_some, slice_get, refl, ap, subst}
+use Rattle.std.proofs.Common.{◌≡◌, ◌<◌, ℕ, zero, suc, ◌+◌, ◌-◌, ◌==◌, nat_le, cond, Bool, true, false, List, [], ◌∷◌, length, Option, Some, None, IfSome, Result, Ok, Err, is_some, slice_get, refl, ap, subst}
 use Rattle.std.proofs.lemmas.Bool.{cond_both, true≢false}
 use Rattle.std.proofs.lemmas.List.Elements.{All-nil, All-push, All-set}
 use Rattle.rp_base.specs.declared.kinds.CrashKind.{CrashKind}
 use Rattle.rp_base.specs.declared.kinds.DriverKind.{DriverKind}
 use Rattle.rp_base.specs.declared.kinds.End.{End}
 use Rattle.rp_base.specs.declared.kinds.LifeState.{LifeState}
-use Rattle.rp_base.specs.declared.kinds.LifeState.TheVariants.{Offline, Running, Crashed}
 use Rattle.rp_base.specs.declared.kinds.Switch.{Switch}
 use Rattle.rp_base.specs.declared.limits.TheConstants.{PAYLOAD_MOST, STEPS_MOST}
 use Rattle.rpmsg_header.specs.Headers.{header_bytes}
@@ -17,7 +16,6 @@ use Rattle.lane_model.specs.Conditions.{is_holding}
 use Rattle.lane_model.specs.Lanes.{holder}
 use Rattle.lane_model.specs.Links.{end_of, free_number}
 use Rattle.memory_pool.specs.declared.regions.Region.{Region}
-use Rattle.proc_state.specs.declared.answers.LifeFault.{LifeFault}
 use Rattle.script_lang.specs.declared.commands.Command.{Command}
 use Rattle.script_lang.specs.declared.commands.Command.TheVariants as command
 use Rattle.script_lang.specs.declared.commands.RegionSet.{RegionSet}
@@ -28,17 +26,16 @@ use Rattle.image_maker.specs.Images.{image_of}
 use Rattle.link_bench.specs.declared.benches.BenchFault.{BenchFault}
 use Rattle.link_bench.specs.declared.benches.Reach.{Reach}
 use Rattle.link_bench.specs.declared.benches.Reach.TheVariants as reach
+use Rattle.proc_state.specs.Lives.{is_up}
 use Rattle.crash_recover.specs.declared.core_faults.AddFault.{AddFault}
 use Rattle.crash_recover.specs.declared.core_faults.CoreFault.{CoreFault}
 use Rattle.link_bench.specs.Benches.{BenchState, advance_fault, advance_walk, begin_fault, call_walk, is_in_call, ready_fault}
-use Rattle.crash_recover.specs.CoreBoots.{after_shutdown, boot_fault, needs_image, shutdown_fault}
-use Rattle.crash_recover.specs.CoreCrashes.{after_report}
 use Rattle.crash_recover.specs.CoreLinks.{with_link}
-use Rattle.crash_recover.specs.CoreRecoveries.{recovery_fault, reopen_fault}
 use Rattle.crash_recover.specs.CoreRings.{core_ring}
 use Rattle.crash_recover.specs.CoreTurns.{core_turns}
 use Rattle.crash_recover.specs.Cores.{CoreState, LoadState, add_fault, driver_add_fault}
 use Rattle.crash_recover.specs.Drives.{drive_step}
+use Rattle.core_laws.proofs.Outcomes.{boot_stays, detach_stays, handover_stays, recovery_stays, report_stays, shutdown_stays}
 use Rattle.core_laws.specs.KeptCores.{IsKeptCore}
 use Rattle.core_laws.proofs.KeptCores.{core_driven}
 use Rattle.script_run.specs.declared.statuses.Stop.{Stop}
@@ -47,8 +44,7 @@ use Rattle.script_run.specs.CoreCommands.{core_effect}
 use Rattle.script_run.specs.CoreDrives.{drive_effect, drive_effect_in, drive_steps, rest_event, rests_or, step_then}
 use Rattle.script_run.specs.CoreEffects.{CoreEffect, added_effect, core_tells, core_tells_all, declared_effect, driver_effect, recovery_effect, region_effect}
 use Rattle.script_run.specs.CoreLinks.{core_after_reach, core_bench_effect, core_call_effect, core_command_effect, core_link_effect, core_pump_effect, core_pumped_effect, core_ring_effect, core_shown_effect, core_step_effect, core_turn_holder, core_walk_effect, found_ring_effect, linked_effect, own_caller, own_caller_in, pump_refusal, unless_core_refused, unless_own, unless_told}
-use Rattle.script_run.specs.CoreLives.{boot_effect, boot_unless, core_stops, crash_effect, crash_effect_in, fetched_boot_effect, first_crash_effect, found_or_told, image_boot_effect, image_bytes, last_shutdown_effect, live_inc, shutdown_effect, shutdown_unless}
-use Rattle.script_run.specs.CoreRestarts.{fetched_recovery_effect, image_recovery_effect, named_recovery_effect, recover_effect, recovery_unless, reload_fault, reloaded_effect, restarted_effect}
+use Rattle.script_run.specs.CoreLives.{boot_effect, booted_image, core_stops, crash_effect, detach_effect, found_image, handover_effect, may_step, recover_effect, shutdown_effect}
 use Rattle.script_run.specs.CoreViews.{loaded_table_effect, mem_effect, table_effect, trace_effect}
 use Rattle.script_run.specs.Effects.{Doing, Effect, begun_effect, books_effect, call_effect, caller_effect, give_effect, held_effect, new_caller_effect, plain_effect, send_effect, tells, unless_refused}
 use Rattle.run_laws.specs.Kept.{AreKept, AreReady}
@@ -57,15 +53,15 @@ use Rattle.script_run.specs.NamedCores.{NamedCoreState}
 use Rattle.script_run.specs.NamedImages.{ImageState}
 use Rattle.script_run.specs.NamedLinks.{NamedLink}
 use Rattle.script_run.specs.Recoveries.{reclaim_effect}
-use Rattle.script_run.specs.Runs.{Run, RunEffect, RunState, asked_name, command_name, core_located_effect, core_made_effect, core_place, effect_of, family_effect, found_core_effect, found_effect, has_image, image_effect, image_wanted, is_full, located_effect, made_effect, named_effect, new_run, place_of, quiet_effect, quiet_wanted, run_from, run_of, run_on, run_tells, run_told, unnamed_effect, with_image, without_link_effect}
+use Rattle.script_run.specs.Runs.{Run, RunEffect, RunState, asked_name, command_name, core_located_effect, core_made_effect, core_place, dump_answer, dump_effect, dump_wanted, dumped_effect, effect_of, family_effect, found_core_effect, found_effect, has_image, image_effect, image_wanted, is_full, located_effect, made_effect, named_effect, new_run, place_of, quiet_effect, quiet_wanted, run_from, run_of, run_on, run_tells, run_told, unnamed_effect, with_image, without_link_effect, kept_effect}
 use Rattle.script_run.specs.Stores.{Answer, Told, later_told, told_answer}
 use Rattle.run_laws.proofs.RunsReached.{effect_reached, item_at}
 use Rattle.std.proofs.Common.{arith, ◌∙◌, sym, option_map, not}
 use Rattle.run_laws.specs.Reached.{AreReached}
 use Rattle.run_laws.proofs.CoresKept.{effect_kept, other_caller}
 use Rattle.run_laws.proofs.LinksReached.{header_sendable, in_call_at, neither}
-use Rattle.core_laws.proofs.PendingOthers.{advance_ready, boot_ready, call_end_ready, call_ready, put_other, readied_ready, reclaim_ready, recovery_ready, shutdown_ready}
-use Rattle.core_laws.proofs.PendingDrives.{cleared_begun, drive_ready, reclaim_begun, report_ready}
+use Rattle.core_laws.proofs.PendingOthers.{advance_ready, call_end_ready, call_ready, put_other, ready_stays, reclaim_ready}
+use Rattle.core_laws.proofs.PendingDrives.{cleared_begun, drive_ready, reclaim_begun}
 use Rattle.core_laws.proofs.PendingTurns.{Stands, turns_ready}
 use Rattle.link_bench.proofs.Begun.{some_same}
 use Rattle.core_laws.proofs.CoreMoves.{core_driven as core_moved}
@@ -81,7 +77,6 @@ use Rattle.script_run.specs.CallEvents.{fault_event}
 use Rattle.link_bench.specs.Benches.{BenchWalk, IsSendable, advance_steps, bench_walk, begun_of, call_rings, call_steps, used_fault, wish_fault, with_begun}
 use Rattle.std.proofs.lemmas.Bool.{leb-true}
 use Rattle.script_run.specs.CoreLinks.{first_event, own_in_pump}
-use Rattle.core_laws.specs.KeptCores.{is_running}
 use Rattle.lane_model.specs.Links.{lanes_of}
 use Rattle.script_run.specs.Runs.{ObjectsState}
 use Rattle.link_bench.specs.BenchCrashes.{left_by_reclaim}
@@ -238,8 +233,11 @@ module _ (state : LifeState) (actors : ActorsState) where
   link_stands named steps (command.Region name kind da pa len) runs of is = absurd of
   link_stands named steps (command.Driver name channel kind) runs of is = absurd of
   link_stands named steps (command.Drive name count) runs of is = absurd of
+  link_stands named steps (command.Dump name image) runs of is = absurd of
   link_stands named steps (command.Boot name image) runs of is = absurd of
+  link_stands named steps (command.Handover name image) runs of is = absurd of
   link_stands named steps (command.Shutdown name) runs of is = absurd of
+  link_stands named steps (command.Detach name) runs of is = absurd of
   link_stands named steps (command.State name) runs of is = absurd of
   link_stands named steps (command.Table name) runs of is = absurd of
   link_stands named steps (command.Trace name index) runs of is = absurd of
@@ -290,7 +288,7 @@ module _ (name : List ℕ) (core : CoreState) (steps : ℕ) (is : IsReadyCore co
   unless_core caller (Some why) effect rest = is
 
   -- what the actors hold on this link of the core
-  stands_on : (bench : BenchState) (found : Option BenchState) → found ≡ Some bench → IfSome found HasNoneBegun → (is_running core.life.state ≡ true → IfSome found (IsReadyBench core.actors))
+  stands_on : (bench : BenchState) (found : Option BenchState) → found ≡ Some bench → IfSome found HasNoneBegun → (is_up core.life.state ≡ true → IfSome found (IsReadyBench core.actors))
       → Stands core.life.state core.actors bench
   stands_on bench None there begun calls = absurd (true≢false (sym (ap is_some there)))
   stands_on bench (Some other) there begun calls =
@@ -418,85 +416,29 @@ module _ (name : List ℕ) (core : CoreState) (steps : ℕ) (is : IsReadyCore co
 -- ---- lives
 
 module _ (name : List ℕ) (core : CoreState) (steps : ℕ) (is : IsReadyCore core) where
-  boot_at : (image bytes : List ℕ) (why : Option CoreFault) → LeavesCore (boot_unless name image core steps bytes why)
-  boot_at image bytes None = boot_ready core image bytes is
-  boot_at image bytes (Some why) = is
-
-  image_booted : (image bytes : List ℕ) → LeavesCore (image_boot_effect name image core steps bytes)
-  unfolding image_boot_effect
-  image_booted image bytes = boot_at image bytes (boot_fault core bytes)
-
-  fetched_booted : (image : List ℕ) (found : Answer) → LeavesCore (fetched_boot_effect name image core steps found)
-  fetched_booted image (Ok bytes) = image_booted image bytes
-  fetched_booted image (Err why) = is
-
   boot_kept : (images : List ImageState) (answer : Answer) (image : List ℕ) → LeavesCore (boot_effect images answer name core steps image)
   unfolding boot_effect
-  boot_kept images answer image =
-      cond_both (needs_image core) (fetched_boot_effect name image core steps (found_or_told answer (image_bytes images image))) (image_boot_effect name image core steps []) LeavesCore
-      (λ _. fetched_booted image (found_or_told answer (image_bytes images image))) (λ _. image_booted image [])
+  boot_kept images answer image = boot_stays IsReadyCore ready_stays core image (found_image images answer image) is
 
-  last_shut : (live : Option ℕ) → LeavesCore (last_shutdown_effect name core steps live)
-  unfolding last_shutdown_effect
-  last_shut None = shutdown_ready core is
-  last_shut (Some inc) =
-      cond_both (steps == STEPS_MOST) (core_stops core steps) (core_tells_all (after_shutdown core) (steps + 1) (event.Closed name inc ∷ event.Offline name ∷ [])) LeavesCore
-      (λ _. is) (λ _. shutdown_ready core is)
-
-  shut_at : (why : Option CoreFault) → LeavesCore (shutdown_unless name core steps why)
-  shut_at None =
-      cond_both (core.life.users == 1) (last_shutdown_effect name core steps (live_inc core.bench))
-      (core_tells (after_shutdown core) steps (event.Users name (after_shutdown core).life.users)) LeavesCore (λ _. last_shut (live_inc core.bench)) (λ _. shutdown_ready core is)
-  shut_at (Some why) = is
-
-  shutdown_kept : LeavesCore (shutdown_effect name core steps)
-  unfolding shutdown_effect
-  shutdown_kept = shut_at (shutdown_fault core)
-
-  first_crash : (kind : CrashKind) (found : Option BenchState) → LeavesCore (first_crash_effect name core steps kind found)
-  unfolding first_crash_effect
-  first_crash kind None = report_ready core is
-  first_crash kind (Some bench) =
-      cond_both (steps == STEPS_MOST) (core_stops core steps)
-      (core_tells_all (after_report core) (steps + 1) (event.Closed name bench.link.era.inc ∷ event.Crashed name kind ∷ [])) LeavesCore (λ _. is) (λ _. report_ready core is)
-
-  crash_in : (state : LifeState) (kind : CrashKind) → LeavesCore (crash_effect_in state name core steps kind)
-  crash_in Offline kind = is
-  crash_in Running kind = first_crash kind core.bench
-  crash_in Crashed kind = is
-
-  crash_kept : (kind : CrashKind) → LeavesCore (crash_effect name core steps kind)
-  unfolding crash_effect
-  crash_kept kind = crash_in core.life.state kind
-
-  module _ (may : recovery_fault core.life ≡ None) where
-    restarted : (image bytes : List ℕ) (why : Option CoreFault) → reopen_fault core ≡ why → LeavesCore (restarted_effect name image core steps bytes why)
-    restarted image bytes None clear = recovery_ready core bytes is
-    restarted image bytes (Some why) refused = readied_ready core may is
-
-    reloaded : (image bytes : List ℕ) (why : Option CoreFault) → LeavesCore (reloaded_effect name image core steps bytes why)
-    reloaded image bytes None = restarted image bytes (reopen_fault core) refl
-    reloaded image bytes (Some why) = is
-
-    image_recovered : (image bytes : List ℕ) → LeavesCore (image_recovery_effect name image core steps bytes)
-    unfolding image_recovery_effect
-    image_recovered image bytes = reloaded image bytes (reload_fault core bytes)
-
-    fetched_recovered : (image : List ℕ) (found : Answer) → LeavesCore (fetched_recovery_effect name image core steps found)
-    fetched_recovered image (Ok bytes) = image_recovered image bytes
-    fetched_recovered image (Err why) = is
-
-    named_recovered : (images : List ImageState) (answer : Answer) (image : Option (List ℕ)) → LeavesCore (named_recovery_effect images answer name core steps image)
-    named_recovered images answer None = is
-    named_recovered images answer (Some image) = fetched_recovered image (found_or_told answer (image_bytes images image))
-
-  recover_unless : (images : List ImageState) (answer : Answer) (why : Option LifeFault) → recovery_fault core.life ≡ why → LeavesCore (recovery_unless images answer name core steps why)
-  recover_unless images answer None may = named_recovered may images answer core.image
-  recover_unless images answer (Some why) refused = is
+  handover_kept : (images : List ImageState) (answer : Answer) (image : List ℕ) → LeavesCore (handover_effect images answer name core steps image)
+  unfolding handover_effect
+  handover_kept images answer image = handover_stays IsReadyCore ready_stays core image (found_image images answer image) is
 
   recover_kept : (images : List ImageState) (answer : Answer) → LeavesCore (recover_effect images answer name core steps)
   unfolding recover_effect
-  recover_kept images answer = recover_unless images answer (recovery_fault core.life) refl
+  recover_kept images answer = recovery_stays IsReadyCore ready_stays core (found_image images answer (booted_image name core)) is
+
+  shutdown_kept : LeavesCore (shutdown_effect name core steps)
+  unfolding shutdown_effect
+  shutdown_kept = shutdown_stays IsReadyCore ready_stays (may_step steps) core is
+
+  detach_kept : LeavesCore (detach_effect name core steps)
+  unfolding detach_effect
+  detach_kept = detach_stays IsReadyCore ready_stays (may_step steps) core is
+
+  crash_kept : (kind : CrashKind) → LeavesCore (crash_effect name core steps kind)
+  unfolding crash_effect
+  crash_kept kind = report_stays IsReadyCore ready_stays (may_step steps) core is
 
 -- ---- drives
 
@@ -514,16 +456,12 @@ driven (suc more) name is_quiet core steps reached kept is =
     (λ _. is)
     (λ _. driven more name is_quiet (drive_step core).core (steps + 1) (core_moved core reached) (core_driven core kept) (drive_ready core reached kept is)))
 
-drive_in : (state : LifeState) (name : List ℕ) (is_quiet : Bool) (core : CoreState) (steps count : ℕ) → IsReachedCore core → IsKeptCore core → IsReadyCore core
-    → LeavesCore (drive_effect_in state name is_quiet core steps count)
-drive_in Offline name is_quiet core steps count reached kept is = is
-drive_in Running name is_quiet core steps count reached kept is = driven count name is_quiet core steps reached kept is
-drive_in Crashed name is_quiet core steps count reached kept is = is
-
 drive_kept : (name : List ℕ) (is_quiet : Bool) (core : CoreState) (steps count : ℕ) → IsReachedCore core → IsKeptCore core → IsReadyCore core
     → LeavesCore (drive_effect name is_quiet core steps count)
 unfolding drive_effect
-drive_kept name is_quiet core steps count reached kept is = drive_in core.life.state name is_quiet core steps count reached kept is
+drive_kept name is_quiet core steps count reached kept is =
+    cond_both (is_up core.life.state) (drive_steps count name is_quiet core steps) (core_tells core steps (event.NotRunning name)) LeavesCore
+    (λ _. driven count name is_quiet core steps reached kept is) (λ _. is)
 
 -- a command on a core
 core_ready : (images : List ImageState) (answer : Answer) (is_quiet : Bool) (named : NamedCoreState) (steps : ℕ) (wanted : Command)
@@ -539,8 +477,11 @@ core_ready images answer is_quiet named steps (command.State name) runs reached 
 core_ready images answer is_quiet named steps (command.Recovery name set) runs reached kept is = switch_kept named.name named.core steps is set
 core_ready images answer is_quiet named steps (command.Close name) runs reached kept is = is
 core_ready images answer is_quiet named steps (command.Reopen name) runs reached kept is = is
+core_ready images answer is_quiet named steps (command.Dump name image) runs reached kept is = is
 core_ready images answer is_quiet named steps (command.Boot name image) runs reached kept is = boot_kept named.name named.core steps is images answer image
+core_ready images answer is_quiet named steps (command.Handover name image) runs reached kept is = handover_kept named.name named.core steps is images answer image
 core_ready images answer is_quiet named steps (command.Shutdown name) runs reached kept is = shutdown_kept named.name named.core steps is
+core_ready images answer is_quiet named steps (command.Detach name) runs reached kept is = detach_kept named.name named.core steps is
 core_ready images answer is_quiet named steps (command.Table name) runs reached kept is = table_kept named.name named.core steps is
 core_ready images answer is_quiet named steps (command.Trace name index) runs reached kept is = trace_kept named.name named.core steps is index
 core_ready images answer is_quiet named steps (command.Mem name da len) runs reached kept is = mem_kept named.name named.core steps is da len
@@ -615,7 +556,9 @@ module _ (run : RunState) (are : AreReady run.objects) where
   unnamed (command.Reopen name) = are
   unnamed (command.Region name kind da pa len) = are
   unnamed (command.Boot name image) = are
+  unnamed (command.Handover name image) = are
   unnamed (command.Shutdown name) = are
+  unnamed (command.Detach name) = are
   unnamed (command.State name) = are
   unnamed (command.Table name) = are
   unnamed (command.Trace name index) = are
@@ -625,6 +568,7 @@ module _ (run : RunState) (are : AreReady run.objects) where
   unnamed (command.Recovery name set) = are
   unnamed (command.Driver name channel kind) = are
   unnamed (command.Drive name count) = are
+  unnamed (command.Dump name image) = are
   unnamed (command.Quiet set) = are
 
 module _ (answer : Answer) (run : RunState) (wanted : Command) (runs : IsRunnable wanted) (reached : AreReached run.objects) (kept : AreKept run.objects) (are : AreReady run.objects) where
@@ -657,8 +601,20 @@ module _ (answer : Answer) (run : RunState) (wanted : Command) (runs : IsRunnabl
   unfolding quiet_effect
   quieted set = are
 
+  dumped : (image : List ℕ) (answered : Result (List ℕ) Event) → LeavesRun (dumped_effect run image answered)
+  dumped image (Ok bytes) = are
+  dumped image (Err told) = are
+
+  dump_made : (name image : List ℕ) → LeavesRun (dump_effect run name image)
+  unfolding dump_effect
+  dump_made name image = dumped image (dump_answer run.objects name image)
+
+  by_dump : (found : Option (List ℕ × List ℕ)) → LeavesRun (kept_effect answer run wanted found)
+  by_dump None = located (place_of run.objects.links (command_name wanted))
+  by_dump (Some names) = dump_made names.0 names.1
+
   by_name : (found : Option Switch) → LeavesRun (named_effect answer run wanted found)
-  by_name None = located (place_of run.objects.links (command_name wanted))
+  by_name None = by_dump (dump_wanted wanted)
   by_name (Some set) = quieted set
 
   imaged : (name : List ℕ) (lines : List RecipeLine) → LeavesRun (image_effect run name lines)

@@ -1,5 +1,5 @@
 -- What a run leaves of its links and its cores is reached.
-use Rattle.std.proofs.Common.{◌≡◌, ℕ, Bool, true, false, List, [], ◌∷◌, All, length, Option, Some, None, IfSome, slice_get, refl, subst}
+use Rattle.std.proofs.Common.{◌≡◌, ℕ, Bool, true, false, List, [], ◌∷◌, All, length, Option, Some, None, IfSome, Result, Ok, Err, slice_get, refl, subst}
 use Rattle.std.specs.Prelude.{Contains}
 use Rattle.std.proofs.lemmas.Bool.{cond_both}
 use Rattle.std.proofs.lemmas.List.Elements.{All-contains, All-nil, All-push, All-set}
@@ -13,6 +13,7 @@ use Rattle.script_lang.specs.declared.commands.Command.TheVariants as command
 use Rattle.script_lang.specs.declared.commands.RegionSet.{RegionSet}
 use Rattle.script_lang.specs.declared.recipes.RecipeLine.{RecipeLine}
 use Rattle.script_lang.specs.Runnable.{AreRunnable, IsRunnable}
+use Rattle.journal.specs.declared.events.Event.{Event}
 use Rattle.journal.specs.declared.events.Event.TheVariants as event
 use Rattle.image_maker.specs.Images.{image_of}
 use Rattle.link_bench.specs.Benches.{BenchState}
@@ -27,7 +28,7 @@ use Rattle.script_run.specs.NamedCores.{NamedCoreState}
 use Rattle.script_run.specs.NamedLinks.{NamedLink}
 use Rattle.script_run.specs.Stores.{Answer, Told, later_told, told_answer}
 use Rattle.run_laws.specs.Reached.{AreReached, HandsInOrder}
-use Rattle.script_run.specs.Runs.{Run, RunEffect, RunState, asked_name, command_name, config_of, core_located_effect, core_made_effect, core_place, effect_of, family_effect, found_core_effect, found_effect, has_image, image_effect, image_wanted, is_full, located_effect, made_effect, named_effect, new_end, new_run, place_of, quiet_effect, quiet_wanted, regions_of, run_from, run_of, run_on, run_tells, run_told, unnamed_effect, with_image, without_link_effect}
+use Rattle.script_run.specs.Runs.{Run, RunEffect, RunState, asked_name, command_name, config_of, core_located_effect, core_made_effect, core_place, dump_answer, dump_effect, dump_wanted, dumped_effect, effect_of, family_effect, found_core_effect, found_effect, has_image, image_effect, image_wanted, is_full, located_effect, made_effect, named_effect, new_end, new_run, place_of, quiet_effect, quiet_wanted, regions_of, run_from, run_of, run_on, run_tells, run_told, unnamed_effect, with_image, without_link_effect, kept_effect}
 use Rattle.run_laws.proofs.CoresReached.{core_reached}
 use Rattle.run_laws.proofs.LinksReached.{link_reached}
 
@@ -87,7 +88,9 @@ module _ (run : RunState) (are : AreReached run.objects) where
   unnamed (command.Reopen name) = are
   unnamed (command.Region name kind da pa len) = are
   unnamed (command.Boot name image) = are
+  unnamed (command.Handover name image) = are
   unnamed (command.Shutdown name) = are
+  unnamed (command.Detach name) = are
   unnamed (command.State name) = are
   unnamed (command.Table name) = are
   unnamed (command.Trace name index) = are
@@ -97,6 +100,7 @@ module _ (run : RunState) (are : AreReached run.objects) where
   unnamed (command.Recovery name set) = are
   unnamed (command.Driver name channel kind) = are
   unnamed (command.Drive name count) = are
+  unnamed (command.Dump name image) = are
   unnamed (command.Quiet set) = are
 
 -- ---- commands on what there is
@@ -139,8 +143,20 @@ module _ (answer : Answer) (run : RunState) (wanted : Command) (runs : IsRunnabl
   unfolding quiet_effect
   quieted set = record { links = are.links; cores = are.cores }
 
+  dumped : (image : List ℕ) (answered : Result (List ℕ) Event) → LeavesRun (dumped_effect run image answered)
+  dumped image (Ok bytes) = record { links = are.links; cores = are.cores }
+  dumped image (Err told) = are
+
+  dump_made : (name image : List ℕ) → LeavesRun (dump_effect run name image)
+  unfolding dump_effect
+  dump_made name image = dumped image (dump_answer run.objects name image)
+
+  by_dump : (found : Option (List ℕ × List ℕ)) → LeavesRun (kept_effect answer run wanted found)
+  by_dump None = located (place_of run.objects.links (command_name wanted))
+  by_dump (Some names) = dump_made names.0 names.1
+
   by_name : (found : Option Switch) → LeavesRun (named_effect answer run wanted found)
-  by_name None = located (place_of run.objects.links (command_name wanted))
+  by_name None = by_dump (dump_wanted wanted)
   by_name (Some set) = quieted set
 
   imaged : (name : List ℕ) (lines : List RecipeLine) → LeavesRun (image_effect run name lines)

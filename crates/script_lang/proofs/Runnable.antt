@@ -54,7 +54,9 @@ core_runs : (f : CoreForm) (w : List (List ℕ)) → AreInRange (core_kinds f) w
 core_runs core.Core w m = m.1.1.1.0
 core_runs core.Region w m = (m.1.1.1.0, m.1.1.1.1.0, m.1.1.1.1.1.0)
 core_runs core.Boot w m = tt
+core_runs core.Handover w m = tt
 core_runs core.Shutdown w m = tt
+core_runs core.Detach w m = tt
 core_runs core.State w m = tt
 core_runs core.Table w m = tt
 core_runs core.Trace w m = m.1.1.0
@@ -64,6 +66,7 @@ core_runs core.Recover w m = tt
 core_runs core.Recovery w m = tt
 core_runs core.Driver w m = tt
 core_runs core.Drive w m = m.1.1.0
+core_runs core.Dump w m = tt
 
 form_runs : (f : Form) (w : List (List ℕ)) → AreInRange (kinds f) w 0 → IsRunnable (command_of f w)
 form_runs (form.Call f) w m = call_runs f w m

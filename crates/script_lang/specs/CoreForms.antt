@@ -16,7 +16,9 @@ abbrev pub core_keyword : CoreForm → List ℕ
 core_keyword core.Core = codes "core"
 core_keyword core.Region = codes "region"
 core_keyword core.Boot = codes "boot"
+core_keyword core.Handover = codes "handover"
 core_keyword core.Shutdown = codes "shutdown"
+core_keyword core.Detach = codes "detach"
 core_keyword core.State = codes "state"
 core_keyword core.Table = codes "table"
 core_keyword core.Trace = codes "trace"
@@ -26,13 +28,16 @@ core_keyword core.Recover = codes "recover"
 core_keyword core.Recovery = codes "recovery"
 core_keyword core.Driver = codes "driver"
 core_keyword core.Drive = codes "drive"
+core_keyword core.Dump = codes "dump"
 
 -- the kinds of all words of a form
 abbrev pub core_kinds : CoreForm → List Kind
 core_kinds core.Core = kind.Keyword ∷ kind.Name ∷ kind.RegionSet ∷ kind.Book ∷ []
 core_kinds core.Region = kind.Keyword ∷ kind.Name ∷ kind.RegionKind ∷ kind.Number ∷ kind.Number ∷ kind.Number ∷ []
 core_kinds core.Boot = kind.Keyword ∷ kind.Name ∷ kind.Name ∷ []
+core_kinds core.Handover = kind.Keyword ∷ kind.Name ∷ kind.Name ∷ []
 core_kinds core.Shutdown = kind.Keyword ∷ kind.Name ∷ []
+core_kinds core.Detach = kind.Keyword ∷ kind.Name ∷ []
 core_kinds core.State = kind.Keyword ∷ kind.Name ∷ []
 core_kinds core.Table = kind.Keyword ∷ kind.Name ∷ []
 core_kinds core.Trace = kind.Keyword ∷ kind.Name ∷ kind.Number ∷ []
@@ -42,6 +47,7 @@ core_kinds core.Recover = kind.Keyword ∷ kind.Name ∷ []
 core_kinds core.Recovery = kind.Keyword ∷ kind.Name ∷ kind.Switch ∷ []
 core_kinds core.Driver = kind.Keyword ∷ kind.Name ∷ kind.Name ∷ kind.DriverKind ∷ []
 core_kinds core.Drive = kind.Keyword ∷ kind.Name ∷ kind.Count ∷ []
+core_kinds core.Dump = kind.Keyword ∷ kind.Name ∷ kind.Name ∷ []
 
 -- the set of regions in a place
 abbrev pub region_set_at : List (List ℕ) → ℕ → RegionSet
@@ -52,7 +58,9 @@ abbrev pub core_command : CoreForm → List (List ℕ) → Command
 core_command core.Core w = command.Core (name_at w 1) (region_set_at w 2) (number_at w 3)
 core_command core.Region w = command.Region (name_at w 1) (region_kind_at w 2) (number_at w 3) (number_at w 4) (number_at w 5)
 core_command core.Boot w = command.Boot (name_at w 1) (name_at w 2)
+core_command core.Handover w = command.Handover (name_at w 1) (name_at w 2)
 core_command core.Shutdown w = command.Shutdown (name_at w 1)
+core_command core.Detach w = command.Detach (name_at w 1)
 core_command core.State w = command.State (name_at w 1)
 core_command core.Table w = command.Table (name_at w 1)
 core_command core.Trace w = command.Trace (name_at w 1) (number_at w 2)
@@ -62,3 +70,4 @@ core_command core.Recover w = command.Recover (name_at w 1)
 core_command core.Recovery w = command.Recovery (name_at w 1) (switch_read (word_at w 2))
 core_command core.Driver w = command.Driver (name_at w 1) (name_at w 2) (driver_read (word_at w 3))
 core_command core.Drive w = command.Drive (name_at w 1) (number_at w 2)
+core_command core.Dump w = command.Dump (name_at w 1) (name_at w 2)

@@ -19,9 +19,9 @@ plain_forms =
     form.Call call.Send ∷ form.Call call.Take ∷ form.Call call.Give ∷ form.Call call.Raw ∷ form.Call call.Bind ∷ form.Call call.Unbind
     ∷ form.Step ∷ form.Finish ∷ form.Link ∷ form.NsLink ∷ form.Caller ∷ form.Pump ∷ form.Books ∷ form.Ring
     ∷ form.Channels ∷ form.Close ∷ form.Reclaim ∷ form.Reopen
-    ∷ form.Core core.Core ∷ form.Core core.Region ∷ form.Core core.Boot ∷ form.Core core.Shutdown ∷ form.Core core.State ∷ form.Core core.Table
+    ∷ form.Core core.Core ∷ form.Core core.Region ∷ form.Core core.Boot ∷ form.Core core.Handover ∷ form.Core core.Shutdown ∷ form.Core core.Detach ∷ form.Core core.State ∷ form.Core core.Table
     ∷ form.Core core.Trace ∷ form.Core core.Mem ∷ form.Core core.Crash ∷ form.Core core.Recover ∷ form.Core core.Recovery
-    ∷ form.Core core.Driver ∷ form.Core core.Drive ∷ form.Quiet ∷ []
+    ∷ form.Core core.Driver ∷ form.Core core.Drive ∷ form.Core core.Dump ∷ form.Quiet ∷ []
 
 -- the first word of a form
 abbrev pub keyword : Form → List ℕ

@@ -99,7 +99,9 @@ IsRunnable (command.Reopen name) = Unit {0}
 IsRunnable (command.Core name regions book) = IsBook book
 IsRunnable (command.Region name kind da pa len) = IsNumber da × IsNumber pa × IsNumber len
 IsRunnable (command.Boot name image) = Unit {0}
+IsRunnable (command.Handover name image) = Unit {0}
 IsRunnable (command.Shutdown name) = Unit {0}
+IsRunnable (command.Detach name) = Unit {0}
 IsRunnable (command.State name) = Unit {0}
 IsRunnable (command.Table name) = Unit {0}
 IsRunnable (command.Trace name index) = IsNumber index
@@ -109,6 +111,7 @@ IsRunnable (command.Recover name) = Unit {0}
 IsRunnable (command.Recovery name switch) = Unit {0}
 IsRunnable (command.Driver name channel kind) = Unit {0}
 IsRunnable (command.Drive name count) = IsCount count
+IsRunnable (command.Dump name image) = Unit {0}
 IsRunnable (command.Quiet switch) = Unit {0}
 IsRunnable (command.Image name lines) = IsRecipe lines
 

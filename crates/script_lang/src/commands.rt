@@ -179,13 +179,22 @@ pub enum Command {
         channel: Name,
         kind: DriverKind,
     },
-    /// Boots a core with the image of this name, or adds a user.
+    /// Hands a core over from another party, which has loaded the image of this name.
+    Handover {
+        name: Name,
+        image: Name,
+    },
+    /// Boots a core with the image of this name, attaches a detached one, or adds a user.
     Boot {
         name: Name,
         image: Name,
     },
     /// Takes a user away from a core, and shuts it down with the last.
     Shutdown {
+        name: Name,
+    },
+    /// Takes a user away from an attached core, and detaches it with the last.
+    Detach {
         name: Name,
     },
     /// The state of a core, its users and its incarnation.
@@ -225,6 +234,11 @@ pub enum Command {
     Drive {
         name: Name,
         count: u64,
+    },
+    /// Keeps the dump of a crashed core as the image of a name.
+    Dump {
+        name: Name,
+        image: Name,
     },
     /// Whether a drive writes no lines of its calls.
     Quiet {

@@ -12,7 +12,9 @@ pub(crate) enum CoreForm {
     Core,
     Region,
     Boot,
+    Handover,
     Shutdown,
+    Detach,
     State,
     Table,
     Trace,
@@ -22,6 +24,7 @@ pub(crate) enum CoreForm {
     Recovery,
     Driver,
     Drive,
+    Dump,
 }
 
 /// The first word of a command of a core.
@@ -32,7 +35,9 @@ pub(crate) fn core_keyword(form: CoreForm) -> &'static str
         CoreForm::Core => "core",
         CoreForm::Region => "region",
         CoreForm::Boot => "boot",
+        CoreForm::Handover => "handover",
         CoreForm::Shutdown => "shutdown",
+        CoreForm::Detach => "detach",
         CoreForm::State => "state",
         CoreForm::Table => "table",
         CoreForm::Trace => "trace",
@@ -42,6 +47,7 @@ pub(crate) fn core_keyword(form: CoreForm) -> &'static str
         CoreForm::Recovery => "recovery",
         CoreForm::Driver => "driver",
         CoreForm::Drive => "drive",
+        CoreForm::Dump => "dump",
     }
 }
 
@@ -59,10 +65,12 @@ pub(crate) fn core_kinds(form: CoreForm) -> &'static [Kind]
             Kind::Number,
             Kind::Number,
         ],
-        CoreForm::Boot => &[Kind::Keyword, Kind::Name, Kind::Name],
-        CoreForm::Shutdown | CoreForm::State | CoreForm::Table | CoreForm::Recover => {
-            &[Kind::Keyword, Kind::Name]
-        }
+        CoreForm::Boot | CoreForm::Handover | CoreForm::Dump => &[Kind::Keyword, Kind::Name, Kind::Name],
+        CoreForm::Shutdown
+        | CoreForm::Detach
+        | CoreForm::State
+        | CoreForm::Table
+        | CoreForm::Recover => { &[Kind::Keyword, Kind::Name] }
         CoreForm::Trace => &[Kind::Keyword, Kind::Name, Kind::Number],
         CoreForm::Mem => &[Kind::Keyword, Kind::Name, Kind::Number, Kind::Length],
         CoreForm::Crash => &[Kind::Keyword, Kind::Name, Kind::CrashKind],
@@ -109,7 +117,12 @@ pub(crate) fn core_command(form: CoreForm, words: &[&[u8]]) -> Command
             name,
             image: name_at(words, 2),
         },
+        CoreForm::Handover => Command::Handover {
+            name,
+            image: name_at(words, 2),
+        },
         CoreForm::Shutdown => Command::Shutdown { name },
+        CoreForm::Detach => Command::Detach { name },
         CoreForm::State => Command::State { name },
         CoreForm::Table => Command::Table { name },
         CoreForm::Trace => Command::Trace {
@@ -138,6 +151,10 @@ pub(crate) fn core_command(form: CoreForm, words: &[&[u8]]) -> Command
         CoreForm::Drive => Command::Drive {
             name,
             count: number_at(words, 2),
+        },
+        CoreForm::Dump => Command::Dump {
+            name,
+            image: name_at(words, 2),
         },
     }
 }

@@ -34,7 +34,7 @@ pub(crate) enum Form {
 }
 
 /// The forms that are told by their first word.
-pub(crate) const FORMS: [Form; 32] = [
+pub(crate) const FORMS: [Form; 35] = [
     Form::Call(CallForm::Send),
     Form::Call(CallForm::Take),
     Form::Call(CallForm::Give),
@@ -56,7 +56,9 @@ pub(crate) const FORMS: [Form; 32] = [
     Form::Core(CoreForm::Core),
     Form::Core(CoreForm::Region),
     Form::Core(CoreForm::Boot),
+    Form::Core(CoreForm::Handover),
     Form::Core(CoreForm::Shutdown),
+    Form::Core(CoreForm::Detach),
     Form::Core(CoreForm::State),
     Form::Core(CoreForm::Table),
     Form::Core(CoreForm::Trace),
@@ -66,6 +68,7 @@ pub(crate) const FORMS: [Form; 32] = [
     Form::Core(CoreForm::Recovery),
     Form::Core(CoreForm::Driver),
     Form::Core(CoreForm::Drive),
+    Form::Core(CoreForm::Dump),
     Form::Quiet,
 ];
 

@@ -9,7 +9,6 @@ pub mod SoFar
 pub mod Placing
 pub mod FetchedReports
 pub mod RingRows
-pub mod CoreRecovered
 pub mod Matches
 pub mod Accepted
 pub mod CorePumps

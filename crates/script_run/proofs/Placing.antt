@@ -20,7 +20,7 @@ use Rattle.rp_base.specs.declared.kinds.Switch.{Switch}
 use Rattle.lane_model.specs.declared.calls.LinkConfig.{LinkConfig}
 use Rattle.link_bench.specs.Benches.{BenchState, new_bench_of}
 use Rattle.script_run.specs.Logs.{LogState, HasCoreEffect, HasEffect, HasRunEffect}
-use Rattle.script_run.specs.Runs.{ObjectsState, RunState, RunEffect, command_name, core_located_effect, core_made_effect, core_place, effect_of, family_effect, found_core_effect, found_effect, has_image, image_effect, image_wanted, is_full, located_effect, made_effect, named_effect, new_end, place_of, quiet_effect, quiet_wanted, placed_core_effect, placed_effect, regions_of, run_tells, unnamed_effect, with_cores, with_image, with_links, without_link_effect}
+use Rattle.script_run.specs.Runs.{ObjectsState, RunState, RunEffect, command_name, core_located_effect, core_made_effect, core_place, dump_effect, dump_wanted, dumped_effect, effect_of, family_effect, found_core_effect, found_effect, has_image, image_effect, image_wanted, is_full, kept_effect, located_effect, made_effect, named_effect, new_end, place_of, quiet_effect, quiet_wanted, placed_core_effect, placed_effect, regions_of, run_tells, unnamed_effect, with_cores, with_dump, with_image, with_links, without_link_effect}
 
 -- a link of the same name with another bench
 with_bench : (now named : NamedLink) (bench : BenchState) → now.name ≡ named.name → now.bench ≡ bench → record named { bench = bench } ≡ now
@@ -62,7 +62,9 @@ no_image (command.Reopen name) other = refl
 no_image (command.Core name regions book) other = refl
 no_image (command.Region name kind da pa len) other = refl
 no_image (command.Boot name image) other = refl
+no_image (command.Handover name image) other = refl
 no_image (command.Shutdown name) other = refl
+no_image (command.Detach name) other = refl
 no_image (command.State name) other = refl
 no_image (command.Table name) other = refl
 no_image (command.Trace name index) other = refl
@@ -72,6 +74,7 @@ no_image (command.Recover name) other = refl
 no_image (command.Recovery name set) other = refl
 no_image (command.Driver name channel kind) other = refl
 no_image (command.Drive name count) other = refl
+no_image (command.Dump name image) other = refl
 no_image (command.Quiet set) other = refl
 
 -- what `quiet` does
@@ -82,16 +85,17 @@ quiet_done run log objects set left steps = record { objects = left; steps = ste
 
 module _ (fetched : Answer) (run : RunState) (wanted : Command) where
   -- on the link at a place
-  effect_at : (place : ℕ) (named : NamedLink) → image_wanted wanted ≡ None → quiet_wanted wanted ≡ None → Some place ≡ place_of run.objects.links (command_name wanted)
+  effect_at : (place : ℕ) (named : NamedLink) → image_wanted wanted ≡ None → quiet_wanted wanted ≡ None → dump_wanted wanted ≡ None → Some place ≡ place_of run.objects.links (command_name wanted)
       → slice_get run.objects.links place ≡ Some named → effect_of fetched run wanted ≡ placed_effect run place named (link_effect named run.steps wanted)
   unfolding effect_of
-  effect_at place named none loud placed found =
-      ap (family_effect fetched run wanted) none ∙ ap (named_effect fetched run wanted) loud ∙ ap (located_effect fetched run wanted) (sym placed) ∙ ap (found_effect fetched run wanted place) found
+  effect_at place named none loud kept placed found =
+      ap (family_effect fetched run wanted) none ∙ ap (named_effect fetched run wanted) loud ∙ ap (kept_effect fetched run wanted) kept ∙ ap (located_effect fetched run wanted) (sym placed) ∙ ap (found_effect fetched run wanted place) found
 
   -- on no link
-  effect_unnamed : image_wanted wanted ≡ None → quiet_wanted wanted ≡ None → None ≡ place_of run.objects.links (command_name wanted) → effect_of fetched run wanted ≡ without_link_effect fetched run wanted
+  effect_unnamed : image_wanted wanted ≡ None → quiet_wanted wanted ≡ None → dump_wanted wanted ≡ None → None ≡ place_of run.objects.links (command_name wanted) → effect_of fetched run wanted ≡ without_link_effect fetched run wanted
   unfolding effect_of
-  effect_unnamed none loud placed = ap (family_effect fetched run wanted) none ∙ ap (named_effect fetched run wanted) loud ∙ ap (located_effect fetched run wanted) (sym placed)
+  effect_unnamed none loud kept placed =
+      ap (family_effect fetched run wanted) none ∙ ap (named_effect fetched run wanted) loud ∙ ap (kept_effect fetched run wanted) kept ∙ ap (located_effect fetched run wanted) (sym placed)
 
   -- on the core at a place
   effect_on_core : (place : ℕ) (named : NamedCoreState) → Some place ≡ core_place run.objects.cores (command_name wanted)
@@ -115,6 +119,11 @@ module _ (fetched : Answer) (run : RunState) (wanted : Command) where
   unfolding effect_of
   effect_quiet set is = ap (λ (c : Command). family_effect fetched run c (image_wanted c)) is
 
+  -- that dumps a core
+  effect_dump : (name image : List ℕ) → wanted ≡ command.Dump name image → effect_of fetched run wanted ≡ dump_effect run name image
+  unfolding effect_of
+  effect_dump name image is = ap (λ (c : Command). family_effect fetched run c (image_wanted c)) is
+
   -- drives are quiet from now on, or are not
   pub quiet_run : (log : LogState) (objects : ObjectsState) (set : Switch) → wanted ≡ command.Quiet set → objects ≡ record run.objects { is_quiet = is_on set }
       → log.steps ≡ run.steps → HasRunEffect (effect_of fetched run wanted) objects log log None
@@ -123,10 +132,10 @@ module _ (fetched : Answer) (run : RunState) (wanted : Command) where
 
   module _ (before after : LogState) (answer : Option Stop) where
     -- what the link at a place did is what the run did
-    pub placed_run : (place : ℕ) (named now : NamedLink) → image_wanted wanted ≡ None → quiet_wanted wanted ≡ None → Some place ≡ place_of run.objects.links (command_name wanted)
+    pub placed_run : (place : ℕ) (named now : NamedLink) → image_wanted wanted ≡ None → quiet_wanted wanted ≡ None → dump_wanted wanted ≡ None → Some place ≡ place_of run.objects.links (command_name wanted)
         → slice_get run.objects.links place ≡ Some named → now.name ≡ named.name → HasEffect (link_effect named run.steps wanted) now.bench before after answer
         → HasRunEffect (effect_of fetched run wanted) (record run.objects { links = slice_set run.objects.links place now }) before after answer
-    placed_run place named now none loud placed found name did =
+    placed_run place named now none loud kept placed found name did =
         let effect = link_effect named run.steps wanted in
         let done : HasRunEffect (placed_effect run place named effect) (record run.objects { links = slice_set run.objects.links place now }) before after answer =
         record {
@@ -135,13 +144,13 @@ module _ (fetched : Answer) (run : RunState) (wanted : Command) where
           lines = did.lines;
           ending = did.ending;
         } in
-        subst (λ (e : RunEffect). HasRunEffect e (record run.objects { links = slice_set run.objects.links place now }) before after answer) (sym (effect_at place named none loud placed found)) done
+        subst (λ (e : RunEffect). HasRunEffect e (record run.objects { links = slice_set run.objects.links place now }) before after answer) (sym (effect_at place named none loud kept placed found)) done
 
     -- what was done without a link of the name is what the run did
-    pub unnamed_run : (objects : ObjectsState) → image_wanted wanted ≡ None → quiet_wanted wanted ≡ None → None ≡ place_of run.objects.links (command_name wanted)
+    pub unnamed_run : (objects : ObjectsState) → image_wanted wanted ≡ None → quiet_wanted wanted ≡ None → dump_wanted wanted ≡ None → None ≡ place_of run.objects.links (command_name wanted)
         → HasRunEffect (without_link_effect fetched run wanted) objects before after answer → HasRunEffect (effect_of fetched run wanted) objects before after answer
-    unnamed_run objects none loud placed did =
-        subst (λ (e : RunEffect). HasRunEffect e objects before after answer) (sym (effect_unnamed none loud placed)) did
+    unnamed_run objects none loud kept placed did =
+        subst (λ (e : RunEffect). HasRunEffect e objects before after answer) (sym (effect_unnamed none loud kept placed)) did
 
     -- what the core at a place did is what the run did
     pub core_run : (place : ℕ) (named now : NamedCoreState) → Some place ≡ core_place run.objects.cores (command_name wanted)
@@ -169,6 +178,12 @@ module _ (fetched : Answer) (run : RunState) (wanted : Command) where
         → HasRunEffect (image_effect run name lines) objects before after answer → HasRunEffect (effect_of fetched run wanted) objects before after answer
     image_run objects name lines is did =
         subst (λ (e : RunEffect). HasRunEffect e objects before after answer) (sym (effect_image name lines is)) did
+
+    -- a core was dumped, or was not
+    pub dump_run : (objects : ObjectsState) (name image : List ℕ) → wanted ≡ command.Dump name image
+        → HasRunEffect (dump_effect run name image) objects before after answer → HasRunEffect (effect_of fetched run wanted) objects before after answer
+    dump_run objects name image is did =
+        subst (λ (e : RunEffect). HasRunEffect e objects before after answer) (sym (effect_dump name image is)) did
 
 module _ (run : RunState) (objects : ObjectsState) (before after : LogState) where
   -- one event is told, with which a run goes on
@@ -205,7 +220,7 @@ module _ (run : RunState) (objects : ObjectsState) (before after : LogState) whe
 
   -- an image of a new name is made
   pub imaged_run : (name : List ℕ) (lines : List RecipeLine) (bytes : List ℕ) → has_image run.objects.images name ≡ false → bytes ≡ image_of lines
-      → objects ≡ record run.objects { images = run.objects.images ++ record { name = name; bytes = bytes } ∷ [] }
+      → objects ≡ record run.objects { images = run.objects.images ++ record { name = name; bytes = bytes; is_dump = false } ∷ [] }
       → before.steps ≡ run.steps → after ≡ record before { lines = before.lines ++ line (event.Image name (length bytes)) }
       → HasRunEffect (image_effect run name lines) objects before after None
   unfolding image_effect
@@ -213,6 +228,13 @@ module _ (run : RunState) (objects : ObjectsState) (before after : LogState) whe
       subst (λ known. HasRunEffect (cond known (run_tells run (event.ImageExists name)) (run_tells (with_image run name (image_of lines)) (event.Image name (length (image_of lines)))))
       objects before after None) (sym new)
       (tells_run (with_image run name (image_of lines)) (event.Image name (length (image_of lines)))
-      (is ∙ ap (λ (b : List ℕ). record run.objects { images = run.objects.images ++ record { name = name; bytes = b } ∷ [] }) made)
+      (is ∙ ap (λ (b : List ℕ). record run.objects { images = run.objects.images ++ record { name = name; bytes = b; is_dump = false } ∷ [] }) made)
       (ap (λ (log : LogState). log.steps) kept ∙ steps)
       (ap (λ (log : LogState). log.lines) kept ∙ ap (λ (b : List ℕ). before.lines ++ line (event.Image name (length b))) made))
+
+  -- a dump is kept
+  pub dump_kept_run : (image bytes : List ℕ) → objects ≡ record run.objects { images = run.objects.images ++ record { name = image; bytes = bytes; is_dump = true } ∷ [] }
+      → before.steps ≡ run.steps → after ≡ record before { lines = before.lines ++ line (event.Image image (length bytes)) }
+      → HasRunEffect (dumped_effect run image (Ok bytes)) objects before after None
+  dump_kept_run image bytes is steps kept =
+      tells_run (with_dump run image bytes) (event.Image image (length bytes)) is (ap (λ (log : LogState). log.steps) kept ∙ steps) (ap (λ (log : LogState). log.lines) kept)

@@ -4,9 +4,10 @@ use Rattle.rp_base.specs.declared.limits.TheConstants.{STEPS_MOST}
 use Rattle.rp_base.specs.declared.kinds.CrashKind.{CrashKind}
 use Rattle.rp_base.specs.declared.kinds.CrashKind.TheVariants as kind
 use Rattle.rp_base.specs.declared.kinds.LifeState.{LifeState}
-use Rattle.rp_base.specs.declared.kinds.LifeState.TheVariants.{Offline, Running, Crashed}
+use Rattle.rp_base.specs.declared.kinds.LifeState.TheVariants.{Crashed}
 use Rattle.lane_model.specs.declared.calls.CallEnd.{CallEnd}
 use Rattle.remote_code.specs.Faults.{fault_number}
+use Rattle.proc_state.specs.Lives.{is_up}
 use Rattle.journal.specs.declared.events.Event.{Event}
 use Rattle.journal.specs.declared.events.Event.TheVariants as event
 use Rattle.link_bench.specs.Benches.{BenchState}
@@ -46,9 +47,8 @@ told_before earlier effect = record effect { events = earlier ++ effect.events }
 
 -- whether a core crashed, and is not recovered
 abbrev pub is_crashed : LifeState → Bool
-is_crashed Offline = false
-is_crashed Running = false
 is_crashed Crashed = true
+is_crashed other = false
 
 -- why the actors of a core make no further step: it crashed, or both have nothing to do
 abbrev pub rest_event : List ℕ → CoreState → Option Event
@@ -72,12 +72,7 @@ drive_steps (suc more) name is_quiet core steps =
     (if steps == STEPS_MOST then core_stops core steps
     else step_then name is_quiet (drive_step core) (λ next. drive_steps more name is_quiet next (steps + 1)))
 
--- a drive of a core that runs, or doesn't
-abbrev pub drive_effect_in : LifeState → List ℕ → Bool → CoreState → ℕ → ℕ → CoreEffect
-drive_effect_in Offline name is_quiet core steps count = core_tells core steps (event.NotRunning name)
-drive_effect_in Running name is_quiet core steps count = drive_steps count name is_quiet core steps
-drive_effect_in Crashed name is_quiet core steps count = core_tells core steps (event.NotRunning name)
-
--- `drive X COUNT`
+-- `drive X COUNT`: the core runs or is attached
 unfoldable pub drive_effect : List ℕ → Bool → CoreState → ℕ → ℕ → CoreEffect
-drive_effect name is_quiet core steps count = drive_effect_in core.life.state name is_quiet core steps count
+drive_effect name is_quiet core steps count =
+    if is_up core.life.state then drive_steps count name is_quiet core steps else core_tells core steps (event.NotRunning name)

@@ -1,9 +1,7 @@
--- What a boot, a shutdown and a crash report of a core leave of it and tell (own).
-use Rattle.std.specs.Prelude.{ℕ, ◌+◌, ◌==◌, nat_le, length, List, [], ◌∷◌, Option, Some, None, unwrap_or, find, bytes_eq, option_map, Ok, Err, if◌then◌else◌}
+-- What a boot, a handover, a recovery, a shutdown, a detach and a crash report of a core leave of it and tell (own).
+use Rattle.std.specs.Prelude.{ℕ, ◌+◌, ◌==◌, Bool, not, nat_le, length, List, [], ◌∷◌, Option, Some, None, unwrap_or, find, bytes_eq, option_map, Result, Ok, Err, if◌then◌else◌}
 use Rattle.rp_base.specs.declared.limits.TheConstants.{IMAGE_MOST, STEPS_MOST}
 use Rattle.rp_base.specs.declared.kinds.CrashKind.{CrashKind}
-use Rattle.rp_base.specs.declared.kinds.LifeState.{LifeState}
-use Rattle.rp_base.specs.declared.kinds.LifeState.TheVariants.{Offline, Running, Crashed}
 use Rattle.rp_io.specs.declared.faults.FetchFault.TheVariants as fetch
 use Rattle.fw_load.specs.declared.faults.LoadFault.{LoadFault}
 use Rattle.fw_load.specs.Faults.{load_fault_index, load_fault_number}
@@ -12,17 +10,26 @@ use Rattle.proc_state.specs.declared.answers.LifeFault.TheVariants as life
 use Rattle.proc_state.specs.Faults.{fault_number}
 use Rattle.journal.specs.declared.events.Event.{Event}
 use Rattle.journal.specs.declared.events.Event.TheVariants as event
+use Rattle.crash_recover.specs.declared.core_answers.Crash.{Crash}
+use Rattle.crash_recover.specs.declared.core_answers.Crash.TheVariants as crash
+use Rattle.crash_recover.specs.declared.core_answers.Leave.{Leave}
+use Rattle.crash_recover.specs.declared.core_answers.Leave.TheVariants as leave
+use Rattle.crash_recover.specs.declared.core_answers.Start.{Start}
+use Rattle.crash_recover.specs.declared.core_answers.Start.TheVariants as start
 use Rattle.crash_recover.specs.declared.core_faults.CoreFault.{CoreFault}
 use Rattle.crash_recover.specs.declared.core_faults.CoreFault.TheVariants as fault
-use Rattle.link_bench.specs.Benches.{BenchState}
-use Rattle.crash_recover.specs.Cores.{CoreState}
-use Rattle.crash_recover.specs.CoreBoots.{after_boot, after_shutdown, boot_fault, needs_image, shutdown_fault}
-use Rattle.crash_recover.specs.CoreCrashes.{after_report}
+use Rattle.crash_recover.specs.declared.core_faults.TheConstants.{CALLER_OUT, RINGS_CHANGED}
+use Rattle.crash_recover.specs.Cores.{CoreOutcome, CoreState}
+use Rattle.crash_recover.specs.CoreBoots.{boot_of, handover_of}
+use Rattle.crash_recover.specs.CoreCrashes.{report_of}
+use Rattle.crash_recover.specs.CoreLeaves.{detach_of, shutdown_of}
+use Rattle.crash_recover.specs.CoreRecoveries.{recovery_of}
+use Rattle.script_run.specs.declared.statuses.Stop.{Stop}
 use Rattle.script_run.specs.declared.statuses.Stop.TheVariants as stop
 use Rattle.script_run.specs.NamedImages.{ImageState}
 use Rattle.script_run.specs.Stores.{Answer}
 use Rattle.script_run.specs.Recoveries.{reopen_events}
-use Rattle.script_run.specs.CoreEffects.{CoreEffect, core_tells, core_tells_all}
+use Rattle.script_run.specs.CoreEffects.{CoreEffect, core_tells_all}
 
 -- a fault by its number, and the number of what it is about, if it is about something
 abbrev pub fault_at : List ℕ → ℕ → Option ℕ → Event
@@ -46,27 +53,25 @@ core_fault_events name image (fault.Fetch fetch.Failed) = []
 core_fault_events name image (fault.Fetch fetch.NoMemory) = []
 core_fault_events name image (fault.Load why) = load_fault_event name why ∷ []
 core_fault_events name image (fault.Life why) = life_fault_event name why ∷ []
-core_fault_events name image fault.RingsChanged = event.Fault name 42 ∷ []
-core_fault_events name image (fault.CallerOut caller) = event.FaultAt name 54 caller ∷ []
+core_fault_events name image fault.RingsChanged = event.Fault name RINGS_CHANGED ∷ []
+core_fault_events name image (fault.CallerOut caller) = event.FaultAt name CALLER_OUT caller ∷ []
 core_fault_events name image (fault.Reopen why) = reopen_events name why
 core_fault_events name image fault.NoMemory = []
 
--- a refusal
-abbrev pub refused_effect : List ℕ → List ℕ → CoreState → ℕ → CoreFault → CoreEffect
-refused_effect name image core steps why = core_tells_all core steps (core_fault_events name image why)
+-- what a start of a core was
+abbrev pub start_event : List ℕ → Start → Event
+start_event name (start.Running inc) = event.Running name inc
+start_event name (start.Attached inc) = event.Attached name inc
+start_event name (start.Users users) = event.Users name users
+start_event name start.Detached = event.Detached name
 
--- a core that was booted: it runs for its first user, or has one more
-abbrev pub power_event : List ℕ → CoreState → Event
-power_event name core = if core.life.users == 1 then event.Running name core.life.incarnation else event.Users name core.life.users
+-- the same with an image of this name, or why there was none
+abbrev pub start_events : List ℕ → List ℕ → Result Start CoreFault → List Event
+start_events name image (Ok started) = start_event name started ∷ []
+start_events name image (Err why) = core_fault_events name image why
 
--- a boot of this image, which something refuses or nothing
-abbrev pub boot_unless : List ℕ → List ℕ → CoreState → ℕ → List ℕ → Option CoreFault → CoreEffect
-boot_unless name image core steps bytes None = core_tells (after_boot core image bytes) steps (power_event name (after_boot core image bytes))
-boot_unless name image core steps bytes (Some why) = refused_effect name image core steps why
-
--- a boot of an image of these bytes
-unfoldable pub image_boot_effect : List ℕ → List ℕ → CoreState → ℕ → List ℕ → CoreEffect
-image_boot_effect name image core steps bytes = boot_unless name image core steps bytes (boot_fault core bytes)
+abbrev pub start_effect : List ℕ → List ℕ → ℕ → CoreOutcome Start CoreFault → CoreEffect
+start_effect name image steps outcome = core_tells_all outcome.core steps (start_events name image outcome.answer)
 
 -- the bytes of the first image of this name
 abbrev pub image_bytes : List ImageState → List ℕ → Option (List ℕ)
@@ -77,56 +82,96 @@ abbrev pub found_or_told : Answer → Option (List ℕ) → Answer
 found_or_told answer (Some bytes) = if nat_le (length bytes) IMAGE_MOST then Ok bytes else Err (fetch.TooLarge (length bytes))
 found_or_told answer None = answer
 
--- a boot of an image that was found, or not
-abbrev pub fetched_boot_effect : List ℕ → List ℕ → CoreState → ℕ → Answer → CoreEffect
-fetched_boot_effect name image core steps (Ok bytes) = image_boot_effect name image core steps bytes
-fetched_boot_effect name image core steps (Err why) = refused_effect name image core steps (fault.Fetch why)
+-- the image of this name: the script's, or else what the store tells
+abbrev pub found_image : List ImageState → Answer → List ℕ → Answer
+found_image images answer image = found_or_told answer (image_bytes images image)
 
--- `boot X IMAGE`: the image is looked for only where the core needs one
+-- `boot X IMAGE`
 unfoldable pub boot_effect : List ImageState → Answer → List ℕ → CoreState → ℕ → List ℕ → CoreEffect
-boot_effect images answer name core steps image =
-    if needs_image core then fetched_boot_effect name image core steps (found_or_told answer (image_bytes images image)) else image_boot_effect name image core steps []
+boot_effect images answer name core steps image = start_effect name image steps (boot_of core image (found_image images answer image))
+
+-- `handover X IMAGE`
+unfoldable pub handover_effect : List ImageState → Answer → List ℕ → CoreState → ℕ → List ℕ → CoreEffect
+handover_effect images answer name core steps image = start_effect name image steps (handover_of core image (found_image images answer image))
+
+-- the name of the image that a core was booted or handed over with (one that has none is offline, and not recovered)
+abbrev pub booted_image : List ℕ → CoreState → List ℕ
+booted_image name core = unwrap_or core.image name
+
+-- `recover X`
+unfoldable pub recover_effect : List ImageState → Answer → List ℕ → CoreState → ℕ → CoreEffect
+recover_effect images answer name core steps =
+    let image = booted_image name core in
+    start_effect name image steps (recovery_of core (found_image images answer image))
 
 -- the run ends where a step more is asked than it may take
 abbrev pub core_stops : CoreState → ℕ → CoreEffect
 core_stops core steps = record { core = core; steps = steps; events = []; ending = Some stop.StepLimit }
 
--- the incarnation of a link that is live
-abbrev pub live_inc : Option BenchState → Option ℕ
-live_inc None = None
-live_inc (Some bench) = if bench.link.era.is_live then Some bench.link.era.inc else None
+-- what the leave of a user tells, with this event where it was the last
+abbrev pub leave_events : List ℕ → Event → Result Leave CoreFault → List Event
+leave_events name last (Ok (leave.Users users)) = event.Users name users ∷ []
+leave_events name last (Ok (leave.Last None)) = last ∷ []
+leave_events name last (Ok (leave.Last (Some inc))) = event.Closed name inc ∷ last ∷ []
+leave_events name last (Ok leave.Limit) = []
+leave_events name last (Err why) = core_fault_events name name why
 
--- the last user leaves: a live link is closed, in one step
-unfoldable pub last_shutdown_effect : List ℕ → CoreState → ℕ → Option ℕ → CoreEffect
-last_shutdown_effect name core steps None = core_tells (after_shutdown core) steps (event.Offline name)
-last_shutdown_effect name core steps (Some inc) =
-    if steps == STEPS_MOST then core_stops core steps
-    else core_tells_all (after_shutdown core) (steps + 1) (event.Closed name inc ∷ event.Offline name ∷ [])
+-- how many steps were done then: the close of a link is one
+abbrev pub leave_steps : ℕ → Result Leave CoreFault → ℕ
+leave_steps steps (Ok (leave.Last (Some inc))) = steps + 1
+leave_steps steps other = steps
 
--- a shutdown, which something refuses or nothing
-abbrev pub shutdown_unless : List ℕ → CoreState → ℕ → Option CoreFault → CoreEffect
-shutdown_unless name core steps None =
-    if core.life.users == 1 then last_shutdown_effect name core steps (live_inc core.bench)
-    else core_tells (after_shutdown core) steps (event.Users name (after_shutdown core).life.users)
-shutdown_unless name core steps (Some why) = refused_effect name name core steps why
+-- whether the run ends there
+abbrev pub leave_ending : Result Leave CoreFault → Option Stop
+leave_ending (Ok leave.Limit) = Some stop.StepLimit
+leave_ending other = None
+
+abbrev pub leave_effect : List ℕ → Event → ℕ → CoreOutcome Leave CoreFault → CoreEffect
+leave_effect name last steps outcome = record {
+  core = outcome.core;
+  steps = leave_steps steps outcome.answer;
+  events = leave_events name last outcome.answer;
+  ending = leave_ending outcome.answer;
+}
+
+-- whether a run that has done so many steps may do one more
+abbrev pub may_step : ℕ → Bool
+may_step steps = not (steps == STEPS_MOST)
 
 -- `shutdown X`
 unfoldable pub shutdown_effect : List ℕ → CoreState → ℕ → CoreEffect
-shutdown_effect name core steps = shutdown_unless name core steps (shutdown_fault core)
+shutdown_effect name core steps = leave_effect name (event.Offline name) steps (shutdown_of (may_step steps) core)
 
--- a running core crashes: its link is closed, in one step
-unfoldable pub first_crash_effect : List ℕ → CoreState → ℕ → CrashKind → Option BenchState → CoreEffect
-first_crash_effect name core steps kind None = core_tells (after_report core) steps (event.Crashed name kind)
-first_crash_effect name core steps kind (Some bench) =
-    if steps == STEPS_MOST then core_stops core steps
-    else core_tells_all (after_report core) (steps + 1) (event.Closed name bench.link.era.inc ∷ event.Crashed name kind ∷ [])
+-- `detach X`
+unfoldable pub detach_effect : List ℕ → CoreState → ℕ → CoreEffect
+detach_effect name core steps = leave_effect name (event.Detached name) steps (detach_of (may_step steps) core)
 
--- a crash report, by the state of the core
-abbrev pub crash_effect_in : LifeState → List ℕ → CoreState → ℕ → CrashKind → CoreEffect
-crash_effect_in Offline name core steps kind = core_tells core steps (event.Fault name 50)
-crash_effect_in Running name core steps kind = first_crash_effect name core steps kind core.bench
-crash_effect_in Crashed name core steps kind = core_tells core steps (event.AlreadyCrashed name)
+-- what a crash report tells
+abbrev pub report_events : List ℕ → CrashKind → Result Crash LifeFault → List Event
+report_events name kind (Ok (crash.First None)) = event.Crashed name kind ∷ []
+report_events name kind (Ok (crash.First (Some inc))) = event.Closed name inc ∷ event.Crashed name kind ∷ []
+report_events name kind (Ok crash.Already) = event.AlreadyCrashed name ∷ []
+report_events name kind (Ok crash.Limit) = []
+report_events name kind (Err why) = life_fault_event name why ∷ []
+
+-- how many steps were done then: the close of a link is one
+abbrev pub report_steps : ℕ → Result Crash LifeFault → ℕ
+report_steps steps (Ok (crash.First (Some inc))) = steps + 1
+report_steps steps other = steps
+
+-- whether the run ends there
+abbrev pub report_ending : Result Crash LifeFault → Option Stop
+report_ending (Ok crash.Limit) = Some stop.StepLimit
+report_ending other = None
+
+abbrev pub report_effect : List ℕ → CrashKind → ℕ → CoreOutcome Crash LifeFault → CoreEffect
+report_effect name kind steps outcome = record {
+  core = outcome.core;
+  steps = report_steps steps outcome.answer;
+  events = report_events name kind outcome.answer;
+  ending = report_ending outcome.answer;
+}
 
 -- `crash X KIND`
 unfoldable pub crash_effect : List ℕ → CoreState → ℕ → CrashKind → CoreEffect
-crash_effect name core steps kind = crash_effect_in core.life.state name core steps kind
+crash_effect name core steps kind = report_effect name kind steps (report_of (may_step steps) core)

@@ -13,10 +13,10 @@ pub mod LinkCommands
 pub mod CoreEffects
 pub mod CoreLives
 pub mod CoreDrives
-pub mod CoreRestarts
 pub mod CoreViews
 pub mod CoreLinks
 pub mod CoreCommands
+pub mod Dumps
 pub mod Runs
 pub mod Reports
 pub mod Asked

@@ -1,5 +1,5 @@
 -- The run of a script: what each command leaves and tells, from nothing on (own).
-use Rattle.std.specs.Prelude.{◌≡◌, ℕ, Bool, true, false, is_some, ◌+◌, nat_le, find, List, [], ◌∷◌, ◌++◌, length, slice_get, slice_set, Option, Some, None, option_and_then, Err, bytes_eq, if◌then◌else◌}
+use Rattle.std.specs.Prelude.{◌≡◌, ℕ, Bool, true, false, is_some, ◌+◌, nat_le, find, List, [], ◌∷◌, ◌++◌, length, slice_get, slice_set, Option, Some, None, option_and_then, Result, Ok, Err, bytes_eq, if◌then◌else◌}
 use Rattle.std.specs.List.{position}
 use Rattle.std.specs.Str.{is_utf8}
 use Rattle.rp_base.specs.declared.limits.TheConstants.{OBJECTS_MOST}
@@ -19,11 +19,13 @@ use Rattle.rp_io.specs.declared.faults.FetchFault.TheVariants as fetch
 use Rattle.script_run.specs.Stores.{Answer, Told, later_told, told_answer}
 use Rattle.script_run.specs.CoreEffects.{CoreEffect, is_on}
 use Rattle.script_run.specs.CoreCommands.{core_effect}
+use Rattle.script_run.specs.Dumps.{core_answer, kept_dumps}
 use Rattle.script_lang.specs.declared.commands.RegionSet.{RegionSet}
 use Rattle.script_lang.specs.declared.commands.RegionSet.TheVariants as regions
 use Rattle.memory_pool.specs.declared.regions.Region.{Region}
 use Rattle.memory_pool.specs.Regions.{standard_regions}
-use Rattle.crash_recover.specs.Cores.{new_core}
+use Rattle.proc_state.specs.Lives.{is_offline}
+use Rattle.crash_recover.specs.Cores.{CoreState, new_core}
 use Rattle.crash_recover.specs.CoreBoots.{needs_image}
 use Rattle.crash_recover.specs.CoreRecoveries.{recovery_fault}
 use Rattle.endpoint_map.specs.Bindings.{no_bindings}
@@ -84,7 +86,9 @@ command_name (command.Reopen name) = name
 command_name (command.Core name regions book) = name
 command_name (command.Region name kind da pa len) = name
 command_name (command.Boot name image) = name
+command_name (command.Handover name image) = name
 command_name (command.Shutdown name) = name
+command_name (command.Detach name) = name
 command_name (command.State name) = name
 command_name (command.Table name) = name
 command_name (command.Trace name index) = name
@@ -94,6 +98,7 @@ command_name (command.Recover name) = name
 command_name (command.Recovery name set) = name
 command_name (command.Driver name channel kind) = name
 command_name (command.Drive name count) = name
+command_name (command.Dump name image) = name
 -- (a command that says whether drives are quiet is about none)
 command_name (command.Quiet set) = []
 
@@ -199,13 +204,38 @@ has_image images name = is_some (image_place images name)
 
 -- the run with an image more
 abbrev pub with_image : RunState → List ℕ → List ℕ → RunState
-with_image run name bytes = record run { objects = record run.objects { images = run.objects.images ++ record { name = name; bytes = bytes } ∷ [] } }
+with_image run name bytes = record run { objects = record run.objects { images = run.objects.images ++ record { name = name; bytes = bytes; is_dump = false } ∷ [] } }
 
 -- `image FW` with its recipe
 unfoldable pub image_effect : RunState → List ℕ → List RecipeLine → RunEffect
 image_effect run name lines =
     if has_image run.objects.images name then run_tells run (event.ImageExists name)
     else run_tells (with_image run name (image_of lines)) (event.Image name (length (image_of lines)))
+
+-- the core of this name
+abbrev pub find_core : List NamedCoreState → List ℕ → Option NamedCoreState
+find_core cores name = find (λ (named : NamedCoreState). bytes_eq named.name name) cores
+
+-- the core of this name, which no link has
+abbrev pub core_named : ObjectsState → List ℕ → Option NamedCoreState
+core_named objects name = if is_some (place_of objects.links name) then None else find_core objects.cores name
+
+-- the dump of the core of a name that is kept as an image, or what is told in its place
+abbrev pub dump_answer : ObjectsState → List ℕ → List ℕ → Result (List ℕ) Event
+dump_answer objects name image = core_answer (has_image objects.images image) (kept_dumps objects.images) name image (core_named objects name)
+
+-- the run with a dump that is kept
+abbrev pub with_dump : RunState → List ℕ → List ℕ → RunState
+with_dump run name bytes = record run { objects = record run.objects { images = run.objects.images ++ record { name = name; bytes = bytes; is_dump = true } ∷ [] } }
+
+-- a dump is kept, or something is told in its place
+abbrev pub dumped_effect : RunState → List ℕ → Result (List ℕ) Event → RunEffect
+dumped_effect run image (Ok bytes) = run_tells (with_dump run image bytes) (event.Image image (length bytes))
+dumped_effect run image (Err told) = run_tells run told
+
+-- `dump X FW`
+unfoldable pub dump_effect : RunState → List ℕ → List ℕ → RunEffect
+dump_effect run name image = dumped_effect run image (dump_answer run.objects name image)
 
 -- the image that a command makes
 abbrev pub image_wanted : Command → Option (List ℕ × List RecipeLine)
@@ -237,7 +267,9 @@ image_wanted (command.Reopen name) = None
 image_wanted (command.Core name regions book) = None
 image_wanted (command.Region name kind da pa len) = None
 image_wanted (command.Boot name image) = None
+image_wanted (command.Handover name image) = None
 image_wanted (command.Shutdown name) = None
+image_wanted (command.Detach name) = None
 image_wanted (command.State name) = None
 image_wanted (command.Table name) = None
 image_wanted (command.Trace name index) = None
@@ -247,6 +279,7 @@ image_wanted (command.Recover name) = None
 image_wanted (command.Recovery name set) = None
 image_wanted (command.Driver name channel kind) = None
 image_wanted (command.Drive name count) = None
+image_wanted (command.Dump name image) = None
 image_wanted (command.Quiet set) = None
 
 -- the switch of a command that says whether drives are quiet
@@ -258,10 +291,20 @@ quiet_wanted other = None
 unfoldable pub quiet_effect : RunState → Switch → RunEffect
 quiet_effect run set = record { run = record run { objects = record run.objects { is_quiet = is_on set } }; events = []; ending = None }
 
--- drives are quiet from now on or are not, or a command is about a link
+-- the core that a command dumps, and the name of the image that the dump becomes
+abbrev pub dump_wanted : Command → Option (List ℕ × List ℕ)
+dump_wanted (command.Dump name image) = Some (name, image)
+dump_wanted other = None
+
+-- a core is dumped, or a command is about a link or a core
+abbrev pub kept_effect : Answer → RunState → Command → Option (List ℕ × List ℕ) → RunEffect
+kept_effect answer run command (Some names) = dump_effect run names.0 names.1
+kept_effect answer run command None = located_effect answer run command (place_of run.objects.links (command_name command))
+
+-- drives are quiet from now on or are not, or a command does something else
 abbrev pub named_effect : Answer → RunState → Command → Option Switch → RunEffect
 named_effect answer run command (Some set) = quiet_effect run set
-named_effect answer run command None = located_effect answer run command (place_of run.objects.links (command_name command))
+named_effect answer run command None = kept_effect answer run command (dump_wanted command)
 
 -- an image is made, or a command does something else
 abbrev pub family_effect : Answer → RunState → Command → Option (List ℕ × List RecipeLine) → RunEffect
@@ -272,24 +315,20 @@ family_effect answer run command None = named_effect answer run command (quiet_w
 unfoldable pub effect_of : Answer → RunState → Command → RunEffect
 effect_of answer run command = family_effect answer run command (image_wanted command)
 
--- the core of this name
-abbrev pub find_core : List NamedCoreState → List ℕ → Option NamedCoreState
-find_core cores name = find (λ (named : NamedCoreState). bytes_eq named.name name) cores
-
--- the core of this name, which no link has
-abbrev pub core_named : ObjectsState → List ℕ → Option NamedCoreState
-core_named objects name = if is_some (place_of objects.links name) then None else find_core objects.cores name
-
 -- the name of an image that the script didn't make (a name is a text, by the grammar)
 abbrev pub outside_image : List ImageState → List ℕ → Option (List ℕ)
 outside_image images name = if has_image images name then None else (if is_utf8 name then Some name else None)
 
--- the image for which a boot asks the store: one that the core needs and the script didn't make
-abbrev pub boot_asks : List ImageState → List ℕ → Option NamedCoreState → Option (List ℕ)
-boot_asks images image None = None
-boot_asks images image (Some named) = if needs_image named.core then outside_image images image else None
+-- the image for which a boot or a handover asks the store: one that the core needs for it and the script didn't make
+abbrev pub start_asks : (CoreState → Bool) → List ImageState → List ℕ → Option NamedCoreState → Option (List ℕ)
+start_asks needs images image None = None
+start_asks needs images image (Some named) = if needs named.core then outside_image images image else None
 
--- the image for which a recovery asks the store: the one that was booted, which the script didn't make
+-- whether a handover needs an image: the core is offline
+abbrev pub takes_over : CoreState → Bool
+takes_over core = is_offline core.life.state
+
+-- the image for which a recovery asks the store: the one that was booted or handed over, which the script didn't make
 abbrev pub recovery_asks : List ImageState → Option NamedCoreState → Option (List ℕ)
 recovery_asks images None = None
 recovery_asks images (Some named) =
@@ -297,7 +336,8 @@ recovery_asks images (Some named) =
 
 -- the image for which a command asks the store
 abbrev pub asked_name : ObjectsState → Command → Option (List ℕ)
-asked_name objects (command.Boot name image) = boot_asks objects.images image (core_named objects name)
+asked_name objects (command.Boot name image) = start_asks needs_image objects.images image (core_named objects name)
+asked_name objects (command.Handover name image) = start_asks takes_over objects.images image (core_named objects name)
 asked_name objects (command.Recover name) = recovery_asks objects.images (core_named objects name)
 asked_name objects other = None
 

@@ -30,15 +30,13 @@ impl NamedCore {
         ensures name { self.new.name ≡ self.old.name }
         ensures effect { IfOk result (λ ending. HasCoreEffect (drive_effect self.old.name is_quiet self.old.core log.old.steps count) self.new.core log.old log.new ending) }
     {
-        match self.core.life().state() {
-            LifeState::Running => self.drive_running(count, is_quiet, log),
-            LifeState::Offline | LifeState::Crashed => {
-                self.tell(&Event::NotRunning { name: self.name }, log)
-            }
+        if !self.core.life().is_up() {
+            return self.tell(&Event::NotRunning { name: self.name }, log);
         }
+        self.drive_running(count, is_quiet, log)
     }
 
-    /// The same of a core that runs.
+    /// The same of a core that is up.
     #[inline(never)]
     fn drive_running(
         &mut self,

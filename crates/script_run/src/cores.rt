@@ -74,14 +74,16 @@ impl NamedCore {
             Command::Drive { count, .. } => self.drive(*count, is_quiet, log),
             Command::State { .. } => self.tell_state(log),
             Command::Boot { image, .. } => self.boot(*image, images, fetched, log),
+            Command::Handover { image, .. } => self.handover(*image, images, fetched, log),
             Command::Shutdown { .. } => self.shutdown(log),
+            Command::Detach { .. } => self.detach(log),
             Command::Crash { kind, .. } => self.crash(*kind, log),
             Command::Recover { .. } => self.recover(images, fetched, log),
             Command::Table { .. } => self.tell_table(log),
             Command::Trace { trace: index, .. } => self.tell_trace(*index, log),
             Command::Mem { da, len, .. } => self.tell_memory(*da as u32, *len as u32, log),
             Command::Recovery { switch, .. } => self.set_recovery(*switch, log),
-            Command::Close { .. } | Command::Reopen { .. } => self.tell(
+            Command::Close { .. } | Command::Reopen { .. } | Command::Dump { .. } => self.tell(
                 &Event::Unknown { name: self.name },
                 log,
             ),

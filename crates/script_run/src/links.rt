@@ -125,14 +125,17 @@ impl NamedBench {
             | Command::Drive { .. }
             | Command::Quiet { .. }
             | Command::Boot { .. }
+            | Command::Handover { .. }
             | Command::Shutdown { .. }
+            | Command::Detach { .. }
             | Command::State { .. }
             | Command::Table { .. }
             | Command::Trace { .. }
             | Command::Mem { .. }
             | Command::Crash { .. }
             | Command::Recover { .. }
-            | Command::Recovery { .. } => self.tell(&Event::Unknown { name: self.name }, log),
+            | Command::Recovery { .. }
+            | Command::Dump { .. } => self.tell(&Event::Unknown { name: self.name }, log),
         }
     }
 

@@ -3,7 +3,7 @@ ghost use Rattle.std.specs.Option.{option_copied};
 ghost use Rattle.lane_model.specs.Conditions.{IsConfig};
 ghost use Rattle.script_lang.specs.Runnable.{IsBook, IsRunnable};
 ghost use Rattle.script_run.specs.Logs.{HasRunEffect};
-ghost use Rattle.script_run.specs.Runs.{command_name, config_of, core_made_effect, core_place, without_link_effect, is_full, regions_of, asked_name, core_named, find_core, outside_image, effect_of, has_image, image_effect, image_place, image_wanted, made_effect, new_run, place_of, quiet_wanted, unnamed_effect};
+ghost use Rattle.script_run.specs.Runs.{command_name, config_of, core_made_effect, core_place, without_link_effect, is_full, regions_of, asked_name, core_named, find_core, outside_image, effect_of, has_image, image_effect, image_place, image_wanted, made_effect, dump_wanted, new_run, place_of, quiet_wanted, unnamed_effect};
 ghost use Rattle.script_run.specs.Fetches.{answer_of};
 
 use crate::cores::{NamedCore, is_on};
@@ -16,7 +16,7 @@ use crash_recover::{Bench, Core};
 use journal::Event;
 use lane_model::LinkConfig;
 use memory_pool::Regions;
-use rp_base::{Name, NoMemory, OBJECTS_MOST};
+use rp_base::{LifeState, Name, NoMemory, OBJECTS_MOST};
 use script_lang::{Command, Recipe, RegionSet};
 use std::alloc::Global;
 use std::marker::Model;
@@ -25,11 +25,11 @@ use std::marker::Model;
 /// and whether its drives are quiet.
 #[derive(Drop)]
 pub(crate) struct Objects {
-    alloc: Global,
-    links: Vec<NamedBench>,
-    cores: Vec<NamedCore>,
-    images: Vec<ScriptImage>,
-    is_quiet: bool,
+    pub(crate) alloc: Global,
+    pub(crate) links: Vec<NamedBench>,
+    pub(crate) cores: Vec<NamedCore>,
+    pub(crate) images: Vec<ScriptImage>,
+    pub(crate) is_quiet: bool,
 }
 
 impl Model for Objects {
@@ -71,6 +71,7 @@ impl Objects {
                 self.is_quiet = is_on(*switch);
                 Ok(None)
             }
+            Command::Dump { name, image } => self.dump(*name, *image, log),
             _ => self.run_on_links(command, fetched, log),
         }
     }
@@ -84,6 +85,14 @@ impl Objects {
             Command::Boot { name, image } => {
                 let named = self.core_named(name.bytes())?;
                 if named.core.needs_image() {
+                    outside_image(self.images.as_slice(), image.bytes())
+                } else {
+                    None
+                }
+            }
+            Command::Handover { name, image } => {
+                let named = self.core_named(name.bytes())?;
+                if named.core.life().state() == LifeState::Offline {
                     outside_image(self.images.as_slice(), image.bytes())
                 } else {
                     None
@@ -120,6 +129,7 @@ impl Objects {
         requires runnable { IsRunnable command.now }
         requires family { image_wanted command.now ≡ None }
         requires named { quiet_wanted command.now ≡ None }
+        requires kept { dump_wanted command.now ≡ None }
         ensures { IfOk result (λ ending. HasRunEffect (effect_of (answer_of fetched.now) (record { objects = self.old; steps = log.old.steps }) command.now) self.new log.old log.new ending) }
     {
         match place_of(self.links.as_slice(), command_name(command).bytes()) {
@@ -260,17 +270,22 @@ impl Objects {
         }
         let bytes = image_maker::build(self.alloc, recipe)?;
         let len = bytes.len() as u64;
-        self.images.push(ScriptImage { name, bytes })?;
+        self.images.push(ScriptImage {
+            name,
+            bytes,
+            is_dump: false,
+        })?;
         log.tell(&Event::Image { name, len })?;
         Ok(None)
     }
 }
 
-/// An image that a script made, under its name.
+/// An image that a script made, under its name: by a recipe, or as the dump of a core.
 #[derive(Drop)]
 pub struct ScriptImage {
-    name: Name,
-    bytes: Vec<u8>,
+    pub(crate) name: Name,
+    pub(crate) bytes: Vec<u8>,
+    pub(crate) is_dump: bool,
 }
 
 impl Model for ScriptImage {
@@ -278,7 +293,7 @@ impl Model for ScriptImage {
 
     ghost Value = { ImageState };
 
-    ghost view = { λ i. record { name = i.name; bytes = i.bytes.items } };
+    ghost view = { λ i. record { name = i.name; bytes = i.bytes.items; is_dump = i.is_dump } };
 }
 
 impl ScriptImage {
@@ -334,7 +349,7 @@ fn outside_image<'a>(images: &[ScriptImage], name: &'a [u8]) -> Option<&'a str>
 }
 
 /// Whether an image of this name was made.
-fn has_image(images: &[ScriptImage], name: &[u8]) -> bool
+pub(crate) fn has_image(images: &[ScriptImage], name: &[u8]) -> bool
     ensures { result ≡ has_image images.now name.now }
 {
     image_place(images, name).is_some()
@@ -381,7 +396,9 @@ fn command_name(command: &Command) -> &Name
         | Command::Core { name, .. }
         | Command::Region { name, .. }
         | Command::Boot { name, .. }
+        | Command::Handover { name, .. }
         | Command::Shutdown { name }
+        | Command::Detach { name }
         | Command::State { name }
         | Command::Table { name }
         | Command::Trace { name, .. }
@@ -390,7 +407,8 @@ fn command_name(command: &Command) -> &Name
         | Command::Recover { name }
         | Command::Recovery { name, .. }
         | Command::Driver { name, .. }
-        | Command::Drive { name, .. } => name,
+        | Command::Drive { name, .. }
+        | Command::Dump { name, .. } => name,
         Command::Quiet { .. } => unreachable!(),
     }
 }

@@ -141,7 +141,10 @@ service_read word =
 -- the state of a core, what a driver does, whether something is on, a lane
 abbrev pub state_read : List ℕ → LifeState
 state_read word =
-    if bytes_eq word (codes "offline") then state.Offline else (if bytes_eq word (codes "running") then state.Running else state.Crashed)
+    if bytes_eq word (codes "offline") then state.Offline
+    else (if bytes_eq word (codes "running") then state.Running
+    else (if bytes_eq word (codes "crashed") then state.Crashed
+    else (if bytes_eq word (codes "attached") then state.Attached else state.Detached)))
 
 abbrev pub driver_read : List ℕ → DriverKind
 driver_read word = if bytes_eq word (codes "sink") then driver.Sink else (if bytes_eq word (codes "echo") then driver.Echo else driver.Sample)

@@ -73,6 +73,8 @@ abbrev pub state_text : LifeState → List ℕ
 state_text state.Offline = codes "offline"
 state_text state.Running = codes "running"
 state_text state.Crashed = codes "crashed"
+state_text state.Attached = codes "attached"
+state_text state.Detached = codes "detached"
 
 -- what a driver does
 abbrev pub driver_text : DriverKind → List ℕ

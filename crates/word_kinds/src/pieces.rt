@@ -243,6 +243,8 @@ fn state_text(state: LifeState) -> &'static str
         LifeState::Offline => "offline",
         LifeState::Running => "running",
         LifeState::Crashed => "crashed",
+        LifeState::Attached => "attached",
+        LifeState::Detached => "detached",
     }
 }
 

@@ -194,8 +194,12 @@ pub fn state_at(words: &[&[u8]], place: usize) -> LifeState
         LifeState::Offline
     } else if word == b"running".as_slice() {
         LifeState::Running
-    } else {
+    } else if word == b"crashed".as_slice() {
         LifeState::Crashed
+    } else if word == b"attached".as_slice() {
+        LifeState::Attached
+    } else {
+        LifeState::Detached
     }
 }
 

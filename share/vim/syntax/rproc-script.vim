@@ -4,7 +4,7 @@ if exists("b:current_syntax")
 endif
 syn case match
 setlocal iskeyword+=-
-syn keyword rprocCommand begin bind books boot caller channels close core crash drive driver end finish give image link mem nslink pump quiet raw reclaim recover recovery region reopen ring send shutdown state step table take trace unbind
+syn keyword rprocCommand begin bind books boot caller channels close core crash detach drive driver dump end finish give handover image link mem nslink pump quiet raw reclaim recover recovery region reopen ring send shutdown state step table take trace unbind
 syn keyword rprocRecipe announce carveout code devmem entry halt load log loop vdev vendor vring
 syn keyword rprocChoice host remote std bare tcm pool mmufault watchdog fatal sink echo sample on off any last
 syn match rprocNumber /\<\(0x\x\+\|\d\+\)\>/

@@ -3,8 +3,8 @@ use Rattle.std.proofs.lemmas.Result.{IfOk-weaker}
 use Rattle.script_run.specs.Logs.{HasRunEffect}
 use Rattle.script_run.specs.CoreEffects.{is_on}
 use Rattle.script_run.specs.Fetches.{answer_of}
-use Rattle.script_run.specs.Runs.{ObjectsState, RunState, effect_of, image_effect}
-use Rattle.script_run.proofs.Placing.{image_run, quiet_run}
+use Rattle.script_run.specs.Runs.{ObjectsState, RunState, dump_effect, effect_of, image_effect}
+use Rattle.script_run.proofs.Placing.{dump_run, image_run, quiet_run}
 use Rattle.script_run.proofs.objects.Objects.run.Goals as goal
 
 pub returns-in-Image : goal.returns-in-Image
@@ -23,3 +23,12 @@ returns-in-Quiet c =
     quiet_run (answer_of c.args.fetched.now) (record { objects = c.args.self.now; steps = c.args.log.now.steps }) c.args.command.now c.args.log.now left c.in-Quiet.switch c.in-Quiet.is
     (ap (λ (q : Bool). record left { is_quiet = q }) c.is_on-self-inside.ensures ∙ ap (λ (objects : ObjectsState). record objects { is_quiet = is_on c.in-Quiet.switch }) c.self.view_is)
     refl
+
+pub returns-in-Dump : goal.returns-in-Dump
+returns-in-Dump c =
+    let run : RunState = record { objects = c.args.self.now; steps = c.args.log.now.steps } in
+    IfOk-weaker c.dump.result
+    (λ ending. HasRunEffect (dump_effect run c.in-Dump.name c.in-Dump.image) c.dump.new.self c.args.log.now c.dump.new.log ending)
+    (λ ending. HasRunEffect (effect_of (answer_of c.args.fetched.now) run c.args.command.now) c.dump.new.self c.args.log.now c.dump.new.log ending)
+    (λ ending did. dump_run (answer_of c.args.fetched.now) run c.args.command.now c.args.log.now c.dump.new.log ending c.dump.new.self c.in-Dump.name c.in-Dump.image c.in-Dump.is did)
+    c.dump.ensures

@@ -29,7 +29,7 @@ returns-in-Some c =
     (IfOk-weaker c.run.result
     (λ ending. HasEffect (link_effect named c.args.log.now.steps c.args.command.now) c.run.new.self.bench c.args.log.now c.run.new.log ending)
     (λ ending. HasRunEffect (effect_of (answer_of c.args.fetched.now) run c.args.command.now) (record { links = slice_set items place c.run.new.self; cores = c.self.inside.cores.items; images = images; is_quiet = is_quiet }) c.args.log.now c.run.new.log ending)
-    (λ ending did. placed_run (answer_of c.args.fetched.now) run c.args.command.now c.args.log.now c.run.new.log ending place named c.run.new.self c.requires.family c.requires.named placed found c.run.ensures.name did)
+    (λ ending did. placed_run (answer_of c.args.fetched.now) run c.args.command.now c.args.log.now c.run.new.log ending place named c.run.new.self c.requires.family c.requires.named c.requires.kept placed found c.run.ensures.name did)
     c.run.ensures.effect)
 
 pub returns-in-None : goal.returns-in-None
@@ -42,5 +42,5 @@ returns-in-None c =
     IfOk-weaker c.run_on_cores.result
     (λ ending. HasRunEffect (without_link_effect (answer_of c.args.fetched.now) run c.args.command.now) c.run_on_cores.new.self c.args.log.now c.run_on_cores.new.log ending)
     (λ ending. HasRunEffect (effect_of (answer_of c.args.fetched.now) run c.args.command.now) c.run_on_cores.new.self c.args.log.now c.run_on_cores.new.log ending)
-    (λ ending did. unnamed_run (answer_of c.args.fetched.now) run c.args.command.now c.args.log.now c.run_on_cores.new.log ending c.run_on_cores.new.self c.requires.family c.requires.named none did)
+    (λ ending did. unnamed_run (answer_of c.args.fetched.now) run c.args.command.now c.args.log.now c.run_on_cores.new.log ending c.run_on_cores.new.self c.requires.family c.requires.named c.requires.kept none did)
     c.run_on_cores.ensures

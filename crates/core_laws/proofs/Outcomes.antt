@@ -1,0 +1,189 @@
+-- What stays of a core over its calls, whatever they answer: one walk over the outcomes for each property that a core keeps.
+use Rattle.std.proofs.Common.{◌≡◌, ℕ, cond, Bool, true, false, List, Option, Some, None, Result, Ok, Err, is_some, refl, sym, ap, ◌∙◌}
+use Rattle.std.specs.Option.{option_and_then, option_map}
+use Rattle.std.proofs.lemmas.Bool.{cond_both, true≢false}
+use Rattle.rp_base.specs.declared.kinds.LifeState.{LifeState}
+use Rattle.rp_base.specs.declared.kinds.LifeState.TheVariants.{Offline, Running, Crashed, Attached, Detached}
+use Rattle.proc_state.specs.declared.answers.Left.{Left}
+use Rattle.proc_state.specs.declared.answers.Left.TheVariants as left
+use Rattle.proc_state.specs.declared.answers.LifeFault.{LifeFault}
+use Rattle.proc_state.specs.declared.answers.LifeFault.TheVariants as life_fault
+use Rattle.proc_state.specs.declared.answers.Power.{Power}
+use Rattle.proc_state.specs.declared.answers.Power.TheVariants as power
+use Rattle.proc_state.specs.declared.answers.Report.{Report}
+use Rattle.proc_state.specs.declared.answers.Report.TheVariants as report
+use Rattle.proc_state.specs.Lives.{CoreLife, Outcome, boot_to, crash_as, first_start, handover_to, is_offline, is_up, leave_to, life_after_boot, life_after_crash, life_after_detach, life_after_handover, life_after_shutdown, line_of, most, refusal_of, with_user, without_user}
+use Rattle.crash_recover.specs.declared.core_answers.Crash.{Crash}
+use Rattle.crash_recover.specs.declared.core_answers.Leave.{Leave}
+use Rattle.crash_recover.specs.declared.core_answers.Start.{Start}
+use Rattle.crash_recover.specs.declared.core_faults.CoreFault.{CoreFault}
+use Rattle.crash_recover.specs.declared.core_faults.CoreFault.TheVariants as fault
+use Rattle.link_bench.specs.BenchHolds.{caller_out}
+use Rattle.link_bench.specs.Benches.{BenchState}
+use Rattle.crash_recover.specs.Cores.{CoreOutcome, CoreState, LoadState, refuse_or}
+use Rattle.crash_recover.specs.CoreBoots.{Found, boot_as, boot_of, first_boot, handover_as, handover_of, image_fault, loaded_in, started_core, with_load}
+use Rattle.crash_recover.specs.CoreCrashes.{crashed_core, first_report, report_as, report_of}
+use Rattle.crash_recover.specs.CoreLeaves.{close_or, detach_of, detached_core, last_leave, leave_as, live_inc, shutdown_of, unloaded_core}
+use Rattle.crash_recover.specs.CoreRecoveries.{after_recovery, readied_core, recovery_fault, recovery_of, reload_fault, reopen_fault}
+
+-- ---- lives
+
+-- a life in the same incarnation that is up where the one before is
+pub record IsSame (before after : CoreLife) : Type 0 where
+  pub inc : after.incarnation ≡ before.incarnation
+  pub up : is_up after.state ≡ is_up before.state
+
+first_up : (state : LifeState) (life : CoreLife) → is_up state ≡ true → (first_start state 1 power.First life).answer ≡ Ok power.First → is_up (first_start state 1 power.First life).life.state ≡ true
+first_up state life up =
+    cond_both (life.incarnation == most) (refusal_of life_fault.IncarnationsSpent life) _ (λ (out : Outcome Power). out.answer ≡ Ok power.First → is_up out.life.state ≡ true)
+    (λ _ is. absurd (cc)) (λ _ is. up)
+
+pub no_first : (life : CoreLife) → (with_user life).answer ≡ Ok power.First → ⊥
+no_first life =
+    cond_both (life.users == most) (refusal_of life_fault.UsersFull life) _ (λ (out : Outcome Power). out.answer ≡ Ok power.First → ⊥) (λ _ is. absurd (cc)) (λ _ is. absurd (cc))
+
+boots_up : (state : LifeState) (life : CoreLife) → (boot_to (line_of state).boot life).answer ≡ Ok power.First → is_up (boot_to (line_of state).boot life).life.state ≡ true
+boots_up Offline life is = first_up Running life refl is
+boots_up Running life is = absurd (no_first life is)
+boots_up Crashed life is = absurd (no_first life is)
+boots_up Attached life is = absurd (no_first life is)
+boots_up Detached life is = first_up Attached life refl is
+
+-- the first boot of a core starts it
+pub starts_up : (life : CoreLife) → (life_after_boot life).answer ≡ Ok power.First → is_up (life_after_boot life).life.state ≡ true
+starts_up life is = boots_up life.state life is
+
+user_same : (life : CoreLife) → IsSame life (with_user life).life
+user_same life = cond_both (life.users == most) (refusal_of life_fault.UsersFull life) _ (λ (out : Outcome Power). IsSame life out.life) (λ _. record { inc = refl; up = refl }) (λ _. record { inc = refl; up = refl })
+
+boot_same : (to : Option LifeState) (life : CoreLife) (users : ℕ) → (boot_to to life).answer ≡ Ok (power.Counted users) → IsSame life (boot_to to life).life
+boot_same None life users is = user_same life
+boot_same (Some state) life users is =
+    cond_both (life.incarnation == most) (refusal_of life_fault.IncarnationsSpent life) _ (λ (out : Outcome Power). out.answer ≡ Ok (power.Counted users) → IsSame life out.life)
+    (λ _ is. absurd (cc)) (λ _ is. absurd (cc)) is
+
+leave_same : (why : LifeFault) (to : Option LifeState) (life : CoreLife) (users : ℕ) → (leave_to why to life).answer ≡ Ok (left.Users users) → IsSame life (leave_to why to life).life
+leave_same why None life users is = record { inc = refl; up = refl }
+leave_same why (Some state) life users is =
+    cond_both (life.users == 1) _ _ (λ (out : Outcome Left). out.answer ≡ Ok (left.Users users) → IsSame life out.life)
+    (λ _ is. absurd (cc)) (λ _ is. record { inc = refl; up = refl }) is
+
+handover_same : (state : LifeState) (life : CoreLife) (done : Unit {0}) → life.state ≡ state → (handover_to (line_of state).handover life).answer ≡ Ok done → IsSame life (handover_to (line_of state).handover life).life
+handover_same Offline life done state is = record { inc = refl; up = ap is_up (sym state) }
+handover_same Running life done state is = absurd (cc)
+handover_same Crashed life done state is = absurd (cc)
+handover_same Attached life done state is = absurd (cc)
+handover_same Detached life done state is = absurd (cc)
+
+-- a life that a crash has stopped
+pub record IsStopped (before after : CoreLife) : Type 0 where
+  pub inc : after.incarnation ≡ before.incarnation
+  pub stopped : is_up after.state ≡ false
+
+crash_stops : (found : Option Report) (life : CoreLife) → (crash_as found life).answer ≡ Ok report.First → IsStopped life (crash_as found life).life
+crash_stops None life is = absurd (cc)
+crash_stops (Some told) life is = record { inc = refl; stopped = refl }
+
+-- ---- outcomes
+
+-- what of a core stays over each thing that its calls do to it
+pub record Stays (P : CoreState → Type 0) : Type 0 where
+  pub same : (core : CoreState) (life : CoreLife) (image : Option (List ℕ)) (loaded : Option LoadState) → IsSame core.life life → P core
+      → P (record core { life = life; image = image; loaded = loaded })
+  pub started : (core : CoreState) (life : CoreLife) → is_up life.state ≡ true → P (started_core life core)
+  pub unlinked : (core : CoreState) (life : CoreLife) (image : Option (List ℕ)) (loaded : Option LoadState) → P core
+      → P (record core { life = life; image = image; loaded = loaded; bench = None })
+  pub crashed : (core : CoreState) (life : CoreLife) → IsStopped core.life life → P core → P (crashed_core life core)
+  pub readied : (core : CoreState) → recovery_fault core.life ≡ None → P core → P (readied_core core)
+  pub recovered : (core : CoreState) (given : LoadState) → recovery_fault core.life ≡ None → reopen_fault core ≡ None → P core → P (after_recovery core given)
+
+module _ (P : CoreState → Type 0) where
+  pub refused : {A E : Type 0} (core : CoreState) (why : Option E) (done : CoreOutcome A E) → P core → (why ≡ None → P done.core) → P (refuse_or core why done).core
+  refused {A} {E} core None done is rest = rest refl
+  refused {A} {E} core (Some why) done is rest = is
+
+  first_crash : (may_step : Bool) (core : CoreState) (life : CoreLife) (found : Option BenchState) → P core → P (crashed_core life core) → P (first_report may_step life core found).core
+  first_crash may_step core life None is left = left
+  first_crash may_step core life (Some bench) is left =
+      cond_both may_step _ _ (λ (out : CoreOutcome Crash LifeFault). P out.core) (λ _. left) (λ _. is)
+
+  report_at : (may_step : Bool) (core : CoreState) (answer : Result Report LifeFault) → (life_after_crash core.life).answer ≡ answer → P core
+      → ((life : CoreLife) → IsStopped core.life life → P (crashed_core life core)) → P (report_as may_step (life_after_crash core.life).life answer core).core
+  report_at may_step core (Err why) answer is left = is
+  report_at may_step core (Ok report.Already) answer is left = is
+  report_at may_step core (Ok report.First) answer is left =
+      let life = (life_after_crash core.life).life in
+      first_crash may_step core life core.bench is (left life (crash_stops (line_of core.life.state).crash core.life answer))
+
+  -- a crash report, which leaves a core as it is or crashed
+  pub report_left : (may_step : Bool) (core : CoreState) → P core → ((life : CoreLife) → IsStopped core.life life → P (crashed_core life core)) → P (report_of may_step core).core
+  unfolding report_of
+  report_left may_step core is left = report_at may_step core (life_after_crash core.life).answer refl is left
+
+  module _ (stays : Stays P) where
+    first_at : (life : CoreLife) (core : CoreState) (name : List ℕ) (found : Found) → is_up life.state ≡ true → P core → P (first_boot life core name found).core
+    first_at life core name found up is =
+        cond_both (is_offline core.life.state) _ _ (λ (out : CoreOutcome Start CoreFault). P out.core)
+        (λ _. refused core (image_fault core found) _ is (λ _. stays.started (with_load core name (loaded_in core found)) life up))
+        (λ _. stays.started core life up)
+
+    boot_at : (core : CoreState) (name : List ℕ) (found : Found) (answer : Result Power LifeFault) → (life_after_boot core.life).answer ≡ answer → P core
+        → P (boot_as (life_after_boot core.life).life answer core name found).core
+    boot_at core name found (Err why) answer is = is
+    boot_at core name found (Ok (power.Counted users)) answer is =
+        stays.same core (life_after_boot core.life).life core.image core.loaded (boot_same (line_of core.life.state).boot core.life users answer) is
+    boot_at core name found (Ok power.First) answer is = first_at (life_after_boot core.life).life core name found (starts_up core.life answer) is
+
+    pub boot_stays : (core : CoreState) (name : List ℕ) (found : Found) → P core → P (boot_of core name found).core
+    unfolding boot_of
+    boot_stays core name found is = boot_at core name found (life_after_boot core.life).answer refl is
+
+    handover_at : (core : CoreState) (name : List ℕ) (found : Found) (answer : Result (Unit {0}) LifeFault) → (life_after_handover core.life).answer ≡ answer → P core
+        → P (handover_as (life_after_handover core.life).life answer core name found).core
+    handover_at core name found (Err why) answer is = is
+    handover_at core name found (Ok done) answer is =
+        refused core (image_fault core found) _ is
+        (λ _. stays.same core (life_after_handover core.life).life (Some name) (Some (loaded_in core found)) (handover_same core.life.state core.life done refl answer) is)
+
+    pub handover_stays : (core : CoreState) (name : List ℕ) (found : Found) → P core → P (handover_of core name found).core
+    unfolding handover_of
+    handover_stays core name found is = handover_at core name found (life_after_handover core.life).answer refl is
+
+    closed_at : (may_step : Bool) (core gone : CoreState) (live : Option ℕ) → P core → P gone → P (close_or may_step core gone live).core
+    closed_at may_step core gone None is left = left
+    closed_at may_step core gone (Some inc) is left =
+        cond_both may_step _ _ (λ (out : CoreOutcome Leave CoreFault). P out.core) (λ _. left) (λ _. is)
+
+    leave_at : (may_step : Bool) (core gone : CoreState) (why : LifeFault) (to : Option LifeState) (answer : Result Left LifeFault) → (leave_to why to core.life).answer ≡ answer → P core → P gone
+        → P (leave_as may_step core gone (leave_to why to core.life).life answer).core
+    leave_at may_step core gone why to (Err refusal) answer is left = is
+    leave_at may_step core gone why to (Ok (left.Users users)) answer is left = stays.same core (leave_to why to core.life).life core.image core.loaded (leave_same why to core.life users answer) is
+    leave_at may_step core gone why to (Ok left.Last) answer is left =
+        refused core (option_map fault.CallerOut (option_and_then caller_out core.bench)) _ is (λ _. closed_at may_step core gone (live_inc core.bench) is left)
+
+    pub shutdown_stays : (may_step : Bool) (core : CoreState) → P core → P (shutdown_of may_step core).core
+    unfolding shutdown_of
+    shutdown_stays may_step core is =
+        let life = (life_after_shutdown core.life).life in
+        leave_at may_step core (unloaded_core life core) life_fault.NotPowered (line_of core.life.state).shutdown (life_after_shutdown core.life).answer refl is (stays.unlinked core life None None is)
+
+    pub detach_stays : (may_step : Bool) (core : CoreState) → P core → P (detach_of may_step core).core
+    unfolding detach_of
+    detach_stays may_step core is =
+        let life = (life_after_detach core.life).life in
+        leave_at may_step core (detached_core life core) life_fault.NotAttached (line_of core.life.state).detach (life_after_detach core.life).answer refl is (stays.unlinked core life core.image core.loaded is)
+
+    pub report_stays : (may_step : Bool) (core : CoreState) → P core → P (report_of may_step core).core
+    report_stays may_step core is = report_left may_step core is (λ life stops. stays.crashed core life stops is)
+
+    none_mapped : (found : Option LifeFault) → option_map fault.Life found ≡ None → found ≡ None
+    none_mapped None none = refl
+    none_mapped (Some why) none = absurd (true≢false (ap is_some none))
+
+    pub recovery_stays : (core : CoreState) (found : Found) → P core → P (recovery_of core found).core
+    unfolding recovery_of
+    recovery_stays core found is =
+        refused core (option_map fault.Life (recovery_fault core.life)) _ is (λ may.
+        refused core (reload_fault core found) _ is (λ _.
+        refused (readied_core core) (reopen_fault core) _ (stays.readied core (none_mapped (recovery_fault core.life) may) is)
+        (λ opens. stays.recovered core (loaded_in core found) (none_mapped (recovery_fault core.life) may) opens is)))
