@@ -39,7 +39,7 @@ use Rattle.link_bench.specs.BenchEnds.{crashed_bench, is_first, is_remote, with_
 use Rattle.crash_recover.specs.CoreCrashes.{after_report, crashed_core}
 use Rattle.crash_recover.specs.CoreRecoveries.{after_recovery, fault_with, link_fault, readied_core, reopen_fault, reopened_core, spent_fault}
 use Rattle.crash_recover.specs.Cores.{CoreState, LoadState, new_core}
-use Rattle.crash_recover.specs.Drives.{DriveStep, acting, actor_step, actors_at_end, after_call_end, asked_by, drive_step, driven_on, end_answer, first_or_take, gives_of, has_calls, host_begun, host_begun_as, host_ended, host_reached, host_step, is_idle, left_of, link_step, message_of, number_taken, placed_map, record_run, record_step, reported_by, seen_by, sends_of, with_turn_after, worker_call, worker_reached, worker_step}
+use Rattle.crash_recover.specs.Drives.{DriveStep, acting, actor_step, actors_at_end, asked_by, drive_step, driven_on, end_answer, first_or_take, gives_of, has_calls, host_begun, host_begun_as, host_ended, host_reached, host_step, is_idle, left_of, link_step, message_of, number_taken, placed_map, record_run, record_step, reported_by, sends_of, with_turn_after, worker_call, worker_reached, worker_step}
 use Rattle.core_laws.specs.BenchMoves.{AreSendable, IsReachedBench, IsReachedCore, IsShortLink}
 use Rattle.core_laws.proofs.Sendable.{end_short, gives_sendable, left_sendable, message_short, none_sendable, sends_sendable, work_sendable}
 use Rattle.core_laws.proofs.BenchMoves.{advanced, closed, enlisted, new_reached, reclaimed, reopened, started, unreclaimed_shut}
@@ -298,12 +298,3 @@ pub seen_calls : (actors : ActorsState) (bench : BenchState) (caller : ℕ) (end
 seen_calls actors bench caller end None short is = is
 seen_calls actors bench caller end (Some side.Host) short is = driven_sendable actors (message_of bench caller end) end (message_short bench caller end short) is
 seen_calls actors bench caller end (Some side.Remote) short is = is
-
-seen_link : (core : CoreState) (caller : ℕ) (end : CallEnd) (found : Option BenchState) → IfSome found IsReachedBench → IsReachedCore core
-    → IsReachedCore (seen_by core caller end found)
-seen_link core caller end None reached is = is
-seen_link core caller end (Some bench) reached is =
-    record { bench = is.bench; calls = seen_calls core.actors bench caller end (end_of bench.link.callers caller) reached.link.short is.calls }
-
-pub call_ended : (core : CoreState) (caller : ℕ) (end : CallEnd) → IsReachedCore core → IsReachedCore (after_call_end core caller end)
-call_ended core caller end is = seen_link core caller end core.bench is.bench is

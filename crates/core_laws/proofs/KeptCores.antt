@@ -12,7 +12,6 @@ use Rattle.proc_state.specs.declared.answers.Power.{Power}
 use Rattle.proc_state.specs.declared.answers.Power.TheVariants as power
 use Rattle.proc_state.specs.Lives.{CoreLife, Outcome, first_start as started_life, life_after_boot, life_after_crash, life_after_crash_in, life_after_recovery, life_after_recovery_in, life_after_shutdown, life_after_shutdown_in, most, with_user}
 use Rattle.fw_load.specs.declared.rings.RingPair.{RingPair}
-use Rattle.lane_model.specs.declared.calls.CallEnd.{CallEnd}
 use Rattle.lane_model.specs.declared.calls.Wish.{Wish}
 use Rattle.lane_model.specs.declared.calls.Wish.TheVariants as wish
 use Rattle.lane_model.specs.declared.recoveries.ReclaimRefusal.{ReclaimRefusal}
@@ -21,13 +20,10 @@ use Rattle.lane_model.specs.Recoveries.{unreclaimed_by}
 use Rattle.lane_model.proofs.Others.{stays_in_use}
 use Rattle.crash_recover.specs.declared.actors.Actor.{Actor}
 use Rattle.crash_recover.specs.declared.actors.Actor.TheVariants as actor
-use Rattle.link_bench.specs.declared.benches.Reach.{Reach}
 use Rattle.link_bench.specs.declared.benches.Reach.TheVariants as reach
 use Rattle.crash_recover.specs.declared.core_drives.Driven.{Driven}
 use Rattle.crash_recover.specs.declared.core_drives.Driven.TheVariants as driven
 use Rattle.crash_recover.specs.declared.core_faults.CoreFault.{CoreFault}
-use Rattle.link_bench.specs.declared.turns.TurnEnd.{TurnEnd}
-use Rattle.link_bench.specs.declared.turns.TurnEnd.TheVariants as turn_end
 use Rattle.crash_recover.specs.Actors.{ActorsState, driver_names}
 use Rattle.link_bench.specs.BenchCrashes.{after_reopen, left_by_reclaim, reclaim_leaves}
 use Rattle.link_bench.specs.Benches.{BenchState, BenchWalk, advance_walk, begin_fault, call_walk, is_in_call, start_walk, with_new_caller}
@@ -35,13 +31,11 @@ use Rattle.crash_recover.specs.CoreBoots.{after_boot, after_shutdown, core_bench
 use Rattle.link_bench.specs.BenchEnds.{crashed_bench, readied_bench, renewed_unless}
 use Rattle.crash_recover.specs.CoreCrashes.{after_report, crashed_core}
 use Rattle.crash_recover.specs.CoreRecoveries.{after_recovery, fault_with, readied_core, recovery_fault, reopen_fault, reopened_core, spent_fault, unrecovered_in}
-use Rattle.crash_recover.specs.CoreTurns.{LinkPumped, core_turns, core_turns_on, one_turn_on, pump_turns_on, take_turn_on, then_give, then_take}
 use Rattle.crash_recover.specs.Cores.{CoreState, LoadState}
-use Rattle.crash_recover.specs.Drives.{DriveStep, acting, actor_step, after_call_end, drive_step, first_or_take, has_calls, host_step, is_idle, link_step, record_run, record_step, reported_by, seen_by, with_turn_after, worker_call, worker_step}
+use Rattle.crash_recover.specs.Drives.{DriveStep, acting, actor_step, drive_step, first_or_take, has_calls, host_step, is_idle, link_step, record_run, record_step, reported_by, with_turn_after, worker_call, worker_step}
 use Rattle.core_laws.specs.KeptCores.{IsKeptBench, IsKeptCore, is_running, next_life, with_next_life}
-use Rattle.link_bench.specs.Turns.{TurnCall, Turns, give_turn, is_whole, then_more, turn_call, turn_message}
 use Rattle.core_laws.proofs.KeptCrashes.{crash_kept, gone_kept, host_renewed}
-use Rattle.core_laws.proofs.KeptLinks.{advance_kept, start_kept, turn_call_kept}
+use Rattle.core_laws.proofs.KeptLinks.{advance_kept, start_kept}
 
 -- ---- other callers
 
@@ -252,67 +246,3 @@ actor_kept actor.Worker core is = worker_kept core is
 pub core_driven : (core : CoreState) → IsKeptCore core → IsKeptCore (drive_step core).core
 core_driven core is =
     cond_both (is_idle core) _ _ (λ (step : DriveStep). IsKeptCore step.core) (λ _. is) (λ _. actor_kept (acting core) (with_turn_after (acting core) core) is)
-
--- ---- calls of others
-
-seen_kept : (core : CoreState) (caller : ℕ) (end : CallEnd) (found : Option BenchState) → IsKeptCore core → IsKeptCore (seen_by core caller end found)
-seen_kept core caller end None is = is
-seen_kept core caller end (Some bench) is = is
-
-pub call_ended : (core : CoreState) (caller : ℕ) (end : CallEnd) → IsKeptCore core → IsKeptCore (after_call_end core caller end)
-call_ended core caller end is = seen_kept core caller end core.bench is
-
-module _ (life : CoreLife) where
-  then_kept : (call : TurnCall) (number : Result ℕ TurnEnd) (more : ℕ → Turns) → IsKeptBench life call.bench → ((number : ℕ) → IsKeptBench life (more number).bench)
-      → IsKeptBench life (then_more call number more).bench
-  then_kept call (Ok number) more is rest = rest number
-  then_kept call (Err ended) more is rest = is
-
-  give_kept : (receiver : ℕ) (bench : BenchState) (steps number : ℕ) → IsKeptBench life bench → IsKeptBench life (give_turn receiver bench steps number).bench
-  unfolding give_turn
-  give_kept receiver bench steps number is =
-      let given = turn_call bench steps receiver (wish.Give number) in
-      let left = turn_call_kept life bench steps receiver (wish.Give number) is in
-      then_kept given given.number (λ _. record { bench = given.bench; steps = given.steps; ended = turn_end.Whole }) left (λ _. left)
-
-  given_kept : (receiver : ℕ) (taken : TurnCall) (came : Reach) (actors : ActorsState) (number : Result ℕ TurnEnd) → IsKeptBench life taken.bench
-      → IsKeptBench life (then_give receiver taken came actors number).bench
-  given_kept receiver taken came actors (Ok number) is = give_kept receiver taken.bench taken.steps number is
-  given_kept receiver taken came actors (Err ended) is = is
-
-  taken_kept : (receiver : ℕ) (bench : BenchState) (actors : ActorsState) (steps : ℕ) → IsKeptBench life bench → IsKeptBench life (take_turn_on receiver bench actors steps).bench
-  unfolding take_turn_on
-  taken_kept receiver bench actors steps is =
-      let taken = turn_call bench steps receiver wish.Take in
-      given_kept receiver taken (call_walk bench steps receiver wish.Take).reach actors taken.number (turn_call_kept life bench steps receiver wish.Take is)
-
-  sent_kept : (receiver : ℕ) (sent : TurnCall) (actors : ActorsState) (number : Result ℕ TurnEnd) → IsKeptBench life sent.bench
-      → IsKeptBench life (then_take receiver sent actors number).bench
-  sent_kept receiver sent actors (Ok number) is = taken_kept receiver sent.bench actors sent.steps is
-  sent_kept receiver sent actors (Err ended) is = is
-
-  turn_kept : (sender receiver number : ℕ) (bench : BenchState) (actors : ActorsState) (steps : ℕ) → IsKeptBench life bench
-      → IsKeptBench life (one_turn_on sender receiver number bench actors steps).bench
-  unfolding one_turn_on
-  turn_kept sender receiver number bench actors steps is =
-      let sent = turn_call bench steps sender (wish.Send (turn_message number)) in
-      sent_kept receiver sent actors sent.number (turn_call_kept life bench steps sender (wish.Send (turn_message number)) is)
-
-  turns_kept : (count done sender receiver : ℕ) (bench : BenchState) (actors : ActorsState) (steps : ℕ) → IsKeptBench life bench
-      → IsKeptBench life (pump_turns_on count done sender receiver bench actors steps).turns.bench
-  unfolding pump_turns_on
-  turns_kept zero done sender receiver bench actors steps is = is
-  turns_kept (suc more) done sender receiver bench actors steps is =
-      let turn = one_turn_on sender receiver done bench actors steps in
-      let left = turn_kept sender receiver done bench actors steps is in
-      cond_both (is_whole turn.ended) (pump_turns_on more (done + 1) sender receiver turn.bench turn.actors turn.steps) (record { turns = turn; done = done })
-      (λ (pumped : LinkPumped). IsKeptBench life pumped.turns.bench)
-      (λ _. turns_kept more (done + 1) sender receiver turn.bench turn.actors turn.steps left) (λ _. left)
-
-found_turned : (count sender receiver : ℕ) (core : CoreState) (steps : ℕ) (found : Option BenchState) → IsKeptCore core → IfSome found (IsKeptBench core.life)
-    → IsKeptCore (core_turns_on count sender receiver core steps found).core
-found_turned count sender receiver core steps None is kept = is
-found_turned count sender receiver core steps (Some bench) is kept = turns_kept core.life count 0 sender receiver bench core.actors steps kept
-
-pub core_turned : (count sender receiver : ℕ) (core : CoreState) (steps : ℕ) → IsKeptCore core → IsKeptCore (core_turns count sender receiver core steps).core
-core_turned count sender receiver core steps is = found_turned count sender receiver core steps core.bench is is

@@ -37,7 +37,7 @@ use Rattle.crash_recover.specs.CoreBoots.{after_boot, after_shutdown, core_bench
 use Rattle.link_bench.specs.BenchEnds.{readied_bench, renewed_unless}
 use Rattle.crash_recover.specs.CoreRecoveries.{after_recovery, readied_core, recovery_fault, unrecovered_in}
 use Rattle.crash_recover.specs.Cores.{CoreState}
-use Rattle.crash_recover.specs.Drives.{actors_at_end, after_call_end, end_answer, message_of, seen_by, sends_of}
+use Rattle.crash_recover.specs.Drives.{actors_at_end, end_answer, sends_of}
 use Rattle.core_laws.specs.KeptCores.{is_running}
 use Rattle.core_laws.specs.PendingCalls.{AreFitLanes, AreGivable, HasNoneBegun, IsNamed, IsOwnTurn, IsReadyBench, IsReadyCore, IsSendsTurn, given_after, given_by}
 use Rattle.core_laws.proofs.BenchMoves.{begun_at, begun_or, calling_may}
@@ -225,20 +225,6 @@ seen_ready actors bench message ended (Some side.Host) ready = record {
   host = sends_fit actors.host_calls (end_answer actors.drivers message ended) 0 (not actors.is_taking) (lanes_of bench.link side.Host) ready.host;
   worker = ready.worker;
 }
-
-ended_at : (core : CoreState) (caller : ℕ) (ended : CallEnd) (found : Option BenchState) → core.bench ≡ found → IsReadyCore core → IsReadyCore (seen_by core caller ended found)
-ended_at core caller ended None is ready = ready
-ended_at core caller ended (Some bench) is ready = record {
-  begun = ready.begun;
-  calls = λ running.
-      let message = message_of bench caller ended in
-      let left = actors_at_end (end_of bench.link.callers caller) message ended core.actors in
-      subst (λ (found : Option BenchState). IfSome found (IsReadyBench left)) (sym is)
-      (seen_ready core.actors bench message ended (end_of bench.link.callers caller) (subst (λ (found : Option BenchState). IfSome found (IsReadyBench core.actors)) is (ready.calls running)));
-}
-
-pub call_end_ready : (core : CoreState) (caller : ℕ) (ended : CallEnd) → IsReadyCore core → IsReadyCore (after_call_end core caller ended)
-call_end_ready core caller ended ready = ended_at core caller ended core.bench refl ready
 
 -- ---- boots, shutdowns and recoveries
 

@@ -3,6 +3,5 @@ pub mod CoreBenches
 pub mod CoreLoads
 pub mod CoreFaults
 pub mod RecordRuns
-pub mod CoreTurnWalks
 pub mod DriveSteps
 pub mod Recovered

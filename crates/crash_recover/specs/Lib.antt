@@ -2,9 +2,8 @@ pub mod Cores
 pub mod CoreBoots
 pub mod CoreCrashes
 pub mod CoreRecoveries
-pub mod CoreLinks
 pub mod CoreRings
 pub mod Actors
 pub mod Drives
 pub mod CoreCallers
-pub mod CoreTurns
+pub mod CoreActs

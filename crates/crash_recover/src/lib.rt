@@ -4,15 +4,14 @@
 mod actor_ends;
 mod actor_steps;
 mod actors;
+mod core_acts;
 mod core_boots;
 mod core_callers;
 mod core_crashes;
 mod core_drives;
 mod core_faults;
-mod core_links;
 mod core_recoveries;
 mod core_rings;
-mod core_turns;
 mod cores;
 
 pub use actors::{Actor, Actors};
@@ -20,4 +19,7 @@ pub use core_callers::StepFault;
 pub use core_drives::{DriveProgress, Driven};
 pub use core_faults::{AddFault, CoreFault};
 pub use cores::Core;
-pub use link_bench::{BegunCall, Bench, BenchFault, Done, Progress, Reach, Reclaim, TurnEnd};
+pub use link_bench::{
+    ActAnswer, BegunCall, Bench, BenchFault, CallWish, Done, How, LinkAct, Nobody, Progress, Reach,
+    Reclaim, TurnEnd, Watcher,
+};

@@ -47,16 +47,20 @@ use Rattle.crash_recover.specs.declared.core_faults.AddFault.TheVariants as add
 use Rattle.crash_recover.specs.CoreBoots.{after_boot}
 use Rattle.crash_recover.specs.Cores.{is_offline}
 use Rattle.image_maker.specs.Demo.{session_image}
-use Rattle.script_run.specs.CoreCommands.{core_effect}
+use Rattle.script_run.specs.declared.acts.CoreAct.TheVariants as act
+use Rattle.script_run.specs.declared.acts.Making.TheVariants as making
+use Rattle.script_run.specs.declared.acts.NamedAct.{NamedAct}
+use Rattle.script_run.specs.declared.acts.NamedAct.TheVariants as under
+use Rattle.script_run.specs.CoreCommands.{core_act_effect, core_effect}
 use Rattle.script_run.specs.CoreDrives.{step_events, told_before}
 use Rattle.script_run.specs.LinkCommands.{link_effect}
 use Rattle.script_run.specs.NamedLinks.{NamedLink}
 use Rattle.script_run.specs.Stores.{Answer, held}
 use Rattle.script_run.specs.Demos.{bare_effect}
-use Rattle.script_run.specs.Runs.{ObjectsState, Run, RunEffect, RunState, command_name, core_located_effect, core_made_effect, core_place, effect_of, found_core_effect, found_effect, has_image, image_effect, is_full, located_effect, new_run, place_of, quiet_effect, run_from, run_of, run_tells, unnamed_effect, with_image, without_link_effect}
+use Rattle.script_run.specs.Runs.{ObjectsState, Run, RunEffect, RunState, core_located_effect, core_made_effect, core_place, effect_of, found_core_effect, found_effect, has_image, image_effect, is_full, located_effect, name_effect, new_run, place_of, quiet_effect, run_from, run_of, run_tells, unnamed_effect, with_image, without_link_effect}
 use Rattle.script_run.proofs.DemoSums.{bare_is, goes_on as goes_on_run, script_runnable}
 use Rattle.script_run.proofs.RunSteps.{run_none}
-use Rattle.run_laws.proofs.RunsReached.{item_at}
+use Rattle.run_laws.proofs.RunWalks.{item_at}
 use Rattle.std.specs.Result.{result_err}
 use Rattle.fw_load.specs.Loading.{Loads, load_fault}
 use Rattle.fw_load.specs.declared.faults.LoadFault.{LoadFault}
@@ -345,13 +349,13 @@ module _ (Fits : WorkerState → Type 0) (records credit : WorkerState → ℕ) 
   run_told_calm run within told are = record { calm = are; ending = refl; steps = omega arith }
 
   -- a command on what has its name
-  module _ (run : RunState) (wanted : Command) (within : ℕ) (are : AreCalm run.objects)
+  module _ (run : RunState) (called : List ℕ) (wanted : NamedAct (List ℕ)) (within : ℕ) (are : AreCalm run.objects)
       (on_link : (named : NamedLink) → ((link_effect named run.steps wanted).ending ≡ None) × ((link_effect named run.steps wanted).steps ≡ run.steps))
       (sound : AreSound run.objects)
       (on_core : (named : NamedCoreState) → IsCalm named.core → IsReachedCore named.core → IsKeptCore named.core → IsReadyCore named.core
       → LeavesCalm run.steps within (core_effect run.objects.images (Err fetch_fault.Missing) run.objects.is_quiet named run.steps wanted))
-      (on_none : LeavesRun run.steps within (unnamed_effect run wanted)) where
-    core_at : (place : ℕ) (found : Option NamedCoreState) → slice_get run.objects.cores place ≡ found → LeavesRun run.steps within (found_core_effect (Err fetch_fault.Missing) run wanted place found)
+      (on_none : LeavesRun run.steps within (unnamed_effect run called wanted)) where
+    core_at : (place : ℕ) (found : Option NamedCoreState) → slice_get run.objects.cores place ≡ found → LeavesRun run.steps within (found_core_effect (Err fetch_fault.Missing) run called wanted place found)
     core_at place None none = on_none
     core_at place (Some named) found =
         let left = on_core named (item_at (λ (named : NamedCoreState). IsCalm named.core) run.objects.cores place named found are.cores)
@@ -363,20 +367,20 @@ module _ (Fits : WorkerState → Type 0) (records credit : WorkerState → ℕ) 
           steps = left.steps;
         }
 
-    core_located : (place : Option ℕ) → LeavesRun run.steps within (core_located_effect (Err fetch_fault.Missing) run wanted place)
+    core_located : (place : Option ℕ) → LeavesRun run.steps within (core_located_effect (Err fetch_fault.Missing) run called wanted place)
     core_located None = on_none
     core_located (Some place) = core_at place (slice_get run.objects.cores place) refl
 
-    without_link : LeavesRun run.steps within (without_link_effect (Err fetch_fault.Missing) run wanted)
+    without_link : LeavesRun run.steps within (without_link_effect (Err fetch_fault.Missing) run called wanted)
     unfolding without_link_effect
-    without_link = core_located (core_place run.objects.cores (command_name wanted))
+    without_link = core_located (core_place run.objects.cores called)
 
-    link_at : (place : ℕ) (found : Option NamedLink) → LeavesRun run.steps within (found_effect (Err fetch_fault.Missing) run wanted place found)
+    link_at : (place : ℕ) (found : Option NamedLink) → LeavesRun run.steps within (found_effect (Err fetch_fault.Missing) run called wanted place found)
     link_at place None = without_link
     link_at place (Some named) =
         let left = on_link named in record { calm = record { cores = are.cores; images = are.images }; ending = left.0; steps = omega (arith, left.1) }
 
-    located : (place : Option ℕ) → LeavesRun run.steps within (located_effect (Err fetch_fault.Missing) run wanted place)
+    located : (place : Option ℕ) → LeavesRun run.steps within (located_effect (Err fetch_fault.Missing) run called wanted place)
     located None = without_link
     located (Some place) = link_at place (slice_get run.objects.links place)
 
@@ -401,33 +405,33 @@ module _ (Fits : WorkerState → Type 0) (records credit : WorkerState → ℕ) 
       })
 
   core_leaves : (name : List ℕ) (book : ℕ) → Leaves (command.Core name regions.Standard book) 0
-  unfolding effect_of link_effect core_effect unnamed_effect
+  unfolding effect_of name_effect link_effect core_effect core_act_effect unnamed_effect
   core_leaves name book run are sound few =
-      located run (command.Core name regions.Standard book) 0 are (λ named. (refl, refl)) sound (λ named is reached kept ready. told_calm named.core run.steps 0 _ is) (core_made name book run are)
+      located run name (under.Make (making.Core regions.Standard book)) 0 are (λ named. (refl, refl)) sound (λ named is reached kept ready. told_calm named.core run.steps 0 _ is) (core_made name book run are)
       (place_of run.objects.links name)
 
   driver_leaves : (name channel : List ℕ) (kind : DriverKind) → Leaves (command.Driver name channel kind) 0
-  unfolding effect_of link_effect core_effect unnamed_effect
+  unfolding effect_of name_effect link_effect core_effect core_act_effect unnamed_effect
   driver_leaves name channel kind run are sound few =
-      located run (command.Driver name channel kind) 0 are (λ named. (refl, refl)) sound (λ named is reached kept ready. driver_calm named.name named.core run.steps is channel kind) (run_told_calm run 0 _ are)
+      located run name (under.Core (act.Driver channel kind)) 0 are (λ named. (refl, refl)) sound (λ named is reached kept ready. driver_calm named.name named.core run.steps is channel kind) (run_told_calm run 0 _ are)
       (place_of run.objects.links name)
 
   boot_leaves : (name image : List ℕ) → Leaves (command.Boot name image) 0
-  unfolding effect_of link_effect core_effect unnamed_effect
+  unfolding effect_of name_effect link_effect core_effect core_act_effect unnamed_effect
   boot_leaves name image run are sound few =
-      located run (command.Boot name image) 0 are (λ named. (refl, refl)) sound (λ named is reached kept ready. boot_calm named.name image named.core run.steps is reached kept ready run.objects.images are.images) (run_told_calm run 0 _ are)
+      located run name (under.Core (act.Boot image)) 0 are (λ named. (refl, refl)) sound (λ named is reached kept ready. boot_calm named.name image named.core run.steps is reached kept ready run.objects.images are.images) (run_told_calm run 0 _ are)
       (place_of run.objects.links name)
 
   drive_leaves : (name : List ℕ) (count : ℕ) → Leaves (command.Drive name count) 7999
-  unfolding effect_of link_effect core_effect unnamed_effect
+  unfolding effect_of name_effect link_effect core_effect core_act_effect unnamed_effect
   drive_leaves name count run are sound few =
-      located run (command.Drive name count) 7999 are (λ named. (refl, refl)) sound (λ named is reached kept ready. drive_calm named.name run.objects.is_quiet named.core run.steps count is few) (run_told_calm run 7999 _ are)
+      located run name (under.Core (act.Drive count)) 7999 are (λ named. (refl, refl)) sound (λ named is reached kept ready. drive_calm named.name run.objects.is_quiet named.core run.steps count is few) (run_told_calm run 7999 _ are)
       (place_of run.objects.links name)
 
   shutdown_leaves : (name : List ℕ) → Leaves (command.Shutdown name) 1
-  unfolding effect_of link_effect core_effect unnamed_effect
+  unfolding effect_of name_effect link_effect core_effect core_act_effect unnamed_effect
   shutdown_leaves name run are sound few =
-      located run (command.Shutdown name) 1 are (λ named. (refl, refl)) sound (λ named is reached kept ready. shutdown_calm named.name named.core run.steps is few) (run_told_calm run 1 _ are)
+      located run name (under.Core act.Shutdown) 1 are (λ named. (refl, refl)) sound (λ named is reached kept ready. shutdown_calm named.name named.core run.steps is few) (run_told_calm run 1 _ are)
       (place_of run.objects.links name)
 
   imaged : (name : List ℕ) (reply : ℕ) (run : RunState) → reply < 497 → AreCalm run.objects → LeavesRun run.steps 0 (image_effect run name (worker_lines reply))

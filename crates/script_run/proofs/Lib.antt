@@ -12,5 +12,4 @@ pub mod RingRows
 pub mod CoreRecovered
 pub mod Matches
 pub mod Accepted
-pub mod CorePumps
 pub mod DemoSums

@@ -1,4 +1,5 @@
-use Rattle.core_laws.proofs.KeptCores.{call_ended, core_booted, core_driven, core_readied, core_recovered, core_reopened, core_reported, core_shut, core_turned}
+use Rattle.core_laws.proofs.KeptCores.{core_booted, core_driven, core_readied, core_recovered, core_reopened, core_reported, core_shut}
+use Rattle.core_laws.proofs.CoreActs.{core_act_kept}
 use Rattle.core_laws.proofs.laws.core_kept.Goals as goal
 
 pub returns : goal.returns
@@ -11,6 +12,5 @@ returns c = record {
   reopened = core_reopened;
   recovery = core_recovered;
   drive = core_driven;
-  call_end = call_ended;
-  turns = core_turned;
+  act = core_act_kept;
 }

@@ -1,5 +1,5 @@
-use Rattle.core_laws.proofs.CoreMoves.{call_ended, core_booted, core_driven, core_readied, core_recovered, core_reopened, core_reported, core_shut, crashed, made_reached, new_core_reached, readied}
-use Rattle.core_laws.proofs.CoreTurnMoves.{core_turned}
+use Rattle.core_laws.proofs.CoreMoves.{core_booted, core_driven, core_readied, core_recovered, core_reopened, core_reported, core_shut, crashed, made_reached, new_core_reached, readied}
+use Rattle.core_laws.proofs.CoreActs.{core_act_reached}
 use Rattle.core_laws.proofs.laws.core_reached.Goals as goal
 
 pub returns : goal.returns
@@ -15,6 +15,5 @@ returns c = record {
   reopened = core_reopened;
   recovery = core_recovered;
   drive = core_driven;
-  call_end = call_ended;
-  turns = core_turned;
+  act = core_act_reached;
 }

@@ -1,6 +1,6 @@
 use Rattle.core_laws.proofs.PendingDrives.{drive_ready, report_ready}
-use Rattle.core_laws.proofs.PendingOthers.{boot_ready, call_end_ready, readied_ready, recovery_ready, shutdown_ready}
-use Rattle.core_laws.proofs.PendingTurns.{turns_ready}
+use Rattle.core_laws.proofs.PendingOthers.{boot_ready, readied_ready, recovery_ready, shutdown_ready}
+use Rattle.core_laws.proofs.CoreActs.{core_act_ready}
 use Rattle.core_laws.proofs.laws.core_ready.Goals as goal
 
 pub returns : goal.returns
@@ -12,6 +12,5 @@ returns c = record {
   readied = readied_ready;
   recovery = recovery_ready;
   drive = drive_ready;
-  call_end = call_end_ready;
-  turns = turns_ready;
+  act = core_act_ready;
 }
