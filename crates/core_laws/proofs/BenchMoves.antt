@@ -1,11 +1,10 @@
 -- What the calls of a bench leave of its link is reached where it was.
-use Rattle.std.proofs.Common.{◌≡◌, arith, length, ℕ, zero, suc, ◌+◌, eqb, cond, Bool, true, false, ◌||◌, Option, Some, None, Result, Ok, Err, is_some, option_and_then, slice_get, refl, sym, ap}
+use Rattle.std.proofs.Common.{◌≡◌, ℕ, ◌+◌, eqb, cond, Bool, true, false, ◌||◌, Option, Some, None, is_some, option_and_then, slice_get, refl, sym, ap}
 use Rattle.std.specs.Option.{option_map_or}
 use Rattle.std.proofs.lemmas.Bool.{cond_both, true≢false}
 use Rattle.rp_base.specs.declared.kinds.End.{End}
 use Rattle.rp_base.specs.declared.limits.TheConstants.{STEPS_MOST}
 use Rattle.lane_model.specs.declared.calls.Wish.{Wish}
-use Rattle.lane_model.specs.declared.calls.Wish.TheVariants as wish
 use Rattle.lane_model.specs.declared.calls.LinkConfig.{LinkConfig}
 use Rattle.lane_model.specs.declared.recoveries.ReclaimRefusal.{ReclaimRefusal}
 use Rattle.lane_model.specs.Desks.{IsFreshDesk}
@@ -19,13 +18,9 @@ use Rattle.lane_laws.proofs.LinkRuns.{opened_new, reopened_new}
 use Rattle.channel_bus.specs.Sides.{EndState, side_meaning}
 use Rattle.channel_bus.specs.Laws.{side_laws}
 use Rattle.link_bench.specs.declared.benches.BegunCall.{BegunCall}
-use Rattle.link_bench.specs.declared.benches.BenchFault.{BenchFault}
 use Rattle.link_bench.specs.declared.benches.Reach.TheVariants as reach
-use Rattle.link_bench.specs.declared.turns.TurnEnd.{TurnEnd}
-use Rattle.link_bench.specs.declared.turns.TurnEnd.TheVariants as turn_end
 use Rattle.link_bench.specs.Benches.{BenchState, BenchWalk, IsSendable, RingsState, advance_steps, advance_walk, begin_fault, begun_of, bench_walk, call_rings, call_steps, call_walk, is_in_call, later_steps, new_bench_of, ready_fault, start_walk, wish_fault, with_begun, with_new_caller}
 use Rattle.link_bench.specs.BenchCrashes.{after_close, after_reclaim, after_reopen, left_by_reclaim, reclaim_leaves}
-use Rattle.link_bench.specs.Turns.{Pumped, TurnCall, Turns, give_turn, is_whole, one_turn, pump_turns, take_turn, tested_call, then_more, turn_call, turn_message}
 use Rattle.core_laws.specs.BenchMoves.{IsReachedBench}
 use Rattle.link_bench.proofs.Begun.{begin_may, fit_after, fit_cleared, fit_put, neither_fault, none_begun, none_in_none}
 use Rattle.link_bench.proofs.BenchMay.{fit_closed, fit_reclaimed, fit_reopened}
@@ -175,57 +170,3 @@ reopened bench reached clear = record {
   };
   fit = fit_reopened bench.link bench.begun clear reached.fit;
 }
-
--- a call of a turn
-tested_reached : (bench : BenchState) (steps caller : ℕ) (wanted : Wish) (why : Option BenchFault) → begin_fault bench caller wanted ≡ why
-    → IsReachedBench bench → IsSendable wanted → IsReachedBench (tested_call bench steps caller wanted why).bench
-tested_reached bench steps caller wanted (Some why) is reached sendable = reached
-tested_reached bench steps caller wanted None is reached sendable = called bench steps caller wanted reached is sendable
-
-pub turn_called : (bench : BenchState) (steps caller : ℕ) (wanted : Wish) → IsReachedBench bench → IsSendable wanted
-    → IsReachedBench (turn_call bench steps caller wanted).bench
-unfolding turn_call
-turn_called bench steps caller wanted reached sendable = tested_reached bench steps caller wanted (begin_fault bench caller wanted) refl reached sendable
-
-then_reached : (call : TurnCall) (number : Result ℕ TurnEnd) (more : ℕ → Turns) → IsReachedBench call.bench
-    → ((number : ℕ) → IsReachedBench (more number).bench) → IsReachedBench (then_more call number more).bench
-then_reached call (Ok number) more reached rest = rest number
-then_reached call (Err ended) more reached rest = reached
-
-pub give_reached : (receiver : ℕ) (bench : BenchState) (steps number : ℕ) → IsReachedBench bench → IsReachedBench (give_turn receiver bench steps number).bench
-unfolding give_turn
-give_reached receiver bench steps number reached =
-    let given = turn_call bench steps receiver (wish.Give number) in
-    let left = turn_called bench steps receiver (wish.Give number) reached tt in
-    then_reached given given.number (λ _. record { bench = given.bench; steps = given.steps; ended = turn_end.Whole }) left (λ _. left)
-
-take_reached : (receiver : ℕ) (bench : BenchState) (steps : ℕ) → IsReachedBench bench → IsReachedBench (take_turn receiver bench steps).bench
-unfolding take_turn
-take_reached receiver bench steps reached =
-    let taken = turn_call bench steps receiver wish.Take in
-    let left = turn_called bench steps receiver wish.Take reached tt in
-    then_reached taken taken.number (give_turn receiver taken.bench taken.steps) left (λ number. give_reached receiver taken.bench taken.steps number left)
-
-pub turn_sendable : (number : ℕ) → IsSendable (wish.Send (turn_message number))
-turn_sendable number =
-    let short : length (turn_message number) ≡ 20 = refl in
-    omega (arith, short)
-
-turn_reached : (sender receiver number : ℕ) (bench : BenchState) (steps : ℕ) → IsReachedBench bench → IsReachedBench (one_turn sender receiver number bench steps).bench
-unfolding one_turn
-turn_reached sender receiver number bench steps reached =
-    let sent = turn_call bench steps sender (wish.Send (turn_message number)) in
-    let left = turn_called bench steps sender (wish.Send (turn_message number)) reached (turn_sendable number) in
-    then_reached sent sent.number (λ _. take_turn receiver sent.bench sent.steps) left (λ _. take_reached receiver sent.bench sent.steps left)
-
--- turns
-pub turns_reached : (count done sender receiver : ℕ) (bench : BenchState) (steps : ℕ) → IsReachedBench bench
-    → IsReachedBench (pump_turns count done sender receiver bench steps).turns.bench
-unfolding pump_turns
-turns_reached zero done sender receiver bench steps reached = reached
-turns_reached (suc more) done sender receiver bench steps reached =
-    let turn = one_turn sender receiver done bench steps in
-    let left = turn_reached sender receiver done bench steps reached in
-    cond_both (is_whole turn.ended) (pump_turns more (done + 1) sender receiver turn.bench turn.steps) (record { turns = turn; done = done })
-    (λ (pumped : Pumped). IsReachedBench pumped.turns.bench)
-    (λ _. turns_reached more (done + 1) sender receiver turn.bench turn.steps left) (λ _. left)

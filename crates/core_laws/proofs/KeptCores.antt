@@ -1,15 +1,17 @@
 -- What calls and steps of a core leave keeps what its link keeps.
 use Rattle.std.proofs.Common.{◌≡◌, ◌<◌, ℕ, zero, suc, ◌+◌, eqb, cond, Bool, true, false, not, ◌&&◌, List, Option, Some, None, IfSome, Result, Ok, Err, is_some, option_map, refl, sym, ap, ◌∙◌, arith}
-use Rattle.std.specs.Option.{option_or, unwrap_or}
+use Rattle.std.specs.Option.{option_or}
 use Rattle.std.proofs.lemmas.Bool.{and_from, and_parts, cond_both, not-true, not_from_false, true≢false}
 use Rattle.rp_base.specs.declared.kinds.End.{End}
 use Rattle.rp_base.specs.declared.kinds.End.TheVariants as side
 use Rattle.rp_base.specs.declared.kinds.LifeState.{LifeState}
-use Rattle.rp_base.specs.declared.kinds.LifeState.TheVariants.{Offline, Running, Crashed, Attached, Detached}
+use Rattle.rp_base.specs.declared.kinds.LifeState.TheVariants.{Offline, Running, Crashed}
 use Rattle.proc_state.specs.declared.answers.LifeFault.TheVariants as life_fault
-use Rattle.proc_state.specs.Lives.{CoreLife, Outcome, first_start as started_life, is_up, life_after_recovery, line_of, most, recovery_to, refusal_of}
+use Rattle.proc_state.specs.declared.answers.Left.{Left}
+use Rattle.proc_state.specs.declared.answers.Power.{Power}
+use Rattle.proc_state.specs.declared.answers.Power.TheVariants as power
+use Rattle.proc_state.specs.Lives.{CoreLife, Outcome, first_start as started_life, life_after_boot, life_after_crash, life_after_crash_in, life_after_recovery, life_after_recovery_in, life_after_shutdown, life_after_shutdown_in, most, with_user}
 use Rattle.fw_load.specs.declared.rings.RingPair.{RingPair}
-use Rattle.lane_model.specs.declared.calls.CallEnd.{CallEnd}
 use Rattle.lane_model.specs.declared.calls.Wish.{Wish}
 use Rattle.lane_model.specs.declared.calls.Wish.TheVariants as wish
 use Rattle.lane_model.specs.declared.recoveries.ReclaimRefusal.{ReclaimRefusal}
@@ -18,28 +20,22 @@ use Rattle.lane_model.specs.Recoveries.{unreclaimed_by}
 use Rattle.lane_model.proofs.Others.{stays_in_use}
 use Rattle.crash_recover.specs.declared.actors.Actor.{Actor}
 use Rattle.crash_recover.specs.declared.actors.Actor.TheVariants as actor
-use Rattle.link_bench.specs.declared.benches.Reach.{Reach}
 use Rattle.link_bench.specs.declared.benches.Reach.TheVariants as reach
 use Rattle.crash_recover.specs.declared.core_drives.Driven.{Driven}
 use Rattle.crash_recover.specs.declared.core_drives.Driven.TheVariants as driven
 use Rattle.crash_recover.specs.declared.core_faults.CoreFault.{CoreFault}
-use Rattle.link_bench.specs.declared.turns.TurnEnd.{TurnEnd}
-use Rattle.link_bench.specs.declared.turns.TurnEnd.TheVariants as turn_end
 use Rattle.crash_recover.specs.Actors.{ActorsState, driver_names}
 use Rattle.link_bench.specs.BenchCrashes.{after_reopen, left_by_reclaim, reclaim_leaves}
 use Rattle.link_bench.specs.Benches.{BenchState, BenchWalk, advance_walk, begin_fault, call_walk, is_in_call, start_walk, with_new_caller}
-use Rattle.crash_recover.specs.CoreBoots.{core_bench}
+use Rattle.crash_recover.specs.CoreBoots.{after_boot, after_shutdown, core_bench, first_start, loaded_from, needs_image}
 use Rattle.link_bench.specs.BenchEnds.{crashed_bench, readied_bench, renewed_unless}
-use Rattle.crash_recover.specs.CoreCrashes.{after_report}
-use Rattle.crash_recover.specs.CoreRecoveries.{after_recovery, fault_with, readied_core, recovery_fault, reopen_fault, reopened_core, spent_fault, unrecovered_to}
-use Rattle.crash_recover.specs.CoreTurns.{LinkPumped, core_turns, core_turns_on, one_turn_on, pump_turns_on, take_turn_on, then_give, then_take}
-use Rattle.crash_recover.specs.Cores.{CoreState, LoadState, loaded_rings}
-use Rattle.crash_recover.specs.Drives.{DriveStep, acting, actor_step, after_call_end, drive_step, first_or_take, has_calls, host_step, is_idle, link_step, record_run, record_step, reported_by, seen_by, with_turn_after, worker_call, worker_step}
-use Rattle.core_laws.specs.KeptCores.{IsKeptBench, IsKeptCore, next_life, with_next_life}
-use Rattle.link_bench.specs.Turns.{TurnCall, Turns, give_turn, is_whole, then_more, turn_call, turn_message}
-use Rattle.core_laws.proofs.Outcomes.{IsSame, Stays, report_stays}
+use Rattle.crash_recover.specs.CoreCrashes.{after_report, crashed_core}
+use Rattle.crash_recover.specs.CoreRecoveries.{after_recovery, fault_with, readied_core, recovery_fault, reopen_fault, reopened_core, spent_fault, unrecovered_in}
+use Rattle.crash_recover.specs.Cores.{CoreState, LoadState}
+use Rattle.crash_recover.specs.Drives.{DriveStep, acting, actor_step, drive_step, first_or_take, has_calls, host_step, is_idle, link_step, record_run, record_step, reported_by, with_turn_after, worker_call, worker_step}
+use Rattle.core_laws.specs.KeptCores.{IsKeptBench, IsKeptCore, is_running, next_life, with_next_life}
 use Rattle.core_laws.proofs.KeptCrashes.{crash_kept, gone_kept, host_renewed}
-use Rattle.core_laws.proofs.KeptLinks.{advance_kept, start_kept, turn_call_kept}
+use Rattle.core_laws.proofs.KeptLinks.{advance_kept, start_kept}
 
 -- ---- other callers
 
@@ -65,30 +61,74 @@ reclaim_kept life bench caller other is = reclaim_at life bench caller (end_of b
 
 -- ---- boots and shutdowns
 
-made_kept : (life : CoreLife) (names : List (List ℕ)) (book : ℕ) (rings : RingPair) → is_up life.state ≡ true → IsKeptBench life (core_bench names book life.incarnation rings)
+made_kept : (life : CoreLife) (names : List (List ℕ)) (book first : ℕ) (rings : RingPair) → first ≡ life.incarnation → life.state ≡ Running
+    → IsKeptBench life (core_bench names book first rings)
 unfolding core_bench
-made_kept life names book rings up = record {
+made_kept life names book first rings same runs = record {
   unmanaged = record { to_host = record { sender = tt; receiver = tt }; to_remote = record { sender = tt; receiver = tt } };
   own = record { host = refl; remote = refl };
-  inc = refl;
-  live = sym up;
+  inc = same;
+  live = ap is_running (sym runs);
 }
 
-rings_kept : (life : CoreLife) (names : List (List ℕ)) (book : ℕ) (rings : Option RingPair) → is_up life.state ≡ true
-    → IfSome (option_map (core_bench names book life.incarnation) rings) (IsKeptBench life)
-rings_kept life names book None up = tt
-rings_kept life names book (Some rings) up = made_kept life names book rings up
+rings_kept : (life : CoreLife) (names : List (List ℕ)) (book first : ℕ) (rings : Option RingPair) → first ≡ life.incarnation → life.state ≡ Running
+    → IfSome (option_map (core_bench names book first) rings) (IsKeptBench life)
+rings_kept life names book first None same runs = tt
+rings_kept life names book first (Some rings) same runs = made_kept life names book first rings same runs
 
--- a link is kept in each life of the same incarnation that is up where the one before is
-same_life : (before after : CoreLife) (bench : BenchState) → IsSame before after → IsKeptBench before bench → IsKeptBench after bench
-same_life before after bench same is = record { unmanaged = is.unmanaged; own = is.own; inc = is.inc ∙ sym same.inc; live = is.live ∙ sym same.up }
+-- a link is kept in each life of the same state and incarnation
+same_life : (before after : CoreLife) (bench : BenchState) → after.incarnation ≡ before.incarnation → after.state ≡ before.state → IsKeptBench before bench → IsKeptBench after bench
+same_life before after bench inc state is = record { unmanaged = is.unmanaged; own = is.own; inc = is.inc ∙ sym inc; live = is.live ∙ ap is_running (sym state) }
 
-pub found_same : (before after : CoreLife) (found : Option BenchState) → IsSame before after → IfSome found (IsKeptBench before) → IfSome found (IsKeptBench after)
-found_same before after None same is = tt
-found_same before after (Some bench) same is = same_life before after bench same is
+pub found_same : (before after : CoreLife) (found : Option BenchState) → after.incarnation ≡ before.incarnation → after.state ≡ before.state → IfSome found (IsKeptBench before)
+    → IfSome found (IsKeptBench after)
+found_same before after None inc state is = tt
+found_same before after (Some bench) inc state is = same_life before after bench inc state is
 
-some_same : {A : Type 0} {x y : A} → Some x ≡ Some y → x ≡ y
-some_same {A} {x} {y} same = ap (λ found. unwrap_or found x) same
+-- the life that a boot starts
+record Starts (before after : CoreLife) : Type 0 where
+  pub inc : after.incarnation ≡ before.incarnation + 1
+  pub state : after.state ≡ Running
+
+started : {A : Type 0} (users : ℕ) (told : A) (life : CoreLife) → eqb life.incarnation most ≡ false → Starts life (started_life users told life).life
+started {A} users told life more =
+    cond_both (eqb life.incarnation most) _ _ (λ (left : Outcome A). Starts life left.life) (λ spent. absurd (true≢false (sym spent ∙ more))) (λ _. record { inc = refl; state = refl })
+
+booted : (life : CoreLife) → eqb life.users 0 && not (eqb life.incarnation most) ≡ true → Starts life (life_after_boot life).life
+booted life needs =
+    let both = and_parts (eqb life.users 0) (not (eqb life.incarnation most)) needs in
+    cond_both (eqb life.users 0) (started_life 1 power.First life) (with_user life) (λ (left : Outcome Power). Starts life left.life)
+    (λ _. started 1 power.First life (not-true (eqb life.incarnation most) both.1)) (λ other. absurd (true≢false (sym both.0 ∙ other)))
+
+-- a boot that starts no life counts a user, or is refused
+pub record IsSame (before after : CoreLife) : Type 0 where
+  pub inc : after.incarnation ≡ before.incarnation
+  pub state : after.state ≡ before.state
+
+pub counted : (life : CoreLife) → eqb life.users 0 && not (eqb life.incarnation most) ≡ false → IsSame life (life_after_boot life).life
+counted life needs =
+    cond_both (eqb life.users 0) (started_life 1 power.First life) (with_user life) (λ (left : Outcome Power). IsSame life left.life)
+    (λ none. cond_both (eqb life.incarnation most) _ _ (λ (left : Outcome Power). IsSame life left.life) (λ _. record { inc = refl; state = refl })
+    (λ more. absurd (true≢false (sym (and_from (eqb life.users 0) (not (eqb life.incarnation most)) none (not_from_false (eqb life.incarnation most) more)) ∙ needs))))
+    (λ _. cond_both (eqb life.users most) _ _ (λ (left : Outcome Power). IsSame life left.life) (λ _. record { inc = refl; state = refl }) (λ _. record { inc = refl; state = refl }))
+
+pub core_booted : (core : CoreState) (name image : List ℕ) → IsKeptCore core → IsKeptCore (after_boot core name image)
+core_booted core name image is =
+    cond_both (needs_image core) (first_start core name (loaded_from image core.regions)) (record core { life = (life_after_boot core.life).life }) IsKeptCore
+    (λ needs. let starts = booted core.life needs in
+    rings_kept (life_after_boot core.life).life (driver_names core.actors) core.book (core.life.incarnation + 1) (loaded_from image core.regions).rings (sym starts.inc) starts.state)
+    (λ needs. let same = counted core.life needs in found_same core.life (life_after_boot core.life).life core.bench same.inc same.state is)
+
+pub left_life : (state : LifeState) (life : CoreLife) → eqb life.users 1 ≡ false → IsSame life (life_after_shutdown_in state life).life
+left_life Offline life more = record { inc = refl; state = refl }
+left_life Running life more =
+    cond_both (eqb life.users 1) _ _ (λ (left : Outcome Left). IsSame life left.life) (λ last. absurd (true≢false (sym last ∙ more))) (λ _. record { inc = refl; state = refl })
+left_life Crashed life more = record { inc = refl; state = refl }
+
+pub core_shut : (core : CoreState) → IsKeptCore core → IsKeptCore (after_shutdown core)
+core_shut core is =
+    cond_both (eqb core.life.users 1) _ _ IsKeptCore (λ _. tt)
+    (λ more. let same = left_life core.life.state core.life more in found_same core.life (life_after_shutdown core.life).life core.bench same.inc same.state is)
 
 -- ---- a crash and a recovery
 
@@ -96,6 +136,26 @@ map_kept : (before after : CoreLife) (found : Option BenchState) (f : BenchState
     → IfSome found (IsKeptBench before) → IfSome (option_map f found) (IsKeptBench after)
 map_kept before after None f each is = tt
 map_kept before after (Some bench) f each is = each bench is
+
+-- the life that a first report leaves
+pub record IsStopped (before after : CoreLife) : Type 0 where
+  pub inc : after.incarnation ≡ before.incarnation
+  pub stopped : is_running after.state ≡ false
+
+pub stopped_life : (state : LifeState) (life : CoreLife) → state ≡ Running → IsStopped life (life_after_crash_in state life).life
+stopped_life Offline life runs = absurd (true≢false (sym (ap is_running runs)))
+stopped_life Running life runs = record { inc = refl; stopped = refl }
+stopped_life Crashed life runs = absurd (true≢false (sym (ap is_running runs)))
+
+crashed_at : (state : LifeState) (core : CoreState) → core.life.state ≡ state → IsKeptCore core → IsKeptCore (crashed_core state core)
+crashed_at Offline core is kept = kept
+crashed_at Running core is kept =
+    let left = stopped_life core.life.state core.life is in
+    map_kept core.life (life_after_crash core.life).life core.bench crashed_bench (λ bench one. crash_kept core.life (life_after_crash core.life).life bench left.inc left.stopped one) kept
+crashed_at Crashed core is kept = kept
+
+pub core_reported : (core : CoreState) → IsKeptCore core → IsKeptCore (after_report core)
+core_reported core is = crashed_at core.life.state core refl is
 
 ready_at : (life : CoreLife) (bench : BenchState) (why : Option ReclaimRefusal) → IsKeptBench life bench → IsKeptBench life (renewed_unless bench why)
 ready_at life bench None is = host_renewed life bench is
@@ -131,41 +191,17 @@ unspent_with : (found : Option BenchState) (is_spent : Bool) → fault_with foun
 unspent_with None is_spent none = unspent is_spent none
 unspent_with (Some bench) is_spent none = unspent is_spent (none_later _ (spent_fault is_spent) none)
 
--- a life that is recovered is the next one, which runs
-recovered_life : (to : Option LifeState) (life : CoreLife) → unrecovered_to to life ≡ None → (life.incarnation == most) ≡ false → (state : LifeState) → to ≡ Some state
-    → IsSame (record life { state = state; incarnation = life.incarnation + 1 }) (recovery_to to life).life
-recovered_life None life may more state is = absurd (true≢false (ap is_some may))
-recovered_life (Some to) life may more state is =
-    cond_both life.recovery (started_life to life.users tt life) (refusal_of life_fault.RecoveryOff life) (λ (left : Outcome (Unit {0})). IsSame (record life { state = state; incarnation = life.incarnation + 1 }) left.life)
-    (λ _. cond_both (life.incarnation == most) (refusal_of life_fault.IncarnationsSpent life) _ (λ (left : Outcome (Unit {0})). IsSame (record life { state = state; incarnation = life.incarnation + 1 }) left.life)
-    (λ spent. absurd (true≢false (sym spent ∙ more))) (λ _. record { inc = refl; up = ap is_up (some_same is) }))
+recovered_life : (state : LifeState) (life : CoreLife) → unrecovered_in state life ≡ None → eqb life.incarnation most ≡ false → Starts life (life_after_recovery_in state life).life
+recovered_life Offline life may more = absurd (true≢false (ap is_some may))
+recovered_life Running life may more = absurd (true≢false (ap is_some may))
+recovered_life Crashed life may more =
+    cond_both life.recovery (started_life life.users tt life) _ (λ (left : Outcome (Unit {0})). Starts life left.life) (λ _. started life.users tt life more)
     (λ off. absurd (true≢false (ap is_some (sym (ap (λ (on : Bool). cond on None (Some life_fault.RecoveryOff)) off) ∙ may))))
 
-runs_again : (state : LifeState) (life : CoreLife) → unrecovered_to (line_of state).recovery life ≡ None → (life.incarnation == most) ≡ false → IsSame (next_life life) (recovery_to (line_of state).recovery life).life
-runs_again Offline life may more = absurd (true≢false (ap is_some may))
-runs_again Running life may more = absurd (true≢false (ap is_some may))
-runs_again Crashed life may more = recovered_life (Some Running) life may more Running refl
-runs_again Attached life may more = absurd (true≢false (ap is_some may))
-runs_again Detached life may more = absurd (true≢false (ap is_some may))
-
-pub core_recovered : (core : CoreState) (given : LoadState) → IsKeptCore core → recovery_fault core.life ≡ None → reopen_fault core ≡ None → IsKeptCore (after_recovery core given)
-core_recovered core given is may opens =
-    let same = runs_again core.life.state core.life may (unspent_with core.bench (core.life.incarnation == most) opens) in
-    found_same (next_life core.life) (life_after_recovery core.life).life (reopened_core core).bench same (core_reopened core is)
-
--- what its link keeps stays over each call of a core
-pub kept_stays : Stays IsKeptCore
-kept_stays = record {
-  same = λ core life image loaded same is. found_same core.life life core.bench same is;
-  started = λ core life up. rings_kept life (driver_names core.actors) core.book (loaded_rings core.loaded) up;
-  unlinked = λ core life image loaded is. tt;
-  crashed = λ core life stops is. map_kept core.life life core.bench crashed_bench (λ bench one. crash_kept core.life life bench stops.inc stops.stopped one) is;
-  readied = λ core may is. core_readied core is;
-  recovered = λ core given may opens is. core_recovered core given is may opens;
-}
-
-pub core_reported : (core : CoreState) → IsKeptCore core → IsKeptCore (after_report core)
-core_reported core is = report_stays IsKeptCore kept_stays true core is
+pub core_recovered : (core : CoreState) (image : List ℕ) → IsKeptCore core → recovery_fault core.life ≡ None → reopen_fault core ≡ None → IsKeptCore (after_recovery core image)
+core_recovered core image is may opens =
+    let starts = recovered_life core.life.state core.life may (unspent_with core.bench (eqb core.life.incarnation most) opens) in
+    found_same (next_life core.life) (life_after_recovery core.life).life (reopened_core core).bench starts.inc starts.state (core_reopened core is)
 
 -- ---- steps of the actors
 
@@ -210,67 +246,3 @@ actor_kept actor.Worker core is = worker_kept core is
 pub core_driven : (core : CoreState) → IsKeptCore core → IsKeptCore (drive_step core).core
 core_driven core is =
     cond_both (is_idle core) _ _ (λ (step : DriveStep). IsKeptCore step.core) (λ _. is) (λ _. actor_kept (acting core) (with_turn_after (acting core) core) is)
-
--- ---- calls of others
-
-seen_kept : (core : CoreState) (caller : ℕ) (end : CallEnd) (found : Option BenchState) → IsKeptCore core → IsKeptCore (seen_by core caller end found)
-seen_kept core caller end None is = is
-seen_kept core caller end (Some bench) is = is
-
-pub call_ended : (core : CoreState) (caller : ℕ) (end : CallEnd) → IsKeptCore core → IsKeptCore (after_call_end core caller end)
-call_ended core caller end is = seen_kept core caller end core.bench is
-
-module _ (life : CoreLife) where
-  then_kept : (call : TurnCall) (number : Result ℕ TurnEnd) (more : ℕ → Turns) → IsKeptBench life call.bench → ((number : ℕ) → IsKeptBench life (more number).bench)
-      → IsKeptBench life (then_more call number more).bench
-  then_kept call (Ok number) more is rest = rest number
-  then_kept call (Err ended) more is rest = is
-
-  give_kept : (receiver : ℕ) (bench : BenchState) (steps number : ℕ) → IsKeptBench life bench → IsKeptBench life (give_turn receiver bench steps number).bench
-  unfolding give_turn
-  give_kept receiver bench steps number is =
-      let given = turn_call bench steps receiver (wish.Give number) in
-      let left = turn_call_kept life bench steps receiver (wish.Give number) is in
-      then_kept given given.number (λ _. record { bench = given.bench; steps = given.steps; ended = turn_end.Whole }) left (λ _. left)
-
-  given_kept : (receiver : ℕ) (taken : TurnCall) (came : Reach) (actors : ActorsState) (number : Result ℕ TurnEnd) → IsKeptBench life taken.bench
-      → IsKeptBench life (then_give receiver taken came actors number).bench
-  given_kept receiver taken came actors (Ok number) is = give_kept receiver taken.bench taken.steps number is
-  given_kept receiver taken came actors (Err ended) is = is
-
-  taken_kept : (receiver : ℕ) (bench : BenchState) (actors : ActorsState) (steps : ℕ) → IsKeptBench life bench → IsKeptBench life (take_turn_on receiver bench actors steps).bench
-  unfolding take_turn_on
-  taken_kept receiver bench actors steps is =
-      let taken = turn_call bench steps receiver wish.Take in
-      given_kept receiver taken (call_walk bench steps receiver wish.Take).reach actors taken.number (turn_call_kept life bench steps receiver wish.Take is)
-
-  sent_kept : (receiver : ℕ) (sent : TurnCall) (actors : ActorsState) (number : Result ℕ TurnEnd) → IsKeptBench life sent.bench
-      → IsKeptBench life (then_take receiver sent actors number).bench
-  sent_kept receiver sent actors (Ok number) is = taken_kept receiver sent.bench actors sent.steps is
-  sent_kept receiver sent actors (Err ended) is = is
-
-  turn_kept : (sender receiver number : ℕ) (bench : BenchState) (actors : ActorsState) (steps : ℕ) → IsKeptBench life bench
-      → IsKeptBench life (one_turn_on sender receiver number bench actors steps).bench
-  unfolding one_turn_on
-  turn_kept sender receiver number bench actors steps is =
-      let sent = turn_call bench steps sender (wish.Send (turn_message number)) in
-      sent_kept receiver sent actors sent.number (turn_call_kept life bench steps sender (wish.Send (turn_message number)) is)
-
-  turns_kept : (count done sender receiver : ℕ) (bench : BenchState) (actors : ActorsState) (steps : ℕ) → IsKeptBench life bench
-      → IsKeptBench life (pump_turns_on count done sender receiver bench actors steps).turns.bench
-  unfolding pump_turns_on
-  turns_kept zero done sender receiver bench actors steps is = is
-  turns_kept (suc more) done sender receiver bench actors steps is =
-      let turn = one_turn_on sender receiver done bench actors steps in
-      let left = turn_kept sender receiver done bench actors steps is in
-      cond_both (is_whole turn.ended) (pump_turns_on more (done + 1) sender receiver turn.bench turn.actors turn.steps) (record { turns = turn; done = done })
-      (λ (pumped : LinkPumped). IsKeptBench life pumped.turns.bench)
-      (λ _. turns_kept more (done + 1) sender receiver turn.bench turn.actors turn.steps left) (λ _. left)
-
-found_turned : (count sender receiver : ℕ) (core : CoreState) (steps : ℕ) (found : Option BenchState) → IsKeptCore core → IfSome found (IsKeptBench core.life)
-    → IsKeptCore (core_turns_on count sender receiver core steps found).core
-found_turned count sender receiver core steps None is kept = is
-found_turned count sender receiver core steps (Some bench) is kept = turns_kept core.life count 0 sender receiver bench core.actors steps kept
-
-pub core_turned : (count sender receiver : ℕ) (core : CoreState) (steps : ℕ) → IsKeptCore core → IsKeptCore (core_turns count sender receiver core steps).core
-core_turned count sender receiver core steps is = found_turned count sender receiver core steps core.bench is is

@@ -31,11 +31,9 @@ use Rattle.lane_model.specs.Links.{LinkState, Lanes, caller_step, end_of, lanes_
 use Rattle.lane_model.proofs.SoundLanes.{turn_step_has}
 use Rattle.channel_bus.specs.Sides.{EndState, side_meaning}
 use Rattle.link_bench.specs.declared.benches.BegunCall.{BegunCall}
-use Rattle.link_bench.specs.declared.benches.BenchFault.{BenchFault}
 use Rattle.link_bench.specs.declared.benches.Reach.TheVariants as reach
-use Rattle.link_bench.specs.Benches.{BenchState, BenchWalk, Walk, advance_steps, advance_walk, begin_fault, begun_of, bench_walk, call_rings, call_steps, call_walk, later_steps, start_walk, walk_on, with_begun}
+use Rattle.link_bench.specs.Benches.{BenchState, BenchWalk, Walk, advance_steps, advance_walk, begun_of, bench_walk, call_rings, call_steps, call_walk, later_steps, start_walk, walk_on, with_begun}
 use Rattle.core_laws.specs.KeptCores.{IsKeptBench, IsKeptLink, IsUnmanagedLane, IsUnmanagedTurn}
-use Rattle.link_bench.specs.Turns.{tested_call, turn_call}
 
 -- ---- turns
 
@@ -187,12 +185,3 @@ module _ (life : CoreLife) where
 
   pub start_kept : (bench : BenchState) (steps caller : ℕ) (wanted : Wish) → IsKeptBench life bench → IsKeptBench life (start_walk bench steps caller wanted).bench
   start_kept bench steps caller wanted is = call_kept 0 steps bench.link caller bench.link.era.inc wanted is
-
-  tested_kept : (bench : BenchState) (steps caller : ℕ) (wanted : Wish) (why : Option BenchFault) → IsKeptBench life bench
-      → IsKeptBench life (tested_call bench steps caller wanted why).bench
-  tested_kept bench steps caller wanted None is = whole_kept bench steps caller wanted is
-  tested_kept bench steps caller wanted (Some why) is = is
-
-  pub turn_call_kept : (bench : BenchState) (steps caller : ℕ) (wanted : Wish) → IsKeptBench life bench → IsKeptBench life (turn_call bench steps caller wanted).bench
-  unfolding turn_call
-  turn_call_kept bench steps caller wanted is = tested_kept bench steps caller wanted (begin_fault bench caller wanted) is

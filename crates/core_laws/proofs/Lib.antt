@@ -5,7 +5,6 @@ pub mod BenchMoves
 pub mod Handed
 pub mod Sendable
 pub mod CoreMoves
-pub mod CoreTurnMoves
 pub mod KeptLinks
 pub mod KeptCrashes
 pub mod KeptCallers
@@ -15,5 +14,5 @@ pub mod PendingSteps
 pub mod PendingCores
 pub mod PendingDrives
 pub mod PendingOthers
-pub mod PendingTurns
-pub mod Outcomes
+pub mod KeptActs
+pub mod CoreActs

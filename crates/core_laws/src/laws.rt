@@ -1,6 +1,6 @@
 //! Laws of the links of benches and of cores. Each is the contract of an empty function, and speaks of definitions alone.
 
-ghost use Rattle.std.specs.Prelude.{◌≡◌, ◌<◌, ℕ, Bool, false, true, List, None, Some};
+ghost use Rattle.std.specs.Prelude.{◌≡◌, ◌<◌, ℕ, false, true, List, None, Some};
 ghost use Rattle.rp_base.specs.declared.kinds.End.{End};
 ghost use Rattle.lane_model.specs.declared.calls.LinkConfig.{LinkConfig};
 ghost use Rattle.lane_model.specs.declared.calls.Wish.{Wish};
@@ -14,22 +14,22 @@ ghost use Rattle.link_bench.specs.declared.benches.BegunCall.{BegunCall};
 ghost use Rattle.crash_recover.specs.Actors.{ActorsState};
 ghost use Rattle.link_bench.specs.Benches.{BenchState, IsSendable, advance_walk, begin_fault, call_walk, is_in_call, new_bench_of, start_walk, with_begun, with_new_caller};
 ghost use Rattle.link_bench.specs.BenchCrashes.{after_close, after_reclaim, after_reopen, reclaim_leaves};
-ghost use Rattle.link_bench.specs.Turns.{pump_turns};
-ghost use Rattle.crash_recover.specs.CoreBoots.{Found, boot_of, core_bench, handover_of};
+ghost use Rattle.link_bench.specs.declared.acts.LinkAct.{LinkAct};
+ghost use Rattle.link_bench.specs.Acts.{IsFitAct, link_act};
+ghost use Rattle.link_bench.specs.Watchers.{nobody_sees};
+ghost use Rattle.crash_recover.specs.CoreBoots.{after_boot, after_shutdown, core_bench};
 ghost use Rattle.link_bench.specs.BenchEnds.{crashed_bench, readied_bench};
-ghost use Rattle.crash_recover.specs.CoreCrashes.{report_of};
-ghost use Rattle.crash_recover.specs.CoreLeaves.{detach_of, shutdown_of};
-ghost use Rattle.crash_recover.specs.CoreRecoveries.{readied_core, recovery_fault, recovery_of, reopen_fault, reopened_core};
+ghost use Rattle.crash_recover.specs.CoreCrashes.{after_report};
+ghost use Rattle.crash_recover.specs.CoreRecoveries.{after_recovery, readied_core, recovery_fault, reopen_fault, reopened_core};
 ghost use Rattle.crash_recover.specs.Cores.{CoreState, new_core};
-ghost use Rattle.crash_recover.specs.CoreTurns.{core_turns};
-ghost use Rattle.crash_recover.specs.Drives.{after_call_end, drive_step, first_or_take};
+ghost use Rattle.crash_recover.specs.CoreActs.{core_act};
+ghost use Rattle.crash_recover.specs.Drives.{drive_step, first_or_take};
 ghost use Rattle.core_laws.specs.BenchMoves.{ComesBy, IsReached, IsReachedBench, IsReachedCore, WasBoundOnTheWay, history_of};
 ghost use Rattle.core_laws.specs.KeptCores.{AreOwnUsed, IsKeptBench, IsKeptCore, IsUnmanaged, crash_reaches, end_after_crash, with_next_life};
 ghost use Rattle.core_laws.specs.PendingCalls.{HasNoneBegun, IsReadyBench, IsReadyCore};
 ghost use Rattle.proc_state.specs.Lives.{CoreLife};
 ghost use Rattle.rp_base.specs.declared.kinds.End.TheVariants as side;
 ghost use Rattle.host_driver.specs.Drivers.{Declared};
-ghost use Rattle.lane_model.specs.declared.calls.CallEnd.{CallEnd};
 ghost use Rattle.memory_pool.specs.declared.regions.Region.{Region};
 ghost use Rattle.fw_load.specs.declared.rings.RingPair.{RingPair};
 ghost use Rattle.lane_model.specs.Desks.{IsBound};
@@ -59,8 +59,8 @@ pub fn bench_reached()
         → IsSendable wanted → IsReachedBench (call_walk bench steps caller wanted).bench }
     ensures start { (bench : BenchState) (steps caller : ℕ) (wanted : Wish) → IsReachedBench bench → begin_fault bench caller wanted ≡ None
         → IsSendable wanted → IsReachedBench (start_walk bench steps caller wanted).bench }
-    ensures turns { (count done sender receiver : ℕ) (bench : BenchState) (steps : ℕ) → IsReachedBench bench
-        → IsReachedBench (pump_turns count done sender receiver bench steps).turns.bench }
+    ensures act { (own : ℕ) (bench : BenchState) (steps : ℕ) (act : LinkAct (List ℕ)) → IsFitAct act → IsReachedBench bench
+        → IsReachedBench (link_act nobody_sees own bench (tt {0}) steps act).bench }
     ensures close { (bench : BenchState) → IsReachedBench bench → IsReachedBench (after_close bench) }
     ensures reclaim { (bench : BenchState) (caller : ℕ) → IsReachedBench bench
         → IsReachedBench (reclaim_leaves bench caller (unreclaimed_by bench.link caller)) }
@@ -69,25 +69,21 @@ pub fn bench_reached()
     ensures reopen { (bench : BenchState) → IsReachedBench bench → unopened_by bench.link ≡ None → IsReachedBench (after_reopen bench) }
 {}
 
-/// The link of a core comes so too, from its boot to its last shutdown or detach, over crashes and recoveries, over each step of its actors, whose
-/// messages all fit buffers, and over turns of other callers.
+/// The link of a core comes so too, from its boot to its last shutdown, over crashes and recoveries, over each step of its actors, whose
+/// messages all fit buffers, and over acts for other callers.
 pub fn core_reached()
     ensures new { (regions : List Region) (kinds : List Declared) (book : ℕ) → IsReachedCore (new_core regions kinds book) }
     ensures link { (names : List (List ℕ)) (book first : ℕ) (rings : RingPair) → IsReachedBench (core_bench names book first rings) }
     ensures crash { (bench : BenchState) → IsReachedBench bench → IsReachedBench (crashed_bench bench) }
     ensures ready { (bench : BenchState) → IsReachedBench bench → IsReachedBench (readied_bench bench) }
-    ensures boot { (core : CoreState) (name : List ℕ) (found : Found) → IsReachedCore core → IsReachedCore (boot_of core name found).core }
-    ensures handover { (core : CoreState) (name : List ℕ) (found : Found) → IsReachedCore core → IsReachedCore (handover_of core name found).core }
-    ensures shutdown { (may_step : Bool) (core : CoreState) → IsReachedCore core → IsReachedCore (shutdown_of may_step core).core }
-    ensures detach { (may_step : Bool) (core : CoreState) → IsReachedCore core → IsReachedCore (detach_of may_step core).core }
-    ensures report { (may_step : Bool) (core : CoreState) → IsReachedCore core → IsReachedCore (report_of may_step core).core }
+    ensures boot { (core : CoreState) (name image : List ℕ) → IsReachedCore core → IsReachedCore (after_boot core name image) }
+    ensures shutdown { (core : CoreState) → IsReachedCore core → IsReachedCore (after_shutdown core) }
+    ensures report { (core : CoreState) → IsReachedCore core → IsReachedCore (after_report core) }
     ensures readied { (core : CoreState) → IsReachedCore core → IsReachedCore (readied_core core) }
     ensures reopened { (core : CoreState) → IsReachedCore core → reopen_fault core ≡ None → IsReachedCore (reopened_core core) }
-    ensures recovery { (core : CoreState) (found : Found) → IsReachedCore core → IsReachedCore (recovery_of core found).core }
+    ensures recovery { (core : CoreState) (image : List ℕ) → IsReachedCore core → reopen_fault core ≡ None → IsReachedCore (after_recovery core image) }
     ensures drive { (core : CoreState) → IsReachedCore core → IsReachedCore (drive_step core).core }
-    ensures call_end { (core : CoreState) (caller : ℕ) (end : CallEnd) → IsReachedCore core → IsReachedCore (after_call_end core caller end) }
-    ensures turns { (count sender receiver : ℕ) (core : CoreState) (steps : ℕ) → IsReachedCore core
-        → IsReachedCore (core_turns count sender receiver core steps).core }
+    ensures act { (core : CoreState) (steps : ℕ) (act : LinkAct (List ℕ)) → IsFitAct act → IsReachedCore core → IsReachedCore (core_act core steps act).core }
 {}
 
 /// A link that comes so is sound.
@@ -116,20 +112,18 @@ pub fn handed_due()
 {}
 
 /// The link of a core always has the core's own callers in use, 0 at the host and 1 at the remote, no turn of it is ever the manager's, and it is in
-/// the incarnation of the core's life, live exactly while the core is up. A link that is reopened is so for the next incarnation of the life.
+/// the incarnation of the core's life, live exactly while the core runs. A link that is reopened is so for the next incarnation of the life.
 pub fn core_kept()
     ensures new { (regions : List Region) (kinds : List Declared) (book : ℕ) → IsKeptCore (new_core regions kinds book) }
-    ensures boot { (core : CoreState) (name : List ℕ) (found : Found) → IsKeptCore core → IsKeptCore (boot_of core name found).core }
-    ensures handover { (core : CoreState) (name : List ℕ) (found : Found) → IsKeptCore core → IsKeptCore (handover_of core name found).core }
-    ensures shutdown { (may_step : Bool) (core : CoreState) → IsKeptCore core → IsKeptCore (shutdown_of may_step core).core }
-    ensures detach { (may_step : Bool) (core : CoreState) → IsKeptCore core → IsKeptCore (detach_of may_step core).core }
-    ensures report { (may_step : Bool) (core : CoreState) → IsKeptCore core → IsKeptCore (report_of may_step core).core }
+    ensures boot { (core : CoreState) (name image : List ℕ) → IsKeptCore core → IsKeptCore (after_boot core name image) }
+    ensures shutdown { (core : CoreState) → IsKeptCore core → IsKeptCore (after_shutdown core) }
+    ensures report { (core : CoreState) → IsKeptCore core → IsKeptCore (after_report core) }
     ensures readied { (core : CoreState) → IsKeptCore core → IsKeptCore (readied_core core) }
     ensures reopened { (core : CoreState) → IsKeptCore core → IsKeptCore (with_next_life (reopened_core core)) }
-    ensures recovery { (core : CoreState) (found : Found) → IsKeptCore core → IsKeptCore (recovery_of core found).core }
+    ensures recovery { (core : CoreState) (image : List ℕ) → IsKeptCore core → recovery_fault core.life ≡ None → reopen_fault core ≡ None
+        → IsKeptCore (after_recovery core image) }
     ensures drive { (core : CoreState) → IsKeptCore core → IsKeptCore (drive_step core).core }
-    ensures call_end { (core : CoreState) (caller : ℕ) (end : CallEnd) → IsKeptCore core → IsKeptCore (after_call_end core caller end) }
-    ensures turns { (count sender receiver : ℕ) (core : CoreState) (steps : ℕ) → IsKeptCore core → IsKeptCore (core_turns count sender receiver core steps).core }
+    ensures act { (core : CoreState) (steps : ℕ) (act : LinkAct (List ℕ)) → IsKeptCore core → IsKeptCore (core_act core steps act).core }
 {}
 
 /// What callers do on the link of a core keeps that, in whatever life the core is: the making of a caller, each call and step, and a reclaim of
@@ -171,20 +165,17 @@ pub fn actors_begin()
 {}
 
 /// A core comes to no other state: its actors hold, while it runs, what their calls give back, each number once, and have begun no call without a
-/// step of it. So it is of a new core, and so it stays over all that the core goes through, and over turns of other callers.
+/// step of it. So it is of a new core, and so it stays over all that the core goes through, and over acts for other callers.
 pub fn core_ready()
     ensures new { (regions : List Region) (kinds : List Declared) (book : ℕ) → IsReadyCore (new_core regions kinds book) }
-    ensures boot { (core : CoreState) (name : List ℕ) (found : Found) → IsReadyCore core → IsReadyCore (boot_of core name found).core }
-    ensures handover { (core : CoreState) (name : List ℕ) (found : Found) → IsReadyCore core → IsReadyCore (handover_of core name found).core }
-    ensures shutdown { (may_step : Bool) (core : CoreState) → IsReadyCore core → IsReadyCore (shutdown_of may_step core).core }
-    ensures detach { (may_step : Bool) (core : CoreState) → IsReadyCore core → IsReadyCore (detach_of may_step core).core }
-    ensures report { (may_step : Bool) (core : CoreState) → IsReadyCore core → IsReadyCore (report_of may_step core).core }
+    ensures boot { (core : CoreState) (name image : List ℕ) → IsReadyCore core → IsReadyCore (after_boot core name image) }
+    ensures shutdown { (core : CoreState) → IsReadyCore core → IsReadyCore (after_shutdown core) }
+    ensures report { (core : CoreState) → IsReadyCore core → IsReadyCore (after_report core) }
     ensures readied { (core : CoreState) → recovery_fault core.life ≡ None → IsReadyCore core → IsReadyCore (readied_core core) }
-    ensures recovery { (core : CoreState) (found : Found) → IsReadyCore core → IsReadyCore (recovery_of core found).core }
+    ensures recovery { (core : CoreState) (image : List ℕ) → IsReadyCore core → IsReadyCore (after_recovery core image) }
     ensures drive { (core : CoreState) → IsReachedCore core → IsKeptCore core → IsReadyCore core → IsReadyCore (drive_step core).core }
-    ensures call_end { (core : CoreState) (caller : ℕ) (end : CallEnd) → IsReadyCore core → IsReadyCore (after_call_end core caller end) }
-    ensures turns { (count sender receiver : ℕ) (core : CoreState) (steps : ℕ) → 1 < sender → 1 < receiver → IsReadyCore core
-        → IsReadyCore (core_turns count sender receiver core steps).core }
+    ensures act { (core : CoreState) (steps : ℕ) (act : LinkAct (List ℕ)) → IsFitAct act → IsReachedCore core → IsReadyCore core
+        → IsReadyCore (core_act core steps act).core }
 {}
 
 /// So it stays over what other callers than the core's own do on its link.

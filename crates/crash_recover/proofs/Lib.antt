@@ -3,7 +3,6 @@ pub mod CoreBenches
 pub mod CoreLoads
 pub mod Names
 pub mod RecordRuns
-pub mod CoreTurnWalks
 pub mod DriveSteps
 pub mod PlacedCounts
 pub mod PartSums

@@ -16,13 +16,12 @@ use Rattle.link_bench.specs.declared.benches.Reach.{Reach}
 use Rattle.link_bench.specs.declared.benches.Reach.TheVariants as reach
 use Rattle.crash_recover.specs.declared.core_callers.StepFault.{StepFault}
 use Rattle.crash_recover.specs.declared.core_callers.StepFault.TheVariants as step
-use Rattle.crash_recover.specs.Actors.{ActorsState}
 use Rattle.link_bench.specs.Benches.{BenchState, BenchWalk, advance_walk, begin_fault, step_fault, with_begun, with_new_caller}
+use Rattle.link_bench.specs.Watchers.{watched}
 use Rattle.link_bench.specs.BenchCrashes.{reclaim_answer, reclaim_leaves}
 use Rattle.link_bench.specs.BenchRings.{bench_snapshot, snapshot_at, turn_holder}
-use Rattle.crash_recover.specs.CoreLinks.{with_link}
 use Rattle.crash_recover.specs.Cores.{CoreState, loaded_rings}
-use Rattle.crash_recover.specs.Drives.{actors_after_end, after_call_end}
+use Rattle.crash_recover.specs.Drives.{actors_after_end}
 
 -- the callers 0 and 1 are those of the core's own actors
 abbrev pub is_own : ℕ → Bool
@@ -74,15 +73,12 @@ pub record CoreStep : Type 0 where
   pub core : CoreState
   pub reach : Reach
 
--- the core once a call on its link came so far: where it ended, the drivers see the end
-abbrev pub after_core_reach : CoreState → ℕ → Reach → CoreState
-after_core_reach core caller (reach.At done) = core
-after_core_reach core caller (reach.Ended end) = after_call_end core caller end
-after_core_reach core caller reach.Limit = core
-
--- a step on the link of a core
+-- a step on the link of a core: where it ended the call, the drivers see the end
 abbrev pub step_walked : CoreState → ℕ → BenchWalk → CoreStep
-step_walked core caller walk = record { core = after_core_reach (with_link core walk.bench) caller walk.reach; reach = walk.reach }
+step_walked core caller walk = record {
+  core = record core { bench = Some walk.bench; actors = watched actors_after_end walk.bench caller walk.reach core.actors };
+  reach = walk.reach;
+}
 
 -- one step of the call that a caller is in
 abbrev pub core_step_on : CoreState → ℕ → Option BenchState → CoreStep
@@ -91,12 +87,6 @@ core_step_on core caller (Some bench) = step_walked core caller (advance_walk be
 
 abbrev pub core_step : CoreState → ℕ → CoreStep
 core_step core caller = core_step_on core caller core.bench
-
--- the actors once a call on their core's link came so far
-abbrev pub actors_after_reach : BenchState → ℕ → Reach → ActorsState → ActorsState
-actors_after_reach bench caller (reach.At done) actors = actors
-actors_after_reach bench caller (reach.Ended end) actors = actors_after_end bench caller end actors
-actors_after_reach bench caller reach.Limit actors = actors
 
 -- ---- a reclaim
 

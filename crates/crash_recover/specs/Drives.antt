@@ -396,14 +396,6 @@ actors_at_end None message end actors = actors
 actors_at_end (Some side.Host) message end actors = driven_on actors message end
 actors_at_end (Some side.Remote) message end actors = actors
 
--- the same of a caller of a link
+-- the same of a caller of a link, which is what the actors see of it
 abbrev pub actors_after_end : BenchState → ℕ → CallEnd → ActorsState → ActorsState
 actors_after_end bench caller end actors = actors_at_end (end_of bench.link.callers caller) (message_of bench caller end) end actors
-
--- the core once the call of a caller of its link has ended so
-abbrev pub seen_by : CoreState → ℕ → CallEnd → Option BenchState → CoreState
-seen_by core caller end None = core
-seen_by core caller end (Some bench) = record core { actors = actors_after_end bench caller end core.actors }
-
-abbrev pub after_call_end : CoreState → ℕ → CallEnd → CoreState
-after_call_end core caller end = seen_by core caller end core.bench

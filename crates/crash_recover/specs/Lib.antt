@@ -3,10 +3,9 @@ pub mod CoreBoots
 pub mod CoreCrashes
 pub mod CoreLeaves
 pub mod CoreRecoveries
-pub mod CoreLinks
 pub mod CoreRings
 pub mod CoreParts
 pub mod Actors
 pub mod Drives
 pub mod CoreCallers
-pub mod CoreTurns
+pub mod CoreActs

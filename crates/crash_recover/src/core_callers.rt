@@ -2,8 +2,10 @@ ghost use Rattle.std.specs.Prelude.{◌≡◌, ◌<◌, true, None, Some, IfErr,
 ghost use Rattle.std.specs.VecDeque.{deque_len, deque_capacity};
 ghost use Rattle.crash_recover.specs.Actors.{actors_view};
 ghost use Rattle.link_bench.specs.Benches.{advance_walk, reach_of_done, step_fault};
+ghost use Rattle.link_bench.specs.Watchers.{watched};
+ghost use Rattle.crash_recover.specs.Drives.{actors_after_end};
 ghost use Rattle.link_bench.specs.BenchRings.{IsSnapshotFault};
-ghost use Rattle.crash_recover.specs.CoreCallers.{IsStepFault, actors_after_reach, after_core_reclaim, core_begin_fault, core_channels, core_receiver, core_reclaim_answer, core_snapshot, core_step, core_step_fault, core_turn_holder, is_own, new_caller, with_core_call, with_core_caller};
+ghost use Rattle.crash_recover.specs.CoreCallers.{IsStepFault, after_core_reclaim, core_begin_fault, core_channels, core_receiver, core_reclaim_answer, core_snapshot, core_step, core_step_fault, core_turn_holder, is_own, new_caller, with_core_call, with_core_caller};
 
 use crate::actor_steps::make_room;
 use crate::actors::Actors;
@@ -187,7 +189,7 @@ fn step_on(bench: &mut Bench, actors: &mut Actors, caller: CallerNo) -> Done
     requires room { deque_len actors.old.host_calls < deque_capacity actors.old.host_calls }
     ensures bench { bench.new ≡ (advance_walk bench.old 0 0 caller).bench }
     ensures actors { let walk = advance_walk bench.old 0 0 caller in
-        actors_view actors.new ≡ actors_after_reach walk.bench caller walk.reach (actors_view actors.old) }
+        actors_view actors.new ≡ watched actors_after_end walk.bench caller walk.reach (actors_view actors.old) }
     ensures done { reach_of_done result ≡ (advance_walk bench.old 0 0 caller).reach }
 {
     let done = bench.next_step(caller);

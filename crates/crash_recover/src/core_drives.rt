@@ -2,7 +2,7 @@ ghost use Rattle.std.specs.Prelude.{◌≡◌, ◌<◌, false, OnErr, OnOk, IfOk
 ghost use Rattle.lane_model.specs.declared.calls.CallEnd.{CallEnd};
 ghost use Rattle.crash_recover.specs.declared.actors.Actor.TheVariants as actor;
 ghost use Rattle.crash_recover.specs.Actors.{actors_view};
-ghost use Rattle.crash_recover.specs.Drives.{after_call_end, drive_step, driven_of, host_is_idle, is_idle, is_rest, record_run, record_step, reported_by, tried_step, waits, with_turn_after, worker_is_idle};
+ghost use Rattle.crash_recover.specs.Drives.{drive_step, driven_of, host_is_idle, is_idle, is_rest, record_run, record_step, reported_by, tried_step, waits, with_turn_after, worker_is_idle};
 
 use crate::actor_steps::{
     begins_with_take, host_step, is_drained, make_room, run_record, worker_step,
@@ -116,25 +116,6 @@ impl Core {
                 progress => Ok(progress),
             },
         }
-    }
-
-    /// Has the drivers of the core see how a call of a caller of its link has ended, where it is one of
-    /// the host. What a driver sends is the last of the host actor's calls.
-    ///
-    /// Errors: only for want of memory. The core is as it was then.
-    pub fn end_call(
-        &mut self,
-        _alloc: Global,
-        caller: CallerNo,
-        end: &CallEnd,
-    ) -> Result<(), NoMemory>
-        ensures left { OnOk result (self.new ≡ after_call_end self.old caller end.now) }
-        ensures unchanged { OnErr result (self.new ≡ self.old) }
-    {
-        let Some(bench) = &self.bench else {
-            return Ok(());
-        };
-        self.actors.hear_end(bench, caller, end)
     }
 
     /// A step of the host actor, unless it has nothing to do. The next turn is the worker's then.

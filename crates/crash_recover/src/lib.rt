@@ -4,6 +4,7 @@
 mod actor_ends;
 mod actor_steps;
 mod actors;
+mod core_acts;
 mod core_answers;
 mod core_boots;
 mod core_callers;
@@ -11,11 +12,9 @@ mod core_crashes;
 mod core_drives;
 mod core_faults;
 mod core_leaves;
-mod core_links;
 mod core_parts;
 mod core_recoveries;
 mod core_rings;
-mod core_turns;
 mod cores;
 
 pub use actors::{Actor, Actors};
@@ -24,4 +23,7 @@ pub use core_callers::StepFault;
 pub use core_drives::{DriveProgress, Driven};
 pub use core_faults::{AddFault, CALLER_OUT, CoreFault, RINGS_CHANGED};
 pub use cores::Core;
-pub use link_bench::{BegunCall, Bench, BenchFault, Done, Progress, Reach, Reclaim, TurnEnd};
+pub use link_bench::{
+    ActAnswer, BegunCall, Bench, BenchFault, CallWish, Done, How, LinkAct, Nobody, Progress, Reach,
+    Reclaim, TurnEnd, Watcher,
+};

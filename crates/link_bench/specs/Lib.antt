@@ -4,3 +4,5 @@ pub mod Turns
 pub mod BenchHolds
 pub mod BenchCrashes
 pub mod BenchEnds
+pub mod Watchers
+pub mod Acts

@@ -11,6 +11,7 @@ use Rattle.link_bench.specs.declared.benches.Reach.TheVariants as reach
 use Rattle.link_bench.specs.declared.turns.TurnEnd.{TurnEnd}
 use Rattle.link_bench.specs.declared.turns.TurnEnd.TheVariants as turn_end
 use Rattle.link_bench.specs.Benches.{BenchState, call_walk, begin_fault}
+use Rattle.link_bench.specs.Watchers.{Seeing, watched}
 
 -- what a call of a turn leaves: the bench, the steps of the run until then, and the number of its message, or how the turn ends with it
 pub record TurnCall : Type 0 where
@@ -37,42 +38,49 @@ tested_call bench steps caller wanted None =
 unfoldable pub turn_call : BenchState → ℕ → ℕ → Wish → TurnCall
 turn_call bench steps caller wanted = tested_call bench steps caller wanted (begin_fault bench caller wanted)
 
--- what turns leave: the bench, the steps of the run until then, and how the last one ended
-pub record Turns : Type 0 where
+-- what turns leave: the bench, who watches its link, the steps of the run until then, and how the last one ended
+pub record Turns (W : Type 0) : Type 0 where
   pub bench : BenchState
+  pub watcher : W
   pub steps : ℕ
   pub ended : TurnEnd
 
 -- what follows a call of a turn
-abbrev pub then_more : TurnCall → Result ℕ TurnEnd → (ℕ → Turns) → Turns
-then_more call (Ok number) more = more number
-then_more call (Err ended) more = record { bench = call.bench; steps = call.steps; ended = ended }
+abbrev pub then_more : {W : Type 0} → W → TurnCall → Result ℕ TurnEnd → (ℕ → Turns W) → Turns W
+then_more watcher call (Ok number) more = more number
+then_more watcher call (Err ended) more = record { bench = call.bench; watcher = watcher; steps = call.steps; ended = ended }
+
+-- how a turn ended whose last call has a number or doesn't
+abbrev pub ended_by : Result ℕ TurnEnd → TurnEnd
+ended_by (Ok number) = turn_end.Whole
+ended_by (Err ended) = ended
 
 -- the give of the message of this number ends the turn
-unfoldable pub give_turn : ℕ → BenchState → ℕ → ℕ → Turns
-give_turn receiver bench steps number =
+abbrev pub give_turn : {W : Type 0} → W → ℕ → BenchState → ℕ → ℕ → Turns W
+give_turn watcher receiver bench steps number =
     let given = turn_call bench steps receiver (wish.Give number) in
-    then_more given given.number (λ _. record { bench = given.bench; steps = given.steps; ended = turn_end.Whole })
+    record { bench = given.bench; watcher = watcher; steps = given.steps; ended = ended_by given.number }
 
--- the take, and the give of what it took
-unfoldable pub take_turn : ℕ → BenchState → ℕ → Turns
-take_turn receiver bench steps =
+-- the take, of which the watcher sees the end, and the give of what it took
+unfoldable pub take_turn : {W : Type 0} → Seeing W → ℕ → BenchState → W → ℕ → Turns W
+take_turn sees receiver bench watcher steps =
     let taken = turn_call bench steps receiver wish.Take in
-    then_more taken taken.number (give_turn receiver taken.bench taken.steps)
+    then_more watcher taken taken.number
+    (give_turn (watched sees taken.bench receiver (call_walk bench steps receiver wish.Take).reach watcher) receiver taken.bench taken.steps)
 
 -- the message of a turn: its number in four bytes, from address 0 to 1024
 abbrev pub turn_message : ℕ → List ℕ
 turn_message number = header_bytes 0 1024 (little_bytes 4 number)
 
 -- a turn: the send of its number, then the take and the give
-unfoldable pub one_turn : ℕ → ℕ → ℕ → BenchState → ℕ → Turns
-one_turn sender receiver number bench steps =
+unfoldable pub one_turn : {W : Type 0} → Seeing W → ℕ → ℕ → ℕ → BenchState → W → ℕ → Turns W
+one_turn sees sender receiver number bench watcher steps =
     let sent = turn_call bench steps sender (wish.Send (turn_message number)) in
-    then_more sent sent.number (λ _. take_turn receiver sent.bench sent.steps)
+    then_more watcher sent sent.number (λ _. take_turn sees receiver sent.bench watcher sent.steps)
 
 -- how far the turns came: how many were done, and what they leave
-pub record Pumped : Type 0 where
-  pub turns : Turns
+pub record Pumped (W : Type 0) : Type 0 where
+  pub turns : Turns W
   pub done : ℕ
 
 -- a turn that is whole
@@ -82,11 +90,12 @@ is_whole (turn_end.Fault caller why) = false
 is_whole (turn_end.Reached caller reached) = false
 
 -- so many turns, from the one of number `done` on: they go on after a whole one
-unfoldable pub pump_turns : ℕ → ℕ → ℕ → ℕ → BenchState → ℕ → Pumped
-pump_turns zero done sender receiver bench steps = record { turns = record { bench = bench; steps = steps; ended = turn_end.Whole }; done = done }
-pump_turns (suc more) done sender receiver bench steps =
-    let turn = one_turn sender receiver done bench steps in
-    if is_whole turn.ended then pump_turns more (done + 1) sender receiver turn.bench turn.steps
+unfoldable pub pump_turns : {W : Type 0} → Seeing W → ℕ → ℕ → ℕ → ℕ → BenchState → W → ℕ → Pumped W
+pump_turns sees zero done sender receiver bench watcher steps =
+    record { turns = record { bench = bench; watcher = watcher; steps = steps; ended = turn_end.Whole }; done = done }
+pump_turns sees (suc more) done sender receiver bench watcher steps =
+    let turn = one_turn sees sender receiver done bench watcher steps in
+    if is_whole turn.ended then pump_turns sees more (done + 1) sender receiver turn.bench turn.watcher turn.steps
     else record { turns = turn; done = done }
 
 -- how a call of a turn ended, as code has it: a number, or the end of the turn beside it

@@ -1,6 +1,7 @@
 // A link with its callers and the calls that they are in: its calls whole and by steps, its close, reclaims and reopening.
 #![tactic(auto)]
 
+mod acts;
 mod bench_crashes;
 mod bench_ends;
 mod bench_holds;
@@ -9,10 +10,13 @@ mod bench_steps;
 mod benches;
 mod steps;
 mod turns;
+mod watchers;
 mod whole_steps;
 
+pub use acts::{ActAnswer, CallWish, How, LinkAct};
 pub use bench_crashes::Reclaim;
 pub use bench_rings::lane_base;
 pub use bench_steps::Done;
 pub use benches::{BegunCall, Bench, BenchFault, Progress, Reach};
-pub use turns::{TurnEnd, turn_payload};
+pub use turns::TurnEnd;
+pub use watchers::{Nobody, Watcher};

@@ -1,15 +1,16 @@
-ghost use Rattle.std.specs.Prelude.{◌≡◌, ◌<◌, ◌≤◌, None, IfSome, length};
+ghost use Rattle.std.specs.Prelude.{◌≡◌, ◌<◌, ◌≤◌, None, IfOk, IfSome, OnOk, length};
 ghost use Rattle.rp_base.specs.declared.limits.TheConstants.{PAYLOAD_MOST, STEPS_MOST};
 ghost use Rattle.lane_model.specs.declared.calls.Wish.TheVariants as wish;
 ghost use Rattle.byteorder.specs.Endian.{little_bytes};
 ghost use Rattle.rpmsg_header.specs.Headers.{header_bytes};
 ghost use Rattle.link_bench.specs.Benches.{call_walk, reach_of};
 ghost use Rattle.link_bench.specs.declared.benches.Reach.TheVariants as reach;
-ghost use Rattle.link_bench.specs.Turns.{give_turn, is_whole, number_of, one_turn, pump_turns, reach_number, take_turn, turn_call};
+ghost use Rattle.link_bench.specs.Turns.{ended_by, is_whole, number_of, one_turn, pump_turns, reach_number, take_turn, turn_call};
 
 use crate::benches::{Bench, BenchFault, Progress, Reach};
+use crate::watchers::Watcher;
 use lane_model::{CallEnd, Wish};
-use rp_base::CallerNo;
+use rp_base::{CallerNo, NoMemory};
 
 /// How a turn of a pump ended: a send, its take and its give.
 #[derive(Clone, Copy)]
@@ -31,103 +32,117 @@ impl TurnEnd {
 }
 
 impl Bench {
-    /// At most so many turns, up to the first that is not whole: how many were whole. `ended` says how
-    /// the last one ended, and `steps` counts the steps.
-    pub fn turns(
+    /// At most so many turns, up to the first that is not whole: how many were whole. The watcher sees
+    /// the end of each take before its give. `ended` says how the last turn ended, and `steps` counts
+    /// the steps.
+    ///
+    /// Errors: only for want of memory, in the midst of a turn, where the watcher needs it.
+    pub fn turns<W: Watcher>(
         &mut self,
+        watcher: &mut W,
         sender: CallerNo,
         receiver: CallerNo,
         count: u64,
         steps: &mut u64,
         ended: &mut TurnEnd,
-    ) -> u64
+    ) -> Result<u64, NoMemory>
         requires sender { sender < 64 }
         requires receiver { receiver < 64 }
         requires count { count ≤ STEPS_MOST }
         requires steps { steps.old ≤ STEPS_MOST }
-        ensures bench { self.new ≡ (pump_turns count 0 sender receiver self.old steps.old).turns.bench }
-        ensures steps { steps.new ≡ (pump_turns count 0 sender receiver self.old steps.old).turns.steps }
-        ensures ended { ended.new ≡ (pump_turns count 0 sender receiver self.old steps.old).turns.ended }
-        ensures done { result ≡ (pump_turns count 0 sender receiver self.old steps.old).done }
+        ensures bench { OnOk result (self.new ≡ (pump_turns W.sees count 0 sender receiver self.old (W.state watcher.old) steps.old).turns.bench) }
+        ensures watcher { OnOk result (W.state watcher.new ≡ (pump_turns W.sees count 0 sender receiver self.old (W.state watcher.old) steps.old).turns.watcher) }
+        ensures steps { OnOk result (steps.new ≡ (pump_turns W.sees count 0 sender receiver self.old (W.state watcher.old) steps.old).turns.steps) }
+        ensures ended { OnOk result (ended.new ≡ (pump_turns W.sees count 0 sender receiver self.old (W.state watcher.old) steps.old).turns.ended) }
+        ensures done { IfOk result (λ done. done ≡ (pump_turns W.sees count 0 sender receiver self.old (W.state watcher.old) steps.old).done) }
         ensures within { steps.new ≤ STEPS_MOST }
     {
         for done in 0..count {
-            self.turn(sender, receiver, done, steps, ended);
+            self.turn(watcher, sender, receiver, done, steps, ended)?;
             if !ended.is_whole() {
-                return done;
+                return Ok(done);
             }
         }
         *ended = TurnEnd::Whole;
-        count
+        Ok(count)
     }
 
     /// A turn: a send of its number, a take, and the give of what was taken. `ended` says how
     /// it ended.
     #[tactic(auto, unfolding(crate::specs::Turns::one_turn))]
-    fn turn(
+    fn turn<W: Watcher>(
         &mut self,
+        watcher: &mut W,
         sender: CallerNo,
         receiver: CallerNo,
         number: u64,
         steps: &mut u64,
         ended: &mut TurnEnd,
-    )
+    ) -> Result<(), NoMemory>
         requires sender { sender < 64 }
         requires receiver { receiver < 64 }
         requires number { number ≤ STEPS_MOST }
         requires steps { steps.old ≤ STEPS_MOST }
-        ensures bench { self.new ≡ (one_turn sender receiver number self.old steps.old).bench }
-        ensures steps { steps.new ≡ (one_turn sender receiver number self.old steps.old).steps }
-        ensures ended { ended.new ≡ (one_turn sender receiver number self.old steps.old).ended }
+        ensures bench { OnOk result (self.new ≡ (one_turn W.sees sender receiver number self.old (W.state watcher.old) steps.old).bench) }
+        ensures watcher { OnOk result (W.state watcher.new ≡ (one_turn W.sees sender receiver number self.old (W.state watcher.old) steps.old).watcher) }
+        ensures steps { OnOk result (steps.new ≡ (one_turn W.sees sender receiver number self.old (W.state watcher.old) steps.old).steps) }
+        ensures ended { OnOk result (ended.new ≡ (one_turn W.sees sender receiver number self.old (W.state watcher.old) steps.old).ended) }
         ensures within { steps.new ≤ STEPS_MOST }
     {
         match self.turn_send(sender, &turn_payload(number), steps, ended) {
-            Some(_) => self.take_turn(receiver, steps, ended),
-            None => {}
+            Some(_) => self.take_turn(watcher, receiver, steps, ended),
+            None => Ok(()),
         }
     }
 
-    /// The take of a turn, and the give of what was taken.
+    /// The take of a turn, of which the watcher sees the end, and the give of what was taken.
     #[tactic(auto, unfolding(crate::specs::Turns::take_turn))]
-    fn take_turn(&mut self, receiver: CallerNo, steps: &mut u64, ended: &mut TurnEnd)
+    fn take_turn<W: Watcher>(
+        &mut self,
+        watcher: &mut W,
+        receiver: CallerNo,
+        steps: &mut u64,
+        ended: &mut TurnEnd,
+    ) -> Result<(), NoMemory>
         requires receiver { receiver < 64 }
         requires steps { steps.old ≤ STEPS_MOST }
-        ensures bench { self.new ≡ (take_turn receiver self.old steps.old).bench }
-        ensures steps { steps.new ≡ (take_turn receiver self.old steps.old).steps }
-        ensures ended { ended.new ≡ (take_turn receiver self.old steps.old).ended }
+        ensures bench { OnOk result (self.new ≡ (take_turn W.sees receiver self.old (W.state watcher.old) steps.old).bench) }
+        ensures watcher { OnOk result (W.state watcher.new ≡ (take_turn W.sees receiver self.old (W.state watcher.old) steps.old).watcher) }
+        ensures steps { OnOk result (steps.new ≡ (take_turn W.sees receiver self.old (W.state watcher.old) steps.old).steps) }
+        ensures ended { OnOk result (ended.new ≡ (take_turn W.sees receiver self.old (W.state watcher.old) steps.old).ended) }
         ensures within { steps.new ≤ STEPS_MOST }
     {
-        match self.turn_call(receiver, &Wish::Take, steps, ended) {
-            Some(number) => self.give_turn(receiver, number, steps, ended),
-            None => {}
+        let mut end = CallEnd::Empty(0);
+        match self.turn_take(receiver, steps, &mut end, ended) {
+            Some(number) => {
+                watcher.see(self, receiver, &end)?;
+                self.give_turn(receiver, number, steps, ended);
+                Ok(())
+            }
+            None => Ok(()),
         }
     }
 
     /// The give of a turn.
-    #[tactic(auto, unfolding(crate::specs::Turns::give_turn))]
-    pub fn give_turn(
-        &mut self,
-        receiver: CallerNo,
-        number: u64,
-        steps: &mut u64,
-        ended: &mut TurnEnd,
-    )
+    fn give_turn(&mut self, receiver: CallerNo, number: u64, steps: &mut u64, ended: &mut TurnEnd)
         requires receiver { receiver < 64 }
         requires steps { steps.old ≤ STEPS_MOST }
-        ensures bench { self.new ≡ (give_turn receiver self.old steps.old number).bench }
-        ensures steps { steps.new ≡ (give_turn receiver self.old steps.old number).steps }
-        ensures ended { ended.new ≡ (give_turn receiver self.old steps.old number).ended }
+        ensures bench { self.new ≡ (turn_call self.old steps.old receiver (wish.Give number)).bench }
+        ensures steps { steps.new ≡ (turn_call self.old steps.old receiver (wish.Give number)).steps }
+        ensures ended { ended.new ≡ ended_by (turn_call self.old steps.old receiver (wish.Give number)).number }
         ensures within { steps.new ≤ STEPS_MOST }
     {
-        match self.turn_call(receiver, &Wish::Give(number), steps, ended) {
-            Some(_) => *ended = TurnEnd::Whole,
-            None => {}
+        if self
+            .turn_call(receiver, &Wish::Give(number), steps, ended)
+            .is_some()
+        {
+            *ended = TurnEnd::Whole;
         }
     }
 
     /// The send of a turn, from address 0 to 1024, with the tests that each call has.
     #[tactic(auto, unfolding(crate::specs::Turns::turn_call))]
-    pub fn turn_send(
+    fn turn_send(
         &mut self,
         sender: CallerNo,
         payload: &[u8],
@@ -183,7 +198,7 @@ impl Bench {
     /// The take of a turn, with the tests that each call has: the number of its message, with its end.
     /// Where it doesn't end well, `ended` says how.
     #[tactic(auto, unfolding(crate::specs::Turns::turn_call))]
-    pub fn turn_take(
+    fn turn_take(
         &mut self,
         receiver: CallerNo,
         steps: &mut u64,
@@ -208,7 +223,7 @@ impl Bench {
 }
 
 /// The payload of the message of a turn: its number in four bytes.
-pub fn turn_payload(number: u64) -> [u8; 4]
+fn turn_payload(number: u64) -> [u8; 4]
     requires { number ≤ STEPS_MOST }
     ensures { result ≡ little_bytes 4 number }
 {

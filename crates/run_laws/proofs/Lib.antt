@@ -1,5 +1,5 @@
-pub mod LinksReached
-pub mod CoresReached
+pub mod CoreWalks
+pub mod RunWalks
 pub mod RunsReached
 pub mod CoresKept
 pub mod CoresReady

@@ -1,206 +1,161 @@
--- What a run leaves of its links and its cores is reached.
-use Rattle.std.proofs.Common.{◌≡◌, ℕ, Bool, true, false, List, [], ◌∷◌, All, length, Option, Some, None, IfSome, Result, Ok, Err, slice_get, refl, subst}
+-- What a run leaves of its links and its cores is reached, kept and ready.
+use Rattle.std.proofs.Common.{◌≡◌, ℕ, ◌+◌, ◌==◌, Bool, false, List, [], ◌∷◌, All, Option, Some, None, IfSome, refl, ap, arith}
 use Rattle.std.specs.Prelude.{Contains}
 use Rattle.std.proofs.lemmas.Bool.{cond_both}
-use Rattle.std.proofs.lemmas.List.Elements.{All-contains, All-nil, All-push, All-set}
-use Rattle.std.proofs.lemmas.Option.{get_or_from_slice_get, slice_get_within}
-use Rattle.rp_base.specs.declared.kinds.Switch.{Switch}
-use Rattle.lane_model.specs.Links.{LinkState}
+use Rattle.std.proofs.lemmas.List.Elements.{All-contains}
+use Rattle.rp_base.specs.declared.limits.TheConstants.{STEPS_MOST}
 use Rattle.lane_model.specs.declared.calls.LinkConfig.{LinkConfig}
+use Rattle.lane_model.specs.declared.recoveries.ReopenFault.{ReopenFault}
+use Rattle.lane_model.specs.Links.{LinkState}
+use Rattle.lane_model.specs.Recoveries.{unclosed_by, unopened_by}
+use Rattle.lane_model.specs.Soundness.{SoundLink}
 use Rattle.channel_bus.specs.Sides.{EndState}
 use Rattle.script_lang.specs.declared.commands.Command.{Command}
 use Rattle.script_lang.specs.declared.commands.Command.TheVariants as command
-use Rattle.script_lang.specs.declared.commands.RegionSet.{RegionSet}
-use Rattle.script_lang.specs.declared.recipes.RecipeLine.{RecipeLine}
 use Rattle.script_lang.specs.Runnable.{AreRunnable, IsRunnable}
-use Rattle.journal.specs.declared.events.Event.{Event}
-use Rattle.journal.specs.declared.events.Event.TheVariants as event
-use Rattle.image_maker.specs.Images.{image_of}
-use Rattle.link_bench.specs.Benches.{BenchState}
-use Rattle.lane_model.specs.Soundness.{SoundLink}
+use Rattle.link_bench.specs.declared.acts.LinkAct.{LinkAct}
+use Rattle.link_bench.specs.Acts.{IsFitAct}
+use Rattle.link_bench.specs.Benches.{BenchState, new_bench_of}
+use Rattle.link_bench.specs.BenchCrashes.{after_close}
+use Rattle.link_bench.specs.Watchers.{nobody_sees}
 use Rattle.core_laws.specs.BenchMoves.{IsReached, IsReachedBench, IsReachedCore}
-use Rattle.core_laws.proofs.BenchMoves.{new_reached}
-use Rattle.core_laws.proofs.CoreMoves.{new_core_reached}
+use Rattle.core_laws.proofs.BenchMoves.{closed, new_reached, reopened}
+use Rattle.core_laws.proofs.CoreActs.{acted_reached, core_act_reached}
+use Rattle.core_laws.proofs.CoreMoves.{core_booted, core_driven, core_readied, core_recovered, core_reported, core_shut, new_core_reached}
 use Rattle.core_laws.proofs.Handed.{got_front, got_whole, handed_once}
 use Rattle.core_laws.proofs.KeptCrashes.{reached_sound}
-use Rattle.script_run.specs.declared.statuses.Stop.{Stop}
+use Rattle.script_run.specs.declared.acts.ManagerAct.{ManagerAct}
+use Rattle.script_run.specs.declared.acts.ManagerAct.TheVariants as manager
+use Rattle.script_run.specs.declared.acts.NamedAct.{NamedAct}
+use Rattle.script_run.specs.declared.acts.NamedAct.TheVariants as under
+use Rattle.script_run.specs.Acts.{line_of}
+use Rattle.script_run.specs.Effects.{Effect, tells}
+use Rattle.script_run.specs.LinkCommands.{link_effect, manager_effect}
 use Rattle.script_run.specs.NamedCores.{NamedCoreState}
 use Rattle.script_run.specs.NamedLinks.{NamedLink}
-use Rattle.script_run.specs.Stores.{Answer, Told, later_told, told_answer}
+use Rattle.script_run.specs.Recoveries.{close_effect, close_event, opened_effect, reopen_effect}
+use Rattle.script_run.specs.Runs.{RunState, effect_of, new_end, regions_of, run_of}
+use Rattle.script_run.specs.Stores.{Answer, Told}
 use Rattle.run_laws.specs.Reached.{AreReached, HandsInOrder}
-use Rattle.script_run.specs.Runs.{Run, RunEffect, RunState, asked_name, command_name, config_of, core_located_effect, core_made_effect, core_place, dump_answer, dump_effect, dump_wanted, dumped_effect, effect_of, family_effect, found_core_effect, found_effect, has_image, image_effect, image_wanted, is_full, located_effect, made_effect, named_effect, new_end, new_run, place_of, quiet_effect, quiet_wanted, regions_of, run_from, run_of, run_on, run_tells, run_told, unnamed_effect, with_image, without_link_effect, kept_effect}
-use Rattle.run_laws.proofs.CoresReached.{core_reached}
-use Rattle.run_laws.proofs.LinksReached.{link_reached}
+use Rattle.run_laws.proofs.CoreWalks.{FitsNamed, KeepCores}
+use Rattle.run_laws.proofs.RunWalks.{AreAll, AreFitting, FitsLine, KeepRuns, effect_keeps, runs_keep}
 
--- the links and the cores that a command leaves are reached
-abbrev LeavesRun : RunEffect → Type 0
-LeavesRun effect = AreReached effect.run.objects
+-- ---- acts of commands that can be run
 
--- ---- new links and cores
+pub line_fits : (wanted : Command) → IsRunnable wanted → FitsLine IsFitAct (line_of wanted)
+line_fits (command.Image name lines) runs = tt
+line_fits (command.Quiet set) runs = tt
+line_fits (command.Link name to_host to_remote book) runs = tt
+line_fits (command.NsLink name to_host to_remote book) runs = tt
+line_fits (command.Core name regions book) runs = tt
+line_fits (command.Caller name end) runs = tt
+line_fits (command.Send name caller source destination payload) runs = (omega (arith, runs.0), tt)
+line_fits (command.Raw name caller message) runs = (omega (arith, runs.0), runs.1)
+line_fits (command.Take name caller) runs = (omega (arith, runs), tt)
+line_fits (command.Give name caller number) runs = (omega (arith, runs.0), tt)
+line_fits (command.Bind name caller address) runs = (omega (arith, runs.0), tt)
+line_fits (command.Unbind name caller address) runs = (omega (arith, runs.0), tt)
+line_fits (command.BeginSend name caller source destination payload) runs = (omega (arith, runs.0), tt)
+line_fits (command.BeginRaw name caller message) runs = (omega (arith, runs.0), runs.1)
+line_fits (command.BeginTake name caller) runs = (omega (arith, runs), tt)
+line_fits (command.BeginGive name caller number) runs = (omega (arith, runs.0), tt)
+line_fits (command.BeginBind name caller address) runs = (omega (arith, runs.0), tt)
+line_fits (command.BeginUnbind name caller address) runs = (omega (arith, runs.0), tt)
+line_fits (command.Step name caller count) runs = (omega (arith, runs.0), omega (arith, runs.1.0, runs.1.1))
+line_fits (command.Finish name caller) runs = (omega (arith, runs), omega arith)
+line_fits (command.Pump name sender receiver count) runs = (omega (arith, runs.0), omega (arith, runs.1), runs.2.1)
+line_fits (command.Reclaim name caller) runs = omega (arith, runs)
+line_fits (command.Close name) runs = tt
+line_fits (command.Reopen name) runs = tt
+line_fits (command.Books name) runs = tt
+line_fits (command.Ring name lane) runs = tt
+line_fits (command.Channels name) runs = tt
+line_fits (command.Region name kind da pa len) runs = tt
+line_fits (command.Driver name channel kind) runs = tt
+line_fits (command.Boot name image) runs = tt
+line_fits (command.Shutdown name) runs = tt
+line_fits (command.State name) runs = tt
+line_fits (command.Table name) runs = tt
+line_fits (command.Trace name trace) runs = tt
+line_fits (command.Mem name da len) runs = tt
+line_fits (command.Crash name kind) runs = tt
+line_fits (command.Recover name) runs = tt
+line_fits (command.Recovery name set) runs = tt
+line_fits (command.Drive name count) runs = tt
 
-module _ (run : RunState) (are : AreReached run.objects) where
-  made : (name : List ℕ) (config : LinkConfig) (has_service : Bool) → LeavesRun (made_effect run name config has_service)
-  unfolding made_effect
-  made name config has_service =
-      cond_both (is_full run.objects) (run_tells run event.ObjectsFull) _ LeavesRun (λ _. are)
-      (λ _. record {
-        links = All-push (λ (named : NamedLink). IsReachedBench named.bench) run.objects.links _ are.links
-            (new_reached config (new_end has_service) (new_end false) (record { endpoints = refl; bindings = refl }) (record { endpoints = refl; bindings = refl }));
-        cores = are.cores;
-      })
+pub lines_fit : (commands : List Command) → AreRunnable commands → AreFitting IsFitAct commands
+lines_fit [] runs = tt
+lines_fit (first ∷ more) runs = (line_fits first runs.0, lines_fit more runs.1)
 
-  core_made : (name : List ℕ) (set : RegionSet) (book : ℕ) → LeavesRun (core_made_effect run name set book)
-  unfolding core_made_effect
-  core_made name set book =
-      cond_both (is_full run.objects) (run_tells run event.ObjectsFull) _ LeavesRun (λ _. are)
-      (λ _. record {
-        links = are.links;
-        cores = All-push (λ (named : NamedCoreState). IsReachedCore named.core) run.objects.cores _ are.cores (new_core_reached (regions_of set) [] book);
-      })
+-- ---- what the manager of a link does
 
-  unnamed : (wanted : Command) → LeavesRun (unnamed_effect run wanted)
-  unfolding unnamed_effect
-  unnamed (command.Link name to_host to_remote book) = made name (config_of to_host to_remote book) false
-  unnamed (command.NsLink name to_host to_remote book) = made name (config_of to_host to_remote book) true
-  unnamed (command.Core name set book) = core_made name set book
-  unnamed (command.Caller name end) = are
-  unnamed (command.Send name caller src dst payload) = are
-  unnamed (command.Raw name caller message) = are
-  unnamed (command.Take name caller) = are
-  unnamed (command.Give name caller number) = are
-  unnamed (command.Bind name caller address) = are
-  unnamed (command.Unbind name caller address) = are
-  unnamed (command.BeginSend name caller src dst payload) = are
-  unnamed (command.BeginRaw name caller message) = are
-  unnamed (command.BeginTake name caller) = are
-  unnamed (command.BeginGive name caller number) = are
-  unnamed (command.BeginBind name caller address) = are
-  unnamed (command.BeginUnbind name caller address) = are
-  unnamed (command.Step name caller count) = are
-  unnamed (command.Finish name caller) = are
-  unnamed (command.Pump name sender receiver count) = are
-  unnamed (command.Image name lines) = are
-  unnamed (command.Ring name lane) = are
-  unnamed (command.Books name) = are
-  unnamed (command.Channels name) = are
-  unnamed (command.Close name) = are
-  unnamed (command.Reclaim name caller) = are
-  unnamed (command.Reopen name) = are
-  unnamed (command.Region name kind da pa len) = are
-  unnamed (command.Boot name image) = are
-  unnamed (command.Handover name image) = are
-  unnamed (command.Shutdown name) = are
-  unnamed (command.Detach name) = are
-  unnamed (command.State name) = are
-  unnamed (command.Table name) = are
-  unnamed (command.Trace name index) = are
-  unnamed (command.Mem name da len) = are
-  unnamed (command.Crash name kind) = are
-  unnamed (command.Recover name) = are
-  unnamed (command.Recovery name set) = are
-  unnamed (command.Driver name channel kind) = are
-  unnamed (command.Drive name count) = are
-  unnamed (command.Dump name image) = are
-  unnamed (command.Quiet set) = are
+module _ (name : List ℕ) (bench : BenchState) (steps : ℕ) (is : IsReachedBench bench) where
+  close_reached : IsReachedBench (close_effect name bench steps).bench
+  unfolding close_effect
+  close_reached =
+      cond_both (steps == STEPS_MOST) _ (tells (after_close bench) (steps + 1) (close_event name bench.link.era (unclosed_by bench.link.era bench.link.era.inc)))
+      (λ (effect : Effect). IsReachedBench effect.bench) (λ _. is) (λ _. closed bench is)
 
--- ---- commands on what there is
+  opened_at : (why : Option ReopenFault) → unopened_by bench.link ≡ why → IsReachedBench (opened_effect name bench steps why).bench
+  opened_at None clear = reopened bench is clear
+  opened_at (Some why) found = is
 
--- an item at a place
-pub item_at : {X : Type 0} (P : X → Type 0) (items : List X) (place : ℕ) (item : X) → slice_get items place ≡ Some item → All P items → P item
-item_at P items place item found all = subst P (get_or_from_slice_get items place item item found) (all place item (slice_get_within items place item found))
+  reopen_reached : IsReachedBench (reopen_effect name bench steps).bench
+  unfolding reopen_effect
+  reopen_reached = opened_at (unopened_by bench.link) refl
 
-module _ (answer : Answer) (run : RunState) (wanted : Command) (runs : IsRunnable wanted) (are : AreReached run.objects) where
-  core_at : (place : ℕ) (found : Option NamedCoreState) → slice_get run.objects.cores place ≡ found → LeavesRun (found_core_effect answer run wanted place found)
-  core_at place None none = unnamed run are wanted
-  core_at place (Some named) found = record {
-    links = are.links;
-    cores = All-set (λ (named : NamedCoreState). IsReachedCore named.core) run.objects.cores place _
-        (core_reached run.objects.images answer run.objects.is_quiet named run.steps wanted runs
-        (item_at (λ (named : NamedCoreState). IsReachedCore named.core) run.objects.cores place named found are.cores)) are.cores;
-  }
+  managed : (wanted : ManagerAct) → IsReachedBench (manager_effect name bench steps wanted).bench
+  managed manager.Close = close_reached
+  managed manager.Reopen = reopen_reached
 
-  core_located : (place : Option ℕ) → LeavesRun (core_located_effect answer run wanted place)
-  core_located None = unnamed run are wanted
-  core_located (Some place) = core_at place (slice_get run.objects.cores place) refl
+-- what is done under the name of a link
+pub link_reached : (on : NamedLink) (steps : ℕ) (wanted : NamedAct (List ℕ)) → FitsNamed IsFitAct wanted → IsReachedBench on.bench → IsReachedBench (link_effect on steps wanted).bench
+unfolding link_effect
+link_reached on steps (under.Make made) fits is = is
+link_reached on steps (under.Link asked) fits is = acted_reached nobody_sees 0 on.bench tt steps asked fits is
+link_reached on steps (under.Manage asked) fits is = managed on.name on.bench steps is asked
+link_reached on steps (under.Show shown) fits is = is
+link_reached on steps (under.Core asked) fits is = is
 
-  without_link : LeavesRun (without_link_effect answer run wanted)
-  unfolding without_link_effect
-  without_link = core_located (core_place run.objects.cores (command_name wanted))
+-- ---- links and cores of runs
 
-  link_at : (place : ℕ) (found : Option NamedLink) → slice_get run.objects.links place ≡ found → LeavesRun (found_effect answer run wanted place found)
-  link_at place None none = without_link
-  link_at place (Some named) found = record {
-    links = All-set (λ (named : NamedLink). IsReachedBench named.bench) run.objects.links place _
-        (link_reached named run.steps wanted runs (item_at (λ (named : NamedLink). IsReachedBench named.bench) run.objects.links place named found are.links)) are.links;
-    cores = are.cores;
-  }
+pub cores_reached : KeepCores IsFitAct IsReachedCore
+cores_reached = record {
+  region = λ core region is. record { bench = is.bench; calls = is.calls };
+  driver = λ core declared is. record { bench = is.bench; calls = record { host = is.calls.host; worker = is.calls.worker } };
+  switch = λ core on is. record { bench = is.bench; calls = is.calls };
+  boot = λ core name image is. core_booted core name image is;
+  shutdown = λ core is. core_shut core is;
+  report = λ core is. core_reported core is;
+  readied = λ core may is. core_readied core is;
+  recovery = λ core image may clear is. core_recovered core image is clear;
+  drive = λ core is. core_driven core is;
+  act = λ core steps asked fits is. core_act_reached core steps asked fits is;
+}
 
-  located : (place : Option ℕ) → LeavesRun (located_effect answer run wanted place)
-  located None = without_link
-  located (Some place) = link_at place (slice_get run.objects.links place) refl
+pub new_link_reached : (config : LinkConfig) (has_service : Bool) → IsReachedBench (new_bench_of config (new_end has_service) (new_end false))
+new_link_reached config has_service =
+    new_reached config (new_end has_service) (new_end false) (record { endpoints = refl; bindings = refl }) (record { endpoints = refl; bindings = refl })
 
-  quieted : (set : Switch) → LeavesRun (quiet_effect run set)
-  unfolding quiet_effect
-  quieted set = record { links = are.links; cores = are.cores }
+all_reached : KeepRuns IsFitAct IsReachedBench IsReachedCore
+all_reached = record {
+  new_link = λ config has_service. new_link_reached config has_service;
+  new_core = λ set book. new_core_reached (regions_of set) [] book;
+  link = λ on steps wanted fits is. link_reached on steps wanted fits is;
+  core = cores_reached;
+}
 
-  dumped : (image : List ℕ) (answered : Result (List ℕ) Event) → LeavesRun (dumped_effect run image answered)
-  dumped image (Ok bytes) = record { links = are.links; cores = are.cores }
-  dumped image (Err told) = are
+-- a command
+pub effect_reached : (answer : Answer) (run : RunState) (wanted : Command) → IsRunnable wanted → AreReached run.objects → AreReached (effect_of answer run wanted).run.objects
+effect_reached answer run wanted runs are =
+    let left = effect_keeps IsFitAct IsReachedBench IsReachedCore all_reached answer run wanted (line_fits wanted runs) (record { links = are.links; cores = are.cores }) in
+    record { links = left.links; cores = left.cores }
 
-  dump_made : (name image : List ℕ) → LeavesRun (dump_effect run name image)
-  unfolding dump_effect
-  dump_made name image = dumped image (dump_answer run.objects name image)
-
-  by_dump : (found : Option (List ℕ × List ℕ)) → LeavesRun (kept_effect answer run wanted found)
-  by_dump None = located (place_of run.objects.links (command_name wanted))
-  by_dump (Some names) = dump_made names.0 names.1
-
-  by_name : (found : Option Switch) → LeavesRun (named_effect answer run wanted found)
-  by_name None = by_dump (dump_wanted wanted)
-  by_name (Some set) = quieted set
-
-  imaged : (name : List ℕ) (lines : List RecipeLine) → LeavesRun (image_effect run name lines)
-  unfolding image_effect
-  imaged name lines =
-      cond_both (has_image run.objects.images name) (run_tells run (event.ImageExists name))
-      (run_tells (with_image run name (image_of lines)) (event.Image name (length (image_of lines)))) LeavesRun (λ _. are)
-      (λ _. record { links = are.links; cores = are.cores })
-
-  by_family : (found : Option (List ℕ × List RecipeLine)) → LeavesRun (family_effect answer run wanted found)
-  by_family None = by_name (quiet_wanted wanted)
-  by_family (Some image) = imaged image.0 image.1
-
-  -- a command
-  pub effect_reached : LeavesRun (effect_of answer run wanted)
-  unfolding effect_of
-  effect_reached = by_family (image_wanted wanted)
-
--- ---- runs
-
-on_reached : (effect : RunEffect) (ending : Option Stop) (later : Run) → LeavesRun effect → AreReached later.last.objects → AreReached (run_on effect ending later).last.objects
-on_reached effect None later left rest = rest
-on_reached effect (Some why) later left rest = left
-
-told_reached : (run : RunState) (wanted : Command) (answer : Option Answer) (later : RunState → Run) → IsRunnable wanted → AreReached run.objects
-    → ((next : RunState) → AreReached next.objects → AreReached (later next).last.objects) → AreReached (run_told run wanted answer later).last.objects
-told_reached run wanted None later runs are rest = are
-told_reached run wanted (Some answer) later runs are rest =
-    let effect = effect_of answer run wanted in
-    let left = effect_reached answer run wanted runs are in
-    on_reached effect effect.ending (later effect.run) left (rest effect.run left)
-
-run_reached : (told : Told) (run : RunState) (commands : List Command) → AreRunnable commands → AreReached run.objects → AreReached (run_from told run commands).last.objects
-unfolding run_from
-run_reached told run [] runs are = are
-run_reached told run (first ∷ more) runs are =
-    told_reached run first (told_answer (told 0) (asked_name run.objects first)) (λ next. run_from (later_told told) next more) runs.0 are
-    (λ next there. run_reached (later_told told) next more runs.1 there)
-
-none_reached : AreReached new_run.objects
-none_reached = record { links = All-nil (λ (named : NamedLink). IsReachedBench named.bench); cores = All-nil (λ (named : NamedCoreState). IsReachedCore named.core) }
-
+-- a run
 pub runs_reached : (told : Told) (commands : List Command) → AreRunnable commands → AreReached (run_of told commands).last.objects
-runs_reached told commands runs = run_reached told new_run commands runs none_reached
+runs_reached told commands runs =
+    let left = runs_keep IsFitAct IsReachedBench IsReachedCore all_reached told commands (lines_fit commands runs) in
+    record { links = left.links; cores = left.cores }
 
 -- ---- what links have handed over
 

@@ -11,5 +11,4 @@ pub mod FetchedReports
 pub mod RingRows
 pub mod Matches
 pub mod Accepted
-pub mod CorePumps
 pub mod DemoSums

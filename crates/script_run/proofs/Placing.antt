@@ -1,7 +1,6 @@
--- A command on the link of its name, on none, or one that makes an image.
-use Rattle.std.proofs.Common.{◌≡◌, ◌≢◌, ℕ, Bool, false, cond, List, [], ◌∷◌, ◌++◌, length, Option, Some, None, slice_get, slice_set, refl, sym, ap, subst, ◌∙◌, append-nil}
+-- What is done under a name: on its link, on its core, or on none.
+use Rattle.std.proofs.Common.{◌≡◌, ℕ, Bool, false, cond, List, [], ◌∷◌, ◌++◌, Option, Some, None, Ok, slice_get, slice_set, refl, sym, ap, subst, ◌∙◌, append-nil}
 use Rattle.script_lang.specs.declared.commands.Command.{Command}
-use Rattle.script_lang.specs.declared.commands.Command.TheVariants as command
 use Rattle.script_lang.specs.declared.recipes.RecipeLine.{RecipeLine}
 use Rattle.image_maker.specs.Images.{image_of}
 use Rattle.journal.specs.Lines.{line}
@@ -10,17 +9,18 @@ use Rattle.journal.specs.declared.events.Event.TheVariants as event
 use Rattle.script_lang.specs.declared.commands.RegionSet.{RegionSet}
 use Rattle.crash_recover.specs.Cores.{CoreState, new_core}
 use Rattle.script_run.specs.NamedLinks.{NamedLink}
-use Rattle.script_run.specs.CoreEffects.{is_on}
 use Rattle.script_run.specs.Stores.{Answer}
 use Rattle.script_run.specs.LinkCommands.{link_effect}
 use Rattle.script_run.specs.NamedCores.{NamedCoreState}
 use Rattle.script_run.specs.CoreCommands.{core_effect}
 use Rattle.script_run.specs.declared.statuses.Stop.{Stop}
-use Rattle.rp_base.specs.declared.kinds.Switch.{Switch}
 use Rattle.lane_model.specs.declared.calls.LinkConfig.{LinkConfig}
 use Rattle.link_bench.specs.Benches.{BenchState, new_bench_of}
 use Rattle.script_run.specs.Logs.{LogState, HasCoreEffect, HasEffect, HasRunEffect}
-use Rattle.script_run.specs.Runs.{ObjectsState, RunState, RunEffect, command_name, core_located_effect, core_made_effect, core_place, dump_effect, dump_wanted, dumped_effect, effect_of, family_effect, found_core_effect, found_effect, has_image, image_effect, image_wanted, is_full, kept_effect, located_effect, made_effect, named_effect, new_end, place_of, quiet_effect, quiet_wanted, placed_core_effect, placed_effect, regions_of, run_tells, unnamed_effect, with_cores, with_dump, with_image, with_links, without_link_effect}
+use Rattle.script_run.specs.declared.acts.Line.{Line}
+use Rattle.script_run.specs.declared.acts.NamedAct.{NamedAct}
+use Rattle.script_run.specs.Acts.{bare_line, line_of}
+use Rattle.script_run.specs.Runs.{ObjectsState, RunState, RunEffect, core_located_effect, core_made_effect, core_place, dumped_effect, effect_of, found_core_effect, found_effect, has_image, image_effect, is_full, line_effect, located_effect, made_effect, name_effect, new_end, place_of, placed_core_effect, placed_effect, regions_of, run_tells, unnamed_effect, with_cores, with_dump, with_image, with_links, without_link_effect}
 
 -- a link of the same name with another bench
 with_bench : (now named : NamedLink) (bench : BenchState) → now.name ≡ named.name → now.bench ≡ bench → record named { bench = bench } ≡ now
@@ -32,110 +32,37 @@ with_core : (now named : NamedCoreState) (core : CoreState) → now.name ≡ nam
 with_core now named core name same =
     sym (ap (λ (n : List ℕ). record now { name = n }) name ∙ ap (λ (b : CoreState). record named { core = b }) same)
 
--- a command that isn't `image` makes none
-pub no_image : (wanted : Command) → ((name : List ℕ) (lines : List RecipeLine) → wanted ≢ command.Image name lines) → image_wanted wanted ≡ None
-no_image (command.Image name lines) other = absurd (other name lines refl)
-no_image (command.Link name to_host to_remote book) other = refl
-no_image (command.NsLink name to_host to_remote book) other = refl
-no_image (command.Caller name end) other = refl
-no_image (command.Send name caller src dst payload) other = refl
-no_image (command.Raw name caller message) other = refl
-no_image (command.Take name caller) other = refl
-no_image (command.Give name caller number) other = refl
-no_image (command.Bind name caller address) other = refl
-no_image (command.Unbind name caller address) other = refl
-no_image (command.BeginSend name caller src dst payload) other = refl
-no_image (command.BeginRaw name caller message) other = refl
-no_image (command.BeginTake name caller) other = refl
-no_image (command.BeginGive name caller number) other = refl
-no_image (command.BeginBind name caller address) other = refl
-no_image (command.BeginUnbind name caller address) other = refl
-no_image (command.Step name caller count) other = refl
-no_image (command.Finish name caller) other = refl
-no_image (command.Pump name sender receiver count) other = refl
-no_image (command.Ring name lane) other = refl
-no_image (command.Books name) other = refl
-no_image (command.Channels name) other = refl
-no_image (command.Close name) other = refl
-no_image (command.Reclaim name caller) other = refl
-no_image (command.Reopen name) other = refl
-no_image (command.Core name regions book) other = refl
-no_image (command.Region name kind da pa len) other = refl
-no_image (command.Boot name image) other = refl
-no_image (command.Handover name image) other = refl
-no_image (command.Shutdown name) other = refl
-no_image (command.Detach name) other = refl
-no_image (command.State name) other = refl
-no_image (command.Table name) other = refl
-no_image (command.Trace name index) other = refl
-no_image (command.Mem name da len) other = refl
-no_image (command.Crash name kind) other = refl
-no_image (command.Recover name) other = refl
-no_image (command.Recovery name set) other = refl
-no_image (command.Driver name channel kind) other = refl
-no_image (command.Drive name count) other = refl
-no_image (command.Dump name image) other = refl
-no_image (command.Quiet set) other = refl
-
--- what `quiet` does
-quiet_done : (run : RunState) (log : LogState) (objects : ObjectsState) (set : Switch) → objects ≡ record run.objects { is_quiet = is_on set }
-    → log.steps ≡ run.steps → HasRunEffect (quiet_effect run set) objects log log None
-unfolding quiet_effect
-quiet_done run log objects set left steps = record { objects = left; steps = steps; lines = sym (append-nil log.lines); ending = refl }
-
-module _ (fetched : Answer) (run : RunState) (wanted : Command) where
+module _ (fetched : Answer) (run : RunState) (called : List ℕ) (wanted : NamedAct (List ℕ)) where
   -- on the link at a place
-  effect_at : (place : ℕ) (named : NamedLink) → image_wanted wanted ≡ None → quiet_wanted wanted ≡ None → dump_wanted wanted ≡ None → Some place ≡ place_of run.objects.links (command_name wanted)
-      → slice_get run.objects.links place ≡ Some named → effect_of fetched run wanted ≡ placed_effect run place named (link_effect named run.steps wanted)
-  unfolding effect_of
-  effect_at place named none loud kept placed found =
-      ap (family_effect fetched run wanted) none ∙ ap (named_effect fetched run wanted) loud ∙ ap (kept_effect fetched run wanted) kept ∙ ap (located_effect fetched run wanted) (sym placed) ∙ ap (found_effect fetched run wanted place) found
+  effect_at : (place : ℕ) (named : NamedLink) → Some place ≡ place_of run.objects.links called
+      → slice_get run.objects.links place ≡ Some named → name_effect fetched run called wanted ≡ placed_effect run place named (link_effect named run.steps wanted)
+  unfolding name_effect
+  effect_at place named placed found =
+      ap (located_effect fetched run called wanted) (sym placed) ∙ ap (found_effect fetched run called wanted place) found
 
   -- on no link
-  effect_unnamed : image_wanted wanted ≡ None → quiet_wanted wanted ≡ None → dump_wanted wanted ≡ None → None ≡ place_of run.objects.links (command_name wanted) → effect_of fetched run wanted ≡ without_link_effect fetched run wanted
-  unfolding effect_of
-  effect_unnamed none loud kept placed =
-      ap (family_effect fetched run wanted) none ∙ ap (named_effect fetched run wanted) loud ∙ ap (kept_effect fetched run wanted) kept ∙ ap (located_effect fetched run wanted) (sym placed)
+  effect_unnamed : None ≡ place_of run.objects.links called → name_effect fetched run called wanted ≡ without_link_effect fetched run called wanted
+  unfolding name_effect
+  effect_unnamed placed = ap (located_effect fetched run called wanted) (sym placed)
 
   -- on the core at a place
-  effect_on_core : (place : ℕ) (named : NamedCoreState) → Some place ≡ core_place run.objects.cores (command_name wanted)
-      → slice_get run.objects.cores place ≡ Some named → without_link_effect fetched run wanted ≡ placed_core_effect run place named (core_effect run.objects.images fetched run.objects.is_quiet named run.steps wanted)
+  effect_on_core : (place : ℕ) (named : NamedCoreState) → Some place ≡ core_place run.objects.cores called
+      → slice_get run.objects.cores place ≡ Some named → without_link_effect fetched run called wanted ≡ placed_core_effect run place named (core_effect run.objects.images fetched run.objects.is_quiet named run.steps wanted)
   unfolding without_link_effect
   effect_on_core place named placed found =
-      ap (core_located_effect fetched run wanted) (sym placed) ∙ ap (found_core_effect fetched run wanted place) found
+      ap (core_located_effect fetched run called wanted) (sym placed) ∙ ap (found_core_effect fetched run called wanted place) found
 
   -- on no core
-  effect_on_none : None ≡ core_place run.objects.cores (command_name wanted) → without_link_effect fetched run wanted ≡ unnamed_effect run wanted
+  effect_on_none : None ≡ core_place run.objects.cores called → without_link_effect fetched run called wanted ≡ unnamed_effect run called wanted
   unfolding without_link_effect
-  effect_on_none placed = ap (core_located_effect fetched run wanted) (sym placed)
-
-  -- that makes an image
-  effect_image : (name : List ℕ) (lines : List RecipeLine) → wanted ≡ command.Image name lines → effect_of fetched run wanted ≡ image_effect run name lines
-  unfolding effect_of
-  effect_image name lines is = ap (λ (c : Command). family_effect fetched run wanted (image_wanted c)) is
-
-  -- that says whether drives are quiet
-  effect_quiet : (set : Switch) → wanted ≡ command.Quiet set → effect_of fetched run wanted ≡ quiet_effect run set
-  unfolding effect_of
-  effect_quiet set is = ap (λ (c : Command). family_effect fetched run c (image_wanted c)) is
-
-  -- that dumps a core
-  effect_dump : (name image : List ℕ) → wanted ≡ command.Dump name image → effect_of fetched run wanted ≡ dump_effect run name image
-  unfolding effect_of
-  effect_dump name image is = ap (λ (c : Command). family_effect fetched run c (image_wanted c)) is
-
-  -- drives are quiet from now on, or are not
-  pub quiet_run : (log : LogState) (objects : ObjectsState) (set : Switch) → wanted ≡ command.Quiet set → objects ≡ record run.objects { is_quiet = is_on set }
-      → log.steps ≡ run.steps → HasRunEffect (effect_of fetched run wanted) objects log log None
-  quiet_run log objects set is left steps =
-      subst (λ (e : RunEffect). HasRunEffect e objects log log None) (sym (effect_quiet set is)) (quiet_done run log objects set left steps)
+  effect_on_none placed = ap (core_located_effect fetched run called wanted) (sym placed)
 
   module _ (before after : LogState) (answer : Option Stop) where
     -- what the link at a place did is what the run did
-    pub placed_run : (place : ℕ) (named now : NamedLink) → image_wanted wanted ≡ None → quiet_wanted wanted ≡ None → dump_wanted wanted ≡ None → Some place ≡ place_of run.objects.links (command_name wanted)
+    pub placed_run : (place : ℕ) (named now : NamedLink) → Some place ≡ place_of run.objects.links called
         → slice_get run.objects.links place ≡ Some named → now.name ≡ named.name → HasEffect (link_effect named run.steps wanted) now.bench before after answer
-        → HasRunEffect (effect_of fetched run wanted) (record run.objects { links = slice_set run.objects.links place now }) before after answer
-    placed_run place named now none loud kept placed found name did =
+        → HasRunEffect (name_effect fetched run called wanted) (record run.objects { links = slice_set run.objects.links place now }) before after answer
+    placed_run place named now placed found name did =
         let effect = link_effect named run.steps wanted in
         let done : HasRunEffect (placed_effect run place named effect) (record run.objects { links = slice_set run.objects.links place now }) before after answer =
         record {
@@ -144,18 +71,18 @@ module _ (fetched : Answer) (run : RunState) (wanted : Command) where
           lines = did.lines;
           ending = did.ending;
         } in
-        subst (λ (e : RunEffect). HasRunEffect e (record run.objects { links = slice_set run.objects.links place now }) before after answer) (sym (effect_at place named none loud kept placed found)) done
+        subst (λ (e : RunEffect). HasRunEffect e (record run.objects { links = slice_set run.objects.links place now }) before after answer) (sym (effect_at place named placed found)) done
 
     -- what was done without a link of the name is what the run did
-    pub unnamed_run : (objects : ObjectsState) → image_wanted wanted ≡ None → quiet_wanted wanted ≡ None → dump_wanted wanted ≡ None → None ≡ place_of run.objects.links (command_name wanted)
-        → HasRunEffect (without_link_effect fetched run wanted) objects before after answer → HasRunEffect (effect_of fetched run wanted) objects before after answer
-    unnamed_run objects none loud kept placed did =
-        subst (λ (e : RunEffect). HasRunEffect e objects before after answer) (sym (effect_unnamed none loud kept placed)) did
+    pub unnamed_run : (objects : ObjectsState) → None ≡ place_of run.objects.links called
+        → HasRunEffect (without_link_effect fetched run called wanted) objects before after answer → HasRunEffect (name_effect fetched run called wanted) objects before after answer
+    unnamed_run objects placed did =
+        subst (λ (e : RunEffect). HasRunEffect e objects before after answer) (sym (effect_unnamed placed)) did
 
     -- what the core at a place did is what the run did
-    pub core_run : (place : ℕ) (named now : NamedCoreState) → Some place ≡ core_place run.objects.cores (command_name wanted)
+    pub core_run : (place : ℕ) (named now : NamedCoreState) → Some place ≡ core_place run.objects.cores called
         → slice_get run.objects.cores place ≡ Some named → now.name ≡ named.name → HasCoreEffect (core_effect run.objects.images fetched run.objects.is_quiet named run.steps wanted) now.core before after answer
-        → HasRunEffect (without_link_effect fetched run wanted) (record run.objects { cores = slice_set run.objects.cores place now }) before after answer
+        → HasRunEffect (without_link_effect fetched run called wanted) (record run.objects { cores = slice_set run.objects.cores place now }) before after answer
     core_run place named now placed found name did =
         let effect = core_effect run.objects.images fetched run.objects.is_quiet named run.steps wanted in
         let done : HasRunEffect (placed_core_effect run place named effect) (record run.objects { cores = slice_set run.objects.cores place now }) before after answer =
@@ -168,22 +95,20 @@ module _ (fetched : Answer) (run : RunState) (wanted : Command) where
         subst (λ (e : RunEffect). HasRunEffect e (record run.objects { cores = slice_set run.objects.cores place now }) before after answer) (sym (effect_on_core place named placed found)) done
 
     -- what was done without a link or a core of the name is what the run did
-    pub nameless_run : (objects : ObjectsState) → None ≡ core_place run.objects.cores (command_name wanted)
-        → HasRunEffect (unnamed_effect run wanted) objects before after answer → HasRunEffect (without_link_effect fetched run wanted) objects before after answer
+    pub nameless_run : (objects : ObjectsState) → None ≡ core_place run.objects.cores called
+        → HasRunEffect (unnamed_effect run called wanted) objects before after answer → HasRunEffect (without_link_effect fetched run called wanted) objects before after answer
     nameless_run objects placed did =
         subst (λ (e : RunEffect). HasRunEffect e objects before after answer) (sym (effect_on_none placed)) did
 
-    -- an image was made, or was made before
-    pub image_run : (objects : ObjectsState) (name : List ℕ) (lines : List RecipeLine) → wanted ≡ command.Image name lines
-        → HasRunEffect (image_effect run name lines) objects before after answer → HasRunEffect (effect_of fetched run wanted) objects before after answer
-    image_run objects name lines is did =
-        subst (λ (e : RunEffect). HasRunEffect e objects before after answer) (sym (effect_image name lines is)) did
+-- ---- a line that code made of a command
 
-    -- a core was dumped, or was not
-    pub dump_run : (objects : ObjectsState) (name image : List ℕ) → wanted ≡ command.Dump name image
-        → HasRunEffect (dump_effect run name image) objects before after answer → HasRunEffect (effect_of fetched run wanted) objects before after answer
-    dump_run objects name image is did =
-        subst (λ (e : RunEffect). HasRunEffect e objects before after answer) (sym (effect_dump name image is)) did
+module _ {R P : Type 0} (recipe : R → List RecipeLine) (bytes : P → List ℕ) (fetched : Answer) (run : RunState) (wanted : Command) (made : Line R P)
+    (is : bare_line recipe bytes made ≡ line_of wanted) (objects : ObjectsState) (before after : LogState) (answer : Option Stop) where
+  -- what the line does is what the command does
+  pub line_run : HasRunEffect (line_effect fetched run (bare_line recipe bytes made)) objects before after answer
+      → HasRunEffect (effect_of fetched run wanted) objects before after answer
+  unfolding effect_of
+  line_run did = subst (λ (l : Line (List RecipeLine) (List ℕ)). HasRunEffect (line_effect fetched run l) objects before after answer) is did
 
 module _ (run : RunState) (objects : ObjectsState) (before after : LogState) where
   -- one event is told, with which a run goes on

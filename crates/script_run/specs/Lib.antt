@@ -3,9 +3,9 @@ pub mod NamedLinks
 pub mod NamedCores
 pub mod NamedImages
 pub mod Stores
+pub mod Acts
 pub mod CallEvents
 pub mod Effects
-pub mod Pumps
 pub mod RingDumps
 pub mod Recoveries
 pub mod ChannelLists

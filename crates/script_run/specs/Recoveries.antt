@@ -1,21 +1,16 @@
--- What a close, a reclaim and a reopening of a link leave of it and tell (own).
-use Rattle.std.specs.Prelude.{ℕ, ◌+◌, ◌==◌, List, [], ◌∷◌, Option, Some, None, Result, Ok, Err, if◌then◌else◌}
+-- What a close and a reopening of a link leave of it and tell (own).
+use Rattle.std.specs.Prelude.{ℕ, ◌+◌, ◌==◌, List, [], ◌∷◌, Option, Some, None, if◌then◌else◌}
 use Rattle.rp_base.specs.declared.limits.TheConstants.{STEPS_MOST}
 use Rattle.rp_base.specs.declared.kinds.Era.{Era}
 use Rattle.lane_model.specs.declared.recoveries.ReopenFault.{ReopenFault}
 use Rattle.lane_model.specs.declared.recoveries.ReopenFault.TheVariants as reopen_fault
-use Rattle.lane_model.specs.Links.{end_of}
-use Rattle.lane_model.specs.Recoveries.{unclosed_by, unopened_by, unreclaimed_by}
+use Rattle.lane_model.specs.Recoveries.{unclosed_by, unopened_by}
 use Rattle.journal.specs.declared.events.Event.{Event}
 use Rattle.journal.specs.declared.events.Event.TheVariants as event
 use Rattle.script_run.specs.declared.statuses.Stop.TheVariants as stop
-use Rattle.link_bench.specs.declared.benches.BenchFault.{BenchFault}
-use Rattle.link_bench.specs.declared.bench_crashes.Reclaim.{Reclaim}
-use Rattle.link_bench.specs.declared.bench_crashes.Reclaim.TheVariants as reclaim
 use Rattle.link_bench.specs.Benches.{BenchState}
-use Rattle.link_bench.specs.BenchCrashes.{after_close, after_reopen, reclaim_answer, reclaim_leaves}
-use Rattle.script_run.specs.CallEvents.{fault_event}
-use Rattle.script_run.specs.Effects.{Effect, tells}
+use Rattle.link_bench.specs.BenchCrashes.{after_close, after_reopen}
+use Rattle.script_run.specs.Effects.{Effect, tells, tells_all}
 
 -- a close of this era, which it ended or found in this life
 abbrev pub close_event : List ℕ → Era → Option Era → Event
@@ -28,19 +23,6 @@ close_effect name bench steps =
     if steps == STEPS_MOST then record { bench = bench; steps = steps; events = []; ending = Some stop.StepLimit }
     else tells (after_close bench) (steps + 1) (close_event name bench.link.era (unclosed_by bench.link.era bench.link.era.inc))
 
--- how a reclaim ended
-abbrev pub reclaim_event : List ℕ → ℕ → Result Reclaim BenchFault → Event
-reclaim_event name caller (Ok reclaim.Done) = event.Reclaimed name caller
-reclaim_event name caller (Ok (reclaim.StillOpen era)) = event.StillOpen name era.inc
-reclaim_event name caller (Ok (reclaim.Busy holder)) = event.BusyTurn name holder
-reclaim_event name caller (Err why) = fault_event name caller why
-
--- `reclaim X C`: no step
-unfoldable pub reclaim_effect : List ℕ → BenchState → ℕ → ℕ → Effect
-reclaim_effect name bench steps caller =
-    let why = unreclaimed_by bench.link caller in
-    tells (reclaim_leaves bench caller why) steps (reclaim_event name caller (reclaim_answer (end_of bench.link.callers caller) why))
-
 -- why a link isn't opened again (want of memory isn't the link's refusal, and ends the run)
 abbrev pub reopen_events : List ℕ → ReopenFault → List Event
 reopen_events name (reopen_fault.StillOpen era) = event.StillOpen name era.inc ∷ []
@@ -52,7 +34,7 @@ reopen_events name reopen_fault.NoMemory = []
 -- a link that nothing keeps from its next incarnation, or something
 abbrev pub opened_effect : List ℕ → BenchState → ℕ → Option ReopenFault → Effect
 opened_effect name bench steps None = tells (after_reopen bench) steps (event.Open name (bench.link.era.inc + 1))
-opened_effect name bench steps (Some why) = record { bench = bench; steps = steps; events = reopen_events name why; ending = None }
+opened_effect name bench steps (Some why) = tells_all bench steps (reopen_events name why)
 
 -- `reopen X`: no step
 unfoldable pub reopen_effect : List ℕ → BenchState → ℕ → Effect

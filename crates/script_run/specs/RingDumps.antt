@@ -5,7 +5,6 @@ use Rattle.journal.specs.declared.events.Event.{Event}
 use Rattle.journal.specs.declared.events.Event.TheVariants as event
 use Rattle.link_bench.specs.Benches.{BenchState}
 use Rattle.link_bench.specs.BenchRings.{lane_bytes, turn_holder}
-use Rattle.script_run.specs.Effects.{Effect, tells}
 
 -- sixteen bytes, or what is left of the last, unless all are zero
 abbrev pub row_events : List ℕ → ℕ → List ℕ → List Event
@@ -25,11 +24,10 @@ abbrev pub ring_events : List ℕ → ℕ → List ℕ → List Event
 ring_events name lane bytes = event.Ring name lane (length bytes) ∷ dump_rows (row_count bytes) name 0 bytes
 
 -- the bytes of a ring of a link no turn of which is out
-abbrev pub shown_effect : List ℕ → BenchState → ℕ → ℕ → Option ℕ → Effect
-shown_effect name bench steps lane (Some caller) = tells bench steps (event.StillTurn name caller)
-shown_effect name bench steps lane None =
-    record { bench = bench; steps = steps; events = ring_events name lane (lane_bytes bench.rings lane); ending = None }
+abbrev pub shown_ring : List ℕ → BenchState → ℕ → Option ℕ → List Event
+shown_ring name bench lane (Some caller) = event.StillTurn name caller ∷ []
+shown_ring name bench lane None = ring_events name lane (lane_bytes bench.rings lane)
 
 -- `ring X LANE`
-unfoldable pub ring_effect : List ℕ → BenchState → ℕ → ℕ → Effect
-ring_effect name bench steps lane = shown_effect name bench steps lane (turn_holder bench.link)
+unfoldable pub bench_ring_events : List ℕ → BenchState → ℕ → List Event
+bench_ring_events name bench lane = shown_ring name bench lane (turn_holder bench.link)

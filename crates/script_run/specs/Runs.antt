@@ -31,6 +31,13 @@ use Rattle.crash_recover.specs.CoreRecoveries.{recovery_fault}
 use Rattle.endpoint_map.specs.Bindings.{no_bindings}
 use Rattle.channel_bus.specs.Sides.{EndState}
 use Rattle.link_bench.specs.Benches.{new_bench_of}
+use Rattle.script_run.specs.declared.acts.Line.{Line}
+use Rattle.script_run.specs.declared.acts.Line.TheVariants as line
+use Rattle.script_run.specs.declared.acts.Making.{Making}
+use Rattle.script_run.specs.declared.acts.Making.TheVariants as making
+use Rattle.script_run.specs.declared.acts.NamedAct.{NamedAct}
+use Rattle.script_run.specs.declared.acts.NamedAct.TheVariants as under
+use Rattle.script_run.specs.Acts.{line_of}
 use Rattle.script_run.specs.Effects.{Effect}
 use Rattle.script_run.specs.LinkCommands.{link_effect}
 
@@ -56,52 +63,6 @@ pub record RunEffect : Type 0 where
 abbrev pub run_tells : RunState → Event → RunEffect
 run_tells run told = record { run = run; events = told ∷ []; ending = None }
 
--- the name of the link or the core that a command is about
-abbrev pub command_name : Command → List ℕ
-command_name (command.Link name to_host to_remote book) = name
-command_name (command.NsLink name to_host to_remote book) = name
-command_name (command.Caller name end) = name
-command_name (command.Send name caller src dst payload) = name
-command_name (command.Raw name caller message) = name
-command_name (command.Take name caller) = name
-command_name (command.Give name caller number) = name
-command_name (command.Bind name caller address) = name
-command_name (command.Unbind name caller address) = name
-command_name (command.BeginSend name caller src dst payload) = name
-command_name (command.BeginRaw name caller message) = name
-command_name (command.BeginTake name caller) = name
-command_name (command.BeginGive name caller number) = name
-command_name (command.BeginBind name caller address) = name
-command_name (command.BeginUnbind name caller address) = name
-command_name (command.Step name caller count) = name
-command_name (command.Finish name caller) = name
-command_name (command.Pump name sender receiver count) = name
-command_name (command.Image name lines) = name
-command_name (command.Ring name lane) = name
-command_name (command.Books name) = name
-command_name (command.Channels name) = name
-command_name (command.Close name) = name
-command_name (command.Reclaim name caller) = name
-command_name (command.Reopen name) = name
-command_name (command.Core name regions book) = name
-command_name (command.Region name kind da pa len) = name
-command_name (command.Boot name image) = name
-command_name (command.Handover name image) = name
-command_name (command.Shutdown name) = name
-command_name (command.Detach name) = name
-command_name (command.State name) = name
-command_name (command.Table name) = name
-command_name (command.Trace name index) = name
-command_name (command.Mem name da len) = name
-command_name (command.Crash name kind) = name
-command_name (command.Recover name) = name
-command_name (command.Recovery name set) = name
-command_name (command.Driver name channel kind) = name
-command_name (command.Drive name count) = name
-command_name (command.Dump name image) = name
--- (a command that says whether drives are quiet is about none)
-command_name (command.Quiet set) = []
-
 -- the place of the link of this name
 abbrev pub place_of : List NamedLink → List ℕ → Option ℕ
 place_of links name = position (λ named. bytes_eq named.name name) links
@@ -113,10 +74,6 @@ core_place cores name = position (λ named. bytes_eq named.name name) cores
 -- whether there are as many links and cores as there may be
 abbrev pub is_full : ObjectsState → Bool
 is_full objects = nat_le OBJECTS_MOST (length objects.links + length objects.cores)
-
--- a link is live in incarnation 1, and its buffers begin at address 0
-abbrev pub config_of : ℕ → ℕ → ℕ → LinkConfig
-config_of to_host to_remote book = record { num0 = to_host; num1 = to_remote; book = book; first = 1; base = 0 }
 
 -- an end with no endpoint, no channel and no driver
 abbrev pub new_end : Bool → EndState
@@ -147,12 +104,18 @@ core_made_effect run name set book =
     if is_full run.objects then run_tells run event.ObjectsFull
     else run_tells (with_cores run (run.objects.cores ++ record { name = name; core = new_core (regions_of set) [] book } ∷ [])) (event.Offline name)
 
--- a command whose name no link and no core has
-unfoldable pub unnamed_effect : RunState → Command → RunEffect
-unnamed_effect run (command.Link name to_host to_remote book) = made_effect run name (config_of to_host to_remote book) false
-unnamed_effect run (command.NsLink name to_host to_remote book) = made_effect run name (config_of to_host to_remote book) true
-unnamed_effect run (command.Core name set book) = core_made_effect run name set book
-unnamed_effect run other = run_tells run (event.Unknown (command_name other))
+-- what is made under a name that no link and no core has
+abbrev pub making_effect : RunState → List ℕ → Making → RunEffect
+making_effect run name (making.Link config has_service) = made_effect run name config has_service
+making_effect run name (making.Core set book) = core_made_effect run name set book
+
+-- an act under a name that no link and no core has
+unfoldable pub unnamed_effect : RunState → List ℕ → NamedAct (List ℕ) → RunEffect
+unnamed_effect run name (under.Make made) = making_effect run name made
+unnamed_effect run name (under.Link asked) = run_tells run (event.Unknown name)
+unnamed_effect run name (under.Manage managed) = run_tells run (event.Unknown name)
+unnamed_effect run name (under.Show shown) = run_tells run (event.Unknown name)
+unnamed_effect run name (under.Core asked) = run_tells run (event.Unknown name)
 
 -- the run with what a command leaves of the link at this place
 abbrev pub placed_effect : RunState → ℕ → NamedLink → Effect → RunEffect
@@ -170,29 +133,33 @@ placed_core_effect run place named effect = record {
   ending = effect.ending;
 }
 
--- a command on the core at this place, or on none
-abbrev pub found_core_effect : Answer → RunState → Command → ℕ → Option NamedCoreState → RunEffect
-found_core_effect answer run command place None = unnamed_effect run command
-found_core_effect answer run command place (Some named) = placed_core_effect run place named (core_effect run.objects.images answer run.objects.is_quiet named run.steps command)
+-- an act on the core at this place, or on none
+abbrev pub found_core_effect : Answer → RunState → List ℕ → NamedAct (List ℕ) → ℕ → Option NamedCoreState → RunEffect
+found_core_effect answer run name act place None = unnamed_effect run name act
+found_core_effect answer run name act place (Some on) = placed_core_effect run place on (core_effect run.objects.images answer run.objects.is_quiet on run.steps act)
 
--- a command on the core of its name, or on none
-abbrev pub core_located_effect : Answer → RunState → Command → Option ℕ → RunEffect
-core_located_effect answer run command None = unnamed_effect run command
-core_located_effect answer run command (Some place) = found_core_effect answer run command place (slice_get run.objects.cores place)
+-- an act on the core of its name, or on none
+abbrev pub core_located_effect : Answer → RunState → List ℕ → NamedAct (List ℕ) → Option ℕ → RunEffect
+core_located_effect answer run name act None = unnamed_effect run name act
+core_located_effect answer run name act (Some place) = found_core_effect answer run name act place (slice_get run.objects.cores place)
 
--- a command whose name no link has
-unfoldable pub without_link_effect : Answer → RunState → Command → RunEffect
-without_link_effect answer run command = core_located_effect answer run command (core_place run.objects.cores (command_name command))
+-- an act under a name that no link has
+unfoldable pub without_link_effect : Answer → RunState → List ℕ → NamedAct (List ℕ) → RunEffect
+without_link_effect answer run name act = core_located_effect answer run name act (core_place run.objects.cores name)
 
--- a command on the link at this place, or on none
-abbrev pub found_effect : Answer → RunState → Command → ℕ → Option NamedLink → RunEffect
-found_effect answer run command place None = without_link_effect answer run command
-found_effect answer run command place (Some named) = placed_effect run place named (link_effect named run.steps command)
+-- an act on the link at this place, or on none
+abbrev pub found_effect : Answer → RunState → List ℕ → NamedAct (List ℕ) → ℕ → Option NamedLink → RunEffect
+found_effect answer run name act place None = without_link_effect answer run name act
+found_effect answer run name act place (Some on) = placed_effect run place on (link_effect on run.steps act)
 
--- a command on the link of its name, or on none
-abbrev pub located_effect : Answer → RunState → Command → Option ℕ → RunEffect
-located_effect answer run command None = without_link_effect answer run command
-located_effect answer run command (Some place) = found_effect answer run command place (slice_get run.objects.links place)
+-- an act on the link of its name, or on none
+abbrev pub located_effect : Answer → RunState → List ℕ → NamedAct (List ℕ) → Option ℕ → RunEffect
+located_effect answer run name act None = without_link_effect answer run name act
+located_effect answer run name act (Some place) = found_effect answer run name act place (slice_get run.objects.links place)
+
+-- an act under a name
+unfoldable pub name_effect : Answer → RunState → List ℕ → NamedAct (List ℕ) → RunEffect
+name_effect answer run name act = located_effect answer run name act (place_of run.objects.links name)
 
 -- the place of the image of this name
 abbrev pub image_place : List ImageState → List ℕ → Option ℕ
@@ -237,83 +204,20 @@ dumped_effect run image (Err told) = run_tells run told
 unfoldable pub dump_effect : RunState → List ℕ → List ℕ → RunEffect
 dump_effect run name image = dumped_effect run image (dump_answer run.objects name image)
 
--- the image that a command makes
-abbrev pub image_wanted : Command → Option (List ℕ × List RecipeLine)
-image_wanted (command.Image name lines) = Some (name, lines)
-image_wanted (command.Link name to_host to_remote book) = None
-image_wanted (command.NsLink name to_host to_remote book) = None
-image_wanted (command.Caller name end) = None
-image_wanted (command.Send name caller src dst payload) = None
-image_wanted (command.Raw name caller message) = None
-image_wanted (command.Take name caller) = None
-image_wanted (command.Give name caller number) = None
-image_wanted (command.Bind name caller address) = None
-image_wanted (command.Unbind name caller address) = None
-image_wanted (command.BeginSend name caller src dst payload) = None
-image_wanted (command.BeginRaw name caller message) = None
-image_wanted (command.BeginTake name caller) = None
-image_wanted (command.BeginGive name caller number) = None
-image_wanted (command.BeginBind name caller address) = None
-image_wanted (command.BeginUnbind name caller address) = None
-image_wanted (command.Step name caller count) = None
-image_wanted (command.Finish name caller) = None
-image_wanted (command.Pump name sender receiver count) = None
-image_wanted (command.Ring name lane) = None
-image_wanted (command.Books name) = None
-image_wanted (command.Channels name) = None
-image_wanted (command.Close name) = None
-image_wanted (command.Reclaim name caller) = None
-image_wanted (command.Reopen name) = None
-image_wanted (command.Core name regions book) = None
-image_wanted (command.Region name kind da pa len) = None
-image_wanted (command.Boot name image) = None
-image_wanted (command.Handover name image) = None
-image_wanted (command.Shutdown name) = None
-image_wanted (command.Detach name) = None
-image_wanted (command.State name) = None
-image_wanted (command.Table name) = None
-image_wanted (command.Trace name index) = None
-image_wanted (command.Mem name da len) = None
-image_wanted (command.Crash name kind) = None
-image_wanted (command.Recover name) = None
-image_wanted (command.Recovery name set) = None
-image_wanted (command.Driver name channel kind) = None
-image_wanted (command.Drive name count) = None
-image_wanted (command.Dump name image) = None
-image_wanted (command.Quiet set) = None
-
--- the switch of a command that says whether drives are quiet
-abbrev pub quiet_wanted : Command → Option Switch
-quiet_wanted (command.Quiet set) = Some set
-quiet_wanted other = None
-
 -- `quiet SWITCH`, which tells nothing
 unfoldable pub quiet_effect : RunState → Switch → RunEffect
 quiet_effect run set = record { run = record run { objects = record run.objects { is_quiet = is_on set } }; events = []; ending = None }
 
--- the core that a command dumps, and the name of the image that the dump becomes
-abbrev pub dump_wanted : Command → Option (List ℕ × List ℕ)
-dump_wanted (command.Dump name image) = Some (name, image)
-dump_wanted other = None
-
--- a core is dumped, or a command is about a link or a core
-abbrev pub kept_effect : Answer → RunState → Command → Option (List ℕ × List ℕ) → RunEffect
-kept_effect answer run command (Some names) = dump_effect run names.0 names.1
-kept_effect answer run command None = located_effect answer run command (place_of run.objects.links (command_name command))
-
--- drives are quiet from now on or are not, or a command does something else
-abbrev pub named_effect : Answer → RunState → Command → Option Switch → RunEffect
-named_effect answer run command (Some set) = quiet_effect run set
-named_effect answer run command None = kept_effect answer run command (dump_wanted command)
-
--- an image is made, or a command does something else
-abbrev pub family_effect : Answer → RunState → Command → Option (List ℕ × List RecipeLine) → RunEffect
-family_effect answer run command (Some image) = image_effect run image.0 image.1
-family_effect answer run command None = named_effect answer run command (quiet_wanted command)
+-- what a command is about
+abbrev pub line_effect : Answer → RunState → Line (List RecipeLine) (List ℕ) → RunEffect
+line_effect answer run (line.Image name lines) = image_effect run name lines
+line_effect answer run (line.Quiet set) = quiet_effect run set
+line_effect answer run (line.Dump name image) = dump_effect run name image
+line_effect answer run (line.On name act) = name_effect answer run name act
 
 -- a command, over what the store tells of the image that it asks for
 unfoldable pub effect_of : Answer → RunState → Command → RunEffect
-effect_of answer run command = family_effect answer run command (image_wanted command)
+effect_of answer run command = line_effect answer run (line_of command)
 
 -- the name of an image that the script didn't make (a name is a text, by the grammar)
 abbrev pub outside_image : List ImageState → List ℕ → Option (List ℕ)

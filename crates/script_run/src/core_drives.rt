@@ -8,7 +8,7 @@ ghost use Rattle.rp_base.specs.declared.kinds.CrashKind.TheVariants as kind;
 ghost use Rattle.script_run.specs.CoreLives.{core_stops};
 ghost use Rattle.script_run.specs.CoreDrives.{actor_end_events, crash_events, drive_effect, drive_steps, driven_events, is_crashed, rest_event, rests_or, step_events};
 
-use crate::calls::end_event;
+use crate::call_events::end_event;
 use crate::cores::NamedCore;
 use crate::logs::RunLog;
 use crate::statuses::Stop;

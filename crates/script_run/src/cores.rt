@@ -1,11 +1,11 @@
-ghost use Rattle.std.specs.Prelude.{◌≡◌, None, IfOk};
-ghost use Rattle.script_lang.specs.Runnable.{IsRunnable};
+ghost use Rattle.std.specs.Prelude.{◌≡◌, IfOk};
+ghost use Rattle.script_run.specs.Acts.{IsFitCore, IsFitNamed, bare_named};
 ghost use Rattle.script_run.specs.Logs.{HasCoreEffect};
 ghost use Rattle.script_run.specs.CoreEffects.{core_tells, driver_effect, is_on, recovery_effect, region_effect, state_effect};
-ghost use Rattle.script_run.specs.CoreCommands.{core_effect};
-ghost use Rattle.script_run.specs.Runs.{image_wanted};
+ghost use Rattle.script_run.specs.CoreCommands.{core_act_effect, core_effect};
 ghost use Rattle.script_run.specs.Fetches.{answer_of};
 
+use crate::acts::{CoreAct, NamedAct};
 use crate::fetches::Fetched;
 use crate::logs::RunLog;
 use crate::objects::ScriptImage;
@@ -14,7 +14,6 @@ use crash_recover::{AddFault, Core};
 use journal::Event;
 use memory_pool::Region;
 use rp_base::{DriverKind, Name, NoMemory, Switch};
-use script_lang::Command;
 use std::marker::Model;
 
 /// A core of a script, with its name.
@@ -33,62 +32,60 @@ impl Model for NamedCore {
 }
 
 impl NamedCore {
-    /// Runs a command on this core, over the images that the script made, what was told of the one
-    /// that the command asks for, and whether drives are quiet: tells how it ended, and answers why
-    /// the run stops in its midst, if it does.
+    /// Does what is asked under the name of this core, over the images that the script made, what was
+    /// told of the one that is asked for, and whether drives are quiet: tells what came of it, and
+    /// answers why the run stops in its midst, if it does.
     #[tactic(auto, unfolding(crate::specs::CoreCommands::core_effect))]
     pub(crate) fn run(
         &mut self,
-        command: &Command,
+        act: &NamedAct<&[u8]>,
         images: &[ScriptImage],
         fetched: &Fetched,
         is_quiet: bool,
         log: &mut RunLog,
     ) -> Result<Option<Stop>, NoMemory>
-        requires runnable { IsRunnable command.now }
-        requires family { image_wanted command.now ≡ None }
+        requires fit { IsFitNamed (bare_named (λ bytes. bytes.now) act.now) }
         ensures name { self.new.name ≡ self.old.name }
-        ensures effect { IfOk result (λ ending. HasCoreEffect (core_effect images.now (answer_of fetched.now) is_quiet self.old log.old.steps command.now) self.new.core log.old log.new ending) }
+        ensures effect { IfOk result (λ ending. HasCoreEffect (core_effect images.now (answer_of fetched.now) is_quiet self.old log.old.steps (bare_named (λ bytes. bytes.now) act.now)) self.new.core log.old log.new ending) }
     {
-        match command {
-            Command::Link { .. } | Command::NsLink { .. } | Command::Core { .. } => self.tell(
-                &Event::Exists { name: self.name },
-                log,
-            ),
-            Command::Region {
-                kind,
-                da,
-                pa,
-                len,
-                ..
-            } => {
-                let region = Region {
-                    kind: *kind,
-                    da: *da as u32,
-                    pa: *pa as u32,
-                    len: *len as u32,
-                };
-                self.add_region(region, log)
-            }
-            Command::Driver { channel, kind, .. } => self.add_driver(*channel, *kind, log),
-            Command::Drive { count, .. } => self.drive(*count, is_quiet, log),
-            Command::State { .. } => self.tell_state(log),
-            Command::Boot { image, .. } => self.boot(*image, images, fetched, log),
-            Command::Handover { image, .. } => self.handover(*image, images, fetched, log),
-            Command::Shutdown { .. } => self.shutdown(log),
-            Command::Detach { .. } => self.detach(log),
-            Command::Crash { kind, .. } => self.crash(*kind, log),
-            Command::Recover { .. } => self.recover(images, fetched, log),
-            Command::Table { .. } => self.tell_table(log),
-            Command::Trace { trace: index, .. } => self.tell_trace(*index, log),
-            Command::Mem { da, len, .. } => self.tell_memory(*da as u32, *len as u32, log),
-            Command::Recovery { switch, .. } => self.set_recovery(*switch, log),
-            Command::Close { .. } | Command::Reopen { .. } | Command::Dump { .. } => self.tell(
-                &Event::Unknown { name: self.name },
-                log,
-            ),
-            Command::Ring { lane, .. } => self.tell_ring(*lane, log),
-            _ => self.run_on_link(command, log),
+        match act {
+            NamedAct::Make(_) => self.tell(&Event::Exists { name: self.name }, log),
+            NamedAct::Link(act) => self.act(act, log),
+            NamedAct::Manage(_) => self.tell(&Event::Unknown { name: self.name }, log),
+            NamedAct::Show(view) => self.show(*view, log),
+            NamedAct::Core(act) => self.run_core(*act, images, fetched, is_quiet, log),
+        }
+    }
+
+    /// Does an act on the core.
+    #[tactic(auto, unfolding(crate::specs::CoreCommands::core_act_effect))]
+    fn run_core(
+        &mut self,
+        act: CoreAct,
+        images: &[ScriptImage],
+        fetched: &Fetched,
+        is_quiet: bool,
+        log: &mut RunLog,
+    ) -> Result<Option<Stop>, NoMemory>
+        requires fit { IsFitCore act }
+        ensures name { self.new.name ≡ self.old.name }
+        ensures effect { IfOk result (λ ending. HasCoreEffect (core_act_effect images.now (answer_of fetched.now) is_quiet self.old log.old.steps act) self.new.core log.old log.new ending) }
+    {
+        match act {
+            CoreAct::Region(region) => self.add_region(region, log),
+            CoreAct::Driver { channel, kind } => self.add_driver(channel, kind, log),
+            CoreAct::Boot { image } => self.boot(image, images, fetched, log),
+            CoreAct::Handover { image } => self.handover(image, images, fetched, log),
+            CoreAct::Shutdown => self.shutdown(log),
+            CoreAct::Detach => self.detach(log),
+            CoreAct::State => self.tell_state(log),
+            CoreAct::Table => self.tell_table(log),
+            CoreAct::Trace { trace } => self.tell_trace(trace, log),
+            CoreAct::Mem { da, len } => self.tell_memory(da, len, log),
+            CoreAct::Crash { kind } => self.crash(kind, log),
+            CoreAct::Recover => self.recover(images, fetched, log),
+            CoreAct::Recovery { switch } => self.set_recovery(switch, log),
+            CoreAct::Drive { count } => self.drive(count, is_quiet, log),
         }
     }
 

@@ -1,10 +1,11 @@
 // The top call of rproc: it runs a script over links and writes the transcript, or reports whether an image loads.
 #![tactic(auto)]
 
+mod act_events;
+mod acts;
 mod audits;
-mod calls;
+mod call_events;
 mod channel_lists;
-mod core_calls;
 mod core_drives;
 mod core_links;
 mod core_lives;
@@ -18,7 +19,6 @@ mod links;
 mod logs;
 mod objects;
 mod program;
-mod pumps;
 mod recoveries;
 mod reports;
 mod rings;
@@ -26,6 +26,7 @@ mod runs;
 mod statuses;
 mod words;
 
+pub use acts::{CoreAct, Line, LinkView, Making, ManagerAct, NamedAct};
 pub use cores::NamedCore;
 pub use fetches::Fetched;
 pub use links::NamedBench;

@@ -1,19 +1,21 @@
-ghost use Rattle.std.specs.Prelude.{◌≡◌, ◌-◌, ◌<◌, IfOk, None};
-ghost use Rattle.script_lang.specs.Runnable.{IsRunnable};
+ghost use Rattle.std.specs.Prelude.{◌≡◌, ◌++◌, IfOk, OnOk};
+ghost use Rattle.journal.specs.Lines.{transcript};
 ghost use Rattle.journal.specs.declared.events.Event.TheVariants as event;
+ghost use Rattle.link_bench.specs.Acts.{IsFitAct, bare_act};
+ghost use Rattle.script_run.specs.Acts.{IsFitNamed, IsFitView, bare_named};
+ghost use Rattle.script_run.specs.Effects.{act_effect, tells};
+ghost use Rattle.script_run.specs.LinkCommands.{link_effect, manager_effect, view_events};
 ghost use Rattle.script_run.specs.Logs.{HasEffect};
-ghost use Rattle.script_run.specs.Effects.{books_effect, caller_effect, tells};
-ghost use Rattle.script_run.specs.LinkCommands.{link_effect};
-ghost use Rattle.script_run.specs.Runs.{image_wanted};
 
-use crate::calls::message_of;
+use crate::act_events::tell_answer;
+use crate::acts::{LinkView, ManagerAct, NamedAct};
+use crate::channel_lists::tell_channels;
 use crate::logs::RunLog;
+use crate::rings::tell_ring;
 use crate::statuses::Stop;
-use crash_recover::Bench;
+use crash_recover::{Bench, LinkAct, Nobody};
 use journal::Event;
-use lane_model::Wish;
-use rp_base::{CallerNo, End, Name, NoMemory};
-use script_lang::Command;
+use rp_base::{Name, NoMemory};
 use std::marker::Model;
 
 /// A link of a script, with its name.
@@ -32,110 +34,50 @@ impl Model for NamedBench {
 }
 
 impl NamedBench {
-    /// Runs a command on this link: tells how it ended, and answers the status where the run ends in
-    /// its midst.
+    /// Does what is asked under the name of this link: tells what came of it, and answers why the run
+    /// stops in its midst, if it does.
     #[tactic(auto, unfolding(crate::specs::LinkCommands::link_effect))]
     pub(crate) fn run(
         &mut self,
-        command: &Command,
+        act: &NamedAct<&[u8]>,
         log: &mut RunLog,
     ) -> Result<Option<Stop>, NoMemory>
-        requires runnable { IsRunnable command.now }
-        requires family { image_wanted command.now ≡ None }
+        requires fit { IsFitNamed (bare_named (λ bytes. bytes.now) act.now) }
         ensures name { self.new.name ≡ self.old.name }
-        ensures effect { IfOk result (λ ending. HasEffect (link_effect self.old log.old.steps command.now) self.new.bench log.old log.new ending) }
+        ensures effect { IfOk result (λ ending. HasEffect (link_effect self.old log.old.steps (bare_named (λ bytes. bytes.now) act.now)) self.new.bench log.old log.new ending) }
     {
-        match command {
-            Command::Link { .. } | Command::NsLink { .. } | Command::Core { .. } => self.tell(
-                &Event::Exists { name: self.name },
-                log,
-            ),
-            Command::Caller { end, .. } => self.make_caller(*end, log),
-            Command::Send {
-                caller,
-                source: src,
-                destination: dst,
-                payload,
-                ..
-            } => { self.send(*caller as CallerNo, *src as u32, *dst as u32, payload, log) }
-            Command::Raw {
-                caller,
-                message,
-                ..
-            } => self.raw(*caller as CallerNo, message, log),
-            Command::Take { caller, .. } => self.call_plain(*caller as CallerNo, &Wish::Take, log),
-            Command::Give { caller, number, .. } => self.give(*caller as CallerNo, *number, log),
-            Command::Bind {
-                caller,
-                address,
-                ..
-            } => { self.call_plain(*caller as CallerNo, &Wish::Bind(*address as u32), log) }
-            Command::Unbind {
-                caller,
-                address,
-                ..
-            } => { self.call_plain(*caller as CallerNo, &Wish::Unbind(*address as u32), log) }
-            Command::BeginSend {
-                caller,
-                source: src,
-                destination: dst,
-                payload,
-                ..
-            } => { self.begin_send(*caller as CallerNo, *src as u32, *dst as u32, payload, log) }
-            Command::BeginRaw {
-                caller,
-                message,
-                ..
-            } => { self.begin_plain(*caller as CallerNo, Wish::Send(message_of(message)), log) }
-            Command::BeginTake { caller, .. } => {
-                self.begin_plain(*caller as CallerNo, Wish::Take, log)
+        match act {
+            NamedAct::Make(_) => self.tell(&Event::Exists { name: self.name }, log),
+            NamedAct::Link(act) => self.act(act, log),
+            NamedAct::Manage(act) => self.manage(*act, log),
+            NamedAct::Show(view) => {
+                tell_view(self.name, &self.bench, *view, log)?;
+                Ok(None)
             }
-            Command::BeginGive { caller, number, .. } => {
-                self.begin_give(*caller as CallerNo, *number, log)
-            }
-            Command::BeginBind {
-                caller,
-                address,
-                ..
-            } => { self.begin_plain(*caller as CallerNo, Wish::Bind(*address as u32), log) }
-            Command::BeginUnbind {
-                caller,
-                address,
-                ..
-            } => { self.begin_plain(*caller as CallerNo, Wish::Unbind(*address as u32), log) }
-            Command::Step { caller, count, .. } => {
-                self.advance(*caller as CallerNo, *count - 1, log)
-            }
-            Command::Finish { caller, .. } => self.advance(*caller as CallerNo, 6, log),
-            Command::Pump {
-                sender,
-                receiver,
-                count,
-                ..
-            } => { self.pump(*sender as CallerNo, *receiver as CallerNo, *count, log) }
-            Command::Ring { lane, .. } => self.tell_ring(*lane, log),
-            Command::Image { .. } => unreachable!(),
-            Command::Books { .. } => self.tell_books(log),
-            Command::Channels { .. } => self.tell_channels(log),
-            Command::Close { .. } => self.close(log),
-            Command::Reclaim { caller, .. } => self.reclaim(*caller as CallerNo, log),
-            Command::Reopen { .. } => self.reopen(log),
-            Command::Region { .. }
-            | Command::Driver { .. }
-            | Command::Drive { .. }
-            | Command::Quiet { .. }
-            | Command::Boot { .. }
-            | Command::Handover { .. }
-            | Command::Shutdown { .. }
-            | Command::Detach { .. }
-            | Command::State { .. }
-            | Command::Table { .. }
-            | Command::Trace { .. }
-            | Command::Mem { .. }
-            | Command::Crash { .. }
-            | Command::Recover { .. }
-            | Command::Recovery { .. }
-            | Command::Dump { .. } => self.tell(&Event::Unknown { name: self.name }, log),
+            NamedAct::Core(_) => self.tell(&Event::Unknown { name: self.name }, log),
+        }
+    }
+
+    /// Does an act on the link for its callers.
+    fn act(&mut self, act: &LinkAct<&[u8]>, log: &mut RunLog) -> Result<Option<Stop>, NoMemory>
+        requires fit { IsFitAct (bare_act (λ bytes. bytes.now) act.now) }
+        ensures name { self.new.name ≡ self.old.name }
+        ensures effect { IfOk result (λ ending. HasEffect (act_effect self.old.name self.old.bench log.old.steps (bare_act (λ bytes. bytes.now) act.now)) self.new.bench log.old log.new ending) }
+    {
+        let mut steps = log.steps();
+        let answer = self.bench.act(0, &mut Nobody, act, &mut steps)?;
+        log.set_steps(steps);
+        tell_answer(self.name, &self.bench, &answer, log)
+    }
+
+    /// Closes the link or opens it again.
+    fn manage(&mut self, act: ManagerAct, log: &mut RunLog) -> Result<Option<Stop>, NoMemory>
+        ensures name { self.new.name ≡ self.old.name }
+        ensures effect { IfOk result (λ ending. HasEffect (manager_effect self.old.name self.old.bench log.old.steps act) self.new.bench log.old log.new ending) }
+    {
+        match act {
+            ManagerAct::Close => self.close(log),
+            ManagerAct::Reopen => self.reopen(log),
         }
     }
 
@@ -147,36 +89,26 @@ impl NamedBench {
         log.tell(event)?;
         Ok(None)
     }
+}
 
-    /// A new caller at an end.
-    #[tactic(auto, unfolding(crate::specs::Effects::caller_effect))]
-    fn make_caller(&mut self, end: End, log: &mut RunLog) -> Result<Option<Stop>, NoMemory>
-        ensures name { self.new.name ≡ self.old.name }
-        ensures effect { IfOk result (λ ending. HasEffect (caller_effect self.old.name self.old.bench log.old.steps end) self.new.bench log.old log.new ending) }
-    {
-        match self.bench.caller(end) {
-            None => self.tell(&Event::CallersFull { name: self.name }, log),
-            Some(number) => self.tell(
-                &Event::Caller {
-                    name: self.name,
-                    caller: u64::from(number),
-                    end,
-                },
-                log,
-            ),
+/// Tells what a link shows.
+#[tactic(auto, unfolding(crate::specs::LinkCommands::view_events))]
+pub(crate) fn tell_view(
+    name: Name,
+    bench: &Bench,
+    view: LinkView,
+    log: &mut RunLog,
+) -> Result<(), NoMemory>
+    requires { IsFitView view }
+    ensures { OnOk result (log.new ≡ record log.old { lines = log.old.lines ++ transcript (view_events name bench.now view) }) }
+{
+    match view {
+        LinkView::Books => {
+            log.tell(&lane_event(name, 0, bench.counts(0)))?;
+            log.tell(&lane_event(name, 1, bench.counts(1)))
         }
-    }
-
-    /// Tells the counts of both lanes.
-    #[tactic(auto, unfolding(crate::specs::Effects::books_effect))]
-    fn tell_books(&mut self, log: &mut RunLog) -> Result<Option<Stop>, NoMemory>
-        ensures same { self.new ≡ self.old }
-        ensures effect { IfOk result (λ ending. HasEffect (books_effect self.old.name self.old.bench log.old.steps) self.new.bench log.old log.new ending) }
-    {
-        let (name, to_host, to_remote) = (self.name, self.bench.counts(0), self.bench.counts(1));
-        log.tell(&lane_event(name, 0, to_host))?;
-        log.tell(&lane_event(name, 1, to_remote))?;
-        Ok(None)
+        LinkView::Ring { lane } => tell_ring(name, bench, lane, log),
+        LinkView::Channels => tell_channels(name, bench, log),
     }
 }
 

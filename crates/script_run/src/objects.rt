@@ -1,11 +1,13 @@
-ghost use Rattle.std.specs.Prelude.{◌≡◌, ◌<◌, IfOk, IfSome, None, false, length};
+ghost use Rattle.std.specs.Prelude.{◌≡◌, ◌<◌, IfOk, IfSome, false, length};
 ghost use Rattle.std.specs.Option.{option_copied};
 ghost use Rattle.lane_model.specs.Conditions.{IsConfig};
 ghost use Rattle.script_lang.specs.Runnable.{IsBook, IsRunnable};
+ghost use Rattle.script_run.specs.Acts.{IsFitNamed, bare_named};
 ghost use Rattle.script_run.specs.Logs.{HasRunEffect};
-ghost use Rattle.script_run.specs.Runs.{command_name, config_of, core_made_effect, core_place, without_link_effect, is_full, regions_of, asked_name, core_named, find_core, outside_image, effect_of, has_image, image_effect, image_place, image_wanted, made_effect, dump_wanted, new_run, place_of, quiet_wanted, unnamed_effect};
+ghost use Rattle.script_run.specs.Runs.{core_made_effect, core_place, without_link_effect, is_full, regions_of, asked_name, core_named, find_core, outside_image, effect_of, has_image, image_effect, image_place, made_effect, name_effect, new_run, place_of, quiet_effect, unnamed_effect};
 ghost use Rattle.script_run.specs.Fetches.{answer_of};
 
+use crate::acts::{Line, Making, NamedAct, line_of};
 use crate::cores::{NamedCore, is_on};
 use crate::fetches::Fetched;
 use crate::links::NamedBench;
@@ -16,7 +18,7 @@ use crash_recover::{Bench, Core};
 use journal::Event;
 use lane_model::LinkConfig;
 use memory_pool::Regions;
-use rp_base::{LifeState, Name, NoMemory, OBJECTS_MOST};
+use rp_base::{LifeState, Name, NoMemory, OBJECTS_MOST, Switch};
 use script_lang::{Command, Recipe, RegionSet};
 use std::alloc::Global;
 use std::marker::Model;
@@ -56,6 +58,7 @@ impl Objects {
 
     /// Runs one command over what was told of the image that it asks for, tells its events, and
     /// answers why the run stops in its midst, if it does.
+    #[tactic(auto, unfolding(crate::specs::Runs::effect_of))]
     pub(crate) fn run(
         &mut self,
         command: &Command,
@@ -65,15 +68,22 @@ impl Objects {
         requires { IsRunnable command.now }
         ensures { IfOk result (λ ending. HasRunEffect (effect_of (answer_of fetched.now) (record { objects = self.old; steps = log.old.steps }) command.now) self.new log.old log.new ending) }
     {
-        match command {
-            Command::Image { name, recipe } => self.make_image(*name, recipe, log),
-            Command::Quiet { switch } => {
-                self.is_quiet = is_on(*switch);
-                Ok(None)
-            }
-            Command::Dump { name, image } => self.dump(*name, *image, log),
-            _ => self.run_on_links(command, fetched, log),
+        match line_of(command) {
+            Line::Image { name, recipe } => self.make_image(name, recipe, log),
+            Line::Quiet { switch } => self.set_quiet(switch, log),
+            Line::Dump { name, image } => self.dump(name, image, log),
+            Line::On { name, act } => self.run_on_links(name, &act, fetched, log),
         }
+    }
+
+    /// Has drives write no lines of their calls from now on, or write them.
+    #[tactic(auto, unfolding(crate::specs::Runs::quiet_effect))]
+    fn set_quiet(&mut self, switch: Switch, log: &mut RunLog) -> Result<Option<Stop>, NoMemory>
+        ensures { IfOk result (λ ending. HasRunEffect (quiet_effect (record { objects = self.old; steps = log.old.steps }) switch) self.new log.old log.new ending) }
+    {
+        let _ = log.steps();
+        self.is_quiet = is_on(switch);
+        Ok(None)
     }
 
     /// The name of the image for which a command asks the store: one that a core needs, and that the
@@ -119,81 +129,66 @@ impl Objects {
         }
     }
 
-    /// Runs a command that is about a link or a core.
+    /// Does what is asked under a name.
     fn run_on_links(
         &mut self,
-        command: &Command,
+        name: Name,
+        act: &NamedAct<&[u8]>,
         fetched: &Fetched,
         log: &mut RunLog,
     ) -> Result<Option<Stop>, NoMemory>
-        requires runnable { IsRunnable command.now }
-        requires family { image_wanted command.now ≡ None }
-        requires named { quiet_wanted command.now ≡ None }
-        requires kept { dump_wanted command.now ≡ None }
-        ensures { IfOk result (λ ending. HasRunEffect (effect_of (answer_of fetched.now) (record { objects = self.old; steps = log.old.steps }) command.now) self.new log.old log.new ending) }
+        requires fit { IsFitNamed (bare_named (λ bytes. bytes.now) act.now) }
+        ensures { IfOk result (λ ending. HasRunEffect (name_effect (answer_of fetched.now) (record { objects = self.old; steps = log.old.steps }) name (bare_named (λ bytes. bytes.now) act.now)) self.new log.old log.new ending) }
     {
-        match place_of(self.links.as_slice(), command_name(command).bytes()) {
-            Some(place) => self.links[place].run(command, log),
-            None => self.run_on_cores(command, fetched, log),
+        match place_of(self.links.as_slice(), name.bytes()) {
+            Some(place) => self.links[place].run(act, log),
+            None => self.run_on_cores(name, act, fetched, log),
         }
     }
 
-    /// Runs a command whose name no link has.
+    /// Does what is asked under a name that no link has.
     fn run_on_cores(
         &mut self,
-        command: &Command,
+        name: Name,
+        act: &NamedAct<&[u8]>,
         fetched: &Fetched,
         log: &mut RunLog,
     ) -> Result<Option<Stop>, NoMemory>
-        requires runnable { IsRunnable command.now }
-        requires family { image_wanted command.now ≡ None }
-        requires named { quiet_wanted command.now ≡ None }
-        ensures { IfOk result (λ ending. HasRunEffect (without_link_effect (answer_of fetched.now) (record { objects = self.old; steps = log.old.steps }) command.now) self.new log.old log.new ending) }
+        requires fit { IsFitNamed (bare_named (λ bytes. bytes.now) act.now) }
+        ensures { IfOk result (λ ending. HasRunEffect (without_link_effect (answer_of fetched.now) (record { objects = self.old; steps = log.old.steps }) name (bare_named (λ bytes. bytes.now) act.now)) self.new log.old log.new ending) }
     {
-        match core_place(self.cores.as_slice(), command_name(command).bytes()) {
+        match core_place(self.cores.as_slice(), name.bytes()) {
             Some(place) => {
                 let images = self.images.as_slice();
-                self.cores[place].run(command, images, fetched, self.is_quiet, log)
+                self.cores[place].run(act, images, fetched, self.is_quiet, log)
             }
-            None => self.run_unnamed(command, log),
+            None => self.run_unnamed(name, act, log),
         }
     }
 
-    /// Runs a command whose name no link and no core has.
+    /// Does what is asked under a name that no link and no core has.
     #[tactic(auto, unfolding(crate::specs::Runs::unnamed_effect))]
-    fn run_unnamed(&mut self, command: &Command, log: &mut RunLog) -> Result<Option<Stop>, NoMemory>
-        requires runnable { IsRunnable command.now }
-        requires named { quiet_wanted command.now ≡ None }
-        ensures { IfOk result (λ ending. HasRunEffect (unnamed_effect (record { objects = self.old; steps = log.old.steps }) command.now) self.new log.old log.new ending) }
+    fn run_unnamed(
+        &mut self,
+        name: Name,
+        act: &NamedAct<&[u8]>,
+        log: &mut RunLog,
+    ) -> Result<Option<Stop>, NoMemory>
+        requires fit { IsFitNamed (bare_named (λ bytes. bytes.now) act.now) }
+        ensures { IfOk result (λ ending. HasRunEffect (unnamed_effect (record { objects = self.old; steps = log.old.steps }) name (bare_named (λ bytes. bytes.now) act.now)) self.new log.old log.new ending) }
     {
-        match command {
-            Command::Link {
-                name,
-                entries_to_host: to_host,
-                entries_to_remote: to_remote,
-                book,
-            } => {
-                let config = config_of(*to_host as u32, *to_remote as u32, *book as u32);
-                self.make_link(*name, config, false, log)
+        match act {
+            NamedAct::Make(
+                Making::Link {
+                    config,
+                    has_service,
+                },
+            ) => self.make_link(name, *config, *has_service, log),
+            NamedAct::Make(Making::Core { regions, book }) => {
+                self.make_core(name, *regions, *book, log)
             }
-            Command::NsLink {
-                name,
-                entries_to_host: to_host,
-                entries_to_remote: to_remote,
-                book,
-            } => {
-                let config = config_of(*to_host as u32, *to_remote as u32, *book as u32);
-                self.make_link(*name, config, true, log)
-            }
-            Command::Core {
-                name,
-                regions,
-                book,
-            } => { self.make_core(*name, *regions, *book as u32, log) }
-            _ => {
-                log.tell(&Event::Unknown {
-                    name: *command_name(command),
-                })?;
+            NamedAct::Link(_) | NamedAct::Manage(_) | NamedAct::Show(_) | NamedAct::Core(_) => {
+                log.tell(&Event::Unknown { name })?;
                 Ok(None)
             }
         }
@@ -312,19 +307,6 @@ impl ScriptImage {
     }
 }
 
-/// What a script's link begins with: it is live in incarnation 1, and its buffers begin at address 0.
-fn config_of(to_host: u32, to_remote: u32, book: u32) -> LinkConfig
-    ensures { result ≡ config_of to_host to_remote book }
-{
-    LinkConfig {
-        num0: to_host,
-        num1: to_remote,
-        book,
-        first: 1,
-        base: 0,
-    }
-}
-
 /// The regions that a core begins with.
 fn regions_of(alloc: Global, set: RegionSet) -> Result<Regions, NoMemory>
     ensures { IfOk result (λ regions. regions ≡ regions_of set) }
@@ -360,57 +342,6 @@ fn image_place(images: &[ScriptImage], name: &[u8]) -> Option<usize>
     ensures { result ≡ image_place images.now name.now }
 {
     images.iter().position(|image| image.name() == name)
-}
-
-/// The name of the link or the core that a command works on.
-fn command_name(command: &Command) -> &Name
-    requires { quiet_wanted command.now ≡ None }
-    ensures { result.now ≡ command_name command.now }
-{
-    match command {
-        Command::Link { name, .. }
-        | Command::NsLink { name, .. }
-        | Command::Caller { name, .. }
-        | Command::Send { name, .. }
-        | Command::Raw { name, .. }
-        | Command::Take { name, .. }
-        | Command::Give { name, .. }
-        | Command::Bind { name, .. }
-        | Command::Unbind { name, .. }
-        | Command::BeginSend { name, .. }
-        | Command::BeginRaw { name, .. }
-        | Command::BeginTake { name, .. }
-        | Command::BeginGive { name, .. }
-        | Command::BeginBind { name, .. }
-        | Command::BeginUnbind { name, .. }
-        | Command::Step { name, .. }
-        | Command::Finish { name, .. }
-        | Command::Pump { name, .. }
-        | Command::Image { name, .. }
-        | Command::Ring { name, .. }
-        | Command::Books { name }
-        | Command::Channels { name }
-        | Command::Close { name }
-        | Command::Reclaim { name, .. }
-        | Command::Reopen { name }
-        | Command::Core { name, .. }
-        | Command::Region { name, .. }
-        | Command::Boot { name, .. }
-        | Command::Handover { name, .. }
-        | Command::Shutdown { name }
-        | Command::Detach { name }
-        | Command::State { name }
-        | Command::Table { name }
-        | Command::Trace { name, .. }
-        | Command::Mem { name, .. }
-        | Command::Crash { name, .. }
-        | Command::Recover { name }
-        | Command::Recovery { name, .. }
-        | Command::Driver { name, .. }
-        | Command::Drive { name, .. }
-        | Command::Dump { name, .. } => name,
-        Command::Quiet { .. } => unreachable!(),
-    }
 }
 
 /// The place of the link of this name.

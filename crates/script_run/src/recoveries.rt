@@ -1,14 +1,13 @@
-ghost use Rattle.std.specs.Prelude.{◌≡◌, ◌<◌, IfOk};
+ghost use Rattle.std.specs.Prelude.{◌≡◌, IfOk};
 ghost use Rattle.script_run.specs.Logs.{HasEffect};
-ghost use Rattle.script_run.specs.Recoveries.{close_effect, reclaim_effect, reopen_effect};
+ghost use Rattle.script_run.specs.Recoveries.{close_effect, reopen_effect};
 
 use crate::links::NamedBench;
 use crate::logs::RunLog;
 use crate::statuses::Stop;
-use crash_recover::Reclaim;
 use journal::Event;
 use lane_model::{Already, ReopenFault};
-use rp_base::{CallerNo, NoMemory, STEPS_MOST};
+use rp_base::{NoMemory, STEPS_MOST};
 
 impl NamedBench {
     /// Closes the link, in one step.
@@ -38,49 +37,6 @@ impl NamedBench {
                 },
                 log,
             ),
-        }
-    }
-
-    /// Takes from a caller of a closed link its call, what it holds and its number.
-    #[tactic(auto, unfolding(crate::specs::Recoveries::reclaim_effect))]
-    pub(crate) fn reclaim(
-        &mut self,
-        caller: CallerNo,
-        log: &mut RunLog,
-    ) -> Result<Option<Stop>, NoMemory>
-        requires { caller < 64 }
-        ensures name { self.new.name ≡ self.old.name }
-        ensures effect { IfOk result (λ ending. HasEffect (reclaim_effect self.old.name self.old.bench log.old.steps caller) self.new.bench log.old log.new ending) }
-    {
-        match self.bench.reclaim(caller) {
-            Ok(Reclaim::Done) => {
-                self.tell(
-                    &Event::Reclaimed {
-                        name: self.name,
-                        caller: u64::from(caller),
-                    },
-                    log,
-                )
-            }
-            Ok(Reclaim::StillOpen(era)) => {
-                self.tell(
-                    &Event::StillOpen {
-                        name: self.name,
-                        inc: u64::from(era.inc),
-                    },
-                    log,
-                )
-            }
-            Ok(Reclaim::Busy(holder)) => {
-                self.tell(
-                    &Event::BusyTurn {
-                        name: self.name,
-                        holder: u64::from(holder),
-                    },
-                    log,
-                )
-            }
-            Err(fault) => self.refuse(caller, fault, log),
         }
     }
 

@@ -1,43 +1,35 @@
-ghost use Rattle.std.specs.Prelude.{◌≡◌, ◌++◌, ◌≤◌, ◌==◌, IfOk, OnOk, length};
+ghost use Rattle.std.specs.Prelude.{◌≡◌, ◌++◌, ◌≤◌, ◌==◌, OnOk, length};
 ghost use Rattle.std.specs.List.{list_all};
 ghost use Rattle.journal.specs.Lines.{transcript};
-ghost use Rattle.script_run.specs.Logs.{HasEffect};
-ghost use Rattle.script_run.specs.RingDumps.{dump_rows, ring_effect, ring_events, row_count, row_events};
+ghost use Rattle.script_run.specs.RingDumps.{bench_ring_events, dump_rows, ring_events, row_count, row_events};
 
-use crate::links::NamedBench;
 use crate::logs::RunLog;
-use crate::statuses::Stop;
+use crash_recover::Bench;
 use journal::Event;
 use rp_base::{Data, Name, NoMemory};
 
 /// The bytes of a line that tells of a ring.
 const ROW: usize = 16;
 
-impl NamedBench {
-    /// Tells the bytes of a lane's ring, unless a turn of the link is out.
-    #[tactic(auto, unfolding(crate::specs::RingDumps::ring_effect))]
-    pub(crate) fn tell_ring(
-        &mut self,
-        lane: u64,
-        log: &mut RunLog,
-    ) -> Result<Option<Stop>, NoMemory>
-        requires { lane ≤ 1 }
-        ensures same { self.new ≡ self.old }
-        ensures effect { IfOk result (λ ending. HasEffect (ring_effect self.old.name self.old.bench log.old.steps lane) self.new.bench log.old log.new ending) }
-    {
-        if let Some(holder) = self.bench.turn_holder() {
-            return self.tell(
-                &Event::StillTurn {
-                    name: self.name,
-                    caller: u64::from(holder),
-                },
-                log,
-            );
-        }
-        let bytes = self.bench.ring_bytes(log.alloc(), lane)?;
-        tell_bytes(self.name, lane, &bytes, log)?;
-        Ok(None)
+/// Tells the bytes of a lane's ring of a link, unless one of its turns is out.
+#[tactic(auto, unfolding(crate::specs::RingDumps::bench_ring_events))]
+pub(crate) fn tell_ring(
+    name: Name,
+    bench: &Bench,
+    lane: u64,
+    log: &mut RunLog,
+) -> Result<(), NoMemory>
+    requires { lane ≤ 1 }
+    ensures { OnOk result (log.new ≡ record log.old { lines = log.old.lines ++ transcript (bench_ring_events name bench.now lane) }) }
+{
+    if let Some(holder) = bench.turn_holder() {
+        return log.tell(&Event::StillTurn {
+            name,
+            caller: u64::from(holder),
+        });
     }
+    let bytes = bench.ring_bytes(log.alloc(), lane)?;
+    tell_bytes(name, lane, &bytes, log)
 }
 
 /// Tells how many bytes a lane's ring has, and the bytes.

@@ -1,4 +1,6 @@
-use Rattle.core_laws.proofs.BenchMoves.{advanced, begun_reached, called, closed, enlisted, new_reached, reclaim_tried, reclaimed, reopened, started, turns_reached}
+use Rattle.core_laws.proofs.BenchMoves.{advanced, begun_reached, called, closed, enlisted, new_reached, reclaim_tried, reclaimed, reopened, started}
+use Rattle.link_bench.specs.Watchers.{nobody_sees}
+use Rattle.core_laws.proofs.CoreActs.{acted_reached}
 use Rattle.core_laws.proofs.laws.bench_reached.Goals as goal
 
 pub returns : goal.returns
@@ -9,7 +11,7 @@ returns c = record {
   advance = advanced;
   call = called;
   start = started;
-  turns = turns_reached;
+  act = λ own bench steps asked fit is. acted_reached nobody_sees own bench tt steps asked fit is;
   close = closed;
   reclaim = reclaim_tried;
   end_caller = λ bench caller reached shut. reclaimed bench caller shut reached;

@@ -1,20 +1,16 @@
-use Rattle.core_laws.proofs.KeptCores.{call_ended, core_driven, core_readied, core_reopened, core_turned, kept_stays}
-use Rattle.core_laws.specs.KeptCores.{IsKeptCore}
-use Rattle.core_laws.proofs.Outcomes.{boot_stays, detach_stays, handover_stays, recovery_stays, report_stays, shutdown_stays}
+use Rattle.core_laws.proofs.KeptCores.{core_booted, core_driven, core_readied, core_recovered, core_reopened, core_reported, core_shut}
+use Rattle.core_laws.proofs.CoreActs.{core_act_kept}
 use Rattle.core_laws.proofs.laws.core_kept.Goals as goal
 
 pub returns : goal.returns
 returns c = record {
   new = λ regions kinds book. tt;
-  boot = boot_stays IsKeptCore kept_stays;
-  handover = handover_stays IsKeptCore kept_stays;
-  shutdown = shutdown_stays IsKeptCore kept_stays;
-  detach = detach_stays IsKeptCore kept_stays;
-  report = report_stays IsKeptCore kept_stays;
+  boot = core_booted;
+  shutdown = core_shut;
+  report = core_reported;
   readied = core_readied;
   reopened = core_reopened;
-  recovery = recovery_stays IsKeptCore kept_stays;
+  recovery = core_recovered;
   drive = core_driven;
-  call_end = call_ended;
-  turns = core_turned;
+  act = core_act_kept;
 }

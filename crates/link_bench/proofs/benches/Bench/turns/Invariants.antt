@@ -5,7 +5,8 @@ use Rattle.link_bench.proofs.benches.Bench.turns.Given as goal
 
 -- the turns that are left lead where all of them do
 abbrev pub invariant-loop-done : goal.invariant-loop-done
-invariant-loop-done l = record {
-  turns : pump_turns (l.fn.count - l.done) l.done l.fn.sender l.fn.receiver l.self l.steps ≡ pump_turns l.fn.count 0 l.fn.sender l.fn.receiver l.fn.self l.fn.steps;
+invariant-loop-done g l = record {
+  turns : pump_turns g.W.Watcher.sees (l.fn.count - l.done) l.done l.fn.sender l.fn.receiver l.self (g.W.Watcher.state l.watcher) l.steps
+      ≡ pump_turns g.W.Watcher.sees l.fn.count 0 l.fn.sender l.fn.receiver l.fn.self (g.W.Watcher.state l.fn.watcher) l.fn.steps;
   within : l.steps ≤ STEPS_MOST;
 }

@@ -1,0 +1,182 @@
+-- What acts leave of a link and of a core: it is reached, kept and ready where it was.
+use Rattle.std.proofs.Common.{◌≡◌, ◌<◌, ◌==◌, ℕ, true, List, Option, Some, None, IfSome, arith}
+use Rattle.std.proofs.lemmas.Bool.{cond_both}
+use Rattle.rp_base.specs.declared.kinds.End.{End}
+use Rattle.rp_base.specs.declared.kinds.LifeState.{LifeState}
+use Rattle.rp_base.specs.declared.limits.TheConstants.{STEPS_MOST}
+use Rattle.lane_model.specs.declared.calls.Wish.{Wish}
+use Rattle.lane_model.specs.declared.recoveries.ReclaimRefusal.{ReclaimRefusal}
+use Rattle.lane_model.specs.Links.{end_of}
+use Rattle.lane_model.specs.Recoveries.{unreclaimed_by}
+use Rattle.proc_state.specs.Lives.{CoreLife}
+use Rattle.link_bench.specs.declared.acts.LinkAct.{LinkAct}
+use Rattle.link_bench.specs.declared.acts.LinkAct.TheVariants as act
+use Rattle.link_bench.specs.declared.benches.BegunCall.{BegunCall}
+use Rattle.link_bench.specs.declared.benches.Reach.TheVariants as reach
+use Rattle.link_bench.specs.Acts.{IsFitAct, link_act}
+use Rattle.link_bench.specs.BenchCrashes.{left_by_reclaim}
+use Rattle.link_bench.specs.Benches.{BenchState, BenchWalk, IsSendable, advance_steps, bench_walk, begun_of, call_rings, call_steps, with_begun}
+use Rattle.link_bench.specs.Watchers.{Seeing}
+use Rattle.crash_recover.specs.Actors.{ActorsState}
+use Rattle.crash_recover.specs.CoreActs.{core_act, core_act_on}
+use Rattle.crash_recover.specs.Cores.{CoreState}
+use Rattle.crash_recover.specs.Drives.{actors_after_end, message_of}
+use Rattle.core_laws.specs.BenchMoves.{AreSendable, IsReachedBench, IsReachedCore}
+use Rattle.core_laws.specs.KeptCores.{IsKeptBench, IsKeptCore, is_running}
+use Rattle.core_laws.specs.PendingCalls.{HasNoneBegun, IsReadyBench, IsReadyCore}
+use Rattle.core_laws.proofs.BenchMoves.{advanced, begun_reached, called, enlisted, reclaim_tried}
+use Rattle.core_laws.proofs.CoreMoves.{seen_calls}
+use Rattle.core_laws.proofs.KeptActs.{AreKeptSteps, FitCalls, act_kept, calls_sendable}
+use Rattle.core_laws.proofs.KeptCores.{caller_kept, reclaim_kept}
+use Rattle.core_laws.proofs.KeptLinks.{advance_kept, whole_kept}
+use Rattle.core_laws.proofs.PendingDrives.{cleared_begun, reclaim_begun}
+use Rattle.core_laws.proofs.PendingOthers.{advance_ready, begun_ready, call_ready, put_other, reclaim_ready, seen_ready}
+
+-- ---- reached
+
+bench_steps : {W : Type 0} (sees : Seeing W) (own : ℕ) → AreKeptSteps sees own IsSendable (λ bench watcher. IsReachedBench bench)
+bench_steps sees own = record {
+  joined = λ bench watcher end is. enlisted bench end is;
+  begun = λ bench watcher caller wanted other ready fit is. begun_reached bench caller (record { follows = bench.link.era.inc; wish = wanted }) is ready fit;
+  called = λ bench watcher steps caller wanted other ready fit is. called bench steps caller wanted is ready fit;
+  advanced = λ bench watcher more steps caller other in_call is. advanced bench more steps caller is in_call;
+  reclaimed = λ bench watcher caller other is. reclaim_tried bench caller is;
+  seen = λ bench watcher caller end is. is;
+}
+
+-- an act on any link
+pub acted_reached : {W : Type 0} (sees : Seeing W) (own : ℕ) (bench : BenchState) (watcher : W) (steps : ℕ) (asked : LinkAct (List ℕ)) → IsFitAct asked → IsReachedBench bench
+    → IsReachedBench (link_act sees own bench watcher steps asked).bench
+acted_reached sees own bench watcher steps asked fit is = act_kept sees own IsSendable (λ bench watcher. IsReachedBench bench) (bench_steps sees own) bench watcher steps asked (calls_sendable asked fit) is
+
+-- a link and its core's actors
+record AreReachedBoth (bench : BenchState) (actors : ActorsState) : Type 0 where
+  pub bench : IsReachedBench bench
+  pub calls : AreSendable actors
+
+both_steps : AreKeptSteps actors_after_end 2 IsSendable AreReachedBoth
+both_steps = record {
+  joined = λ bench actors end is. record { bench = enlisted bench end is.bench; calls = is.calls };
+  begun = λ bench actors caller wanted other ready fit is.
+      record { bench = begun_reached bench caller (record { follows = bench.link.era.inc; wish = wanted }) is.bench ready fit; calls = is.calls };
+  called = λ bench actors steps caller wanted other ready fit is. record { bench = called bench steps caller wanted is.bench ready fit; calls = is.calls };
+  advanced = λ bench actors more steps caller other in_call is. record { bench = advanced bench more steps caller is.bench in_call; calls = is.calls };
+  reclaimed = λ bench actors caller other is. record { bench = reclaim_tried bench caller is.bench; calls = is.calls };
+  seen = λ bench actors caller end is.
+      record { bench = is.bench; calls = seen_calls actors bench caller end (end_of bench.link.callers caller) is.bench.link.short is.calls };
+}
+
+reached_on : (core : CoreState) (steps : ℕ) (asked : LinkAct (List ℕ)) (found : Option BenchState) → IsFitAct asked → IsReachedCore core → IfSome found IsReachedBench
+    → IsReachedCore (core_act_on core steps asked found).core
+reached_on core steps asked None fit is reached = is
+reached_on core steps asked (Some bench) fit is reached =
+    let left = act_kept actors_after_end 2 IsSendable AreReachedBoth both_steps bench core.actors steps asked (calls_sendable asked fit) (record { bench = reached; calls = is.calls }) in
+    record { bench = left.bench; calls = left.calls }
+
+-- an act on the link of a core
+pub core_act_reached : (core : CoreState) (steps : ℕ) (asked : LinkAct (List ℕ)) → IsFitAct asked → IsReachedCore core → IsReachedCore (core_act core steps asked).core
+core_act_reached core steps asked fit is = reached_on core steps asked core.bench fit is is.bench
+
+-- ---- kept
+
+-- nothing is asked of what a call wishes
+abbrev AnyWish : Wish → Type 0
+AnyWish wanted = Unit {0}
+
+any_calls : (asked : LinkAct (List ℕ)) → FitCalls AnyWish asked
+any_calls (act.Caller end) = tt
+any_calls (act.Call caller made wanted) = λ bench none. tt
+any_calls (act.Step caller more) = tt
+any_calls (act.Pump sender receiver count) = λ number. (tt, tt, tt)
+any_calls (act.Reclaim caller) = tt
+
+kept_steps : (life : CoreLife) → AreKeptSteps actors_after_end 2 AnyWish (λ bench actors. IsKeptBench life bench)
+kept_steps life = record {
+  joined = λ bench actors end is. caller_kept life bench end is;
+  begun = λ bench actors caller wanted other ready fit is. is;
+  called = λ bench actors steps caller wanted other ready fit is. whole_kept life bench steps caller wanted is;
+  advanced = λ bench actors more steps caller other in_call is. advance_kept life bench more steps caller is;
+  reclaimed = λ bench actors caller other is. reclaim_kept life bench caller (omega (arith, other)) is;
+  seen = λ bench actors caller end is. is;
+}
+
+kept_on : (core : CoreState) (steps : ℕ) (asked : LinkAct (List ℕ)) (found : Option BenchState) → IsKeptCore core → IfSome found (IsKeptBench core.life)
+    → IsKeptCore (core_act_on core steps asked found).core
+kept_on core steps asked None is kept = is
+kept_on core steps asked (Some bench) is kept =
+    act_kept actors_after_end 2 AnyWish (λ bench actors. IsKeptBench core.life bench) (kept_steps core.life) bench core.actors steps asked (any_calls asked) kept
+
+pub core_act_kept : (core : CoreState) (steps : ℕ) (asked : LinkAct (List ℕ)) → IsKeptCore core → IsKeptCore (core_act core steps asked).core
+core_act_kept core steps asked is = kept_on core steps asked core.bench is is
+
+-- ---- ready
+
+-- the link of a core in this state is reached, none of its actors has begun a call without a step of it, and while the core runs they hold what their calls give back
+record Stands (state : LifeState) (bench : BenchState) (actors : ActorsState) : Type 0 where
+  pub reached : IsReachedBench bench
+  pub begun : HasNoneBegun bench
+  pub calls : is_running state ≡ true → IsReadyBench actors bench
+
+advance_none : (bench : BenchState) (more steps caller : ℕ) (found : Option BegunCall) → HasNoneBegun bench → HasNoneBegun (advance_steps bench more steps caller found).bench
+advance_none bench more steps caller None is = record { host = is.host; worker = is.worker }
+advance_none bench more steps caller (Some call) is =
+    cond_both (steps == STEPS_MOST) (record { bench = bench; steps = steps; reach = reach.Limit })
+    (bench_walk (with_begun bench caller None) (call_steps more steps bench.link caller call.follows call.wish) (call_rings more steps bench.rings caller call.follows call.wish))
+    (λ (walk : BenchWalk). HasNoneBegun walk.bench) (λ _. is)
+    (λ _. record { host = cleared_begun bench.begun caller 0 is.host; worker = cleared_begun bench.begun caller 1 is.worker })
+
+reclaim_none : (bench : BenchState) (caller : ℕ) (found : Option End) (why : Option ReclaimRefusal) → HasNoneBegun bench → HasNoneBegun (left_by_reclaim bench caller found why)
+reclaim_none bench caller (Some end) None is = reclaim_begun bench caller is
+reclaim_none bench caller (Some end) (Some why) is = is
+reclaim_none bench caller None why is = is
+
+begun_none : (bench : BenchState) (caller : ℕ) (call : BegunCall) → 1 < caller → HasNoneBegun bench → HasNoneBegun (with_begun bench caller (Some call))
+begun_none bench caller call other is = record {
+  host = put_other bench.begun caller 0 (Some call) (λ same. absurd (omega (arith, other, same))) is.host;
+  worker = put_other bench.begun caller 1 (Some call) (λ same. absurd (omega (arith, other, same))) is.worker;
+}
+
+ready_steps : (state : LifeState) → AreKeptSteps actors_after_end 2 IsSendable (Stands state)
+ready_steps state = record {
+  joined = λ bench actors end is. record {
+    reached = enlisted bench end is.reached;
+    begun = record { host = is.begun.host; worker = is.begun.worker };
+    calls = λ running. record { host = (is.calls running).host; worker = (is.calls running).worker };
+  };
+  begun = λ bench actors caller wanted other ready fit is.
+      let call : BegunCall = record { follows = bench.link.era.inc; wish = wanted } in record {
+        reached = begun_reached bench caller call is.reached ready fit;
+        begun = begun_none bench caller call (omega (arith, other)) is.begun;
+        calls = λ running. (begun_ready actors bench caller (omega (arith, other)) is.begun (is.calls running) call).1;
+      };
+  called = λ bench actors steps caller wanted other ready fit is. record {
+    reached = called bench steps caller wanted is.reached ready fit;
+    begun = record { host = is.begun.host; worker = is.begun.worker };
+    calls = λ running. (call_ready actors bench caller (omega (arith, other)) is.begun (is.calls running) steps wanted ready fit).1;
+  };
+  advanced = λ bench actors more steps caller other in_call is. record {
+    reached = advanced bench more steps caller is.reached in_call;
+    begun = advance_none bench more steps caller (begun_of bench caller) is.begun;
+    calls = λ running. (advance_ready actors bench caller (omega (arith, other)) is.begun (is.calls running) more steps is.reached in_call).1;
+  };
+  reclaimed = λ bench actors caller other is. record {
+    reached = reclaim_tried bench caller is.reached;
+    begun = reclaim_none bench caller (end_of bench.link.callers caller) (unreclaimed_by bench.link caller) is.begun;
+    calls = λ running. (reclaim_ready actors bench caller (omega (arith, other)) is.begun (is.calls running)).1;
+  };
+  seen = λ bench actors caller end is. record {
+    reached = is.reached;
+    begun = is.begun;
+    calls = λ running. seen_ready actors bench (message_of bench caller end) end (end_of bench.link.callers caller) (is.calls running);
+  };
+}
+
+ready_on : (core : CoreState) (steps : ℕ) (asked : LinkAct (List ℕ)) (found : Option BenchState) → IsFitAct asked → IsReadyCore core → IfSome found IsReachedBench
+    → IfSome found HasNoneBegun → (is_running core.life.state ≡ true → IfSome found (IsReadyBench core.actors)) → IsReadyCore (core_act_on core steps asked found).core
+ready_on core steps asked None fit is reached begun calls = is
+ready_on core steps asked (Some bench) fit is reached begun calls =
+    let left = act_kept actors_after_end 2 IsSendable (Stands core.life.state) (ready_steps core.life.state) bench core.actors steps asked (calls_sendable asked fit) (record { reached = reached; begun = begun; calls = calls }) in
+    record { begun = left.begun; calls = left.calls }
+
+pub core_act_ready : (core : CoreState) (steps : ℕ) (asked : LinkAct (List ℕ)) → IsFitAct asked → IsReachedCore core → IsReadyCore core → IsReadyCore (core_act core steps asked).core
+core_act_ready core steps asked fit reached is = ready_on core steps asked core.bench fit is reached.bench is.begun is.calls

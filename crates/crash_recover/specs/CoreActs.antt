@@ -1,0 +1,39 @@
+-- Acts on the link of a core: its own callers are the first two, and its drivers see how the calls of the host end (own).
+use Rattle.std.specs.Prelude.{◌≡◌, ℕ, List, Option, Some, None}
+use Rattle.link_bench.specs.declared.acts.ActAnswer.{ActAnswer}
+use Rattle.link_bench.specs.declared.acts.LinkAct.{LinkAct}
+use Rattle.link_bench.specs.Benches.{BenchState}
+use Rattle.link_bench.specs.Acts.{Acted, link_act}
+use Rattle.crash_recover.specs.Actors.{ActorsState}
+use Rattle.crash_recover.specs.Cores.{CoreState}
+use Rattle.crash_recover.specs.Drives.{actors_after_end}
+
+-- what an act leaves of a core, the steps of the run until then, and what comes of it, or nothing where the core has no link
+pub record CoreActed : Type 0 where
+  pub core : CoreState
+  pub steps : ℕ
+  pub answer : Option ActAnswer
+
+-- an act left and answered this
+pub record HasCoreActed (acted : CoreActed) (left : CoreState) (counted : ℕ) (told : Option ActAnswer) : Type 0 where
+  pub core : left ≡ acted.core
+  pub steps : counted ≡ acted.steps
+  pub answer : told ≡ acted.answer
+
+-- the core with what an act leaves of its link and of its actors
+abbrev pub acted_core : CoreState → Acted ActorsState → CoreState
+acted_core core acted = record core { bench = Some acted.bench; actors = acted.watcher }
+
+-- an act on the link of a core
+abbrev pub act_on_core : CoreState → BenchState → ℕ → LinkAct (List ℕ) → Acted ActorsState
+act_on_core core bench steps act = link_act actors_after_end 2 bench core.actors steps act
+
+-- an act on the link that a core has or not
+abbrev pub core_act_on : CoreState → ℕ → LinkAct (List ℕ) → Option BenchState → CoreActed
+core_act_on core steps act None = record { core = core; steps = steps; answer = None }
+core_act_on core steps act (Some bench) =
+    let acted = act_on_core core bench steps act in
+    record { core = acted_core core acted; steps = acted.steps; answer = Some acted.answer }
+
+abbrev pub core_act : CoreState → ℕ → LinkAct (List ℕ) → CoreActed
+core_act core steps act = core_act_on core steps act core.bench

@@ -1,0 +1,54 @@
+ghost use Rattle.std.specs.Prelude.{◌≤◌, IfOk};
+ghost use Rattle.rp_base.specs.declared.limits.TheConstants.{STEPS_MOST};
+ghost use Rattle.link_bench.specs.Acts.{IsFitAct, bare_act};
+ghost use Rattle.crash_recover.specs.CoreActs.{HasCoreActed, core_act};
+
+use crate::actors::Actors;
+use crate::cores::Core;
+use lane_model::CallEnd;
+use link_bench::{ActAnswer, Bench, LinkAct, Watcher};
+use rp_base::{CallerNo, NoMemory};
+use std::alloc::Global;
+
+/// How many callers of its link are a core's own: 0, that of its drivers, and 1, that of its worker.
+const OWN_CALLERS: CallerNo = 2;
+
+impl Watcher for Actors {
+    ghost use Rattle.crash_recover.specs.Actors.{ActorsState, actors_view};
+    ghost use Rattle.crash_recover.specs.Drives.{actors_after_end};
+
+    ghost State = { ActorsState };
+
+    ghost state = { actors_view };
+
+    ghost sees = { actors_after_end };
+
+    fn see(&mut self, bench: &Bench, caller: CallerNo, end: &CallEnd) -> Result<(), NoMemory> {
+        self.hear_end(bench, caller, end)
+    }
+}
+
+impl Core {
+    /// Does an act on the core's link, as on any link, but its own callers are not there. Its drivers
+    /// see how the calls of host callers end: what one sends is the last of the host actor's calls.
+    /// There is no answer exactly where the core has no link.
+    ///
+    /// Errors: only for want of memory, where a driver sends.
+    pub fn act(
+        &mut self,
+        _alloc: Global,
+        act: &LinkAct<&[u8]>,
+        steps: &mut u64,
+    ) -> Result<Option<ActAnswer>, NoMemory>
+        requires fit { IsFitAct (bare_act (λ bytes. bytes.now) act.now) }
+        requires steps { steps.old ≤ STEPS_MOST }
+        ensures acted { IfOk result (HasCoreActed (core_act self.old steps.old (bare_act (λ bytes. bytes.now) act.now)) self.new steps.new) }
+        ensures within { steps.new ≤ STEPS_MOST }
+    {
+        let Some(bench) = &mut self.bench else {
+            return Ok(None);
+        };
+        let answer = bench.act(OWN_CALLERS, &mut self.actors, act, steps)?;
+        Ok(Some(answer))
+    }
+}

@@ -1,0 +1,433 @@
+ghost use Rattle.std.specs.Prelude.{◌≡◌, ℕ, ◌<◌, ◌≤◌, ◌+◌, ◌++◌, IfOk, None, length};
+ghost use Rattle.rp_base.specs.declared.limits.TheConstants.{MESSAGE_MOST, STEPS_MOST};
+ghost use Rattle.lane_model.specs.Links.{free_number};
+ghost use Rattle.link_bench.specs.Benches.{IsSendable, call_walk, reach_of, ready_fault};
+ghost use Rattle.link_bench.specs.Acts.{HasActed, IsFitAct, IsFitWish, bare_act, bare_wish, call_act, caller_act, free_act, link_act, made_call, misfit, own_caller, own_in, pump_act, pump_refusal, reclaim_act, side_refusal, step_act, walked, wish_of};
+
+use crate::bench_crashes::Reclaim;
+use crate::benches::{Bench, BenchFault, Progress, Reach};
+use crate::turns::TurnEnd;
+use crate::watchers::Watcher;
+use lane_model::{CallEnd, Wish};
+use rp_base::{CallerNo, End, Message, NoMemory, PAYLOAD_MOST};
+
+/// Whether a call is made whole, or begun and no step of it done.
+#[derive(Clone, Copy)]
+pub enum How {
+    Whole,
+    Begun,
+}
+
+/// What a call is to do. The bytes that it names are a `P`: borrowed ones in code.
+#[derive(Clone, Copy)]
+pub enum CallWish<P> {
+    /// To send a payload between two addresses.
+    Send {
+        source: u32,
+        destination: u32,
+        payload: P,
+    },
+    /// To send a message as it stands, its header included.
+    Raw {
+        message: P,
+    },
+    /// To take a message.
+    Take,
+    /// To give the buffer of a message back.
+    Give {
+        number: u64,
+    },
+    /// To bind an endpoint at an address.
+    Bind {
+        address: u32,
+    },
+    /// To unbind the endpoint at an address.
+    Unbind {
+        address: u32,
+    },
+}
+
+/// What is done on a link for its callers.
+#[derive(Clone, Copy)]
+pub enum LinkAct<P> {
+    /// A caller is made at an end.
+    Caller {
+        end: End,
+    },
+    /// A call of a caller.
+    Call {
+        caller: CallerNo,
+        how: How,
+        wish: CallWish<P>,
+    },
+    /// One step of the call that a caller is in, and `more` further ones.
+    Step {
+        caller: CallerNo,
+        more: u64,
+    },
+    /// So many turns of a send, its take and its give.
+    Pump {
+        sender: CallerNo,
+        receiver: CallerNo,
+        count: u64,
+    },
+    /// A caller of a closed link loses its call, what it holds and its number.
+    Reclaim {
+        caller: CallerNo,
+    },
+}
+
+/// What comes of an act.
+#[derive(Clone, Copy)]
+pub enum ActAnswer {
+    /// A new caller has this number.
+    Caller(CallerNo, End),
+    /// All numbers of callers are in use.
+    CallersFull,
+    /// Nothing is done for this caller.
+    Refused(CallerNo, BenchFault),
+    /// The payload of this caller's send has so many bytes, more than fit a buffer.
+    TooLong(CallerNo, u64),
+    /// This receiver is on the sender's end.
+    WrongSide(CallerNo),
+    /// A call of this caller is begun.
+    Begun(CallerNo),
+    /// A call of this caller came so far.
+    Reached(CallerNo, Reach),
+    /// So many turns were whole, and the last one ended so.
+    Pumped(u64, TurnEnd),
+    /// A reclaim of this caller ended so.
+    Reclaimed(CallerNo, Reclaim),
+}
+
+impl Bench {
+    /// Does an act on the link, the first `own` of whose callers are not there to others. The watcher
+    /// sees the end of each call, that of a turn's take before its give, and `steps` counts the steps.
+    ///
+    /// Errors: only for want of memory, where the watcher needs it.
+    pub fn act<W: Watcher>(
+        &mut self,
+        own: CallerNo,
+        watcher: &mut W,
+        act: &LinkAct<&[u8]>,
+        steps: &mut u64,
+    ) -> Result<ActAnswer, NoMemory>
+        requires fit { IsFitAct (bare_act (λ bytes. bytes.now) act.now) }
+        requires steps { steps.old ≤ STEPS_MOST }
+        ensures acted { IfOk result (HasActed (link_act W.sees own self.old (W.state watcher.old) steps.old (bare_act (λ bytes. bytes.now) act.now)) self.new (W.state watcher.new) steps.new) }
+        ensures within { steps.new ≤ STEPS_MOST }
+    {
+        if let Some(caller) = self.own_in(own, act) {
+            return Ok(ActAnswer::Refused(caller, BenchFault::NoCaller));
+        }
+        self.free_act(watcher, act, steps)
+    }
+
+    /// The link's own caller for which an act asks something.
+    fn own_in(&self, own: CallerNo, act: &LinkAct<&[u8]>) -> Option<CallerNo>
+        ensures { result ≡ own_in self.now own (bare_act (λ bytes. bytes.now) act.now) }
+    {
+        match act {
+            LinkAct::Caller { .. } => None,
+            LinkAct::Call { caller, .. }
+            | LinkAct::Step { caller, .. }
+            | LinkAct::Reclaim { caller } => own_caller(own, *caller),
+            LinkAct::Pump {
+                sender,
+                receiver,
+                ..
+            } => match own_caller(own, *sender) {
+                None if self.end_of(*sender).is_some() => own_caller(own, *receiver),
+                found => found,
+            },
+        }
+    }
+
+    /// Does an act that asks nothing for a caller of the link's own.
+    fn free_act<W: Watcher>(
+        &mut self,
+        watcher: &mut W,
+        act: &LinkAct<&[u8]>,
+        steps: &mut u64,
+    ) -> Result<ActAnswer, NoMemory>
+        requires fit { IsFitAct (bare_act (λ bytes. bytes.now) act.now) }
+        requires steps { steps.old ≤ STEPS_MOST }
+        ensures acted { IfOk result (HasActed (free_act W.sees self.old (W.state watcher.old) steps.old (bare_act (λ bytes. bytes.now) act.now)) self.new (W.state watcher.new) steps.new) }
+        ensures within { steps.new ≤ STEPS_MOST }
+    {
+        match act {
+            LinkAct::Caller { end } => Ok(self.join(*end)),
+            LinkAct::Call { caller, how, wish } => {
+                self.call_act(watcher, *caller, *how, wish, steps)
+            }
+            LinkAct::Step { caller, more } => self.step_act(watcher, *caller, *more, steps),
+            LinkAct::Pump {
+                sender,
+                receiver,
+                count,
+            } => self.pump_act(watcher, *sender, *receiver, *count, steps),
+            LinkAct::Reclaim { caller } => Ok(match self.reclaim(*caller) {
+                Ok(came) => ActAnswer::Reclaimed(*caller, came),
+                Err(fault) => ActAnswer::Refused(*caller, fault),
+            }),
+        }
+    }
+
+    /// A new caller at an end.
+    fn join(&mut self, end: End) -> ActAnswer
+        ensures bench { self.new ≡ (caller_act self.old (tt {0}) 0 end (free_number self.old.link.callers)).bench }
+        ensures answer { result ≡ (caller_act self.old (tt {0}) 0 end (free_number self.old.link.callers)).answer }
+    {
+        match self.caller(end) {
+            Some(caller) => ActAnswer::Caller(caller, end),
+            None => ActAnswer::CallersFull,
+        }
+    }
+
+    /// A call of a caller, whole or only begun.
+    #[tactic(auto, unfolding(crate::specs::Acts::call_act))]
+    fn call_act<W: Watcher>(
+        &mut self,
+        watcher: &mut W,
+        caller: CallerNo,
+        how: How,
+        wish: &CallWish<&[u8]>,
+        steps: &mut u64,
+    ) -> Result<ActAnswer, NoMemory>
+        requires caller { caller < 64 }
+        requires fit { IsFitWish (bare_wish (λ bytes. bytes.now) wish.now) }
+        requires steps { steps.old ≤ STEPS_MOST }
+        ensures acted { IfOk result (HasActed (call_act W.sees self.old (W.state watcher.old) steps.old caller how (bare_wish (λ bytes. bytes.now) wish.now)) self.new (W.state watcher.new) steps.new) }
+        ensures within { steps.new ≤ STEPS_MOST }
+    {
+        if let Some(fault) = self.ready_fault(caller) {
+            return Ok(ActAnswer::Refused(caller, fault));
+        }
+        if let Some(answer) = self.misfit(caller, wish) {
+            return Ok(answer);
+        }
+        self.make_call(watcher, caller, how, wish, steps)
+    }
+
+    /// Why a caller that is in use and in no call can't make a call.
+    fn misfit(&self, caller: CallerNo, wish: &CallWish<&[u8]>) -> Option<ActAnswer>
+        ensures { result ≡ misfit self.now caller (bare_wish (λ bytes. bytes.now) wish.now) }
+    {
+        match wish {
+            CallWish::Send { payload, .. } if payload.len() > PAYLOAD_MOST => {
+                Some(ActAnswer::TooLong(caller, payload.len() as u64))
+            }
+            CallWish::Give { number } if !self.is_holding(caller, *number) => {
+                Some(ActAnswer::Refused(caller, BenchFault::NotHeld(*number)))
+            }
+            _ => None,
+        }
+    }
+
+    /// A call of a caller that may make it.
+    fn make_call<W: Watcher>(
+        &mut self,
+        watcher: &mut W,
+        caller: CallerNo,
+        how: How,
+        wish: &CallWish<&[u8]>,
+        steps: &mut u64,
+    ) -> Result<ActAnswer, NoMemory>
+        requires caller { caller < 64 }
+        requires ready { ready_fault self.old caller ≡ None }
+        requires fits { misfit self.old caller (bare_wish (λ bytes. bytes.now) wish.now) ≡ None }
+        requires fit { IsFitWish (bare_wish (λ bytes. bytes.now) wish.now) }
+        requires steps { steps.old ≤ STEPS_MOST }
+        ensures acted { IfOk result (HasActed (made_call W.sees self.old (W.state watcher.old) steps.old caller how (wish_of (bare_wish (λ bytes. bytes.now) wish.now))) self.new (W.state watcher.new) steps.new) }
+        ensures within { steps.new ≤ STEPS_MOST }
+    {
+        match how {
+            How::Whole => {
+                let mut end = CallEnd::Empty(0);
+                let progress = self.whole_call(caller, wish, steps, &mut end);
+                self.reach(watcher, caller, progress, end)
+            }
+            How::Begun => {
+                self.put_begun(caller, wish_of(wish));
+                Ok(ActAnswer::Begun(caller))
+            }
+        }
+    }
+
+    /// A whole call of a caller that may make it.
+    fn whole_call(
+        &mut self,
+        caller: CallerNo,
+        wish: &CallWish<&[u8]>,
+        steps: &mut u64,
+        end: &mut CallEnd,
+    ) -> Progress
+        requires ready { ready_fault self.old caller ≡ None }
+        requires fits { misfit self.old caller (bare_wish (λ bytes. bytes.now) wish.now) ≡ None }
+        requires fit { IsFitWish (bare_wish (λ bytes. bytes.now) wish.now) }
+        requires steps { steps.old ≤ STEPS_MOST }
+        ensures bench { self.new ≡ (call_walk self.old steps.old caller (wish_of (bare_wish (λ bytes. bytes.now) wish.now))).bench }
+        ensures steps { steps.new ≡ (call_walk self.old steps.old caller (wish_of (bare_wish (λ bytes. bytes.now) wish.now))).steps }
+        ensures reach { reach_of result end.new ≡ (call_walk self.old steps.old caller (wish_of (bare_wish (λ bytes. bytes.now) wish.now))).reach }
+        ensures within { steps.new ≤ STEPS_MOST }
+    {
+        match wish {
+            CallWish::Send {
+                source,
+                destination,
+                payload,
+            } => {
+                let head = rpmsg_header::head(*source, *destination, payload.len() as u16);
+                self.send(caller, &head, payload, steps, end)
+            }
+            CallWish::Raw { message } => self.send(caller, &[], message, steps, end),
+            CallWish::Take => self.call(caller, &Wish::Take, steps, end),
+            CallWish::Give { number } => self.call(caller, &Wish::Give(*number), steps, end),
+            CallWish::Bind { address } => self.call(caller, &Wish::Bind(*address), steps, end),
+            CallWish::Unbind { address } => self.call(caller, &Wish::Unbind(*address), steps, end),
+        }
+    }
+
+    /// One step of the call that a caller is in, and `more` further ones.
+    #[tactic(auto, unfolding(crate::specs::Acts::step_act))]
+    fn step_act<W: Watcher>(
+        &mut self,
+        watcher: &mut W,
+        caller: CallerNo,
+        more: u64,
+        steps: &mut u64,
+    ) -> Result<ActAnswer, NoMemory>
+        requires caller { caller < 64 }
+        requires more { more < STEPS_MOST }
+        requires steps { steps.old ≤ STEPS_MOST }
+        ensures acted { IfOk result (HasActed (step_act W.sees self.old (W.state watcher.old) steps.old caller more) self.new (W.state watcher.new) steps.new) }
+        ensures within { steps.new ≤ STEPS_MOST }
+    {
+        if let Some(fault) = self.step_fault(caller) {
+            return Ok(ActAnswer::Refused(caller, fault));
+        }
+        let mut end = CallEnd::Empty(0);
+        let progress = self.advance(caller, more, steps, &mut end);
+        self.reach(watcher, caller, progress, end)
+    }
+
+    /// A call of a caller came so far, and the watcher sees its end.
+    fn reach<W: Watcher>(
+        &self,
+        watcher: &mut W,
+        caller: CallerNo,
+        progress: Progress,
+        end: CallEnd,
+    ) -> Result<ActAnswer, NoMemory>
+        ensures { IfOk result (λ answer. (steps : ℕ) → HasActed (walked W.sees (W.state watcher.old) caller (record { bench = self.now; steps = steps; reach = reach_of progress end })) self.now (W.state watcher.new) steps answer) }
+    {
+        let reach = match progress {
+            Progress::At(step) => Reach::At(step),
+            Progress::Ended => {
+                watcher.see(self, caller, &end)?;
+                Reach::Ended(end)
+            }
+            Progress::Limit => Reach::Limit,
+        };
+        Ok(ActAnswer::Reached(caller, reach))
+    }
+
+    /// So many turns of two callers, where both are in use, neither is in a call, and they are on two
+    /// ends.
+    #[tactic(auto, unfolding(crate::specs::Acts::pump_act))]
+    fn pump_act<W: Watcher>(
+        &mut self,
+        watcher: &mut W,
+        sender: CallerNo,
+        receiver: CallerNo,
+        count: u64,
+        steps: &mut u64,
+    ) -> Result<ActAnswer, NoMemory>
+        requires sender { sender < 64 }
+        requires receiver { receiver < 64 }
+        requires count { count ≤ STEPS_MOST }
+        requires steps { steps.old ≤ STEPS_MOST }
+        ensures acted { IfOk result (HasActed (pump_act W.sees self.old (W.state watcher.old) steps.old sender receiver count) self.new (W.state watcher.new) steps.new) }
+        ensures within { steps.new ≤ STEPS_MOST }
+    {
+        if let Some(answer) = self.pump_refusal(sender, receiver) {
+            return Ok(answer);
+        }
+        let mut ended = TurnEnd::Whole;
+        let done = self.turns(watcher, sender, receiver, count, steps, &mut ended)?;
+        Ok(ActAnswer::Pumped(done, ended))
+    }
+
+    /// Why two callers make no turns.
+    #[tactic(auto, unfolding(crate::specs::Acts::pump_refusal))]
+    fn pump_refusal(&self, sender: CallerNo, receiver: CallerNo) -> Option<ActAnswer>
+        requires sender { sender < 64 }
+        requires receiver { receiver < 64 }
+        ensures { result ≡ pump_refusal self.now sender receiver }
+    {
+        if self.end_of(sender).is_none() {
+            return Some(ActAnswer::Refused(sender, BenchFault::NoCaller));
+        }
+        if self.end_of(receiver).is_none() {
+            return Some(ActAnswer::Refused(receiver, BenchFault::NoCaller));
+        }
+        if self.is_in_call(sender) {
+            return Some(ActAnswer::Refused(sender, BenchFault::InCall));
+        }
+        if self.is_in_call(receiver) {
+            return Some(ActAnswer::Refused(receiver, BenchFault::InCall));
+        }
+        side_refusal(self.end_of(sender), self.end_of(receiver), receiver)
+    }
+}
+
+/// Two callers on one end make no turns.
+fn side_refusal(one: Option<End>, other: Option<End>, receiver: CallerNo) -> Option<ActAnswer>
+    ensures { result ≡ side_refusal one other receiver }
+{
+    match (one, other) {
+        (Some(End::Host), Some(End::Host)) | (Some(End::Remote), Some(End::Remote)) => {
+            Some(ActAnswer::WrongSide(receiver))
+        }
+        _ => None,
+    }
+}
+
+/// A caller below the number of a link's own.
+fn own_caller(own: CallerNo, caller: CallerNo) -> Option<CallerNo>
+    ensures { result ≡ own_caller own caller }
+{
+    if caller < own { Some(caller) } else { None }
+}
+
+/// What a call wishes of a link, with a copy of the bytes that it names.
+fn wish_of(wish: &CallWish<&[u8]>) -> Wish
+    requires { IsSendable (wish_of (bare_wish (λ bytes. bytes.now) wish.now)) }
+    ensures { result ≡ wish_of (bare_wish (λ bytes. bytes.now) wish.now) }
+{
+    match wish {
+        CallWish::Send {
+            source,
+            destination,
+            payload,
+        } => {
+            let head = rpmsg_header::head(*source, *destination, payload.len() as u16);
+            Wish::Send(message_of(&head, payload))
+        }
+        CallWish::Raw { message } => Wish::Send(message_of(&[], message)),
+        CallWish::Take => Wish::Take,
+        CallWish::Give { number } => Wish::Give(*number),
+        CallWish::Bind { address } => Wish::Bind(*address),
+        CallWish::Unbind { address } => Wish::Unbind(*address),
+    }
+}
+
+/// The message of a header and the bytes behind it.
+fn message_of(head: &[u8], body: &[u8]) -> Message
+    requires { length head.now + length body.now ≤ MESSAGE_MOST }
+    ensures { result ≡ head.now ++ body.now }
+{
+    let mut message = Message::empty();
+    message.set(head, body);
+    message
+}

@@ -1,0 +1,44 @@
+ghost use Rattle.link_bench.specs.Watchers.{nobody_sees};
+
+use crate::benches::Bench;
+use lane_model::CallEnd;
+use rp_base::{CallerNo, NoMemory};
+
+/// Who sees how the calls on a link end: nobody, or the actors of a core.
+pub trait Watcher {
+    ghost use Rattle.std.specs.Prelude.{◌≡◌, OnOk};
+    ghost use Rattle.link_bench.specs.Watchers.{Seeing};
+
+    /// What contracts tell apart of watchers.
+    ghost State: { Type 0 };
+
+    /// What they see of this one.
+    ghost state: { Self → State };
+
+    /// What it makes of the end of a call.
+    ghost sees: { Seeing State };
+
+    /// Sees the end of a call of a caller, on the bench that the call left.
+    ///
+    /// Errors: only for want of memory.
+    fn see(&mut self, bench: &Bench, caller: CallerNo, end: &CallEnd) -> Result<(), NoMemory>
+        ensures { OnOk result (state self.new ≡ sees bench.now caller end.now (state self.old)) };
+}
+
+/// A watcher that sees nothing.
+#[derive(Drop)]
+pub struct Nobody;
+
+impl Watcher for Nobody {
+    ghost use Rattle.link_bench.specs.Watchers.{nobody_sees};
+
+    ghost State = { Unit {0} };
+
+    ghost state = { λ _. tt };
+
+    ghost sees = { nobody_sees };
+
+    fn see(&mut self, _bench: &Bench, _caller: CallerNo, _end: &CallEnd) -> Result<(), NoMemory> {
+        Ok(())
+    }
+}
