@@ -1,5 +1,5 @@
 ghost use Rattle.std.specs.Prelude.{◌≡◌, ◌++◌, ◌∷◌, [], IfOk, OnOk};
-ghost use Rattle.journal.specs.Lines.{line, transcript};
+ghost use Rattle.journal.specs.Lines.{transcript};
 ghost use Rattle.journal.specs.declared.events.Event.TheVariants as event;
 ghost use Rattle.script_run.specs.CallEvents.{reach_events};
 ghost use Rattle.script_run.specs.Effects.{answer_ending, answer_events, reclaim_event, turn_events};
@@ -22,32 +22,44 @@ pub(crate) fn tell_answer(
     ensures told { OnOk result (log.new ≡ record log.old { lines = log.old.lines ++ transcript (answer_events name bench.now.link answer.now) }) }
     ensures ending { IfOk result (λ ending. ending ≡ answer_ending answer.now) }
 {
+    tell_events(name, bench, answer, log)?;
+    Ok(stop_of(answer))
+}
+
+/// Tells what came of an act.
+fn tell_events(
+    name: Name,
+    bench: &Bench,
+    answer: &ActAnswer,
+    log: &mut RunLog,
+) -> Result<(), NoMemory>
+    ensures { OnOk result (log.new ≡ record log.old { lines = log.old.lines ++ transcript (answer_events name bench.now.link answer.now) }) }
+{
     match answer {
-        ActAnswer::Reached(caller, reach) => tell_reach(name, bench, *caller, reach, log)?,
-        ActAnswer::Pumped(done, ended) => tell_turns(name, bench, *done, ended, log)?,
+        ActAnswer::Reached(caller, reach) => tell_reach(name, bench, *caller, reach, log),
+        ActAnswer::Pumped(done, ended) => tell_turns(name, bench, *done, ended, log),
         ActAnswer::Caller(caller, end) => log.tell(&Event::Caller {
             name,
             caller: u64::from(*caller),
             end: *end,
-        })?,
-        ActAnswer::CallersFull => log.tell(&Event::CallersFull { name })?,
-        ActAnswer::Refused(caller, fault) => log.tell(&fault_event(name, *caller, *fault))?,
+        }),
+        ActAnswer::CallersFull => log.tell(&Event::CallersFull { name }),
+        ActAnswer::Refused(caller, fault) => log.tell(&fault_event(name, *caller, *fault)),
         ActAnswer::TooLong(caller, len) => log.tell(&Event::TooLong {
             name,
             caller: u64::from(*caller),
             len: *len,
-        })?,
+        }),
         ActAnswer::WrongSide(receiver) => log.tell(&Event::WrongSide {
             name,
             caller: u64::from(*receiver),
-        })?,
+        }),
         ActAnswer::Begun(caller) => log.tell(&Event::Begun {
             name,
             caller: u64::from(*caller),
-        })?,
-        ActAnswer::Reclaimed(caller, came) => log.tell(&reclaim_event(name, *caller, *came))?,
+        }),
+        ActAnswer::Reclaimed(caller, came) => log.tell(&reclaim_event(name, *caller, *came)),
     }
-    Ok(stop_of(answer))
 }
 
 /// Why a run stops with an act: it has no step left.
@@ -96,11 +108,31 @@ fn tell_turns(
     ensures { OnOk result (log.new ≡ record log.old { lines = log.old.lines ++ transcript (turn_events name bench.now.link done ended.now) }) }
 {
     match ended {
-        TurnEnd::Whole => {}
-        TurnEnd::Fault(caller, fault) => log.tell(&fault_event(name, *caller, *fault))?,
-        TurnEnd::Reached(_, Reach::Limit) => return Ok(()),
-        TurnEnd::Reached(caller, reach) => tell_reach(name, bench, *caller, reach, log)?,
+        TurnEnd::Whole => log.tell(&Event::Pumped { name, turns: done }),
+        TurnEnd::Fault(caller, fault) => {
+            tell_pumped(name, &fault_event(name, *caller, *fault), done, log)
+        }
+        TurnEnd::Reached(caller, Reach::At(step)) => {
+            let event = Event::At {
+                name,
+                caller: u64::from(*caller),
+                step: u64::from(*step),
+            };
+            tell_pumped(name, &event, done, log)
+        }
+        TurnEnd::Reached(caller, Reach::Ended(end)) => {
+            let event = end_event(log.alloc(), name, bench, *caller, *end)?;
+            tell_pumped(name, &event, done, log)
+        }
+        TurnEnd::Reached(_, Reach::Limit) => Ok(()),
     }
+}
+
+/// Tells how the last turn ended, and how many were whole.
+fn tell_pumped(name: Name, last: &Event, done: u64, log: &mut RunLog) -> Result<(), NoMemory>
+    ensures { OnOk result (log.new ≡ record log.old { lines = log.old.lines ++ transcript (last.now ∷ event.Pumped name done ∷ []) }) }
+{
+    log.tell(last)?;
     log.tell(&Event::Pumped { name, turns: done })
 }
 
