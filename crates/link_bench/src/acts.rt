@@ -104,6 +104,7 @@ impl Bench {
     /// sees the end of each call, that of a turn's take before its give, and `steps` counts the steps.
     ///
     /// Errors: only for want of memory, where the watcher needs it.
+    #[tactic(auto, unfolding(crate::specs::Acts::link_act))]
     pub fn act<W: Watcher>(
         &mut self,
         own: CallerNo,
