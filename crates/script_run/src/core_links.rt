@@ -39,7 +39,7 @@ impl NamedCore {
         let Some(bench) = self.core.link() else {
             unreachable!()
         };
-        tell_answer(name, bench, &answer, log)
+        tell_answer(name, bench, answer, log)
     }
 
     /// Tells what the core's link shows.
