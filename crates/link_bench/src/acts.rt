@@ -1,8 +1,7 @@
-ghost use Rattle.std.specs.Prelude.{◌≡◌, ℕ, ◌<◌, ◌≤◌, ◌+◌, ◌++◌, IfOk, None, length};
+ghost use Rattle.std.specs.Prelude.{◌≡◌, ◌<◌, ◌≤◌, ◌+◌, ◌++◌, IfOk, None, length};
 ghost use Rattle.rp_base.specs.declared.limits.TheConstants.{MESSAGE_MOST, STEPS_MOST};
-ghost use Rattle.lane_model.specs.Links.{free_number};
 ghost use Rattle.link_bench.specs.Benches.{IsSendable, call_walk, reach_of, ready_fault};
-ghost use Rattle.link_bench.specs.Acts.{HasActed, IsFitAct, IsFitWish, bare_act, bare_wish, call_act, caller_act, free_act, link_act, made_call, misfit, own_caller, own_in, pump_act, pump_refusal, reclaim_act, side_refusal, step_act, walked, wish_of};
+ghost use Rattle.link_bench.specs.Acts.{HasActed, IsFitAct, IsFitWish, bare_act, bare_wish, call_act, free_act, link_act, made_call, misfit, own_caller, own_in, pump_act, pump_refusal, side_refusal, step_act, walked, wish_of};
 
 use crate::bench_crashes::Reclaim;
 use crate::benches::{Bench, BenchFault, Progress, Reach};
@@ -105,6 +104,7 @@ impl Bench {
     /// sees the end of each call, that of a turn's take before its give, and `steps` counts the steps.
     ///
     /// Errors: only for want of memory, where the watcher needs it.
+    #[tactic(auto, unfolding(crate::specs::Acts::link_act))]
     pub fn act<W: Watcher>(
         &mut self,
         own: CallerNo,
@@ -156,7 +156,10 @@ impl Bench {
         ensures within { steps.new ≤ STEPS_MOST }
     {
         match act {
-            LinkAct::Caller { end } => Ok(self.join(*end)),
+            LinkAct::Caller { end } => match self.caller(*end) {
+                Some(caller) => Ok(ActAnswer::Caller(caller, *end)),
+                None => Ok(ActAnswer::CallersFull),
+            },
             LinkAct::Call { caller, how, wish } => {
                 self.call_act(watcher, *caller, *how, wish, steps)
             }
@@ -166,21 +169,10 @@ impl Bench {
                 receiver,
                 count,
             } => self.pump_act(watcher, *sender, *receiver, *count, steps),
-            LinkAct::Reclaim { caller } => Ok(match self.reclaim(*caller) {
-                Ok(came) => ActAnswer::Reclaimed(*caller, came),
-                Err(fault) => ActAnswer::Refused(*caller, fault),
-            }),
-        }
-    }
-
-    /// A new caller at an end.
-    fn join(&mut self, end: End) -> ActAnswer
-        ensures bench { self.new ≡ (caller_act self.old (tt {0}) 0 end (free_number self.old.link.callers)).bench }
-        ensures answer { result ≡ (caller_act self.old (tt {0}) 0 end (free_number self.old.link.callers)).answer }
-    {
-        match self.caller(end) {
-            Some(caller) => ActAnswer::Caller(caller, end),
-            None => ActAnswer::CallersFull,
+            LinkAct::Reclaim { caller } => match self.reclaim(*caller) {
+                Ok(came) => Ok(ActAnswer::Reclaimed(*caller, came)),
+                Err(fault) => Ok(ActAnswer::Refused(*caller, fault)),
+            },
         }
     }
 
@@ -245,7 +237,7 @@ impl Bench {
             How::Whole => {
                 let mut end = CallEnd::Empty(0);
                 let progress = self.whole_call(caller, wish, steps, &mut end);
-                self.reach(watcher, caller, progress, end)
+                self.reach(watcher, caller, progress, end, *steps)
             }
             How::Begun => {
                 self.put_begun(caller, wish_of(wish));
@@ -308,18 +300,19 @@ impl Bench {
         }
         let mut end = CallEnd::Empty(0);
         let progress = self.advance(caller, more, steps, &mut end);
-        self.reach(watcher, caller, progress, end)
+        self.reach(watcher, caller, progress, end, *steps)
     }
 
-    /// A call of a caller came so far, and the watcher sees its end.
+    /// A call of a caller came so far, at this count of steps, and the watcher sees its end.
     fn reach<W: Watcher>(
         &self,
         watcher: &mut W,
         caller: CallerNo,
         progress: Progress,
         end: CallEnd,
+        steps: u64,
     ) -> Result<ActAnswer, NoMemory>
-        ensures { IfOk result (λ answer. (steps : ℕ) → HasActed (walked W.sees (W.state watcher.old) caller (record { bench = self.now; steps = steps; reach = reach_of progress end })) self.now (W.state watcher.new) steps answer) }
+        ensures { IfOk result (λ answer. HasActed (walked W.sees (W.state watcher.old) caller (record { bench = self.now; steps = steps; reach = reach_of progress end })) self.now (W.state watcher.new) steps answer) }
     {
         let reach = match progress {
             Progress::At(step) => Reach::At(step),

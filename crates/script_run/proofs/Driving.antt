@@ -1,5 +1,5 @@
 -- A drive, step by step.
-use Rattle.std.proofs.Common.{◌≡◌, ℕ, zero, suc, ◌+◌, ◌==◌, Bool, true, false, cond, not, ◌||◌, List, [], ◌++◌, Option, Some, None, unwrap_or, refl, sym, ap, subst, ◌∙◌, true≢false, append-nil, append_assoc}
+use Rattle.std.proofs.Common.{◌≡◌, ℕ, zero, suc, ◌+◌, ◌==◌, Bool, true, false, cond, not, ◌||◌, List, ◌++◌, Option, Some, None, unwrap_or, refl, sym, ap, subst, ◌∙◌, true≢false, append-nil, append_assoc}
 use Rattle.rp_base.specs.declared.limits.TheConstants.{STEPS_MOST}
 use Rattle.journal.specs.Lines.{transcript}
 use Rattle.journal.specs.declared.events.Event.{Event}
@@ -27,14 +27,6 @@ module _ (name : List ℕ) (is_quiet : Bool) where
   steps_rest (suc more) core steps told rests =
       ap (λ (e : Option Event). rests_or core steps e
       (cond (steps == STEPS_MOST) (core_stops core steps) (step_then name is_quiet (drive_step core) (λ next. drive_steps more name is_quiet next (steps + 1))))) rests
-
-  -- the run has no step left
-  pub steps_stop : (more : ℕ) (core : CoreState) (steps : ℕ) → rest_event name core ≡ None → (steps == STEPS_MOST) ≡ true → drive_steps (suc more) name is_quiet core steps ≡ core_stops core steps
-  unfolding drive_steps
-  steps_stop more core steps goes most =
-      ap (λ (e : Option Event). rests_or core steps e
-      (cond (steps == STEPS_MOST) (core_stops core steps) (step_then name is_quiet (drive_step core) (λ next. drive_steps more name is_quiet next (steps + 1))))) goes
-      ∙ ap (λ (b : Bool). cond b (core_stops core steps) (step_then name is_quiet (drive_step core) (λ next. drive_steps more name is_quiet next (steps + 1)))) most
 
   -- one step more
   pub steps_more : (more : ℕ) (core : CoreState) (steps : ℕ) → rest_event name core ≡ None → (steps == STEPS_MOST) ≡ false
@@ -105,10 +97,6 @@ pub record DrivesOn (name : List ℕ) (is_quiet : Bool) (count : ℕ) (first : C
   pub rest : drive_steps count name is_quiet first before.steps ≡ told_before told (drive_steps left name is_quiet core log.steps)
 
 module _ (name : List ℕ) (is_quiet : Bool) (count : ℕ) (first : CoreState) (before : LogState) where
-  -- nothing is done yet
-  pub drive_begins : DrivesOn name is_quiet count first before count first before
-  drive_begins = record { told = []; lines = sym (append-nil before.lines); rest = refl }
-
   -- one step more
   pub drive_goes_on : (left more : ℕ) (core next : CoreState) (log after : LogState) → left ≡ suc more → DrivesOn name is_quiet count first before left core log
       → rest_event name core ≡ None → (log.steps == STEPS_MOST) ≡ false → next ≡ (drive_step core).core

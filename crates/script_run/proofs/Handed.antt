@@ -30,14 +30,6 @@ hands_nothing written = record { handed = []; appended = appends_nothing written
 pub hands_kept : (written : Option (List ℕ)) (kept bytes left : List ℕ) → left ≡ kept ++ bytes → Hands written kept written left bytes
 hands_kept written kept bytes left same = record { handed = []; appended = appends_nothing written; rest = same }
 
--- all of it handed on
-pub hands_all : (written now : Option (List ℕ)) (kept bytes left whole : List ℕ) → whole ≡ kept ++ bytes → left ≡ [] → Appends written now whole → Hands written kept now left bytes
-hands_all written now kept bytes left whole same empty appended = record {
-  handed = whole;
-  appended = appended;
-  rest = ap (λ more. whole ++ more) empty ∙ append-nil whole ∙ same;
-}
-
 -- told one after the other
 pub hands_more : (a b c : Option (List ℕ)) (k l m x y : List ℕ) → Hands a k b l x → Hands b l c m y → Hands a k c m (x ++ y)
 hands_more a b c k l m x y first second = record {
@@ -46,11 +38,6 @@ hands_more a b c k l m x y first second = record {
   rest = append_assoc first.handed second.handed m ∙ ap (λ more. first.handed ++ more) second.rest
       ∙ sym (append_assoc first.handed l y) ∙ ap (λ front. front ++ y) first.rest ∙ append_assoc k x y;
 }
-
--- told from the start, and then all that is kept is handed on
-pub hands_whole : (a b c : Option (List ℕ)) (l x : List ℕ) → Hands a [] b l x → Appends b c l → Appends a c x
-hands_whole a b c l x told whole =
-    appends_same a c _ x told.rest (appends_more a b c told.handed l told.appended whole)
 
 -- told from the start, and then a front of what is kept and of more is handed on
 pub hands_front : (a b c : Option (List ℕ)) (l x y : List ℕ) → Hands a [] b l x → AppendsFront b c (l ++ y) → AppendsFront a c (x ++ y)

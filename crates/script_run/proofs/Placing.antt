@@ -1,13 +1,9 @@
 -- What is done under a name: on its link, on its core, or on none.
-use Rattle.std.proofs.Common.{◌≡◌, ℕ, Bool, false, cond, List, [], ◌∷◌, ◌++◌, Option, Some, None, Ok, slice_get, slice_set, refl, sym, ap, subst, ◌∙◌, append-nil}
-use Rattle.script_lang.specs.declared.commands.Command.{Command}
-use Rattle.script_lang.specs.declared.recipes.RecipeLine.{RecipeLine}
-use Rattle.image_maker.specs.Images.{image_of}
+use Rattle.std.proofs.Common.{◌≡◌, ℕ, Bool, false, cond, List, [], ◌∷◌, ◌++◌, Option, Some, None, slice_get, slice_set, refl, sym, ap, subst, ◌∙◌, append-nil}
 use Rattle.journal.specs.Lines.{line}
 use Rattle.journal.specs.declared.events.Event.{Event}
 use Rattle.journal.specs.declared.events.Event.TheVariants as event
-use Rattle.script_lang.specs.declared.commands.RegionSet.{RegionSet}
-use Rattle.crash_recover.specs.Cores.{CoreState, new_core}
+use Rattle.crash_recover.specs.Cores.{CoreState}
 use Rattle.script_run.specs.NamedLinks.{NamedLink}
 use Rattle.script_run.specs.Stores.{Answer}
 use Rattle.script_run.specs.LinkCommands.{link_effect}
@@ -17,10 +13,8 @@ use Rattle.script_run.specs.declared.statuses.Stop.{Stop}
 use Rattle.lane_model.specs.declared.calls.LinkConfig.{LinkConfig}
 use Rattle.link_bench.specs.Benches.{BenchState, new_bench_of}
 use Rattle.script_run.specs.Logs.{LogState, HasCoreEffect, HasEffect, HasRunEffect}
-use Rattle.script_run.specs.declared.acts.Line.{Line}
 use Rattle.script_run.specs.declared.acts.NamedAct.{NamedAct}
-use Rattle.script_run.specs.Acts.{bare_line, line_of}
-use Rattle.script_run.specs.Runs.{ObjectsState, RunState, RunEffect, core_located_effect, core_made_effect, core_place, dumped_effect, effect_of, found_core_effect, found_effect, has_image, image_effect, is_full, line_effect, located_effect, made_effect, name_effect, new_end, place_of, placed_core_effect, placed_effect, regions_of, run_tells, unnamed_effect, with_cores, with_dump, with_image, with_links, without_link_effect}
+use Rattle.script_run.specs.Runs.{ObjectsState, RunState, RunEffect, core_located_effect, core_place, found_core_effect, found_effect, is_full, located_effect, made_effect, name_effect, new_end, place_of, placed_core_effect, placed_effect, run_tells, unnamed_effect, with_links, without_link_effect}
 
 -- a link of the same name with another bench
 with_bench : (now named : NamedLink) (bench : BenchState) → now.name ≡ named.name → now.bench ≡ bench → record named { bench = bench } ≡ now
@@ -100,16 +94,6 @@ module _ (fetched : Answer) (run : RunState) (called : List ℕ) (wanted : Named
     nameless_run objects placed did =
         subst (λ (e : RunEffect). HasRunEffect e objects before after answer) (sym (effect_on_none placed)) did
 
--- ---- a line that code made of a command
-
-module _ {R P : Type 0} (recipe : R → List RecipeLine) (bytes : P → List ℕ) (fetched : Answer) (run : RunState) (wanted : Command) (made : Line R P)
-    (is : bare_line recipe bytes made ≡ line_of wanted) (objects : ObjectsState) (before after : LogState) (answer : Option Stop) where
-  -- what the line does is what the command does
-  pub line_run : HasRunEffect (line_effect fetched run (bare_line recipe bytes made)) objects before after answer
-      → HasRunEffect (effect_of fetched run wanted) objects before after answer
-  unfolding effect_of
-  line_run did = subst (λ (l : Line (List RecipeLine) (List ℕ)). HasRunEffect (line_effect fetched run l) objects before after answer) is did
-
 module _ (run : RunState) (objects : ObjectsState) (before after : LogState) where
   -- one event is told, with which a run goes on
   tells_run : (next : RunState) (told : Event) → objects ≡ next.objects → after.steps ≡ next.steps → after.lines ≡ before.lines ++ line told
@@ -131,35 +115,3 @@ module _ (run : RunState) (objects : ObjectsState) (before after : LogState) whe
       let made = with_links run (run.objects.links ++ record { name = name; bench = new_bench_of config (new_end has_service) (new_end false) } ∷ []) in
       subst (λ full. HasRunEffect (cond full (run_tells run event.ObjectsFull) (run_tells made (event.Open name 1))) objects before after None) (sym few)
       (tells_run made (event.Open name 1) is (ap (λ (log : LogState). log.steps) kept ∙ steps) (ap (λ (log : LogState). log.lines) kept))
-
-  -- a core of a new name is made
-  pub core_made_run : (name : List ℕ) (set : RegionSet) (book : ℕ) → is_full run.objects ≡ false
-      → objects ≡ record run.objects { cores = run.objects.cores ++ record { name = name; core = new_core (regions_of set) [] book } ∷ [] }
-      → before.steps ≡ run.steps → after ≡ record before { lines = before.lines ++ line (event.Offline name) }
-      → HasRunEffect (core_made_effect run name set book) objects before after None
-  unfolding core_made_effect
-  core_made_run name set book few is steps kept =
-      let made = with_cores run (run.objects.cores ++ record { name = name; core = new_core (regions_of set) [] book } ∷ []) in
-      subst (λ full. HasRunEffect (cond full (run_tells run event.ObjectsFull) (run_tells made (event.Offline name))) objects before after None) (sym few)
-      (tells_run made (event.Offline name) is (ap (λ (log : LogState). log.steps) kept ∙ steps) (ap (λ (log : LogState). log.lines) kept))
-
-  -- an image of a new name is made
-  pub imaged_run : (name : List ℕ) (lines : List RecipeLine) (bytes : List ℕ) → has_image run.objects.images name ≡ false → bytes ≡ image_of lines
-      → objects ≡ record run.objects { images = run.objects.images ++ record { name = name; bytes = bytes; is_dump = false } ∷ [] }
-      → before.steps ≡ run.steps → after ≡ record before { lines = before.lines ++ line (event.Image name (length bytes)) }
-      → HasRunEffect (image_effect run name lines) objects before after None
-  unfolding image_effect
-  imaged_run name lines bytes new made is steps kept =
-      subst (λ known. HasRunEffect (cond known (run_tells run (event.ImageExists name)) (run_tells (with_image run name (image_of lines)) (event.Image name (length (image_of lines)))))
-      objects before after None) (sym new)
-      (tells_run (with_image run name (image_of lines)) (event.Image name (length (image_of lines)))
-      (is ∙ ap (λ (b : List ℕ). record run.objects { images = run.objects.images ++ record { name = name; bytes = b; is_dump = false } ∷ [] }) made)
-      (ap (λ (log : LogState). log.steps) kept ∙ steps)
-      (ap (λ (log : LogState). log.lines) kept ∙ ap (λ (b : List ℕ). before.lines ++ line (event.Image name (length b))) made))
-
-  -- a dump is kept
-  pub dump_kept_run : (image bytes : List ℕ) → objects ≡ record run.objects { images = run.objects.images ++ record { name = image; bytes = bytes; is_dump = true } ∷ [] }
-      → before.steps ≡ run.steps → after ≡ record before { lines = before.lines ++ line (event.Image image (length bytes)) }
-      → HasRunEffect (dumped_effect run image (Ok bytes)) objects before after None
-  dump_kept_run image bytes is steps kept =
-      tells_run (with_dump run image bytes) (event.Image image (length bytes)) is (ap (λ (log : LogState). log.steps) kept ∙ steps) (ap (λ (log : LogState). log.lines) kept)

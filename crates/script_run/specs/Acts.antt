@@ -1,5 +1,5 @@
 -- What a command is about: the acts that a run works on (own).
-use Rattle.std.specs.Prelude.{ℕ, ◌-◌, Bool, true, false, List}
+use Rattle.std.specs.Prelude.{ℕ, ◌-◌, true, false, List}
 use Rattle.lane_model.specs.declared.calls.LinkConfig.{LinkConfig}
 use Rattle.lane_model.specs.Conditions.{IsConfig}
 use Rattle.script_lang.specs.declared.commands.Command.{Command}

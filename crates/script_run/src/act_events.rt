@@ -1,8 +1,8 @@
-ghost use Rattle.std.specs.Prelude.{◌≡◌, ◌++◌, ◌∷◌, [], IfOk, OnOk};
-ghost use Rattle.journal.specs.Lines.{line, transcript};
+ghost use Rattle.std.specs.Prelude.{◌≡◌, ◌++◌, ◌∷◌, [], None, IfOk, OnOk};
+ghost use Rattle.journal.specs.Lines.{transcript};
 ghost use Rattle.journal.specs.declared.events.Event.TheVariants as event;
 ghost use Rattle.script_run.specs.CallEvents.{reach_events};
-ghost use Rattle.script_run.specs.Effects.{answer_ending, answer_events, reclaim_event, turn_events};
+ghost use Rattle.script_run.specs.Effects.{answer_ending, answer_events, limit_stop, reclaim_event, turn_ending, turn_events};
 
 use crate::call_events::{end_event, fault_event};
 use crate::logs::RunLog;
@@ -16,49 +16,58 @@ use rp_base::{CallerNo, Name, NoMemory};
 pub(crate) fn tell_answer(
     name: Name,
     bench: &Bench,
-    answer: &ActAnswer,
+    answer: ActAnswer,
     log: &mut RunLog,
 ) -> Result<Option<Stop>, NoMemory>
-    ensures told { OnOk result (log.new ≡ record log.old { lines = log.old.lines ++ transcript (answer_events name bench.now.link answer.now) }) }
-    ensures ending { IfOk result (λ ending. ending ≡ answer_ending answer.now) }
+    ensures told { OnOk result (log.new ≡ record log.old { lines = log.old.lines ++ transcript (answer_events name bench.now.link answer) }) }
+    ensures ending { IfOk result (λ ending. ending ≡ answer_ending answer) }
 {
     match answer {
-        ActAnswer::Reached(caller, reach) => tell_reach(name, bench, *caller, reach, log)?,
-        ActAnswer::Pumped(done, ended) => tell_turns(name, bench, *done, ended, log)?,
-        ActAnswer::Caller(caller, end) => log.tell(&Event::Caller {
-            name,
-            caller: u64::from(*caller),
-            end: *end,
-        })?,
-        ActAnswer::CallersFull => log.tell(&Event::CallersFull { name })?,
-        ActAnswer::Refused(caller, fault) => log.tell(&fault_event(name, *caller, *fault))?,
-        ActAnswer::TooLong(caller, len) => log.tell(&Event::TooLong {
-            name,
-            caller: u64::from(*caller),
-            len: *len,
-        })?,
-        ActAnswer::WrongSide(receiver) => log.tell(&Event::WrongSide {
-            name,
-            caller: u64::from(*receiver),
-        })?,
-        ActAnswer::Begun(caller) => log.tell(&Event::Begun {
-            name,
-            caller: u64::from(*caller),
-        })?,
-        ActAnswer::Reclaimed(caller, came) => log.tell(&reclaim_event(name, *caller, *came))?,
+        ActAnswer::Reached(caller, reach) => tell_reach(name, bench, caller, reach, log),
+        ActAnswer::Pumped(done, ended) => tell_turns(name, bench, done, ended, log),
+        ActAnswer::Caller(caller, end) => tell(
+            &Event::Caller {
+                name,
+                caller: u64::from(caller),
+                end,
+            },
+            log,
+        ),
+        ActAnswer::CallersFull => tell(&Event::CallersFull { name }, log),
+        ActAnswer::Refused(caller, fault) => tell(&fault_event(name, caller, fault), log),
+        ActAnswer::TooLong(caller, len) => tell(
+            &Event::TooLong {
+                name,
+                caller: u64::from(caller),
+                len,
+            },
+            log,
+        ),
+        ActAnswer::WrongSide(receiver) => tell(
+            &Event::WrongSide {
+                name,
+                caller: u64::from(receiver),
+            },
+            log,
+        ),
+        ActAnswer::Begun(caller) => tell(
+            &Event::Begun {
+                name,
+                caller: u64::from(caller),
+            },
+            log,
+        ),
+        ActAnswer::Reclaimed(caller, came) => tell(&reclaim_event(name, caller, came), log),
     }
-    Ok(stop_of(answer))
 }
 
-/// Why a run stops with an act: it has no step left.
-fn stop_of(answer: &ActAnswer) -> Option<Stop>
-    ensures { result ≡ answer_ending answer.now }
+/// Tells one event, with which the run goes on.
+fn tell(event: &Event, log: &mut RunLog) -> Result<Option<Stop>, NoMemory>
+    ensures told { OnOk result (log.new ≡ record log.old { lines = log.old.lines ++ transcript (event.now ∷ []) }) }
+    ensures goes_on { IfOk result (λ ending. ending ≡ None) }
 {
-    match answer {
-        ActAnswer::Reached(_, Reach::Limit)
-        | ActAnswer::Pumped(_, TurnEnd::Reached(_, Reach::Limit)) => Some(Stop::StepLimit),
-        _ => None,
-    }
+    log.tell(event)?;
+    Ok(None)
 }
 
 /// Tells how far a call came.
@@ -66,22 +75,26 @@ fn tell_reach(
     name: Name,
     bench: &Bench,
     caller: CallerNo,
-    reach: &Reach,
+    reach: Reach,
     log: &mut RunLog,
-) -> Result<(), NoMemory>
-    ensures { OnOk result (log.new ≡ record log.old { lines = log.old.lines ++ transcript (reach_events name bench.now.link caller reach.now) }) }
+) -> Result<Option<Stop>, NoMemory>
+    ensures told { OnOk result (log.new ≡ record log.old { lines = log.old.lines ++ transcript (reach_events name bench.now.link caller reach) }) }
+    ensures ending { IfOk result (λ ending. ending ≡ limit_stop reach) }
 {
     match reach {
-        Reach::At(step) => log.tell(&Event::At {
-            name,
-            caller: u64::from(caller),
-            step: u64::from(*step),
-        }),
+        Reach::At(step) => tell(
+            &Event::At {
+                name,
+                caller: u64::from(caller),
+                step: u64::from(step),
+            },
+            log,
+        ),
         Reach::Ended(end) => {
-            let event = end_event(log.alloc(), name, bench, caller, *end)?;
-            log.tell(&event)
+            let event = end_event(log.alloc(), name, bench, caller, end)?;
+            tell(&event, log)
         }
-        Reach::Limit => Ok(()),
+        Reach::Limit => Ok(Some(Stop::StepLimit)),
     }
 }
 
@@ -90,18 +103,45 @@ fn tell_turns(
     name: Name,
     bench: &Bench,
     done: u64,
-    ended: &TurnEnd,
+    ended: TurnEnd,
     log: &mut RunLog,
-) -> Result<(), NoMemory>
-    ensures { OnOk result (log.new ≡ record log.old { lines = log.old.lines ++ transcript (turn_events name bench.now.link done ended.now) }) }
+) -> Result<Option<Stop>, NoMemory>
+    ensures told { OnOk result (log.new ≡ record log.old { lines = log.old.lines ++ transcript (turn_events name bench.now.link done ended) }) }
+    ensures ending { IfOk result (λ ending. ending ≡ turn_ending ended) }
 {
     match ended {
-        TurnEnd::Whole => {}
-        TurnEnd::Fault(caller, fault) => log.tell(&fault_event(name, *caller, *fault))?,
-        TurnEnd::Reached(_, Reach::Limit) => return Ok(()),
-        TurnEnd::Reached(caller, reach) => tell_reach(name, bench, *caller, reach, log)?,
+        TurnEnd::Whole => tell(&Event::Pumped { name, turns: done }, log),
+        TurnEnd::Fault(caller, fault) => {
+            tell_pumped(name, &fault_event(name, caller, fault), done, log)
+        }
+        TurnEnd::Reached(caller, Reach::At(step)) => {
+            let event = Event::At {
+                name,
+                caller: u64::from(caller),
+                step: u64::from(step),
+            };
+            tell_pumped(name, &event, done, log)
+        }
+        TurnEnd::Reached(caller, Reach::Ended(end)) => {
+            let event = end_event(log.alloc(), name, bench, caller, end)?;
+            tell_pumped(name, &event, done, log)
+        }
+        TurnEnd::Reached(_, Reach::Limit) => Ok(Some(Stop::StepLimit)),
     }
-    log.tell(&Event::Pumped { name, turns: done })
+}
+
+/// Tells how the last turn ended, and how many were whole.
+fn tell_pumped(
+    name: Name,
+    last: &Event,
+    done: u64,
+    log: &mut RunLog,
+) -> Result<Option<Stop>, NoMemory>
+    ensures told { OnOk result (log.new ≡ record log.old { lines = log.old.lines ++ transcript (last.now ∷ event.Pumped name done ∷ []) }) }
+    ensures goes_on { IfOk result (λ ending. ending ≡ None) }
+{
+    log.tell(last)?;
+    tell(&Event::Pumped { name, turns: done }, log)
 }
 
 /// How a reclaim ended.

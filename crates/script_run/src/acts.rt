@@ -1,7 +1,4 @@
-ghost use Rattle.std.specs.Prelude.{◌≡◌, ◌≤◌};
-ghost use Rattle.link_bench.specs.declared.acts.LinkAct.TheVariants as act;
-ghost use Rattle.script_run.specs.declared.acts.Line.TheVariants as line;
-ghost use Rattle.script_run.specs.declared.acts.NamedAct.TheVariants as under;
+ghost use Rattle.std.specs.Prelude.{◌≡◌};
 ghost use Rattle.script_lang.specs.Runnable.{IsRunnable};
 ghost use Rattle.script_run.specs.Acts.{IsFitLine, bare_line, config_of, line_of};
 
@@ -135,13 +132,13 @@ pub(crate) fn line_of(command: &Command) -> Line<&Recipe, &[u8]>
                 *entries_to_remote as u32,
                 *book as u32,
             );
-            on(
-                name,
-                NamedAct::Make(Making::Link {
+            Line::On {
+                name: *name,
+                act: NamedAct::Make(Making::Link {
                     config,
                     has_service: false,
                 }),
-            )
+            }
         }
         Command::NsLink {
             name,
@@ -154,280 +151,324 @@ pub(crate) fn line_of(command: &Command) -> Line<&Recipe, &[u8]>
                 *entries_to_remote as u32,
                 *book as u32,
             );
-            on(
-                name,
-                NamedAct::Make(Making::Link {
+            Line::On {
+                name: *name,
+                act: NamedAct::Make(Making::Link {
                     config,
                     has_service: true,
                 }),
-            )
+            }
         }
         Command::Core {
             name,
             regions,
             book,
-        } => on(
-            name,
-            NamedAct::Make(Making::Core {
+        } => Line::On {
+            name: *name,
+            act: NamedAct::Make(Making::Core {
                 regions: *regions,
                 book: *book as u32,
             }),
-        ),
-        Command::Caller { name, end } => on(name, NamedAct::Link(LinkAct::Caller { end: *end })),
+        },
+        Command::Caller { name, end } => Line::On {
+            name: *name,
+            act: NamedAct::Link(LinkAct::Caller { end: *end }),
+        },
         Command::Send {
             name,
             caller,
             source,
             destination,
             payload,
-        } => calls(
-            name,
-            *caller,
-            How::Whole,
-            CallWish::Send {
-                source: *source as u32,
-                destination: *destination as u32,
-                payload: payload.bytes(),
-            },
-        ),
+        } => Line::On {
+            name: *name,
+            act: NamedAct::Link(LinkAct::Call {
+                caller: *caller as CallerNo,
+                how: How::Whole,
+                wish: CallWish::Send {
+                    source: *source as u32,
+                    destination: *destination as u32,
+                    payload: payload.bytes(),
+                },
+            }),
+        },
         Command::Raw {
             name,
             caller,
             message,
-        } => calls(
-            name,
-            *caller,
-            How::Whole,
-            CallWish::Raw {
-                message: message.bytes(),
-            },
-        ),
-        Command::Take { name, caller } => calls(name, *caller, How::Whole, CallWish::Take),
+        } => Line::On {
+            name: *name,
+            act: NamedAct::Link(LinkAct::Call {
+                caller: *caller as CallerNo,
+                how: How::Whole,
+                wish: CallWish::Raw {
+                    message: message.bytes(),
+                },
+            }),
+        },
+        Command::Take { name, caller } => Line::On {
+            name: *name,
+            act: NamedAct::Link(LinkAct::Call {
+                caller: *caller as CallerNo,
+                how: How::Whole,
+                wish: CallWish::Take,
+            }),
+        },
         Command::Give {
             name,
             caller,
             number,
-        } => calls(
-            name,
-            *caller,
-            How::Whole,
-            CallWish::Give { number: *number },
-        ),
+        } => Line::On {
+            name: *name,
+            act: NamedAct::Link(LinkAct::Call {
+                caller: *caller as CallerNo,
+                how: How::Whole,
+                wish: CallWish::Give { number: *number },
+            }),
+        },
         Command::Bind {
             name,
             caller,
             address,
-        } => calls(
-            name,
-            *caller,
-            How::Whole,
-            CallWish::Bind {
-                address: *address as u32,
-            },
-        ),
+        } => Line::On {
+            name: *name,
+            act: NamedAct::Link(LinkAct::Call {
+                caller: *caller as CallerNo,
+                how: How::Whole,
+                wish: CallWish::Bind {
+                    address: *address as u32,
+                },
+            }),
+        },
         Command::Unbind {
             name,
             caller,
             address,
-        } => calls(
-            name,
-            *caller,
-            How::Whole,
-            CallWish::Unbind {
-                address: *address as u32,
-            },
-        ),
+        } => Line::On {
+            name: *name,
+            act: NamedAct::Link(LinkAct::Call {
+                caller: *caller as CallerNo,
+                how: How::Whole,
+                wish: CallWish::Unbind {
+                    address: *address as u32,
+                },
+            }),
+        },
         Command::BeginSend {
             name,
             caller,
             source,
             destination,
             payload,
-        } => calls(
-            name,
-            *caller,
-            How::Begun,
-            CallWish::Send {
-                source: *source as u32,
-                destination: *destination as u32,
-                payload: payload.bytes(),
-            },
-        ),
+        } => Line::On {
+            name: *name,
+            act: NamedAct::Link(LinkAct::Call {
+                caller: *caller as CallerNo,
+                how: How::Begun,
+                wish: CallWish::Send {
+                    source: *source as u32,
+                    destination: *destination as u32,
+                    payload: payload.bytes(),
+                },
+            }),
+        },
         Command::BeginRaw {
             name,
             caller,
             message,
-        } => calls(
-            name,
-            *caller,
-            How::Begun,
-            CallWish::Raw {
-                message: message.bytes(),
-            },
-        ),
-        Command::BeginTake { name, caller } => calls(name, *caller, How::Begun, CallWish::Take),
+        } => Line::On {
+            name: *name,
+            act: NamedAct::Link(LinkAct::Call {
+                caller: *caller as CallerNo,
+                how: How::Begun,
+                wish: CallWish::Raw {
+                    message: message.bytes(),
+                },
+            }),
+        },
+        Command::BeginTake { name, caller } => Line::On {
+            name: *name,
+            act: NamedAct::Link(LinkAct::Call {
+                caller: *caller as CallerNo,
+                how: How::Begun,
+                wish: CallWish::Take,
+            }),
+        },
         Command::BeginGive {
             name,
             caller,
             number,
-        } => calls(
-            name,
-            *caller,
-            How::Begun,
-            CallWish::Give { number: *number },
-        ),
+        } => Line::On {
+            name: *name,
+            act: NamedAct::Link(LinkAct::Call {
+                caller: *caller as CallerNo,
+                how: How::Begun,
+                wish: CallWish::Give { number: *number },
+            }),
+        },
         Command::BeginBind {
             name,
             caller,
             address,
-        } => calls(
-            name,
-            *caller,
-            How::Begun,
-            CallWish::Bind {
-                address: *address as u32,
-            },
-        ),
+        } => Line::On {
+            name: *name,
+            act: NamedAct::Link(LinkAct::Call {
+                caller: *caller as CallerNo,
+                how: How::Begun,
+                wish: CallWish::Bind {
+                    address: *address as u32,
+                },
+            }),
+        },
         Command::BeginUnbind {
             name,
             caller,
             address,
-        } => calls(
-            name,
-            *caller,
-            How::Begun,
-            CallWish::Unbind {
-                address: *address as u32,
-            },
-        ),
+        } => Line::On {
+            name: *name,
+            act: NamedAct::Link(LinkAct::Call {
+                caller: *caller as CallerNo,
+                how: How::Begun,
+                wish: CallWish::Unbind {
+                    address: *address as u32,
+                },
+            }),
+        },
         Command::Step {
             name,
             caller,
             count,
-        } => steps(name, *caller, *count - 1),
-        Command::Finish { name, caller } => steps(name, *caller, 6),
+        } => Line::On {
+            name: *name,
+            act: NamedAct::Link(LinkAct::Step {
+                caller: *caller as CallerNo,
+                more: *count - 1,
+            }),
+        },
+        Command::Finish { name, caller } => Line::On {
+            name: *name,
+            act: NamedAct::Link(LinkAct::Step {
+                caller: *caller as CallerNo,
+                more: 6,
+            }),
+        },
         Command::Pump {
             name,
             sender,
             receiver,
             count,
-        } => on(
-            name,
-            NamedAct::Link(LinkAct::Pump {
+        } => Line::On {
+            name: *name,
+            act: NamedAct::Link(LinkAct::Pump {
                 sender: *sender as CallerNo,
                 receiver: *receiver as CallerNo,
                 count: *count,
             }),
-        ),
-        Command::Reclaim { name, caller } => on(
-            name,
-            NamedAct::Link(LinkAct::Reclaim {
+        },
+        Command::Reclaim { name, caller } => Line::On {
+            name: *name,
+            act: NamedAct::Link(LinkAct::Reclaim {
                 caller: *caller as CallerNo,
             }),
-        ),
-        Command::Close { name } => on(name, NamedAct::Manage(ManagerAct::Close)),
-        Command::Reopen { name } => on(name, NamedAct::Manage(ManagerAct::Reopen)),
-        Command::Books { name } => on(name, NamedAct::Show(LinkView::Books)),
-        Command::Ring { name, lane } => on(name, NamedAct::Show(LinkView::Ring { lane: *lane })),
-        Command::Channels { name } => on(name, NamedAct::Show(LinkView::Channels)),
+        },
+        Command::Close { name } => Line::On {
+            name: *name,
+            act: NamedAct::Manage(ManagerAct::Close),
+        },
+        Command::Reopen { name } => Line::On {
+            name: *name,
+            act: NamedAct::Manage(ManagerAct::Reopen),
+        },
+        Command::Books { name } => Line::On {
+            name: *name,
+            act: NamedAct::Show(LinkView::Books),
+        },
+        Command::Ring { name, lane } => Line::On {
+            name: *name,
+            act: NamedAct::Show(LinkView::Ring { lane: *lane }),
+        },
+        Command::Channels { name } => Line::On {
+            name: *name,
+            act: NamedAct::Show(LinkView::Channels),
+        },
         Command::Region {
             name,
             kind,
             da,
             pa,
             len,
-        } => on(
-            name,
-            NamedAct::Core(CoreAct::Region(Region {
+        } => Line::On {
+            name: *name,
+            act: NamedAct::Core(CoreAct::Region(Region {
                 kind: *kind,
                 da: *da as u32,
                 pa: *pa as u32,
                 len: *len as u32,
             })),
-        ),
+        },
         Command::Driver {
             name,
             channel,
             kind,
-        } => on(
-            name,
-            NamedAct::Core(CoreAct::Driver {
+        } => Line::On {
+            name: *name,
+            act: NamedAct::Core(CoreAct::Driver {
                 channel: *channel,
                 kind: *kind,
             }),
-        ),
-        Command::Boot { name, image } => on(name, NamedAct::Core(CoreAct::Boot { image: *image })),
-        Command::Handover { name, image } => on(
-            name,
-            NamedAct::Core(CoreAct::Handover { image: *image }),
-        ),
-        Command::Shutdown { name } => on(name, NamedAct::Core(CoreAct::Shutdown)),
-        Command::Detach { name } => on(name, NamedAct::Core(CoreAct::Detach)),
-        Command::State { name } => on(name, NamedAct::Core(CoreAct::State)),
-        Command::Table { name } => on(name, NamedAct::Core(CoreAct::Table)),
-        Command::Recover { name } => on(name, NamedAct::Core(CoreAct::Recover)),
-        Command::Trace { name, trace } => on(
-            name,
-            NamedAct::Core(CoreAct::Trace { trace: *trace }),
-        ),
-        Command::Mem { name, da, len } => on(
-            name,
-            NamedAct::Core(CoreAct::Mem {
+        },
+        Command::Boot { name, image } => Line::On {
+            name: *name,
+            act: NamedAct::Core(CoreAct::Boot { image: *image }),
+        },
+        Command::Handover { name, image } => Line::On {
+            name: *name,
+            act: NamedAct::Core(CoreAct::Handover { image: *image }),
+        },
+        Command::Shutdown { name } => Line::On {
+            name: *name,
+            act: NamedAct::Core(CoreAct::Shutdown),
+        },
+        Command::Detach { name } => Line::On {
+            name: *name,
+            act: NamedAct::Core(CoreAct::Detach),
+        },
+        Command::State { name } => Line::On {
+            name: *name,
+            act: NamedAct::Core(CoreAct::State),
+        },
+        Command::Table { name } => Line::On {
+            name: *name,
+            act: NamedAct::Core(CoreAct::Table),
+        },
+        Command::Recover { name } => Line::On {
+            name: *name,
+            act: NamedAct::Core(CoreAct::Recover),
+        },
+        Command::Trace { name, trace } => Line::On {
+            name: *name,
+            act: NamedAct::Core(CoreAct::Trace { trace: *trace }),
+        },
+        Command::Mem { name, da, len } => Line::On {
+            name: *name,
+            act: NamedAct::Core(CoreAct::Mem {
                 da: *da as u32,
                 len: *len as u32,
             }),
-        ),
-        Command::Crash { name, kind } => on(name, NamedAct::Core(CoreAct::Crash { kind: *kind })),
-        Command::Recovery { name, switch } => on(
-            name,
-            NamedAct::Core(CoreAct::Recovery { switch: *switch }),
-        ),
-        Command::Drive { name, count } => on(
-            name,
-            NamedAct::Core(CoreAct::Drive { count: *count }),
-        ),
+        },
+        Command::Crash { name, kind } => Line::On {
+            name: *name,
+            act: NamedAct::Core(CoreAct::Crash { kind: *kind }),
+        },
+        Command::Recovery { name, switch } => Line::On {
+            name: *name,
+            act: NamedAct::Core(CoreAct::Recovery { switch: *switch }),
+        },
+        Command::Drive { name, count } => Line::On {
+            name: *name,
+            act: NamedAct::Core(CoreAct::Drive { count: *count }),
+        },
     }
-}
-
-/// What is done under a name.
-fn on<'a>(name: &Name, act: NamedAct<&'a [u8]>) -> Line<&'a Recipe, &'a [u8]>
-    ensures { result ≡ line.On name.now act }
-{
-    Line::On { name: *name, act }
-}
-
-/// A call of a caller on the link of this name.
-fn calls<'a>(
-    name: &Name,
-    caller: u64,
-    how: How,
-    wish: CallWish<&'a [u8]>,
-) -> Line<&'a Recipe, &'a [u8]>
-    requires { caller ≤ 63 }
-    ensures { result ≡ line.On name.now (under.Link (act.Call caller how wish)) }
-{
-    on(
-        name,
-        NamedAct::Link(LinkAct::Call {
-            caller: caller as CallerNo,
-            how,
-            wish,
-        }),
-    )
-}
-
-/// One step of the call that a caller on the link of this name is in, and `more` further ones.
-fn steps<'a>(name: &Name, caller: u64, more: u64) -> Line<&'a Recipe, &'a [u8]>
-    requires { caller ≤ 63 }
-    ensures { result ≡ line.On name.now (under.Link (act.Step caller more)) }
-{
-    on(
-        name,
-        NamedAct::Link(LinkAct::Step {
-            caller: caller as CallerNo,
-            more,
-        }),
-    )
 }
 
 /// What a script's link begins with: it is live in incarnation 1, and its buffers begin at address 0.

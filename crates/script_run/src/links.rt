@@ -67,7 +67,7 @@ impl NamedBench {
         let mut steps = log.steps();
         let answer = self.bench.act(0, &mut Nobody, act, &mut steps)?;
         log.set_steps(steps);
-        tell_answer(self.name, &self.bench, &answer, log)
+        tell_answer(self.name, &self.bench, answer, log)
     }
 
     /// Closes the link or opens it again.
