@@ -27,19 +27,18 @@ impl NamedCore {
         ensures name { self.new.name ≡ self.old.name }
         ensures effect { IfOk result (λ ending. HasCoreEffect (core_link_effect self.old.name self.old.core log.old.steps (bare_act (λ bytes. bytes.now) act.now) self.old.core.bench) self.new.core log.old log.new ending) }
     {
-        let name = self.name;
-        let Some(_) = self.core.link() else {
-            return self.tell(&Event::NoLink { name }, log);
-        };
         let mut steps = log.steps();
-        let Some(answer) = self.core.act(log.alloc(), act, &mut steps)? else {
-            unreachable!()
-        };
-        log.set_steps(steps);
-        let Some(bench) = self.core.link() else {
-            unreachable!()
-        };
-        tell_answer(name, bench, answer, log)
+        match self.core.act(log.alloc(), act, &mut steps) {
+            Ok(Some(answer)) => {
+                log.set_steps(steps);
+                let Some(bench) = self.core.link() else {
+                    unreachable!()
+                };
+                tell_answer(self.name, bench, answer, log)
+            }
+            Ok(None) => self.tell(&Event::NoLink { name: self.name }, log),
+            Err(error) => Err(error),
+        }
     }
 
     /// Tells what the core's link shows.
