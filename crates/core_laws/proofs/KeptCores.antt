@@ -1,7 +1,7 @@
 -- What calls and steps of a core leave keeps what its link keeps.
-use Rattle.std.proofs.Common.{◌≡◌, ◌<◌, ℕ, zero, suc, ◌+◌, eqb, cond, Bool, true, false, not, ◌&&◌, List, Option, Some, None, IfSome, Result, Ok, Err, is_some, option_map, refl, sym, ap, ◌∙◌, arith}
-use Rattle.std.specs.Option.{option_or, unwrap_or}
-use Rattle.std.proofs.lemmas.Bool.{and_from, and_parts, cond_both, not-true, not_from_false, true≢false}
+use Rattle.std.proofs.Common.{◌≡◌, ◌==◌, ◌<◌, ℕ, zero, suc, ◌+◌, cond, Bool, true, false, List, Option, Some, None, IfSome, Result, Ok, Err, is_some, option_map, refl, sym, ap, ◌∙◌, arith}
+use Rattle.std.specs.Option.{option_or}
+use Rattle.std.proofs.lemmas.Bool.{cond_both, true≢false}
 use Rattle.rp_base.specs.declared.kinds.End.{End}
 use Rattle.rp_base.specs.declared.kinds.End.TheVariants as side
 use Rattle.rp_base.specs.declared.kinds.LifeState.{LifeState}
@@ -87,9 +87,6 @@ pub found_same : (before after : CoreLife) (found : Option BenchState) → IsSam
 found_same before after None same is = tt
 found_same before after (Some bench) same is = same_life before after bench same is
 
-some_same : {A : Type 0} {x y : A} → Some x ≡ Some y → x ≡ y
-some_same {A} {x} {y} same = ap (λ found. unwrap_or found x) same
-
 -- ---- a crash and a recovery
 
 map_kept : (before after : CoreLife) (found : Option BenchState) (f : BenchState → BenchState) → ((bench : BenchState) → IsKeptBench before bench → IsKeptBench after (f bench))
@@ -132,19 +129,17 @@ unspent_with None is_spent none = unspent is_spent none
 unspent_with (Some bench) is_spent none = unspent is_spent (none_later _ (spent_fault is_spent) none)
 
 -- a life that is recovered is the next one, which runs
-recovered_life : (to : Option LifeState) (life : CoreLife) → unrecovered_to to life ≡ None → (life.incarnation == most) ≡ false → (state : LifeState) → to ≡ Some state
-    → IsSame (record life { state = state; incarnation = life.incarnation + 1 }) (recovery_to to life).life
-recovered_life None life may more state is = absurd (true≢false (ap is_some may))
-recovered_life (Some to) life may more state is =
-    cond_both life.recovery (started_life to life.users tt life) (refusal_of life_fault.RecoveryOff life) (λ (left : Outcome (Unit {0})). IsSame (record life { state = state; incarnation = life.incarnation + 1 }) left.life)
-    (λ _. cond_both (life.incarnation == most) (refusal_of life_fault.IncarnationsSpent life) _ (λ (left : Outcome (Unit {0})). IsSame (record life { state = state; incarnation = life.incarnation + 1 }) left.life)
-    (λ spent. absurd (true≢false (sym spent ∙ more))) (λ _. record { inc = refl; up = ap is_up (some_same is) }))
+recovered_life : (life : CoreLife) → unrecovered_to (Some Running) life ≡ None → (life.incarnation == most) ≡ false → IsSame (next_life life) (recovery_to (Some Running) life).life
+recovered_life life may more =
+    cond_both life.recovery (started_life Running life.users tt life) (refusal_of life_fault.RecoveryOff life) (λ (left : Outcome (Unit {0})). IsSame (next_life life) left.life)
+    (λ _. cond_both (life.incarnation == most) (refusal_of life_fault.IncarnationsSpent life) _ (λ (left : Outcome (Unit {0})). IsSame (next_life life) left.life)
+    (λ spent. absurd (true≢false (sym spent ∙ more))) (λ _. record { inc = refl; up = refl }))
     (λ off. absurd (true≢false (ap is_some (sym (ap (λ (on : Bool). cond on None (Some life_fault.RecoveryOff)) off) ∙ may))))
 
 runs_again : (state : LifeState) (life : CoreLife) → unrecovered_to (line_of state).recovery life ≡ None → (life.incarnation == most) ≡ false → IsSame (next_life life) (recovery_to (line_of state).recovery life).life
 runs_again Offline life may more = absurd (true≢false (ap is_some may))
 runs_again Running life may more = absurd (true≢false (ap is_some may))
-runs_again Crashed life may more = recovered_life (Some Running) life may more Running refl
+runs_again Crashed life may more = recovered_life life may more
 runs_again Attached life may more = absurd (true≢false (ap is_some may))
 runs_again Detached life may more = absurd (true≢false (ap is_some may))
 

@@ -162,7 +162,7 @@ pub fn crash_reclaims()
         → end_of (crashed_bench bench).link.callers caller ≡ end_after_crash caller (end_of bench.link.callers caller) }
 {}
 
-/// While a core runs, the next call of each of its actors may always begin, where the actor is in none: what a call gives back is held.
+/// While a core is up, the next call of each of its actors may always begin, where the actor is in none: what a call gives back is held.
 pub fn actors_begin()
     ensures host { (actors : ActorsState) (bench : BenchState) → AreOwnUsed bench.link.callers → IsReadyBench actors bench → is_in_call bench 0 ≡ false
         → begin_fault bench 0 (first_or_take actors.host_calls) ≡ None }
@@ -170,7 +170,7 @@ pub fn actors_begin()
         → begin_fault bench 1 (first_or_take actors.worker_calls) ≡ None }
 {}
 
-/// A core comes to no other state: its actors hold, while it runs, what their calls give back, each number once, and have begun no call without a
+/// A core comes to no other state: its actors hold, while it is up, what their calls give back, each number once, and have begun no call without a
 /// step of it. So it is of a new core, and so it stays over all that the core goes through, and over turns of other callers.
 pub fn core_ready()
     ensures new { (regions : List Region) (kinds : List Declared) (book : ℕ) → IsReadyCore (new_core regions kinds book) }

@@ -54,14 +54,13 @@ use Rattle.script_run.specs.CoreCommands.{core_effect}
 use Rattle.script_run.specs.CoreDrives.{step_events, told_before}
 use Rattle.script_run.specs.LinkCommands.{link_effect}
 use Rattle.script_run.specs.NamedLinks.{NamedLink}
-use Rattle.script_run.specs.Stores.{Answer, held}
+use Rattle.script_run.specs.Stores.{held}
 use Rattle.script_run.specs.Demos.{bare_effect}
 use Rattle.script_run.specs.Runs.{ObjectsState, Run, RunEffect, RunState, command_name, core_located_effect, core_made_effect, core_place, effect_of, found_core_effect, found_effect, has_image, image_effect, is_full, located_effect, new_run, place_of, quiet_effect, run_from, run_of, run_tells, unnamed_effect, with_image, without_link_effect}
 use Rattle.script_run.proofs.DemoSums.{bare_is, goes_on as goes_on_run, script_runnable}
 use Rattle.script_run.proofs.RunSteps.{run_none}
 use Rattle.run_laws.proofs.RunsReached.{item_at}
 use Rattle.fw_load.specs.Loading.{Loads, load_fault}
-use Rattle.fw_load.specs.declared.faults.LoadFault.{LoadFault}
 use Rattle.remote_core.specs.Workers.{WorkerState, new_worker}
 use Rattle.script_lang.specs.Runnable.{AreRunnable}
 use Rattle.image_maker.proofs.DemoSizes.{demo_is_said}
@@ -73,7 +72,7 @@ use Rattle.core_laws.specs.KeptCores.{IsKeptCore}
 use Rattle.core_laws.specs.PendingCalls.{IsReadyCore}
 use Rattle.demo_laws.proofs.BootBounds.{AreRoomy, boot_within, users_within}
 use Rattle.demo_laws.proofs.DriveBounds.{IsProgram, IsWithin, drive_within, more_on}
-use Rattle.core_laws.proofs.Outcomes.{no_first, refused}
+use Rattle.core_laws.proofs.Outcomes.{no_first, none_mapped, refused}
 use Rattle.run_laws.proofs.CoresKept.{effect_kept}
 use Rattle.run_laws.proofs.CoresReady.{AreSound, effect_ready}
 use Rattle.run_laws.proofs.RunsReached.{effect_reached}
@@ -207,7 +206,7 @@ module _ (Fits : WorkerState → Type 0) (records credit : WorkerState → ℕ) 
       (λ _. demo_found later name (All-tail (λ (image : ImageState). IsDemoImage image.bytes) first later all))
 
   -- an image that was found is that of a worker of a demo
-  IsDemoFound : Found → Type 0
+  abbrev IsDemoFound : Found → Type 0
   IsDemoFound (Ok bytes) = IsDemoImage bytes × (length bytes ≤ IMAGE_MOST)
   IsDemoFound (Err why) = Unit {0}
 
@@ -218,10 +217,6 @@ module _ (Fits : WorkerState → Type 0) (records credit : WorkerState → ℕ) 
       (λ fits. (is_demo, leb-true (length bytes) IMAGE_MOST fits)) (λ _. tt)
 
   module _ (name image : List ℕ) (core : CoreState) (steps : ℕ) (is : IsCalm core) where
-    none_mapped : (found : Option LoadFault) → option_map core_fault.Load found ≡ None → found ≡ None
-    none_mapped None none = refl
-    none_mapped (Some why) none = absurd (true≢false (ap is_some none))
-
     -- a core that runs an image of a demo in this life
     started : (life : CoreLife) (reply : ℕ) → life.state ≡ Running → reply < 497 → length (image_of (worker_lines reply)) ≤ IMAGE_MOST → load_fault (image_of (worker_lines reply)) core.regions ≡ None
         → DrivesWithin (started_core life (with_load core image (loaded_from (image_of (worker_lines reply)) core.regions))) 7999
@@ -249,7 +244,7 @@ module _ (Fits : WorkerState → Type 0) (records credit : WorkerState → ℕ) 
         → IsCalm (refuse_or core (image_fault core found) (record { core = started_core life (with_load core image (loaded_in core found)); answer = Ok (start.Running life.incarnation) })).core
     loaded life (Err why) running is_demo = is
     loaded life (Ok bytes) running is_demo =
-        refused IsCalm core (image_fault core (Ok bytes)) _ is (λ fits. starts life bytes running is_demo.0 is_demo.1 (none_mapped (load_fault bytes core.regions) fits))
+        refused IsCalm core (image_fault core (Ok bytes)) _ is (λ fits. starts life bytes running is_demo.0 is_demo.1 (none_mapped core_fault.Load (load_fault bytes core.regions) fits))
 
     first_running : (answer : (first_start Running 1 power.First core.life).answer ≡ Ok power.First) → (first_start Running 1 power.First core.life).life.state ≡ Running
     first_running =

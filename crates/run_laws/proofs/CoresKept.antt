@@ -27,7 +27,6 @@ use Rattle.link_bench.specs.declared.benches.BenchFault.{BenchFault}
 use Rattle.link_bench.specs.declared.benches.Reach.{Reach}
 use Rattle.link_bench.specs.declared.benches.Reach.TheVariants as reach
 use Rattle.crash_recover.specs.declared.core_faults.AddFault.{AddFault}
-use Rattle.crash_recover.specs.declared.core_faults.CoreFault.{CoreFault}
 use Rattle.link_bench.specs.Benches.{BenchState, advance_fault, advance_walk, begin_fault, call_walk, is_in_call, ready_fault, with_new_caller}
 use Rattle.crash_recover.specs.CoreLinks.{with_link}
 use Rattle.crash_recover.specs.CoreRings.{core_ring}
@@ -41,8 +40,8 @@ use Rattle.core_laws.proofs.KeptLinks.{advance_kept, whole_kept}
 use Rattle.script_run.specs.declared.statuses.Stop.{Stop}
 use Rattle.script_run.specs.ChannelLists.{channels_effect, listed_effect}
 use Rattle.script_run.specs.CoreCommands.{core_effect}
-use Rattle.script_run.specs.CoreDrives.{drive_effect, drive_effect_in, drive_steps, rest_event, rests_or, step_then}
-use Rattle.script_run.specs.CoreEffects.{CoreEffect, added_effect, core_tells, core_tells_all, declared_effect, driver_effect, recovery_effect, region_effect}
+use Rattle.script_run.specs.CoreDrives.{drive_effect, drive_steps, rest_event, rests_or, step_then}
+use Rattle.script_run.specs.CoreEffects.{CoreEffect, added_effect, core_tells, declared_effect, driver_effect, recovery_effect, region_effect}
 use Rattle.script_run.specs.CoreLinks.{core_after_reach, core_bench_effect, core_call_effect, core_command_effect, core_link_effect, core_pump_effect, core_pumped_effect, core_ring_effect, core_shown_effect, core_step_effect, core_turn_holder, core_walk_effect, found_ring_effect, linked_effect, own_caller, own_caller_in, pump_refusal, unless_core_refused, unless_own, unless_told}
 use Rattle.script_run.specs.CoreLives.{boot_effect, booted_image, core_stops, crash_effect, detach_effect, found_image, handover_effect, may_step, recover_effect, shutdown_effect}
 use Rattle.script_run.specs.CoreViews.{loaded_table_effect, mem_effect, table_effect, trace_effect}

@@ -1,5 +1,5 @@
 -- What a command on a core leaves of it is reached where it was.
-use Rattle.std.proofs.Common.{◌≡◌, ℕ, zero, suc, ◌+◌, ◌-◌, ◌==◌, Bool, List, [], ◌∷◌, Option, Some, None, IfSome, Ok, Err, refl}
+use Rattle.std.proofs.Common.{◌≡◌, ℕ, zero, suc, ◌+◌, ◌-◌, ◌==◌, Bool, List, Option, Some, None, IfSome, refl}
 use Rattle.std.proofs.lemmas.Bool.{cond_both}
 use Rattle.rp_base.specs.declared.kinds.CrashKind.{CrashKind}
 use Rattle.rp_base.specs.declared.kinds.DriverKind.{DriverKind}
@@ -19,7 +19,6 @@ use Rattle.link_bench.specs.declared.benches.Reach.{Reach}
 use Rattle.link_bench.specs.declared.benches.Reach.TheVariants as reach
 use Rattle.proc_state.specs.Lives.{is_up}
 use Rattle.crash_recover.specs.declared.core_faults.AddFault.{AddFault}
-use Rattle.crash_recover.specs.declared.core_faults.CoreFault.{CoreFault}
 use Rattle.link_bench.specs.Benches.{BenchState, IsSendable, advance_fault, advance_walk, begin_fault, call_walk, is_in_call}
 use Rattle.core_laws.proofs.Outcomes.{boot_stays, detach_stays, handover_stays, recovery_stays, report_stays, shutdown_stays}
 use Rattle.core_laws.specs.BenchMoves.{IsReachedBench, IsReachedCore}
@@ -35,8 +34,8 @@ use Rattle.script_run.specs.Stores.{Answer}
 use Rattle.script_run.specs.NamedImages.{ImageState}
 use Rattle.script_run.specs.NamedCores.{NamedCoreState}
 use Rattle.script_run.specs.CoreCommands.{core_effect}
-use Rattle.script_run.specs.CoreDrives.{drive_effect, drive_effect_in, drive_steps, rest_event, rests_or, step_then}
-use Rattle.script_run.specs.CoreEffects.{CoreEffect, added_effect, core_tells, core_tells_all, declared_effect, driver_effect, recovery_effect, region_effect, state_effect}
+use Rattle.script_run.specs.CoreDrives.{drive_effect, drive_steps, rest_event, rests_or, step_then}
+use Rattle.script_run.specs.CoreEffects.{CoreEffect, added_effect, core_tells, declared_effect, driver_effect, recovery_effect, region_effect, state_effect}
 use Rattle.script_run.specs.CoreLinks.{core_after_reach, core_bench_effect, core_call_effect, core_command_effect, core_link_effect, core_pump_effect, core_pumped_effect, core_ring_effect, core_shown_effect, core_step_effect, core_turn_holder, core_walk_effect, found_ring_effect, linked_effect, own_caller_in, pump_refusal, unless_core_refused, unless_own, unless_told}
 use Rattle.script_run.specs.CoreLives.{boot_effect, booted_image, core_stops, crash_effect, detach_effect, found_image, handover_effect, may_step, recover_effect, shutdown_effect}
 use Rattle.script_run.specs.CoreViews.{loaded_table_effect, mem_effect, table_effect, trace_effect}

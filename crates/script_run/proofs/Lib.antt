@@ -3,6 +3,7 @@ pub mod Ends
 pub mod RunSteps
 pub mod Driving
 pub mod FaultLines
+pub mod FoundDumps
 pub mod AskedNames
 pub mod Shelves
 pub mod SoFar
