@@ -65,7 +65,11 @@ pub(crate) fn core_kinds(form: CoreForm) -> &'static [Kind]
             Kind::Number,
             Kind::Number,
         ],
-        CoreForm::Boot | CoreForm::Handover | CoreForm::Dump => &[Kind::Keyword, Kind::Name, Kind::Name],
+        CoreForm::Boot | CoreForm::Handover | CoreForm::Dump => &[
+            Kind::Keyword,
+            Kind::Name,
+            Kind::Name,
+        ],
         CoreForm::Shutdown
         | CoreForm::Detach
         | CoreForm::State
