@@ -8,7 +8,7 @@ use Rattle.lane_model.specs.declared.calls.Wish.{Wish}
 use Rattle.lane_model.specs.declared.recoveries.ReclaimRefusal.{ReclaimRefusal}
 use Rattle.lane_model.specs.Links.{end_of}
 use Rattle.lane_model.specs.Recoveries.{unreclaimed_by}
-use Rattle.proc_state.specs.Lives.{CoreLife}
+use Rattle.proc_state.specs.Lives.{CoreLife, is_up}
 use Rattle.link_bench.specs.declared.acts.LinkAct.{LinkAct}
 use Rattle.link_bench.specs.declared.acts.LinkAct.TheVariants as act
 use Rattle.link_bench.specs.declared.benches.BegunCall.{BegunCall}
@@ -22,7 +22,7 @@ use Rattle.crash_recover.specs.CoreActs.{core_act, core_act_on}
 use Rattle.crash_recover.specs.Cores.{CoreState}
 use Rattle.crash_recover.specs.Drives.{actors_after_end, message_of}
 use Rattle.core_laws.specs.BenchMoves.{AreSendable, IsReachedBench, IsReachedCore}
-use Rattle.core_laws.specs.KeptCores.{IsKeptBench, IsKeptCore, is_running}
+use Rattle.core_laws.specs.KeptCores.{IsKeptBench, IsKeptCore}
 use Rattle.core_laws.specs.PendingCalls.{HasNoneBegun, IsReadyBench, IsReadyCore}
 use Rattle.core_laws.proofs.BenchMoves.{advanced, begun_reached, called, enlisted, reclaim_tried}
 use Rattle.core_laws.proofs.CoreMoves.{seen_calls}
@@ -51,27 +51,27 @@ acted_reached sees own bench watcher steps asked fit is = act_kept sees own IsSe
 
 -- a link and its core's actors
 record AreReachedBoth (bench : BenchState) (actors : ActorsState) : Type 0 where
-  pub bench : IsReachedBench bench
+  pub reached : IsReachedBench bench
   pub calls : AreSendable actors
 
 both_steps : AreKeptSteps actors_after_end 2 IsSendable AreReachedBoth
 both_steps = record {
-  joined = λ bench actors end is. record { bench = enlisted bench end is.bench; calls = is.calls };
+  joined = λ bench actors end is. record { reached = enlisted bench end is.reached; calls = is.calls };
   begun = λ bench actors caller wanted other ready fit is.
-      record { bench = begun_reached bench caller (record { follows = bench.link.era.inc; wish = wanted }) is.bench ready fit; calls = is.calls };
-  called = λ bench actors steps caller wanted other ready fit is. record { bench = called bench steps caller wanted is.bench ready fit; calls = is.calls };
-  advanced = λ bench actors more steps caller other in_call is. record { bench = advanced bench more steps caller is.bench in_call; calls = is.calls };
-  reclaimed = λ bench actors caller other is. record { bench = reclaim_tried bench caller is.bench; calls = is.calls };
+      record { reached = begun_reached bench caller (record { follows = bench.link.era.inc; wish = wanted }) is.reached ready fit; calls = is.calls };
+  called = λ bench actors steps caller wanted other ready fit is. record { reached = called bench steps caller wanted is.reached ready fit; calls = is.calls };
+  advanced = λ bench actors more steps caller other in_call is. record { reached = advanced bench more steps caller is.reached in_call; calls = is.calls };
+  reclaimed = λ bench actors caller other is. record { reached = reclaim_tried bench caller is.reached; calls = is.calls };
   seen = λ bench actors caller end is.
-      record { bench = is.bench; calls = seen_calls actors bench caller end (end_of bench.link.callers caller) is.bench.link.short is.calls };
+      record { reached = is.reached; calls = seen_calls actors bench caller end (end_of bench.link.callers caller) is.reached.link.short is.calls };
 }
 
 reached_on : (core : CoreState) (steps : ℕ) (asked : LinkAct (List ℕ)) (found : Option BenchState) → IsFitAct asked → IsReachedCore core → IfSome found IsReachedBench
     → IsReachedCore (core_act_on core steps asked found).core
 reached_on core steps asked None fit is reached = is
 reached_on core steps asked (Some bench) fit is reached =
-    let left = act_kept actors_after_end 2 IsSendable AreReachedBoth both_steps bench core.actors steps asked (calls_sendable asked fit) (record { bench = reached; calls = is.calls }) in
-    record { bench = left.bench; calls = left.calls }
+    let left = act_kept actors_after_end 2 IsSendable AreReachedBoth both_steps bench core.actors steps asked (calls_sendable asked fit) (record { reached = reached; calls = is.calls }) in
+    record { bench = left.reached; calls = left.calls }
 
 -- an act on the link of a core
 pub core_act_reached : (core : CoreState) (steps : ℕ) (asked : LinkAct (List ℕ)) → IsFitAct asked → IsReachedCore core → IsReachedCore (core_act core steps asked).core
@@ -111,11 +111,11 @@ core_act_kept core steps asked is = kept_on core steps asked core.bench is is
 
 -- ---- ready
 
--- the link of a core in this state is reached, none of its actors has begun a call without a step of it, and while the core runs they hold what their calls give back
+-- the link of a core in this state is reached, none of its actors has begun a call without a step of it, and while the core is up they hold what their calls give back
 record Stands (state : LifeState) (bench : BenchState) (actors : ActorsState) : Type 0 where
   pub reached : IsReachedBench bench
   pub begun : HasNoneBegun bench
-  pub calls : is_running state ≡ true → IsReadyBench actors bench
+  pub calls : is_up state ≡ true → IsReadyBench actors bench
 
 advance_none : (bench : BenchState) (more steps caller : ℕ) (found : Option BegunCall) → HasNoneBegun bench → HasNoneBegun (advance_steps bench more steps caller found).bench
 advance_none bench more steps caller None is = record { host = is.host; worker = is.worker }
@@ -172,7 +172,7 @@ ready_steps state = record {
 }
 
 ready_on : (core : CoreState) (steps : ℕ) (asked : LinkAct (List ℕ)) (found : Option BenchState) → IsFitAct asked → IsReadyCore core → IfSome found IsReachedBench
-    → IfSome found HasNoneBegun → (is_running core.life.state ≡ true → IfSome found (IsReadyBench core.actors)) → IsReadyCore (core_act_on core steps asked found).core
+    → IfSome found HasNoneBegun → (is_up core.life.state ≡ true → IfSome found (IsReadyBench core.actors)) → IsReadyCore (core_act_on core steps asked found).core
 ready_on core steps asked None fit is reached begun calls = is
 ready_on core steps asked (Some bench) fit is reached begun calls =
     let left = act_kept actors_after_end 2 IsSendable (Stands core.life.state) (ready_steps core.life.state) bench core.actors steps asked (calls_sendable asked fit) (record { reached = reached; begun = begun; calls = calls }) in

@@ -5,8 +5,6 @@ use Rattle.std.proofs.lemmas.Bool.{cond_both, true≢false}
 use Rattle.std.proofs.lemmas.Bool.Decides.{eqb_tells}
 use Rattle.rp_base.specs.declared.kinds.End.{End}
 use Rattle.rp_base.specs.declared.kinds.End.TheVariants as side
-use Rattle.rp_base.specs.declared.kinds.LifeState.{LifeState}
-use Rattle.rp_base.specs.declared.kinds.LifeState.TheVariants.{Offline, Running, Crashed}
 use Rattle.lane_model.specs.declared.calls.CallEnd.{CallEnd}
 use Rattle.lane_model.specs.declared.calls.Wish.{Wish}
 use Rattle.lane_model.specs.declared.recoveries.ReclaimRefusal.{ReclaimRefusal}
@@ -34,12 +32,13 @@ use Rattle.host_driver.specs.Drivers.{Declared}
 use Rattle.crash_recover.specs.Actors.{ActorsState, driver_names}
 use Rattle.link_bench.specs.Benches.{BenchState, BenchWalk, IsSendable, advance_walk, begin_fault, is_in_call, start_walk}
 use Rattle.link_bench.specs.BenchCrashes.{after_close, after_reclaim, after_reopen}
-use Rattle.crash_recover.specs.CoreBoots.{after_boot, after_shutdown, config_of, core_bench, fresh_end, first_start, loaded_from, needs_image}
+use Rattle.crash_recover.specs.CoreBoots.{config_of, core_bench, fresh_end}
 use Rattle.link_bench.specs.BenchEnds.{crashed_bench, is_first, is_remote, with_fresh_caller, without_one, without_other, without_others, without_remote, readied_bench, renewed_unless, reopen_refusal_of, unopened_unless}
-use Rattle.crash_recover.specs.CoreCrashes.{after_report, crashed_core}
+use Rattle.crash_recover.specs.CoreCrashes.{after_report}
 use Rattle.crash_recover.specs.CoreRecoveries.{after_recovery, fault_with, link_fault, readied_core, reopen_fault, reopened_core, spent_fault}
-use Rattle.crash_recover.specs.Cores.{CoreState, LoadState, new_core}
+use Rattle.crash_recover.specs.Cores.{CoreState, LoadState, loaded_rings, new_core}
 use Rattle.crash_recover.specs.Drives.{DriveStep, acting, actor_step, actors_at_end, asked_by, drive_step, driven_on, end_answer, first_or_take, gives_of, has_calls, host_begun, host_begun_as, host_ended, host_reached, host_step, is_idle, left_of, link_step, message_of, number_taken, placed_map, record_run, record_step, reported_by, sends_of, with_turn_after, worker_call, worker_reached, worker_step}
+use Rattle.core_laws.proofs.Outcomes.{Stays, report_stays}
 use Rattle.core_laws.specs.BenchMoves.{AreSendable, IsReachedBench, IsReachedCore, IsShortLink}
 use Rattle.core_laws.proofs.Sendable.{end_short, gives_sendable, left_sendable, message_short, none_sendable, sends_sendable, work_sendable}
 use Rattle.core_laws.proofs.BenchMoves.{advanced, closed, enlisted, new_reached, reclaimed, reopened, started, unreclaimed_shut}
@@ -115,17 +114,6 @@ map_reached : (found : Option BenchState) (f : BenchState → BenchState) → ((
 map_reached None f each is = is
 map_reached (Some bench) f each is = each bench is
 
-<<<<<<< HEAD
-=======
-crashed_in : (state : LifeState) (core : CoreState) → IsReachedCore core → IsReachedCore (crashed_core state core)
-crashed_in Offline core is = is
-crashed_in Running core is = record { bench = map_reached core.bench crashed_bench crashed is.bench; calls = is.calls }
-crashed_in Crashed core is = is
-
-pub core_reported : (core : CoreState) → IsReachedCore core → IsReachedCore (after_report core)
-core_reported core is = crashed_in core.life.state core is
-
->>>>>>> wip-int
 -- ---- a recovery
 
 ready_at : (bench : BenchState) (why : Option ReclaimRefusal) → unreclaimed_by bench.link 0 ≡ why → IsReachedBench bench → IsReachedBench (renewed_unless bench why)
@@ -159,8 +147,8 @@ found_reopened (Some bench) is_spent none is = bench_reopened bench is_spent non
 pub core_reopened : (core : CoreState) → IsReachedCore core → reopen_fault core ≡ None → IsReachedCore (reopened_core core)
 core_reopened core is none = record { bench = found_reopened core.bench _ none is.bench; calls = is.calls }
 
-pub core_recovered : (core : CoreState) (image : List ℕ) → IsReachedCore core → reopen_fault core ≡ None → IsReachedCore (after_recovery core image)
-core_recovered core image is none = record { bench = found_reopened core.bench _ none is.bench; calls = record { host = none_sendable; worker = none_sendable } }
+pub core_recovered : (core : CoreState) (given : LoadState) → IsReachedCore core → reopen_fault core ≡ None → IsReachedCore (after_recovery core given)
+core_recovered core given is none = record { bench = found_reopened core.bench _ none is.bench; calls = record { host = none_sendable; worker = none_sendable } }
 
 -- ---- a boot and a shutdown
 
@@ -168,21 +156,26 @@ rings_reached : (names : List (List ℕ)) (book first : ℕ) (rings : Option Rin
 rings_reached names book first None = tt
 rings_reached names book first (Some rings) = made_reached names book first rings
 
-pub core_booted : (core : CoreState) (name image : List ℕ) → IsReachedCore core → IsReachedCore (after_boot core name image)
-core_booted core name image is =
-    cond_both (needs_image core) (first_start core name (loaded_from image core.regions)) _ IsReachedCore
-    (λ _. record {
-      bench = rings_reached (driver_names core.actors) core.book (core.life.incarnation + 1) (loaded_from image core.regions).rings;
-      calls = record { host = none_sendable; worker = none_sendable };
-    }) (λ _. record { bench = is.bench; calls = is.calls })
+-- what brought its link to where it is stays over each call of a core
+pub reached_stays : Stays IsReachedCore
+reached_stays = record {
+  same = λ core life image loaded same is. record { bench = is.bench; calls = is.calls };
+  started = λ core life up. record {
+    bench = rings_reached (driver_names core.actors) core.book life.incarnation (loaded_rings core.loaded);
+    calls = record { host = none_sendable; worker = none_sendable };
+  };
+  unlinked = λ core life image loaded is. record { bench = tt; calls = is.calls };
+  crashed = λ core life stops is. record { bench = map_reached core.bench crashed_bench crashed is.bench; calls = is.calls };
+  readied = λ core may is. core_readied core is;
+  recovered = λ core given may opens is. core_recovered core given is opens;
+}
+
+pub core_reported : (core : CoreState) → IsReachedCore core → IsReachedCore (after_report core)
+core_reported core is = report_stays IsReachedCore reached_stays true core is
 
 -- a core that was never booted
 pub new_core_reached : (regions : List Region) (kinds : List Declared) (book : ℕ) → IsReachedCore (new_core regions kinds book)
 new_core_reached regions kinds book = record { bench = tt; calls = record { host = none_sendable; worker = none_sendable } }
-
-pub core_shut : (core : CoreState) → IsReachedCore core → IsReachedCore (after_shutdown core)
-core_shut core is =
-    cond_both (eqb core.life.users 1) _ _ IsReachedCore (λ _. record { bench = tt; calls = is.calls }) (λ _. record { bench = is.bench; calls = is.calls })
 
 -- ---- steps of the actors
 

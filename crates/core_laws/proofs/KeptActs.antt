@@ -1,5 +1,5 @@
 -- An act on a link keeps what its steps keep.
-use Rattle.std.proofs.Common.{◌≡◌, ℕ, zero, suc, ◌+◌, ◌<◌, ◌≤◌, Bool, true, false, cond, ltb, nat_le, List, length, Option, Some, None, is_some, option_map, Result, Ok, Err, refl, ap, subst, ◌∙◌, arith}
+use Rattle.std.proofs.Common.{◌≡◌, ℕ, zero, suc, ◌+◌, ◌≤◌, Bool, true, false, cond, ltb, nat_le, List, length, Option, Some, None, is_some, option_map, Result, Ok, Err, refl, ap, subst, ◌∙◌, arith}
 use Rattle.std.specs.Option.{option_or}
 use Rattle.std.proofs.lemmas.Bool.{cond_both, leb-true, ltb-false, true≢false}
 use Rattle.rp_base.specs.declared.kinds.End.{End}
@@ -27,7 +27,7 @@ use Rattle.link_bench.specs.declared.benches.Reach.TheVariants as reach
 use Rattle.link_bench.specs.declared.turns.TurnEnd.{TurnEnd}
 use Rattle.link_bench.specs.Benches.{BenchState, IsSendable, advance_fault, advance_walk, begin_fault, call_walk, first_fault, is_in_call, ready_fault, step_fault, used_fault, wish_fault, with_begun, with_new_caller}
 use Rattle.link_bench.specs.Turns.{Pumped, TurnCall, Turns, give_turn, is_whole, one_turn, pump_turns, take_turn, tested_call, then_more, turn_call, turn_message}
-use Rattle.link_bench.specs.Acts.{Acted, IsFitAct, IsFitWish, call_act, caller_act, first_refusal, free_act, link_act, made_call, misfit, own_caller, own_in, pump_act, pump_refusal, pumped, step_act, unless_own, unless_refused, walked, wish_of}
+use Rattle.link_bench.specs.Acts.{Acted, IsFitAct, IsFitWish, call_act, caller_act, first_refusal, free_act, link_act, made_call, misfit, own_caller, own_in, pump_act, pump_refusal, step_act, unless_own, unless_refused, wish_of}
 use Rattle.link_bench.specs.Watchers.{Seeing, watched}
 use Rattle.core_laws.proofs.Sendable.{header_length}
 

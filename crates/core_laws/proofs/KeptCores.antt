@@ -1,19 +1,15 @@
 -- What calls and steps of a core leave keeps what its link keeps.
-use Rattle.std.proofs.Common.{◌≡◌, ◌<◌, ℕ, zero, suc, ◌+◌, eqb, cond, Bool, true, false, not, ◌&&◌, List, Option, Some, None, IfSome, Result, Ok, Err, is_some, option_map, refl, sym, ap, ◌∙◌, arith}
+use Rattle.std.proofs.Common.{◌≡◌, ◌==◌, ◌<◌, ℕ, ◌+◌, cond, Bool, true, false, List, Option, Some, None, IfSome, is_some, option_map, refl, sym, ap, ◌∙◌, arith}
 use Rattle.std.specs.Option.{option_or}
-use Rattle.std.proofs.lemmas.Bool.{and_from, and_parts, cond_both, not-true, not_from_false, true≢false}
+use Rattle.std.proofs.lemmas.Bool.{cond_both, true≢false}
 use Rattle.rp_base.specs.declared.kinds.End.{End}
 use Rattle.rp_base.specs.declared.kinds.End.TheVariants as side
 use Rattle.rp_base.specs.declared.kinds.LifeState.{LifeState}
-use Rattle.rp_base.specs.declared.kinds.LifeState.TheVariants.{Offline, Running, Crashed}
+use Rattle.rp_base.specs.declared.kinds.LifeState.TheVariants.{Offline, Running, Crashed, Attached, Detached}
 use Rattle.proc_state.specs.declared.answers.LifeFault.TheVariants as life_fault
-use Rattle.proc_state.specs.declared.answers.Left.{Left}
-use Rattle.proc_state.specs.declared.answers.Power.{Power}
-use Rattle.proc_state.specs.declared.answers.Power.TheVariants as power
-use Rattle.proc_state.specs.Lives.{CoreLife, Outcome, first_start as started_life, life_after_boot, life_after_crash, life_after_crash_in, life_after_recovery, life_after_recovery_in, life_after_shutdown, life_after_shutdown_in, most, with_user}
+use Rattle.proc_state.specs.Lives.{CoreLife, Outcome, first_start as started_life, is_up, life_after_recovery, line_of, most, recovery_to, refusal_of}
 use Rattle.fw_load.specs.declared.rings.RingPair.{RingPair}
 use Rattle.lane_model.specs.declared.calls.Wish.{Wish}
-use Rattle.lane_model.specs.declared.calls.Wish.TheVariants as wish
 use Rattle.lane_model.specs.declared.recoveries.ReclaimRefusal.{ReclaimRefusal}
 use Rattle.lane_model.specs.Links.{end_of, free_number}
 use Rattle.lane_model.specs.Recoveries.{unreclaimed_by}
@@ -24,16 +20,17 @@ use Rattle.link_bench.specs.declared.benches.Reach.TheVariants as reach
 use Rattle.crash_recover.specs.declared.core_drives.Driven.{Driven}
 use Rattle.crash_recover.specs.declared.core_drives.Driven.TheVariants as driven
 use Rattle.crash_recover.specs.declared.core_faults.CoreFault.{CoreFault}
-use Rattle.crash_recover.specs.Actors.{ActorsState, driver_names}
+use Rattle.crash_recover.specs.Actors.{driver_names}
 use Rattle.link_bench.specs.BenchCrashes.{after_reopen, left_by_reclaim, reclaim_leaves}
-use Rattle.link_bench.specs.Benches.{BenchState, BenchWalk, advance_walk, begin_fault, call_walk, is_in_call, start_walk, with_new_caller}
-use Rattle.crash_recover.specs.CoreBoots.{after_boot, after_shutdown, core_bench, first_start, loaded_from, needs_image}
+use Rattle.link_bench.specs.Benches.{BenchState, BenchWalk, advance_walk, begin_fault, is_in_call, start_walk, with_new_caller}
+use Rattle.crash_recover.specs.CoreBoots.{core_bench}
 use Rattle.link_bench.specs.BenchEnds.{crashed_bench, readied_bench, renewed_unless}
-use Rattle.crash_recover.specs.CoreCrashes.{after_report, crashed_core}
-use Rattle.crash_recover.specs.CoreRecoveries.{after_recovery, fault_with, readied_core, recovery_fault, reopen_fault, reopened_core, spent_fault, unrecovered_in}
-use Rattle.crash_recover.specs.Cores.{CoreState, LoadState}
+use Rattle.crash_recover.specs.CoreCrashes.{after_report}
+use Rattle.crash_recover.specs.CoreRecoveries.{after_recovery, fault_with, readied_core, recovery_fault, reopen_fault, reopened_core, spent_fault, unrecovered_to}
+use Rattle.crash_recover.specs.Cores.{CoreState, LoadState, loaded_rings}
 use Rattle.crash_recover.specs.Drives.{DriveStep, acting, actor_step, drive_step, first_or_take, has_calls, host_step, is_idle, link_step, record_run, record_step, reported_by, with_turn_after, worker_call, worker_step}
-use Rattle.core_laws.specs.KeptCores.{IsKeptBench, IsKeptCore, is_running, next_life, with_next_life}
+use Rattle.core_laws.specs.KeptCores.{IsKeptBench, IsKeptCore, next_life, with_next_life}
+use Rattle.core_laws.proofs.Outcomes.{IsSame, Stays, report_stays}
 use Rattle.core_laws.proofs.KeptCrashes.{crash_kept, gone_kept, host_renewed}
 use Rattle.core_laws.proofs.KeptLinks.{advance_kept, start_kept}
 
@@ -61,74 +58,27 @@ reclaim_kept life bench caller other is = reclaim_at life bench caller (end_of b
 
 -- ---- boots and shutdowns
 
-made_kept : (life : CoreLife) (names : List (List ℕ)) (book first : ℕ) (rings : RingPair) → first ≡ life.incarnation → life.state ≡ Running
-    → IsKeptBench life (core_bench names book first rings)
+made_kept : (life : CoreLife) (names : List (List ℕ)) (book : ℕ) (rings : RingPair) → is_up life.state ≡ true → IsKeptBench life (core_bench names book life.incarnation rings)
 unfolding core_bench
-made_kept life names book first rings same runs = record {
+made_kept life names book rings up = record {
   unmanaged = record { to_host = record { sender = tt; receiver = tt }; to_remote = record { sender = tt; receiver = tt } };
   own = record { host = refl; remote = refl };
-  inc = same;
-  live = ap is_running (sym runs);
+  inc = refl;
+  live = sym up;
 }
 
-rings_kept : (life : CoreLife) (names : List (List ℕ)) (book first : ℕ) (rings : Option RingPair) → first ≡ life.incarnation → life.state ≡ Running
-    → IfSome (option_map (core_bench names book first) rings) (IsKeptBench life)
-rings_kept life names book first None same runs = tt
-rings_kept life names book first (Some rings) same runs = made_kept life names book first rings same runs
+rings_kept : (life : CoreLife) (names : List (List ℕ)) (book : ℕ) (rings : Option RingPair) → is_up life.state ≡ true
+    → IfSome (option_map (core_bench names book life.incarnation) rings) (IsKeptBench life)
+rings_kept life names book None up = tt
+rings_kept life names book (Some rings) up = made_kept life names book rings up
 
--- a link is kept in each life of the same state and incarnation
-same_life : (before after : CoreLife) (bench : BenchState) → after.incarnation ≡ before.incarnation → after.state ≡ before.state → IsKeptBench before bench → IsKeptBench after bench
-same_life before after bench inc state is = record { unmanaged = is.unmanaged; own = is.own; inc = is.inc ∙ sym inc; live = is.live ∙ ap is_running (sym state) }
+-- a link is kept in each life of the same incarnation that is up where the one before is
+same_life : (before after : CoreLife) (bench : BenchState) → IsSame before after → IsKeptBench before bench → IsKeptBench after bench
+same_life before after bench same is = record { unmanaged = is.unmanaged; own = is.own; inc = is.inc ∙ sym same.inc; live = is.live ∙ sym same.up }
 
-pub found_same : (before after : CoreLife) (found : Option BenchState) → after.incarnation ≡ before.incarnation → after.state ≡ before.state → IfSome found (IsKeptBench before)
-    → IfSome found (IsKeptBench after)
-found_same before after None inc state is = tt
-found_same before after (Some bench) inc state is = same_life before after bench inc state is
-
--- the life that a boot starts
-record Starts (before after : CoreLife) : Type 0 where
-  pub inc : after.incarnation ≡ before.incarnation + 1
-  pub state : after.state ≡ Running
-
-started : {A : Type 0} (users : ℕ) (told : A) (life : CoreLife) → eqb life.incarnation most ≡ false → Starts life (started_life users told life).life
-started {A} users told life more =
-    cond_both (eqb life.incarnation most) _ _ (λ (left : Outcome A). Starts life left.life) (λ spent. absurd (true≢false (sym spent ∙ more))) (λ _. record { inc = refl; state = refl })
-
-booted : (life : CoreLife) → eqb life.users 0 && not (eqb life.incarnation most) ≡ true → Starts life (life_after_boot life).life
-booted life needs =
-    let both = and_parts (eqb life.users 0) (not (eqb life.incarnation most)) needs in
-    cond_both (eqb life.users 0) (started_life 1 power.First life) (with_user life) (λ (left : Outcome Power). Starts life left.life)
-    (λ _. started 1 power.First life (not-true (eqb life.incarnation most) both.1)) (λ other. absurd (true≢false (sym both.0 ∙ other)))
-
--- a boot that starts no life counts a user, or is refused
-pub record IsSame (before after : CoreLife) : Type 0 where
-  pub inc : after.incarnation ≡ before.incarnation
-  pub state : after.state ≡ before.state
-
-pub counted : (life : CoreLife) → eqb life.users 0 && not (eqb life.incarnation most) ≡ false → IsSame life (life_after_boot life).life
-counted life needs =
-    cond_both (eqb life.users 0) (started_life 1 power.First life) (with_user life) (λ (left : Outcome Power). IsSame life left.life)
-    (λ none. cond_both (eqb life.incarnation most) _ _ (λ (left : Outcome Power). IsSame life left.life) (λ _. record { inc = refl; state = refl })
-    (λ more. absurd (true≢false (sym (and_from (eqb life.users 0) (not (eqb life.incarnation most)) none (not_from_false (eqb life.incarnation most) more)) ∙ needs))))
-    (λ _. cond_both (eqb life.users most) _ _ (λ (left : Outcome Power). IsSame life left.life) (λ _. record { inc = refl; state = refl }) (λ _. record { inc = refl; state = refl }))
-
-pub core_booted : (core : CoreState) (name image : List ℕ) → IsKeptCore core → IsKeptCore (after_boot core name image)
-core_booted core name image is =
-    cond_both (needs_image core) (first_start core name (loaded_from image core.regions)) (record core { life = (life_after_boot core.life).life }) IsKeptCore
-    (λ needs. let starts = booted core.life needs in
-    rings_kept (life_after_boot core.life).life (driver_names core.actors) core.book (core.life.incarnation + 1) (loaded_from image core.regions).rings (sym starts.inc) starts.state)
-    (λ needs. let same = counted core.life needs in found_same core.life (life_after_boot core.life).life core.bench same.inc same.state is)
-
-pub left_life : (state : LifeState) (life : CoreLife) → eqb life.users 1 ≡ false → IsSame life (life_after_shutdown_in state life).life
-left_life Offline life more = record { inc = refl; state = refl }
-left_life Running life more =
-    cond_both (eqb life.users 1) _ _ (λ (left : Outcome Left). IsSame life left.life) (λ last. absurd (true≢false (sym last ∙ more))) (λ _. record { inc = refl; state = refl })
-left_life Crashed life more = record { inc = refl; state = refl }
-
-pub core_shut : (core : CoreState) → IsKeptCore core → IsKeptCore (after_shutdown core)
-core_shut core is =
-    cond_both (eqb core.life.users 1) _ _ IsKeptCore (λ _. tt)
-    (λ more. let same = left_life core.life.state core.life more in found_same core.life (life_after_shutdown core.life).life core.bench same.inc same.state is)
+pub found_same : (before after : CoreLife) (found : Option BenchState) → IsSame before after → IfSome found (IsKeptBench before) → IfSome found (IsKeptBench after)
+found_same before after None same is = tt
+found_same before after (Some bench) same is = same_life before after bench same is
 
 -- ---- a crash and a recovery
 
@@ -136,26 +86,6 @@ map_kept : (before after : CoreLife) (found : Option BenchState) (f : BenchState
     → IfSome found (IsKeptBench before) → IfSome (option_map f found) (IsKeptBench after)
 map_kept before after None f each is = tt
 map_kept before after (Some bench) f each is = each bench is
-
--- the life that a first report leaves
-pub record IsStopped (before after : CoreLife) : Type 0 where
-  pub inc : after.incarnation ≡ before.incarnation
-  pub stopped : is_running after.state ≡ false
-
-pub stopped_life : (state : LifeState) (life : CoreLife) → state ≡ Running → IsStopped life (life_after_crash_in state life).life
-stopped_life Offline life runs = absurd (true≢false (sym (ap is_running runs)))
-stopped_life Running life runs = record { inc = refl; stopped = refl }
-stopped_life Crashed life runs = absurd (true≢false (sym (ap is_running runs)))
-
-crashed_at : (state : LifeState) (core : CoreState) → core.life.state ≡ state → IsKeptCore core → IsKeptCore (crashed_core state core)
-crashed_at Offline core is kept = kept
-crashed_at Running core is kept =
-    let left = stopped_life core.life.state core.life is in
-    map_kept core.life (life_after_crash core.life).life core.bench crashed_bench (λ bench one. crash_kept core.life (life_after_crash core.life).life bench left.inc left.stopped one) kept
-crashed_at Crashed core is kept = kept
-
-pub core_reported : (core : CoreState) → IsKeptCore core → IsKeptCore (after_report core)
-core_reported core is = crashed_at core.life.state core refl is
 
 ready_at : (life : CoreLife) (bench : BenchState) (why : Option ReclaimRefusal) → IsKeptBench life bench → IsKeptBench life (renewed_unless bench why)
 ready_at life bench None is = host_renewed life bench is
@@ -191,17 +121,39 @@ unspent_with : (found : Option BenchState) (is_spent : Bool) → fault_with foun
 unspent_with None is_spent none = unspent is_spent none
 unspent_with (Some bench) is_spent none = unspent is_spent (none_later _ (spent_fault is_spent) none)
 
-recovered_life : (state : LifeState) (life : CoreLife) → unrecovered_in state life ≡ None → eqb life.incarnation most ≡ false → Starts life (life_after_recovery_in state life).life
-recovered_life Offline life may more = absurd (true≢false (ap is_some may))
-recovered_life Running life may more = absurd (true≢false (ap is_some may))
-recovered_life Crashed life may more =
-    cond_both life.recovery (started_life life.users tt life) _ (λ (left : Outcome (Unit {0})). Starts life left.life) (λ _. started life.users tt life more)
+-- a life that is recovered is the next one, which runs
+recovered_life : (life : CoreLife) → unrecovered_to (Some Running) life ≡ None → (life.incarnation == most) ≡ false → IsSame (next_life life) (recovery_to (Some Running) life).life
+recovered_life life may more =
+    cond_both life.recovery (started_life Running life.users tt life) (refusal_of life_fault.RecoveryOff life) (λ (left : Outcome (Unit {0})). IsSame (next_life life) left.life)
+    (λ _. cond_both (life.incarnation == most) (refusal_of life_fault.IncarnationsSpent life) _ (λ (left : Outcome (Unit {0})). IsSame (next_life life) left.life)
+    (λ spent. absurd (true≢false (sym spent ∙ more))) (λ _. record { inc = refl; up = refl }))
     (λ off. absurd (true≢false (ap is_some (sym (ap (λ (on : Bool). cond on None (Some life_fault.RecoveryOff)) off) ∙ may))))
 
-pub core_recovered : (core : CoreState) (image : List ℕ) → IsKeptCore core → recovery_fault core.life ≡ None → reopen_fault core ≡ None → IsKeptCore (after_recovery core image)
-core_recovered core image is may opens =
-    let starts = recovered_life core.life.state core.life may (unspent_with core.bench (eqb core.life.incarnation most) opens) in
-    found_same (next_life core.life) (life_after_recovery core.life).life (reopened_core core).bench starts.inc starts.state (core_reopened core is)
+runs_again : (state : LifeState) (life : CoreLife) → unrecovered_to (line_of state).recovery life ≡ None → (life.incarnation == most) ≡ false → IsSame (next_life life) (recovery_to (line_of state).recovery life).life
+runs_again Offline life may more = absurd (true≢false (ap is_some may))
+runs_again Running life may more = absurd (true≢false (ap is_some may))
+runs_again Crashed life may more = recovered_life life may more
+runs_again Attached life may more = absurd (true≢false (ap is_some may))
+runs_again Detached life may more = absurd (true≢false (ap is_some may))
+
+pub core_recovered : (core : CoreState) (given : LoadState) → IsKeptCore core → recovery_fault core.life ≡ None → reopen_fault core ≡ None → IsKeptCore (after_recovery core given)
+core_recovered core given is may opens =
+    let same = runs_again core.life.state core.life may (unspent_with core.bench (core.life.incarnation == most) opens) in
+    found_same (next_life core.life) (life_after_recovery core.life).life (reopened_core core).bench same (core_reopened core is)
+
+-- what its link keeps stays over each call of a core
+pub kept_stays : Stays IsKeptCore
+kept_stays = record {
+  same = λ core life image loaded same is. found_same core.life life core.bench same is;
+  started = λ core life up. rings_kept life (driver_names core.actors) core.book (loaded_rings core.loaded) up;
+  unlinked = λ core life image loaded is. tt;
+  crashed = λ core life stops is. map_kept core.life life core.bench crashed_bench (λ bench one. crash_kept core.life life bench stops.inc stops.stopped one) is;
+  readied = λ core may is. core_readied core is;
+  recovered = λ core given may opens is. core_recovered core given is may opens;
+}
+
+pub core_reported : (core : CoreState) → IsKeptCore core → IsKeptCore (after_report core)
+core_reported core is = report_stays IsKeptCore kept_stays true core is
 
 -- ---- steps of the actors
 

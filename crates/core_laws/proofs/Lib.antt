@@ -14,5 +14,6 @@ pub mod PendingSteps
 pub mod PendingCores
 pub mod PendingDrives
 pub mod PendingOthers
+pub mod Outcomes
 pub mod KeptActs
 pub mod CoreActs

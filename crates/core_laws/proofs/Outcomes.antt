@@ -1,5 +1,5 @@
 -- What stays of a core over its calls, whatever they answer: one walk over the outcomes for each property that a core keeps.
-use Rattle.std.proofs.Common.{◌≡◌, ℕ, cond, Bool, true, false, List, Option, Some, None, Result, Ok, Err, is_some, refl, sym, ap, ◌∙◌}
+use Rattle.std.proofs.Common.{◌≡◌, ◌==◌, ℕ, Bool, true, false, List, Option, Some, None, Result, Ok, Err, is_some, refl, sym, ap}
 use Rattle.std.specs.Option.{option_and_then, option_map}
 use Rattle.std.proofs.lemmas.Bool.{cond_both, true≢false}
 use Rattle.rp_base.specs.declared.kinds.LifeState.{LifeState}
@@ -12,7 +12,7 @@ use Rattle.proc_state.specs.declared.answers.Power.{Power}
 use Rattle.proc_state.specs.declared.answers.Power.TheVariants as power
 use Rattle.proc_state.specs.declared.answers.Report.{Report}
 use Rattle.proc_state.specs.declared.answers.Report.TheVariants as report
-use Rattle.proc_state.specs.Lives.{CoreLife, Outcome, boot_to, crash_as, first_start, handover_to, is_offline, is_up, leave_to, life_after_boot, life_after_crash, life_after_detach, life_after_handover, life_after_shutdown, line_of, most, refusal_of, with_user, without_user}
+use Rattle.proc_state.specs.Lives.{CoreLife, Outcome, boot_to, crash_as, first_start, handover_to, is_offline, is_up, leave_to, life_after_boot, life_after_crash, life_after_detach, life_after_handover, life_after_shutdown, line_of, most, refusal_of, with_user}
 use Rattle.crash_recover.specs.declared.core_answers.Crash.{Crash}
 use Rattle.crash_recover.specs.declared.core_answers.Leave.{Leave}
 use Rattle.crash_recover.specs.declared.core_answers.Start.{Start}
@@ -23,7 +23,7 @@ use Rattle.link_bench.specs.Benches.{BenchState}
 use Rattle.crash_recover.specs.Cores.{CoreOutcome, CoreState, LoadState, refuse_or}
 use Rattle.crash_recover.specs.CoreBoots.{Found, boot_as, boot_of, first_boot, handover_as, handover_of, image_fault, loaded_in, started_core, with_load}
 use Rattle.crash_recover.specs.CoreCrashes.{crashed_core, first_report, report_as, report_of}
-use Rattle.crash_recover.specs.CoreLeaves.{close_or, detach_of, detached_core, last_leave, leave_as, live_inc, shutdown_of, unloaded_core}
+use Rattle.crash_recover.specs.CoreLeaves.{close_or, detach_of, detached_core, leave_as, live_inc, shutdown_of, unloaded_core}
 use Rattle.crash_recover.specs.CoreRecoveries.{after_recovery, readied_core, recovery_fault, recovery_of, reload_fault, reopen_fault}
 
 -- ---- lives
@@ -85,6 +85,11 @@ crash_stops None life is = absurd (cc)
 crash_stops (Some told) life is = record { inc = refl; stopped = refl }
 
 -- ---- outcomes
+
+-- a refusal that is named otherwise is there just where it was
+pub none_mapped : {A B : Type 0} (f : A → B) (found : Option A) → option_map f found ≡ None → found ≡ None
+none_mapped f None none = refl
+none_mapped f (Some why) none = absurd (true≢false (ap is_some none))
 
 -- what of a core stays over each thing that its calls do to it
 pub record Stays (P : CoreState → Type 0) : Type 0 where
@@ -176,14 +181,10 @@ module _ (P : CoreState → Type 0) where
     pub report_stays : (may_step : Bool) (core : CoreState) → P core → P (report_of may_step core).core
     report_stays may_step core is = report_left may_step core is (λ life stops. stays.crashed core life stops is)
 
-    none_mapped : (found : Option LifeFault) → option_map fault.Life found ≡ None → found ≡ None
-    none_mapped None none = refl
-    none_mapped (Some why) none = absurd (true≢false (ap is_some none))
-
     pub recovery_stays : (core : CoreState) (found : Found) → P core → P (recovery_of core found).core
     unfolding recovery_of
     recovery_stays core found is =
         refused core (option_map fault.Life (recovery_fault core.life)) _ is (λ may.
         refused core (reload_fault core found) _ is (λ _.
-        refused (readied_core core) (reopen_fault core) _ (stays.readied core (none_mapped (recovery_fault core.life) may) is)
-        (λ opens. stays.recovered core (loaded_in core found) (none_mapped (recovery_fault core.life) may) opens is)))
+        refused (readied_core core) (reopen_fault core) _ (stays.readied core (none_mapped fault.Life (recovery_fault core.life) may) is)
+        (λ opens. stays.recovered core (loaded_in core found) (none_mapped fault.Life (recovery_fault core.life) may) opens is)))

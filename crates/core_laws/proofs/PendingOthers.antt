@@ -4,10 +4,10 @@ use Rattle.std.proofs.lemmas.Bool.{cond_both, false≢true, ne_eqb, true≢false
 use Rattle.rp_base.specs.declared.kinds.End.{End}
 use Rattle.rp_base.specs.declared.kinds.End.TheVariants as side
 use Rattle.rp_base.specs.declared.kinds.LifeState.{LifeState}
-use Rattle.rp_base.specs.declared.kinds.LifeState.TheVariants.{Offline, Running, Crashed}
+use Rattle.rp_base.specs.declared.kinds.LifeState.TheVariants.{Offline, Running, Crashed, Attached, Detached}
 use Rattle.rp_base.specs.declared.limits.TheConstants.{STEPS_MOST}
 use Rattle.fw_load.specs.declared.rings.RingPair.{RingPair}
-use Rattle.proc_state.specs.Lives.{CoreLife, life_after_boot}
+use Rattle.proc_state.specs.Lives.{CoreLife, is_up, line_of}
 use Rattle.lane_model.specs.declared.calls.CallEnd.{CallEnd}
 use Rattle.lane_model.specs.declared.calls.CallEnd.TheVariants as end
 use Rattle.lane_model.specs.declared.calls.Wish.{Wish}
@@ -33,18 +33,17 @@ use Rattle.crash_recover.specs.Actors.{ActorsState, driver_names}
 use Rattle.link_bench.specs.BenchCrashes.{after_reopen, left_by_reclaim, reclaim_leaves}
 use Rattle.core_laws.specs.BenchMoves.{IsReachedBench}
 use Rattle.link_bench.specs.Benches.{BenchState, BenchWalk, IsSendable, advance_steps, advance_walk, begin_fault, begun_of, bench_walk, call_rings, call_steps, call_walk, is_in_call, start_walk, with_begun, with_new_caller}
-use Rattle.crash_recover.specs.CoreBoots.{after_boot, after_shutdown, core_bench, first_start, loaded_from, needs_image}
+use Rattle.crash_recover.specs.CoreBoots.{core_bench, started_core}
 use Rattle.link_bench.specs.BenchEnds.{readied_bench, renewed_unless}
-use Rattle.crash_recover.specs.CoreRecoveries.{after_recovery, readied_core, recovery_fault, unrecovered_in}
-use Rattle.crash_recover.specs.Cores.{CoreState}
+use Rattle.crash_recover.specs.CoreRecoveries.{after_recovery, readied_core, recovery_fault, unrecovered_to}
+use Rattle.crash_recover.specs.Cores.{CoreState, LoadState, loaded_rings}
 use Rattle.crash_recover.specs.Drives.{actors_at_end, end_answer, sends_of}
-use Rattle.core_laws.specs.KeptCores.{is_running}
 use Rattle.core_laws.specs.PendingCalls.{AreFitLanes, AreGivable, HasNoneBegun, IsNamed, IsOwnTurn, IsReadyBench, IsReadyCore, IsSendsTurn, given_after, given_by}
 use Rattle.core_laws.proofs.BenchMoves.{begun_at, begun_or, calling_may}
 use Rattle.link_bench.proofs.Begun.{begin_may}
-use Rattle.core_laws.proofs.KeptCores.{counted, left_life}
+use Rattle.core_laws.proofs.Outcomes.{Stays}
 use Rattle.core_laws.proofs.PendingCores.{given_both, none_behind, sends_nothing}
-use Rattle.core_laws.proofs.PendingDrives.{cleared_begun, map_begun, reclaim_begun}
+use Rattle.core_laws.proofs.PendingDrives.{cleared_begun, crashed_ready, map_begun, reclaim_begun}
 use Rattle.core_laws.proofs.PendingLanes.{KeepsOwn}
 use Rattle.core_laws.proofs.PendingSteps.{fit_lanes, other_call, other_later}
 
@@ -248,28 +247,17 @@ rings_ready : (actors : ActorsState) (names : List (List ℕ)) (book first : ℕ
 rings_ready actors names book first None none_host none_worker = tt
 rings_ready actors names book first (Some rings) none_host none_worker = made_ready actors names book first rings none_host none_worker
 
-pub boot_ready : (core : CoreState) (name image : List ℕ) → IsReadyCore core → IsReadyCore (after_boot core name image)
-boot_ready core name image is =
-    cond_both (needs_image core) (first_start core name (loaded_from image core.regions)) (record core { life = (life_after_boot core.life).life }) IsReadyCore
-    (λ _. record {
-      begun = rings_begun (driver_names core.actors) core.book (core.life.incarnation + 1) (loaded_from image core.regions).rings;
-      calls = λ _. rings_ready (first_start core name (loaded_from image core.regions)).actors (driver_names core.actors) core.book (core.life.incarnation + 1) (loaded_from image core.regions).rings refl refl;
-    })
-    (λ needs. record { begun = is.begun; calls = λ running. is.calls (ap is_running (sym (counted core.life needs).state) ∙ running) })
-
-pub shutdown_ready : (core : CoreState) → IsReadyCore core → IsReadyCore (after_shutdown core)
-shutdown_ready core is =
-    cond_both (eqb core.life.users 1) _ _ IsReadyCore (λ _. record { begun = tt; calls = λ _. tt })
-    (λ more. record { begun = is.begun; calls = λ running. is.calls (ap is_running (sym (left_life core.life.state core.life more).state) ∙ running) })
-
 renewed_begun : (bench : BenchState) (why : Option ReclaimRefusal) → HasNoneBegun bench → HasNoneBegun (renewed_unless bench why)
 renewed_begun bench None is = let gone = reclaim_begun bench 0 is in record { host = gone.host; worker = gone.worker }
 renewed_begun bench (Some why) is = is
 
-stopped : (state : LifeState) (life : CoreLife) → unrecovered_in state life ≡ None → is_running state ≡ false
+-- a core that waits for its recovery is not up
+stopped : (state : LifeState) (life : CoreLife) → unrecovered_to (line_of state).recovery life ≡ None → is_up state ≡ false
 stopped Offline life may = refl
 stopped Running life may = absurd (true≢false (ap is_some may))
 stopped Crashed life may = refl
+stopped Attached life may = absurd (true≢false (ap is_some may))
+stopped Detached life may = refl
 
 pub readied_ready : (core : CoreState) → recovery_fault core.life ≡ None → IsReadyCore core → IsReadyCore (readied_core core)
 readied_ready core may is = record {
@@ -285,9 +273,23 @@ reopened_calls actors (Some bench) none_host none_worker = record {
   worker = record { sends = tt; receives = record { own = λ _. tt; other = λ _. subst (λ (calls : List Wish). AreGivable [] 1 (given_by calls)) (sym none_worker) tt } };
 }
 
-pub recovery_ready : (core : CoreState) (image : List ℕ) → IsReadyCore core → IsReadyCore (after_recovery core image)
-recovery_ready core image is = record {
+pub recovery_ready : (core : CoreState) (given : LoadState) → IsReadyCore core → IsReadyCore (after_recovery core given)
+recovery_ready core given is = record {
   begun = map_begun core.bench (λ bench. after_reopen (readied_bench bench))
       (λ bench one. let renewed = renewed_begun bench (unreclaimed_by bench.link 0) one in record { host = renewed.host; worker = renewed.worker }) is.begun;
-  calls = λ _. reopened_calls (after_recovery core image).actors core.bench refl refl;
+  calls = λ _. reopened_calls (after_recovery core given).actors core.bench refl refl;
+}
+
+-- what its actors hold stays over each call of a core
+pub ready_stays : Stays IsReadyCore
+ready_stays = record {
+  same = λ core life image loaded same is. record { begun = is.begun; calls = λ running. is.calls (sym same.up ∙ running) };
+  started = λ core life up. record {
+    begun = rings_begun (driver_names core.actors) core.book life.incarnation (loaded_rings core.loaded);
+    calls = λ _. rings_ready (started_core life core).actors (driver_names core.actors) core.book life.incarnation (loaded_rings core.loaded) refl refl;
+  };
+  unlinked = λ core life image loaded is. record { begun = tt; calls = λ _. tt };
+  crashed = λ core life stops is. crashed_ready core life stops is;
+  readied = λ core may is. readied_ready core may is;
+  recovered = λ core given may opens is. recovery_ready core given is;
 }

@@ -97,7 +97,7 @@ pub record HasNoneBegun (bench : BenchState) : Type 0 where
   pub host : begun_of bench 0 ≡ None
   pub worker : begun_of bench 1 ≡ None
 
--- a core whose actors hold, while it runs, what their calls give back
+-- a core whose actors hold, while it is up, what their calls give back
 pub record IsReadyCore (core : CoreState) : Type 0 where
   pub begun : IfSome core.bench HasNoneBegun
   pub calls : is_up core.life.state ≡ true → IfSome core.bench (IsReadyBench core.actors)

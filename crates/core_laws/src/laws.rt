@@ -1,6 +1,6 @@
 //! Laws of the links of benches and of cores. Each is the contract of an empty function, and speaks of definitions alone.
 
-ghost use Rattle.std.specs.Prelude.{◌≡◌, ◌<◌, ℕ, false, true, List, None, Some};
+ghost use Rattle.std.specs.Prelude.{◌≡◌, ◌<◌, ℕ, Bool, false, true, List, None, Some};
 ghost use Rattle.rp_base.specs.declared.kinds.End.{End};
 ghost use Rattle.lane_model.specs.declared.calls.LinkConfig.{LinkConfig};
 ghost use Rattle.lane_model.specs.declared.calls.Wish.{Wish};
@@ -17,10 +17,11 @@ ghost use Rattle.link_bench.specs.BenchCrashes.{after_close, after_reclaim, afte
 ghost use Rattle.link_bench.specs.declared.acts.LinkAct.{LinkAct};
 ghost use Rattle.link_bench.specs.Acts.{IsFitAct, link_act};
 ghost use Rattle.link_bench.specs.Watchers.{nobody_sees};
-ghost use Rattle.crash_recover.specs.CoreBoots.{after_boot, after_shutdown, core_bench};
+ghost use Rattle.crash_recover.specs.CoreBoots.{Found, boot_of, core_bench, handover_of};
 ghost use Rattle.link_bench.specs.BenchEnds.{crashed_bench, readied_bench};
-ghost use Rattle.crash_recover.specs.CoreCrashes.{after_report};
-ghost use Rattle.crash_recover.specs.CoreRecoveries.{after_recovery, readied_core, recovery_fault, reopen_fault, reopened_core};
+ghost use Rattle.crash_recover.specs.CoreCrashes.{report_of};
+ghost use Rattle.crash_recover.specs.CoreLeaves.{detach_of, shutdown_of};
+ghost use Rattle.crash_recover.specs.CoreRecoveries.{readied_core, recovery_fault, recovery_of, reopen_fault, reopened_core};
 ghost use Rattle.crash_recover.specs.Cores.{CoreState, new_core};
 ghost use Rattle.crash_recover.specs.CoreActs.{core_act};
 ghost use Rattle.crash_recover.specs.Drives.{drive_step, first_or_take};
@@ -69,19 +70,21 @@ pub fn bench_reached()
     ensures reopen { (bench : BenchState) → IsReachedBench bench → unopened_by bench.link ≡ None → IsReachedBench (after_reopen bench) }
 {}
 
-/// The link of a core comes so too, from its boot to its last shutdown, over crashes and recoveries, over each step of its actors, whose
+/// The link of a core comes so too, from its boot to its last shutdown or detach, over crashes and recoveries, over each step of its actors, whose
 /// messages all fit buffers, and over acts for other callers.
 pub fn core_reached()
     ensures new { (regions : List Region) (kinds : List Declared) (book : ℕ) → IsReachedCore (new_core regions kinds book) }
     ensures link { (names : List (List ℕ)) (book first : ℕ) (rings : RingPair) → IsReachedBench (core_bench names book first rings) }
     ensures crash { (bench : BenchState) → IsReachedBench bench → IsReachedBench (crashed_bench bench) }
     ensures ready { (bench : BenchState) → IsReachedBench bench → IsReachedBench (readied_bench bench) }
-    ensures boot { (core : CoreState) (name image : List ℕ) → IsReachedCore core → IsReachedCore (after_boot core name image) }
-    ensures shutdown { (core : CoreState) → IsReachedCore core → IsReachedCore (after_shutdown core) }
-    ensures report { (core : CoreState) → IsReachedCore core → IsReachedCore (after_report core) }
+    ensures boot { (core : CoreState) (name : List ℕ) (found : Found) → IsReachedCore core → IsReachedCore (boot_of core name found).core }
+    ensures handover { (core : CoreState) (name : List ℕ) (found : Found) → IsReachedCore core → IsReachedCore (handover_of core name found).core }
+    ensures shutdown { (may_step : Bool) (core : CoreState) → IsReachedCore core → IsReachedCore (shutdown_of may_step core).core }
+    ensures detach { (may_step : Bool) (core : CoreState) → IsReachedCore core → IsReachedCore (detach_of may_step core).core }
+    ensures report { (may_step : Bool) (core : CoreState) → IsReachedCore core → IsReachedCore (report_of may_step core).core }
     ensures readied { (core : CoreState) → IsReachedCore core → IsReachedCore (readied_core core) }
     ensures reopened { (core : CoreState) → IsReachedCore core → reopen_fault core ≡ None → IsReachedCore (reopened_core core) }
-    ensures recovery { (core : CoreState) (image : List ℕ) → IsReachedCore core → reopen_fault core ≡ None → IsReachedCore (after_recovery core image) }
+    ensures recovery { (core : CoreState) (found : Found) → IsReachedCore core → IsReachedCore (recovery_of core found).core }
     ensures drive { (core : CoreState) → IsReachedCore core → IsReachedCore (drive_step core).core }
     ensures act { (core : CoreState) (steps : ℕ) (act : LinkAct (List ℕ)) → IsFitAct act → IsReachedCore core → IsReachedCore (core_act core steps act).core }
 {}
@@ -112,16 +115,17 @@ pub fn handed_due()
 {}
 
 /// The link of a core always has the core's own callers in use, 0 at the host and 1 at the remote, no turn of it is ever the manager's, and it is in
-/// the incarnation of the core's life, live exactly while the core runs. A link that is reopened is so for the next incarnation of the life.
+/// the incarnation of the core's life, live exactly while the core is up. A link that is reopened is so for the next incarnation of the life.
 pub fn core_kept()
     ensures new { (regions : List Region) (kinds : List Declared) (book : ℕ) → IsKeptCore (new_core regions kinds book) }
-    ensures boot { (core : CoreState) (name image : List ℕ) → IsKeptCore core → IsKeptCore (after_boot core name image) }
-    ensures shutdown { (core : CoreState) → IsKeptCore core → IsKeptCore (after_shutdown core) }
-    ensures report { (core : CoreState) → IsKeptCore core → IsKeptCore (after_report core) }
+    ensures boot { (core : CoreState) (name : List ℕ) (found : Found) → IsKeptCore core → IsKeptCore (boot_of core name found).core }
+    ensures handover { (core : CoreState) (name : List ℕ) (found : Found) → IsKeptCore core → IsKeptCore (handover_of core name found).core }
+    ensures shutdown { (may_step : Bool) (core : CoreState) → IsKeptCore core → IsKeptCore (shutdown_of may_step core).core }
+    ensures detach { (may_step : Bool) (core : CoreState) → IsKeptCore core → IsKeptCore (detach_of may_step core).core }
+    ensures report { (may_step : Bool) (core : CoreState) → IsKeptCore core → IsKeptCore (report_of may_step core).core }
     ensures readied { (core : CoreState) → IsKeptCore core → IsKeptCore (readied_core core) }
     ensures reopened { (core : CoreState) → IsKeptCore core → IsKeptCore (with_next_life (reopened_core core)) }
-    ensures recovery { (core : CoreState) (image : List ℕ) → IsKeptCore core → recovery_fault core.life ≡ None → reopen_fault core ≡ None
-        → IsKeptCore (after_recovery core image) }
+    ensures recovery { (core : CoreState) (found : Found) → IsKeptCore core → IsKeptCore (recovery_of core found).core }
     ensures drive { (core : CoreState) → IsKeptCore core → IsKeptCore (drive_step core).core }
     ensures act { (core : CoreState) (steps : ℕ) (act : LinkAct (List ℕ)) → IsKeptCore core → IsKeptCore (core_act core steps act).core }
 {}
@@ -156,7 +160,7 @@ pub fn crash_reclaims()
         → end_of (crashed_bench bench).link.callers caller ≡ end_after_crash caller (end_of bench.link.callers caller) }
 {}
 
-/// While a core runs, the next call of each of its actors may always begin, where the actor is in none: what a call gives back is held.
+/// While a core is up, the next call of each of its actors may always begin, where the actor is in none: what a call gives back is held.
 pub fn actors_begin()
     ensures host { (actors : ActorsState) (bench : BenchState) → AreOwnUsed bench.link.callers → IsReadyBench actors bench → is_in_call bench 0 ≡ false
         → begin_fault bench 0 (first_or_take actors.host_calls) ≡ None }
@@ -164,15 +168,17 @@ pub fn actors_begin()
         → begin_fault bench 1 (first_or_take actors.worker_calls) ≡ None }
 {}
 
-/// A core comes to no other state: its actors hold, while it runs, what their calls give back, each number once, and have begun no call without a
+/// A core comes to no other state: its actors hold, while it is up, what their calls give back, each number once, and have begun no call without a
 /// step of it. So it is of a new core, and so it stays over all that the core goes through, and over acts for other callers.
 pub fn core_ready()
     ensures new { (regions : List Region) (kinds : List Declared) (book : ℕ) → IsReadyCore (new_core regions kinds book) }
-    ensures boot { (core : CoreState) (name image : List ℕ) → IsReadyCore core → IsReadyCore (after_boot core name image) }
-    ensures shutdown { (core : CoreState) → IsReadyCore core → IsReadyCore (after_shutdown core) }
-    ensures report { (core : CoreState) → IsReadyCore core → IsReadyCore (after_report core) }
+    ensures boot { (core : CoreState) (name : List ℕ) (found : Found) → IsReadyCore core → IsReadyCore (boot_of core name found).core }
+    ensures handover { (core : CoreState) (name : List ℕ) (found : Found) → IsReadyCore core → IsReadyCore (handover_of core name found).core }
+    ensures shutdown { (may_step : Bool) (core : CoreState) → IsReadyCore core → IsReadyCore (shutdown_of may_step core).core }
+    ensures detach { (may_step : Bool) (core : CoreState) → IsReadyCore core → IsReadyCore (detach_of may_step core).core }
+    ensures report { (may_step : Bool) (core : CoreState) → IsReadyCore core → IsReadyCore (report_of may_step core).core }
     ensures readied { (core : CoreState) → recovery_fault core.life ≡ None → IsReadyCore core → IsReadyCore (readied_core core) }
-    ensures recovery { (core : CoreState) (image : List ℕ) → IsReadyCore core → IsReadyCore (after_recovery core image) }
+    ensures recovery { (core : CoreState) (found : Found) → IsReadyCore core → IsReadyCore (recovery_of core found).core }
     ensures drive { (core : CoreState) → IsReachedCore core → IsKeptCore core → IsReadyCore core → IsReadyCore (drive_step core).core }
     ensures act { (core : CoreState) (steps : ℕ) (act : LinkAct (List ℕ)) → IsFitAct act → IsReachedCore core → IsReadyCore core
         → IsReadyCore (core_act core steps act).core }

@@ -1,5 +1,5 @@
 -- The images of a demo's workers, where they load, have a program of few records, and rings with room; so a demo ends.
-use Rattle.std.proofs.Common.{◌≡◌, ◌∙◌, ◌<◌, ◌≤◌, ℕ, List, [], length, None, IfSome, IfOk, Result, Ok, Err, refl, sym, ap, arith}
+use Rattle.std.proofs.Common.{◌≡◌, ◌∙◌, ◌<◌, ◌≤◌, ℕ, List, [], length, None, IfSome, refl, ap, arith}
 use Rattle.rp_base.specs.declared.limits.TheConstants.{IMAGE_MOST}
 use Rattle.memory_pool.specs.declared.blocks.Block.{Block}
 use Rattle.memory_pool.specs.Regions.{standard_regions}
@@ -13,8 +13,6 @@ use Rattle.crash_recover.specs.Cores.{LoadState}
 use Rattle.crash_recover.specs.Drives.{placed_map}
 use Rattle.demo_laws.proofs.BootBounds.{AreRoomy}
 use Rattle.demo_laws.proofs.DriveBounds.{IsProgram}
-use Rattle.script_lang.specs.declared.commands.Command.{Command}
-use Rattle.script_run.specs.declared.demos.Accepted.{Accepted}
 use Rattle.script_run.specs.Demos.{accepted_from, counted_output, demo_output}
 use Rattle.script_run.specs.Runs.{new_run, run_of}
 use Rattle.script_run.specs.Stores.{held}

@@ -1,16 +1,16 @@
 -- A demo never meets the limit of steps, where the actors of each of its cores come to rest within so many.
-use Rattle.std.proofs.Common.{◌≡◌, ◌⊎◌, inl, inr, ◌<◌, ◌≤◌, ℕ, zero, suc, ◌+◌, ◌*◌, ◌==◌, Bool, true, false, cond, ltb, List, [], ◌∷◌, ◌++◌, All, length, Option, Some, None, IfSome, Ok, Err, slice_get, is_some, refl, sym, ap, subst, ◌∙◌, arith}
+use Rattle.std.proofs.Common.{◌≡◌, ◌⊎◌, inl, inr, ◌<◌, ◌≤◌, ℕ, zero, suc, ◌+◌, ◌*◌, ◌==◌, Bool, true, false, cond, ltb, List, [], ◌∷◌, ◌++◌, All, length, Option, Some, None, IfSome, Result, Ok, Err, slice_get, is_some, refl, sym, ap, subst, ◌∙◌, arith}
 use Rattle.std.proofs.lemmas.Bool.{cond_both, true≢false}
 use Rattle.std.proofs.lemmas.List.Elements.{All-nil, All-push, All-set}
 use Rattle.rp_base.specs.declared.kinds.DriverKind.{DriverKind}
 use Rattle.rp_base.specs.declared.kinds.DriverKind.TheVariants as driver
 use Rattle.rp_base.specs.declared.kinds.LifeState.{LifeState}
-use Rattle.rp_base.specs.declared.kinds.LifeState.TheVariants.{Offline, Running, Crashed}
+use Rattle.rp_base.specs.declared.kinds.LifeState.TheVariants.{Offline, Running, Crashed, Attached, Detached}
 use Rattle.rp_base.specs.declared.limits.TheConstants.{STEPS_MOST}
 use Rattle.rp_io.specs.declared.faults.FetchFault.TheVariants as fetch_fault
 use Rattle.memory_pool.specs.declared.regions.Region.{Region}
 use Rattle.memory_pool.specs.Regions.{standard_regions}
-use Rattle.proc_state.specs.Lives.{life_after_boot, life_after_shutdown_in, most}
+use Rattle.proc_state.specs.Lives.{CoreLife, Outcome, boot_to, first_start, is_offline, is_up, leave_to, life_after_boot, life_after_shutdown, line_of, most, refusal_of, without_user}
 use Rattle.script_lang.specs.declared.commands.Command.{Command}
 use Rattle.script_lang.specs.declared.commands.Command.TheVariants as command
 use Rattle.script_lang.specs.declared.commands.RegionSet.TheVariants as regions
@@ -20,32 +20,35 @@ use Rattle.image_maker.specs.Demo.{core_commands, demo_commands, first_sessions,
 use Rattle.image_maker.specs.Images.{image_of}
 use Rattle.crash_recover.specs.declared.core_faults.AddFault.{AddFault}
 use Rattle.crash_recover.specs.declared.core_faults.CoreFault.{CoreFault}
-use Rattle.crash_recover.specs.CoreBoots.{after_shutdown, boot_fault, first_start, loaded_from, needs_image, shutdown_fault}
-use Rattle.crash_recover.specs.Cores.{CoreState, driver_add_fault}
+use Rattle.crash_recover.specs.CoreBoots.{Found, boot_as, boot_of, first_boot, image_fault, loaded_from, loaded_in, started_core, with_load}
+use Rattle.crash_recover.specs.CoreLeaves.{close_or, leave_as, live_inc, shutdown_of, unloaded_core}
+use Rattle.crash_recover.specs.declared.core_answers.Leave.{Leave}
+use Rattle.crash_recover.specs.declared.core_answers.Leave.TheVariants as leave
+use Rattle.crash_recover.specs.declared.core_answers.Start.{Start}
+use Rattle.crash_recover.specs.declared.core_answers.Start.TheVariants as start
+use Rattle.link_bench.specs.BenchHolds.{caller_out}
+use Rattle.crash_recover.specs.Cores.{CoreOutcome, CoreState, driver_add_fault, refuse_or}
 use Rattle.crash_recover.specs.Drives.{drive_step, is_idle}
-use Rattle.core_laws.specs.KeptCores.{is_running}
-use Rattle.script_run.specs.CoreDrives.{drive_effect, drive_effect_in, drive_steps, is_crashed, rest_event, rests_or, step_then}
+use Rattle.script_run.specs.CoreDrives.{drive_effect, drive_steps, is_crashed, rest_event, rests_or, step_then}
 use Rattle.script_run.specs.CoreEffects.{CoreEffect, core_tells, core_tells_all, declared_effect, driver_effect}
-use Rattle.script_run.specs.CoreLives.{boot_effect, boot_unless, core_stops, fetched_boot_effect, found_or_told, image_boot_effect, image_bytes, last_shutdown_effect, live_inc, shutdown_effect, shutdown_unless}
+use Rattle.script_run.specs.CoreLives.{boot_effect, core_stops, found_image, found_or_told, image_bytes, leave_effect, may_step, shutdown_effect}
 use Rattle.script_run.specs.NamedCores.{NamedCoreState}
 use Rattle.script_run.specs.NamedImages.{ImageState}
-use Rattle.std.proofs.Common.{◌-◌, ◌&&◌, not, ap₂, bytes_eq, option_map, nat_le}
+use Rattle.std.proofs.Common.{◌-◌, not, bytes_eq, option_map, option_and_then, nat_le}
 use Rattle.std.specs.Prelude.{find}
-use Rattle.std.proofs.lemmas.Bool.{eqb-true, leb-true}
+use Rattle.std.proofs.lemmas.Bool.{eqb-true, leb-true, ne_eqb}
 use Rattle.std.proofs.lemmas.List.{append_assoc, append-nil}
 use Rattle.std.proofs.lemmas.List.Elements.{All-head, All-tail}
 use Rattle.rp_base.specs.declared.kinds.Switch.{Switch}
 use Rattle.rp_base.specs.declared.kinds.Switch.TheVariants as switch
 use Rattle.rp_base.specs.declared.limits.TheConstants.{IMAGE_MOST}
-use Rattle.proc_state.specs.Lives.{Outcome, life_after_shutdown, refusal_of, with_user, first_start as start_first}
+use Rattle.proc_state.specs.declared.answers.LifeFault.{LifeFault}
 use Rattle.proc_state.specs.declared.answers.LifeFault.TheVariants as life_fault
 use Rattle.proc_state.specs.declared.answers.Left.{Left}
 use Rattle.proc_state.specs.declared.answers.Left.TheVariants as left
 use Rattle.proc_state.specs.declared.answers.Power.{Power}
 use Rattle.proc_state.specs.declared.answers.Power.TheVariants as power
 use Rattle.crash_recover.specs.declared.core_faults.AddFault.TheVariants as add
-use Rattle.crash_recover.specs.CoreBoots.{after_boot}
-use Rattle.crash_recover.specs.Cores.{is_offline}
 use Rattle.image_maker.specs.Demo.{session_image}
 use Rattle.script_run.specs.declared.acts.CoreAct.TheVariants as act
 use Rattle.script_run.specs.declared.acts.Making.TheVariants as making
@@ -55,15 +58,13 @@ use Rattle.script_run.specs.CoreCommands.{core_act_effect, core_effect}
 use Rattle.script_run.specs.CoreDrives.{step_events, told_before}
 use Rattle.script_run.specs.LinkCommands.{link_effect}
 use Rattle.script_run.specs.NamedLinks.{NamedLink}
-use Rattle.script_run.specs.Stores.{Answer, held}
+use Rattle.script_run.specs.Stores.{held}
 use Rattle.script_run.specs.Demos.{bare_effect}
 use Rattle.script_run.specs.Runs.{ObjectsState, Run, RunEffect, RunState, core_located_effect, core_made_effect, core_place, effect_of, found_core_effect, found_effect, has_image, image_effect, is_full, located_effect, name_effect, new_run, place_of, quiet_effect, run_from, run_of, run_tells, unnamed_effect, with_image, without_link_effect}
 use Rattle.script_run.proofs.DemoSums.{bare_is, goes_on as goes_on_run, script_runnable}
 use Rattle.script_run.proofs.RunSteps.{run_none}
 use Rattle.run_laws.proofs.RunWalks.{item_at}
-use Rattle.std.specs.Result.{result_err}
 use Rattle.fw_load.specs.Loading.{Loads, load_fault}
-use Rattle.fw_load.specs.declared.faults.LoadFault.{LoadFault}
 use Rattle.remote_core.specs.Workers.{WorkerState, new_worker}
 use Rattle.script_lang.specs.Runnable.{AreRunnable}
 use Rattle.image_maker.proofs.DemoSizes.{demo_is_said}
@@ -75,9 +76,7 @@ use Rattle.core_laws.specs.KeptCores.{IsKeptCore}
 use Rattle.core_laws.specs.PendingCalls.{IsReadyCore}
 use Rattle.demo_laws.proofs.BootBounds.{AreRoomy, boot_within, users_within}
 use Rattle.demo_laws.proofs.DriveBounds.{IsProgram, IsWithin, drive_within, more_on}
-use Rattle.core_laws.proofs.CoreMoves.{core_booted as reached_booted}
-use Rattle.core_laws.proofs.KeptCores.{core_booted as kept_booted}
-use Rattle.core_laws.proofs.PendingOthers.{boot_ready}
+use Rattle.core_laws.proofs.Outcomes.{no_first, none_mapped, refused}
 use Rattle.run_laws.proofs.CoresKept.{effect_kept}
 use Rattle.run_laws.proofs.CoresReady.{AreSound, effect_ready}
 use Rattle.run_laws.proofs.RunsReached.{effect_reached}
@@ -91,14 +90,32 @@ pub record AreBootable (Fits : WorkerState → Type 0) (records credit : WorkerS
 abbrev pub IsDemoImage : List ℕ → Type 0
 IsDemoImage bytes = (reply : ℕ) × (reply < 497) × (bytes ≡ image_of (worker_lines reply))
 
+-- whether no other party started the core
+abbrev is_own : LifeState → Bool
+is_own Attached = false
+is_own Detached = false
+is_own other = true
+
+-- a run that may do one step more
+steps_left : (steps : ℕ) → steps + 1 ≤ STEPS_MOST → may_step steps ≡ true
+steps_left steps few = ap not (ne_eqb steps STEPS_MOST (λ full. absurd (omega (arith, few, full))))
+
+own_up : (state : LifeState) → is_own state ≡ true → is_up state ≡ true → state ≡ Running
+own_up Offline own up = absurd (true≢false (sym up))
+own_up Running own up = refl
+own_up Crashed own up = absurd (true≢false (sym up))
+own_up Attached own up = absurd (true≢false (sym own))
+own_up Detached own up = absurd (true≢false (sym own))
+
 module _ (Fits : WorkerState → Type 0) (records credit : WorkerState → ℕ) (bootable : AreBootable Fits records credit) where
   -- the actors of a core make at most so many steps more
   abbrev DrivesWithin : CoreState → ℕ → Type 0
   DrivesWithin core within = IsWithin Fits records credit core within
 
-  -- a core of a demo: its regions are the standard ones, and while it runs its steps are bounded
+  -- a core of a demo: its regions are the standard ones, no other party started it, and while it runs its steps are bounded
   record IsCalm (core : CoreState) : Type 0 where
     pub regions : core.regions ≡ standard_regions
+    pub own : is_own core.life.state ≡ true
     pub runs : core.life.state ≡ Running → DrivesWithin core 7999
 
   -- a command that leaves such a core, and does at most so many steps
@@ -138,12 +155,12 @@ module _ (Fits : WorkerState → Type 0) (records credit : WorkerState → ℕ) 
   crashed_rests : (count : ℕ) (name : List ℕ) (is_quiet : Bool) (core : CoreState) (steps : ℕ) → core.regions ≡ standard_regions → core.life.state ≡ Crashed
       → LeavesCalm steps 0 (drive_steps count name is_quiet core steps)
   unfolding drive_steps
-  crashed_rests zero name is_quiet core steps same crashed = record { calm = record { regions = same; runs = λ running. absurd (true≢false (ap is_crashed (sym crashed ∙ running))) }; ending = refl; steps = omega arith }
+  crashed_rests zero name is_quiet core steps same crashed = record { calm = record { regions = same; own = ap is_own crashed; runs = λ running. absurd (true≢false (ap is_crashed (sym crashed ∙ running))) }; ending = refl; steps = omega arith }
   crashed_rests (suc more) name is_quiet core steps same crashed =
       subst (λ (found : Option Event). LeavesCalm steps 0 (rests_or core steps found (cond (steps == STEPS_MOST) (core_stops core steps)
       (step_then name is_quiet (drive_step core) (λ next. drive_steps more name is_quiet next (steps + 1))))))
       (sym (ap (λ (b : Bool). cond b (Some (event.Stopped name)) (cond (is_idle core) (Some (event.Idle name)) None)) (ap is_crashed crashed)))
-      (record { calm = record { regions = same; runs = λ running. absurd (true≢false (ap is_crashed (sym crashed ∙ running))) }; ending = refl; steps = omega arith })
+      (record { calm = record { regions = same; own = ap is_own crashed; runs = λ running. absurd (true≢false (ap is_crashed (sym crashed ∙ running))) }; ending = refl; steps = omega arith })
 
   -- what follows a step: the core has crashed, or goes on with fewer steps left
   after_step : (more : ℕ) (name : List ℕ) (is_quiet : Bool) (next : CoreState) (events : List Event) (steps within : ℕ) (core : CoreState) → steps + within ≤ STEPS_MOST → 1 ≤ within → next.regions ≡ standard_regions
@@ -167,23 +184,20 @@ module _ (Fits : WorkerState → Type 0) (records credit : WorkerState → ℕ) 
   driven : (count : ℕ) (name : List ℕ) (is_quiet : Bool) (core : CoreState) (steps within : ℕ) → core.regions ≡ standard_regions → core.life.state ≡ Running → DrivesWithin core within → within ≤ 7999
       → steps + within ≤ STEPS_MOST → LeavesCalm steps within (drive_steps count name is_quiet core steps)
   unfolding drive_steps
-  driven zero name is_quiet core steps within same running is most few = told_calm core steps within _ (record { regions = same; runs = λ _. more_within core within 7999 most is })
+  driven zero name is_quiet core steps within same running is most few = told_calm core steps within _ (record { regions = same; own = ap is_own running; runs = λ _. more_within core within 7999 most is })
   driven (suc more) name is_quiet core steps within same running is most few =
-      rested core steps within (rest_event name core) _ (record { regions = same; runs = λ _. more_within core within 7999 most is })
+      rested core steps within (rest_event name core) _ (record { regions = same; own = ap is_own running; runs = λ _. more_within core within 7999 most is })
       (λ none.
       let step = drive_within Fits records credit core within is running (goes_on name core (is_crashed core.life.state) (is_idle core) none) in
       after_step more name is_quiet (drive_step core).core (step_events name is_quiet (drive_step core)) steps within core few step.some (step.regions ∙ same) step.came
       (λ runs there fits. driven more name is_quiet (drive_step core).core (steps + 1) (within - 1) (step.regions ∙ same) runs there (omega (arith, most)) fits))
 
-  drive_in : (state : LifeState) (name : List ℕ) (is_quiet : Bool) (core : CoreState) (steps count : ℕ) → core.life.state ≡ state → IsCalm core → steps + 7999 ≤ STEPS_MOST
-      → LeavesCalm steps 7999 (drive_effect_in state name is_quiet core steps count)
-  drive_in Offline name is_quiet core steps count there is few = told_calm core steps 7999 _ is
-  drive_in Crashed name is_quiet core steps count there is few = told_calm core steps 7999 _ is
-  drive_in Running name is_quiet core steps count there is few = driven count name is_quiet core steps 7999 is.regions there (is.runs there) (omega arith) few
-
   drive_calm : (name : List ℕ) (is_quiet : Bool) (core : CoreState) (steps count : ℕ) → IsCalm core → steps + 7999 ≤ STEPS_MOST → LeavesCalm steps 7999 (drive_effect name is_quiet core steps count)
   unfolding drive_effect
-  drive_calm name is_quiet core steps count is few = drive_in core.life.state name is_quiet core steps count refl is few
+  drive_calm name is_quiet core steps count is few =
+      cond_both (is_up core.life.state) (drive_steps count name is_quiet core steps) (core_tells core steps (event.NotRunning name)) (LeavesCalm steps 7999)
+      (λ up. let there = own_up core.life.state is.own up in driven count name is_quiet core steps 7999 is.regions there (is.runs there) (omega arith) few)
+      (λ _. told_calm core steps 7999 _ is)
 
   -- ---- boots
 
@@ -195,128 +209,162 @@ module _ (Fits : WorkerState → Type 0) (records credit : WorkerState → ℕ) 
       (λ _. All-head (λ (image : ImageState). IsDemoImage image.bytes) first later all)
       (λ _. demo_found later name (All-tail (λ (image : ImageState). IsDemoImage image.bytes) first later all))
 
-  module _ (name image : List ℕ) (core : CoreState) (steps : ℕ) (is : IsCalm core) (reached : IsReachedCore core) (kept : IsKeptCore core) (ready : IsReadyCore core) where
-    -- one user more, or none: what the core does is bounded as before
-    counted : core.life.state ≡ Running → needs_image core ≡ false → DrivesWithin (record core { life = (life_after_boot core.life).life }) 7999
-    counted running needs =
-        cond_both (core.life.users == 0) (start_first 1 power.First core.life) (with_user core.life) (λ (left : Outcome Power). DrivesWithin (record core { life = left.life }) 7999)
-        (λ none. cond_both (core.life.incarnation == most) (refusal_of life_fault.IncarnationsSpent core.life) _ (λ (left : Outcome Power). DrivesWithin (record core { life = left.life }) 7999)
-        (λ _. is.runs running)
-        (λ more. absurd (true≢false (sym (ap₂ (λ (a b : Bool). a && not b) none more) ∙ needs))))
-        (λ _. cond_both (core.life.users == most) (refusal_of life_fault.UsersFull core.life) _ (λ (left : Outcome Power). DrivesWithin (record core { life = left.life }) 7999)
-        (λ _. is.runs running) (λ _. users_within Fits records credit core (core.life.users + 1) 7999 (is.runs running)))
+  -- an image that was found is that of a worker of a demo
+  abbrev IsDemoFound : Found → Type 0
+  IsDemoFound (Ok bytes) = IsDemoImage bytes × (length bytes ≤ IMAGE_MOST)
+  IsDemoFound (Err why) = Unit {0}
 
-    still_running : needs_image core ≡ false → (life_after_boot core.life).life.state ≡ Running → core.life.state ≡ Running
-    still_running needs =
-        cond_both (core.life.users == 0) (start_first 1 power.First core.life) (with_user core.life) (λ (left : Outcome Power). left.life.state ≡ Running → core.life.state ≡ Running)
-        (λ none. cond_both (core.life.incarnation == most) (refusal_of life_fault.IncarnationsSpent core.life) _ (λ (left : Outcome Power). left.life.state ≡ Running → core.life.state ≡ Running)
-        (λ _ running. running)
-        (λ more. absurd (true≢false (sym (ap₂ (λ (a b : Bool). a && not b) none more) ∙ needs))))
-        (λ _. cond_both (core.life.users == most) (refusal_of life_fault.UsersFull core.life) _ (λ (left : Outcome Power). left.life.state ≡ Running → core.life.state ≡ Running)
-        (λ _ running. running) (λ _ running. running))
+  told_found : (found : Option (List ℕ)) → IfSome found IsDemoImage → IsDemoFound (found_or_told (Err fetch_fault.Missing) found)
+  told_found None is_demo = tt
+  told_found (Some bytes) is_demo =
+      cond_both (nat_le (length bytes) IMAGE_MOST) (Ok bytes) (Err (fetch_fault.TooLarge (length bytes))) IsDemoFound
+      (λ fits. (is_demo, leb-true (length bytes) IMAGE_MOST fits)) (λ _. tt)
 
-    boot_at : (bytes : List ℕ) (why : Option CoreFault) → IsCalm (after_boot core image bytes) → LeavesCalm steps 0 (boot_unless name image core steps bytes why)
-    boot_at bytes None left = told_calm (after_boot core image bytes) steps 0 _ left
-    boot_at bytes (Some why) left = told_calm core steps 0 _ is
-
-    none_mapped : (found : Option LoadFault) → option_map core_fault.Load found ≡ None → found ≡ None
-    none_mapped None none = refl
-    none_mapped (Some why) none = absurd (true≢false (ap is_some none))
-
-    started : needs_image core ≡ true → (reply : ℕ) → reply < 497 → length (image_of (worker_lines reply)) ≤ IMAGE_MOST → boot_fault core (image_of (worker_lines reply)) ≡ None
-        → DrivesWithin (first_start core image (loaded_from (image_of (worker_lines reply)) core.regions)) 7999
-    started needs reply small short fits =
+  module _ (name image : List ℕ) (core : CoreState) (steps : ℕ) (is : IsCalm core) where
+    -- a core that runs an image of a demo in this life
+    started : (life : CoreLife) (reply : ℕ) → life.state ≡ Running → reply < 497 → length (image_of (worker_lines reply)) ≤ IMAGE_MOST → load_fault (image_of (worker_lines reply)) core.regions ≡ None
+        → DrivesWithin (started_core life (with_load core image (loaded_from (image_of (worker_lines reply)) core.regions))) 7999
+    started life reply running small short fits =
         let bytes = image_of (worker_lines reply) in
-        let clear = sym (ap (λ (b : Bool). cond b (option_map core_fault.Load (load_fault bytes core.regions)) (option_map core_fault.Life (result_err (life_after_boot core.life).answer))) needs) ∙ fits in
-        let loads = bootable.loads reply small short (subst (λ (regions : List Region). Loads bytes regions) is.regions (none_mapped (load_fault bytes core.regions) clear)) in
-        let booted = ap (λ (b : Bool). cond b (first_start core image (loaded_from bytes core.regions)) (record core { life = (life_after_boot core.life).life })) needs in
+        let loads = bootable.loads reply small short (subst (λ (regions : List Region). Loads bytes regions) is.regions fits) in
         let back = sym is.regions in
-        boot_within Fits records credit core image (loaded_from bytes core.regions) 7999
+        boot_within Fits records credit core image (loaded_from bytes core.regions) life 7999 (ap is_up running)
         (subst (λ (regions : List Region). IsProgram Fits records credit (loaded_from bytes regions).memory (placed_map regions (loaded_from bytes regions))) back loads.0)
         (subst (λ (regions : List Region). Fits (new_worker (loaded_from bytes regions).entry)) back loads.1)
         (subst (λ (regions : List Region). IfSome (loaded_from bytes regions).rings AreRoomy) back loads.2)
         (subst (λ (regions : List Region). records (new_worker (loaded_from bytes regions).entry) ≤ 7999) back loads.3)
         (subst (λ (regions : List Region). credit (new_worker (loaded_from bytes regions).entry) ≤ 1) back loads.4)
-        (subst IsReachedCore booted (reached_booted core image bytes reached)) (subst IsKeptCore booted (kept_booted core image bytes kept)) (subst IsReadyCore booted (boot_ready core image bytes ready))
 
-    first_booted : needs_image core ≡ true → (reply : ℕ) → reply < 497 → length (image_of (worker_lines reply)) ≤ IMAGE_MOST → (why : Option CoreFault) → boot_fault core (image_of (worker_lines reply)) ≡ why
-        → LeavesCalm steps 0 (boot_unless name image core steps (image_of (worker_lines reply)) why)
-    first_booted needs reply small short None fits =
-        told_calm (after_boot core image (image_of (worker_lines reply))) steps 0 _
-        (subst IsCalm (sym (ap (λ (b : Bool). cond b (first_start core image (loaded_from (image_of (worker_lines reply)) core.regions)) (record core { life = (life_after_boot core.life).life })) needs))
-        (record { regions = is.regions; runs = λ _. started needs reply small short fits }))
-    first_booted needs reply small short (Some why) refused = told_calm core steps 0 _ is
+    starts : (life : CoreLife) (bytes : List ℕ) → life.state ≡ Running → IsDemoImage bytes → length bytes ≤ IMAGE_MOST → load_fault bytes core.regions ≡ None
+        → IsCalm (started_core life (with_load core image (loaded_from bytes core.regions)))
+    starts life bytes running (reply, small, same) short fits = record {
+      regions = is.regions;
+      own = ap is_own running;
+      runs = λ _. subst (λ (b : List ℕ). DrivesWithin (started_core life (with_load core image (loaded_from b core.regions))) 7999) (sym same)
+          (started life reply running small (subst (λ (b : List ℕ). length b ≤ IMAGE_MOST) same short) (subst (λ (b : List ℕ). load_fault b core.regions ≡ None) same fits));
+    }
 
-    again_booted : needs_image core ≡ false → (why : Option CoreFault) → LeavesCalm steps 0 (boot_unless name image core steps [] why)
-    again_booted needs None =
-        told_calm (after_boot core image []) steps 0 _
-        (subst IsCalm (sym (ap (λ (b : Bool). cond b (first_start core image (loaded_from [] core.regions)) (record core { life = (life_after_boot core.life).life })) needs))
-        (record { regions = is.regions; runs = λ running. counted (still_running needs running) needs }))
-    again_booted needs (Some why) = told_calm core steps 0 _ is
+    loaded : (life : CoreLife) (found : Found) → life.state ≡ Running → IsDemoFound found
+        → IsCalm (refuse_or core (image_fault core found) (record { core = started_core life (with_load core image (loaded_in core found)); answer = Ok (start.Running life.incarnation) })).core
+    loaded life (Err why) running is_demo = is
+    loaded life (Ok bytes) running is_demo =
+        refused IsCalm core (image_fault core (Ok bytes)) _ is (λ fits. starts life bytes running is_demo.0 is_demo.1 (none_mapped core_fault.Load (load_fault bytes core.regions) fits))
 
-    image_booted : needs_image core ≡ true → (bytes : List ℕ) → IsDemoImage bytes → length bytes ≤ IMAGE_MOST → LeavesCalm steps 0 (image_boot_effect name image core steps bytes)
-    unfolding image_boot_effect
-    image_booted needs bytes (reply, small, same) short =
-        subst (λ (b : List ℕ). LeavesCalm steps 0 (boot_unless name image core steps b (boot_fault core b))) (sym same)
-        (first_booted needs reply small (subst (λ (b : List ℕ). length b ≤ IMAGE_MOST) same short) (boot_fault core (image_of (worker_lines reply))) refl)
+    first_running : (answer : (first_start Running 1 power.First core.life).answer ≡ Ok power.First) → (first_start Running 1 power.First core.life).life.state ≡ Running
+    first_running =
+        cond_both (core.life.incarnation == most) (refusal_of life_fault.IncarnationsSpent core.life) _ (λ (out : Outcome Power). out.answer ≡ Ok power.First → out.life.state ≡ Running)
+        (λ _ is. absurd (cc)) (λ _ _. refl)
 
-    fetched : needs_image core ≡ true → (found : Option (List ℕ)) → IfSome found IsDemoImage
-        → LeavesCalm steps 0 (fetched_boot_effect name image core steps (found_or_told (Err fetch_fault.Missing) found))
-    fetched needs None is_demo = told_calm core steps 0 _ is
-    fetched needs (Some bytes) is_demo =
-        cond_both (nat_le (length bytes) IMAGE_MOST) (Ok bytes) (Err (fetch_fault.TooLarge (length bytes))) (λ (found : Answer). LeavesCalm steps 0 (fetched_boot_effect name image core steps found))
-        (λ fits. image_booted needs bytes is_demo (leb-true (length bytes) IMAGE_MOST fits)) (λ _. told_calm core steps 0 _ is)
+    first_at : (state : LifeState) (found : Found) → core.life.state ≡ state → (boot_to (line_of state).boot core.life).answer ≡ Ok power.First → IsDemoFound found
+        → IsCalm (first_boot (boot_to (line_of state).boot core.life).life core image found).core
+    first_at Offline found there first is_demo =
+        let life = (first_start Running 1 power.First core.life).life in
+        cond_both (is_offline core.life.state) _ _ (λ (out : CoreOutcome Start CoreFault). IsCalm out.core)
+        (λ _. loaded life found (first_running first) is_demo)
+        (λ other. absurd (true≢false (sym (ap is_offline there) ∙ other)))
+    first_at Running found there first is_demo = absurd (no_first core.life first)
+    first_at Crashed found there first is_demo = absurd (no_first core.life first)
+    first_at Attached found there first is_demo = absurd (true≢false (sym (sym (ap is_own there) ∙ is.own)))
+    first_at Detached found there first is_demo = absurd (true≢false (sym (sym (ap is_own there) ∙ is.own)))
 
-    unneeded : needs_image core ≡ false → LeavesCalm steps 0 (image_boot_effect name image core steps [])
-    unfolding image_boot_effect
-    unneeded needs = again_booted needs (boot_fault core [])
+    -- one user more
+    counted : (to : Option LifeState) (users : ℕ) → (boot_to to core.life).answer ≡ Ok (power.Counted users) → IsCalm (record core { life = (boot_to to core.life).life })
+    counted None users answer =
+        cond_both (core.life.users == most) (refusal_of life_fault.UsersFull core.life) _ (λ (out : Outcome Power). IsCalm (record core { life = out.life }))
+        (λ _. is)
+        (λ _. record { regions = is.regions; own = is.own; runs = λ running. users_within Fits records credit core (core.life.users + 1) 7999 (is.runs running) })
+    counted (Some state) users answer =
+        cond_both (core.life.incarnation == most) (refusal_of life_fault.IncarnationsSpent core.life) _ (λ (out : Outcome Power). out.answer ≡ Ok (power.Counted users) → IsCalm (record core { life = out.life }))
+        (λ _ is. absurd (cc)) (λ _ is. absurd (cc)) answer
+
+    boot_at : (found : Found) (answer : Result Power LifeFault) → (life_after_boot core.life).answer ≡ answer → IsDemoFound found → IsCalm (boot_as (life_after_boot core.life).life answer core image found).core
+    boot_at found (Err why) answer is_demo = is
+    boot_at found (Ok (power.Counted users)) answer is_demo = counted (line_of core.life.state).boot users answer
+    boot_at found (Ok power.First) answer is_demo = first_at core.life.state found refl answer is_demo
+
+    booted : (found : Found) → IsDemoFound found → IsCalm (boot_of core image found).core
+    unfolding boot_of
+    booted found is_demo = boot_at found (life_after_boot core.life).answer refl is_demo
 
     boot_calm : (images : List ImageState) → All (λ (made : ImageState). IsDemoImage made.bytes) images → LeavesCalm steps 0 (boot_effect images (Err fetch_fault.Missing) name core steps image)
     unfolding boot_effect
-    boot_calm images all =
-        cond_both (needs_image core) (fetched_boot_effect name image core steps (found_or_told (Err fetch_fault.Missing) (image_bytes images image))) (image_boot_effect name image core steps [])
-        (LeavesCalm steps 0) (λ needs. fetched needs (image_bytes images image) (demo_found images image all)) unneeded
+    boot_calm images all = record {
+      calm = booted (found_image images (Err fetch_fault.Missing) image) (told_found (image_bytes images image) (demo_found images image all));
+      ending = refl;
+      steps = omega arith;
+    }
 
   -- ---- shutdowns, drivers
 
   module _ (name : List ℕ) (core : CoreState) (steps : ℕ) (is : IsCalm core) where
-    -- the last user leaves a core that runs offline
-    last_off : (state : LifeState) → core.life.users == 1 ≡ true → (life_after_shutdown_in state core.life).life.state ≡ Running → core.life.state ≡ state → ⊥
-    last_off Offline last running same = absurd (true≢false (ap is_running (sym running ∙ same)))
-    last_off Crashed last running same = absurd (true≢false (ap is_running (sym running ∙ same)))
-    last_off Running last running same =
-        absurd (true≢false (ap is_running (sym running ∙ ap (λ (b : Bool). (cond {A = Outcome Left} b (record { life = record core.life { state = Offline; users = 0 }; answer = Ok left.Last }) (record { life = record core.life { users = core.life.users - 1 }; answer = Ok (left.Users (core.life.users - 1)) })).life.state) last)))
+    -- a leave that ends nothing but the core's users
+    leave_calm : (last : Event) (left : CoreState) (answer : Result Leave CoreFault) → IsCalm left → (answer ≡ Ok leave.Limit → ⊥) → LeavesCalm steps 1 (leave_effect name last steps (record { core = left; answer = answer }))
+    leave_calm last left (Err why) calm goes = record { calm = calm; ending = refl; steps = omega arith }
+    leave_calm last left (Ok (leave.Users users)) calm goes = record { calm = calm; ending = refl; steps = omega arith }
+    leave_calm last left (Ok (leave.Last None)) calm goes = record { calm = calm; ending = refl; steps = omega arith }
+    leave_calm last left (Ok (leave.Last (Some inc))) calm goes = record { calm = calm; ending = refl; steps = omega arith }
+    leave_calm last left (Ok leave.Limit) calm goes = absurd (goes refl)
 
-    fewer : (state : LifeState) → core.life.users == 1 ≡ false → core.life.state ≡ state → (life_after_shutdown_in state core.life).life.state ≡ Running → DrivesWithin (record core { life = (life_after_shutdown_in state core.life).life }) 7999
-    fewer Offline more same running = is.runs running
-    fewer Crashed more same running = is.runs running
-    fewer Running more same running =
-        subst (λ (b : Bool). DrivesWithin (record core { life = (cond {A = Outcome Left} b (record { life = record core.life { state = Offline; users = 0 }; answer = Ok left.Last }) (record { life = record core.life { users = core.life.users - 1 }; answer = Ok (left.Users (core.life.users - 1)) })).life }) 7999) (sym more)
-        (users_within Fits records credit core (core.life.users - 1) 7999 (is.runs same))
+    -- where a step may be taken, none is asked in vain
+    closes : (gone : CoreState) (live : Option ℕ) → (close_or true core gone live).answer ≡ Ok leave.Limit → ⊥
+    closes gone None is = absurd (cc)
+    closes gone (Some inc) is = absurd (cc)
 
-    left_calm : IsCalm (after_shutdown core)
-    left_calm =
-        cond_both (core.life.users == 1) (record core { life = (life_after_shutdown core.life).life; image = None; loaded = None; bench = None }) (record core { life = (life_after_shutdown core.life).life }) IsCalm
-        (λ last. record { regions = is.regions; runs = λ running. absurd (last_off core.life.state last running refl) })
-        (λ more. record { regions = is.regions; runs = λ running. fewer core.life.state more refl running })
+    leaves_last : (gone : CoreState) (why : Option CoreFault) → (refuse_or core why (close_or true core gone (live_inc core.bench))).answer ≡ Ok leave.Limit → ⊥
+    leaves_last gone None is = closes gone (live_inc core.bench) is
+    leaves_last gone (Some why) is = absurd (cc)
 
-    last_shut : (live : Option ℕ) → steps + 1 ≤ STEPS_MOST → LeavesCalm steps 1 (last_shutdown_effect name core steps live)
-    unfolding last_shutdown_effect
-    last_shut None few = told_calm (after_shutdown core) steps 1 _ left_calm
-    last_shut (Some inc) few =
-        cond_both (steps == STEPS_MOST) (core_stops core steps) (core_tells_all (after_shutdown core) (steps + 1) (event.Closed name inc ∷ event.Offline name ∷ [])) (LeavesCalm steps 1)
-        (λ full. absurd (omega (arith, few, eqb-true steps STEPS_MOST full))) (λ _. record { calm = left_calm; ending = refl; steps = omega arith })
+    leaves : (gone : CoreState) (life : CoreLife) (answer : Result Left LifeFault) → (leave_as true core gone life answer).answer ≡ Ok leave.Limit → ⊥
+    leaves gone life (Err why) is = absurd (cc)
+    leaves gone life (Ok (left.Users users)) is = absurd (cc)
+    leaves gone life (Ok left.Last) is = leaves_last gone (option_map core_fault.CallerOut (option_and_then caller_out core.bench)) is
 
-    shut_at : (why : Option CoreFault) → steps + 1 ≤ STEPS_MOST → LeavesCalm steps 1 (shutdown_unless name core steps why)
-    shut_at None few =
-        cond_both (core.life.users == 1) (last_shutdown_effect name core steps (live_inc core.bench))
-        (core_tells (after_shutdown core) steps (event.Users name (after_shutdown core).life.users)) (LeavesCalm steps 1)
-        (λ _. last_shut (live_inc core.bench) few) (λ _. told_calm (after_shutdown core) steps 1 _ left_calm)
-    shut_at (Some why) few = told_calm core steps 1 _ is
+    not_limit : (may : Bool) → may ≡ true → (shutdown_of may core).answer ≡ Ok leave.Limit → ⊥
+    unfolding shutdown_of
+    not_limit false may is = absurd (true≢false (sym may))
+    not_limit true may is = leaves (unloaded_core (life_after_shutdown core.life).life core) (life_after_shutdown core.life).life (life_after_shutdown core.life).answer is
+
+    -- one user fewer
+    fewer : (to : Option LifeState) (users : ℕ) → (leave_to life_fault.NotPowered to core.life).answer ≡ Ok (left.Users users) → IsCalm (record core { life = (leave_to life_fault.NotPowered to core.life).life })
+    fewer None users answer = is
+    fewer (Some state) users answer =
+        cond_both (core.life.users == 1) _ _ (λ (out : Outcome Left). out.answer ≡ Ok (left.Users users) → IsCalm (record core { life = out.life }))
+        (λ _ is. absurd (cc))
+        (λ _ _. record { regions = is.regions; own = is.own; runs = λ running. users_within Fits records credit core (core.life.users - 1) 7999 (is.runs running) }) answer
+
+    last_off : (without_user Offline core.life).answer ≡ Ok left.Last → (without_user Offline core.life).life.state ≡ Offline
+    last_off =
+        cond_both (core.life.users == 1) _ _ (λ (out : Outcome Left). out.answer ≡ Ok left.Last → out.life.state ≡ Offline) (λ _ _. refl) (λ _ is. absurd (cc))
+
+    closed_calm : (may : Bool) (live : Option ℕ) {gone : CoreState} → IsCalm gone → IsCalm (close_or may core gone live).core
+    closed_calm may None {gone} calm = calm
+    closed_calm may (Some inc) {gone} calm = cond_both may _ _ (λ (out : CoreOutcome Leave CoreFault). IsCalm out.core) (λ _. calm) (λ _. is)
+
+    -- none are left: the core is offline
+    off : (state : LifeState) → (leave_to life_fault.NotPowered (line_of state).shutdown core.life).answer ≡ Ok left.Last → (leave_to life_fault.NotPowered (line_of state).shutdown core.life).life.state ≡ Offline
+    off Offline answer = absurd (cc)
+    off Crashed answer = absurd (cc)
+    off Detached answer = absurd (cc)
+    off Running answer = last_off answer
+    off Attached answer = last_off answer
+
+    left_at : (may : Bool) (answer : Result Left LifeFault) → (life_after_shutdown core.life).answer ≡ answer
+        → IsCalm (leave_as may core (unloaded_core (life_after_shutdown core.life).life core) (life_after_shutdown core.life).life answer).core
+    left_at may (Err why) answer = is
+    left_at may (Ok (left.Users users)) answer = fewer (line_of core.life.state).shutdown users answer
+    left_at may (Ok left.Last) answer =
+        let there = off core.life.state answer in
+        let gone : IsCalm (unloaded_core (life_after_shutdown core.life).life core) = record { regions = is.regions; own = ap is_own there; runs = λ running. absurd (true≢false (sym (ap is_up (sym there ∙ running)))) } in
+        refused IsCalm core (option_map core_fault.CallerOut (option_and_then caller_out core.bench)) _ is (λ _. closed_calm may (live_inc core.bench) gone)
+
+    left_calm : (may : Bool) → IsCalm (shutdown_of may core).core
+    unfolding shutdown_of
+    left_calm may = left_at may (life_after_shutdown core.life).answer refl
 
     shutdown_calm : steps + 1 ≤ STEPS_MOST → LeavesCalm steps 1 (shutdown_effect name core steps)
     unfolding shutdown_effect
-    shutdown_calm few = shut_at (shutdown_fault core) few
+    shutdown_calm few =
+        leave_calm (event.Offline name) (shutdown_of (may_step steps) core).core (shutdown_of (may_step steps) core).answer (left_calm (may_step steps)) (not_limit (may_step steps) (steps_left steps few))
 
     offline_at : (state : LifeState) (why : Option AddFault) → cond (is_offline state) why (Some add.NotOffline) ≡ None → state ≡ Running → ⊥
     offline_at state why none running =
@@ -324,7 +372,7 @@ module _ (Fits : WorkerState → Type 0) (records credit : WorkerState → ℕ) 
 
     declared_at : (channel : List ℕ) (kind : DriverKind) (why : Option AddFault) → driver_add_fault core channel ≡ why → LeavesCalm steps 0 (declared_effect name core steps channel kind why)
     declared_at channel kind None clear = record {
-      calm = record { regions = is.regions; runs = λ running. absurd (offline_at core.life.state _ clear running) };
+      calm = record { regions = is.regions; own = is.own; runs = λ running. absurd (offline_at core.life.state _ clear running) };
       ending = refl;
       steps = omega arith;
     }
@@ -397,7 +445,7 @@ module _ (Fits : WorkerState → Type 0) (records credit : WorkerState → ℕ) 
       cond_both (is_full run.objects) (run_tells run event.ObjectsFull) _ (LeavesRun run.steps 0) (λ _. run_told_calm run 0 _ are)
       (λ _. record {
         calm = record {
-          cores = All-push (λ (named : NamedCoreState). IsCalm named.core) run.objects.cores _ are.cores (record { regions = refl; runs = λ running. absurd (true≢false (ap is_running (sym running))) });
+          cores = All-push (λ (named : NamedCoreState). IsCalm named.core) run.objects.cores _ are.cores (record { regions = refl; own = refl; runs = λ running. absurd (true≢false (ap is_up (sym running))) });
           images = are.images;
         };
         ending = refl;
@@ -419,7 +467,7 @@ module _ (Fits : WorkerState → Type 0) (records credit : WorkerState → ℕ) 
   boot_leaves : (name image : List ℕ) → Leaves (command.Boot name image) 0
   unfolding effect_of name_effect link_effect core_effect core_act_effect unnamed_effect
   boot_leaves name image run are sound few =
-      located run name (under.Core (act.Boot image)) 0 are (λ named. (refl, refl)) sound (λ named is reached kept ready. boot_calm named.name image named.core run.steps is reached kept ready run.objects.images are.images) (run_told_calm run 0 _ are)
+      located run name (under.Core (act.Boot image)) 0 are (λ named. (refl, refl)) sound (λ named is reached kept ready. boot_calm named.name image named.core run.steps is run.objects.images are.images) (run_told_calm run 0 _ are)
       (place_of run.objects.links name)
 
   drive_leaves : (name : List ℕ) (count : ℕ) → Leaves (command.Drive name count) 7999

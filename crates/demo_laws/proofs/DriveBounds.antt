@@ -60,11 +60,6 @@ use Rattle.demo_laws.proofs.OwnCalls.{handed_so_far}
 use Rattle.core_laws.proofs.PendingCores.{begins}
 use Rattle.core_laws.proofs.PendingDrives.{drive_ready}
 
--- whether the host itself has started a core that is up
-is_booted : LifeState → Bool
-is_booted Running = true
-is_booted other = false
-
 -- ---- whether an actor is in a call
 
 -- a caller with such turns has a call on its lanes just where it is in one
@@ -399,7 +394,7 @@ module _ (Fits : WorkerState → Type 0) (records credit : WorkerState → ℕ) 
     crashed_in Offline left runs = absurd (false≢true (ap is_up runs))
     crashed_in Crashed left runs = absurd (false≢true (ap is_up runs))
     crashed_in Detached left runs = absurd (false≢true (ap is_up runs))
-    crashed_in Attached left runs = absurd (false≢true (ap is_booted runs))
+    crashed_in Attached left runs = absurd (cc)
     crashed_in Running left runs = crashed_with left.bench left (record left.life { state = Crashed }) refl
 
     crashed : (left : CoreState) → left.life.state ≡ Running → ((after_report left).life.state ≡ Crashed) × ((after_report left).regions ≡ left.regions)

@@ -2,7 +2,7 @@
 use Rattle.std.proofs.Common.{◌≡◌, ℕ, Bool, true, false, cond, List, [], drop, Option, Some, None, is_some, refl, sym, subst, arith}
 use Rattle.std.proofs.lemmas.List.{append-nil}
 use Rattle.rp_base.specs.declared.kinds.LifeState.{LifeState}
-use Rattle.rp_base.specs.declared.kinds.LifeState.TheVariants.{Running}
+use Rattle.rp_base.specs.declared.kinds.LifeState.TheVariants.{Offline, Running, Crashed, Attached, Detached}
 use Rattle.remote_core.specs.Workers.{WorkerState}
 use Rattle.remote_core.specs.Works.{work_of}
 use Rattle.link_bench.specs.declared.benches.Reach.{Reach}
@@ -11,7 +11,7 @@ use Rattle.link_bench.specs.Benches.{BenchState, is_in_call}
 use Rattle.crash_recover.specs.declared.core_drives.Driven.{Driven}
 use Rattle.crash_recover.specs.declared.core_drives.Driven.TheVariants as driven
 use Rattle.crash_recover.specs.Actors.{ActorsState}
-use Rattle.crash_recover.specs.CoreCrashes.{crashed_core}
+use Rattle.crash_recover.specs.CoreCrashes.{after_report, report_of}
 use Rattle.crash_recover.specs.Cores.{CoreState, LoadState}
 use Rattle.rpmsg_header.specs.Headers.{is_whole, source_of}
 use Rattle.crash_recover.specs.Drives.{after_record, asked_by, driven_by_work, end_answer, first_or_take, gives_of, has_calls, host_begun_as, host_reached, host_step, is_empty, is_tried_again, link_step, message_of, number_taken, placed_map, record_run, record_step, reported, reported_by, run_by, sends_of, worker_after_end, worker_call, worker_reached, worker_step}
@@ -95,16 +95,23 @@ call_steps core None = record { step = record { next = refl; host_calls = refl; 
 call_steps core (Some bench) = let walk = link_step bench 1 (first_or_take core.actors.worker_calls) in worker_reach core.actors walk.bench walk.reach
 
 -- a report of a crash leaves the actors
-report_keeps : (core : CoreState) (state : LifeState) → (crashed_core state core).actors ≡ core.actors
-report_keeps core Running = refl
-report_keeps core other = refl
+report_keeps : (core : CoreState) (state : LifeState) (found : Option BenchState)
+    → (after_report (record core { life = record core.life { state = state }; bench = found })).actors ≡ core.actors
+unfolding report_of
+report_keeps core Offline found = refl
+report_keeps core Running None = refl
+report_keeps core Running (Some bench) = refl
+report_keeps core Crashed found = refl
+report_keeps core Attached None = refl
+report_keeps core Attached (Some bench) = refl
+report_keeps core Detached found = refl
 
 pub reported_keeps : (step : Driven) (core : CoreState) → (reported_by step core).actors ≡ core.actors
 reported_keeps driven.Idle core = refl
 reported_keeps driven.Stepped core = refl
 reported_keeps (driven.Ended caller end) core = refl
-reported_keeps (driven.Worker fault) core = report_keeps core core.life.state
-reported_keeps (driven.Crashed kind) core = report_keeps core core.life.state
+reported_keeps (driven.Worker fault) core = report_keeps core core.life.state core.bench
+reported_keeps (driven.Crashed kind) core = report_keeps core core.life.state core.bench
 
 -- the actors after a record, whatever was reported
 pub record_actors : (core : CoreState) (load : LoadState) → let map = placed_map core.regions load in

@@ -19,7 +19,7 @@ use Rattle.crash_recover.specs.declared.core_drives.Driven.{Driven}
 use Rattle.crash_recover.specs.declared.core_drives.Driven.TheVariants as driven
 use Rattle.crash_recover.specs.Actors.{ActorsState, other_actor}
 use Rattle.crash_recover.specs.Cores.{CoreState, LoadState}
-use Rattle.crash_recover.specs.Drives.{DriveStep, acting, actors_at_end, after_call_end, begun_step, drive_step, driven_by, driven_by_work, end_answer, first_or_take, has_calls, host_is_idle, host_step, is_empty, is_idle, is_idle_actor, link_step, message_of, placed_map, record_run, record_step, sends_of, seen_by, with_turn_after, worker_call, worker_is_idle, worker_step}
+use Rattle.crash_recover.specs.Drives.{DriveStep, acting, actors_after_end, actors_at_end, begun_step, drive_step, driven_by, driven_by_work, end_answer, first_or_take, has_calls, host_is_idle, host_step, is_empty, is_idle, is_idle_actor, link_step, message_of, placed_map, record_run, record_step, sends_of, with_turn_after, worker_call, worker_is_idle, worker_step}
 use Rattle.drive_laws.specs.Queues.{IsQueued}
 use Rattle.drive_laws.specs.Steps.{step_by, after_steps}
 use Rattle.drive_laws.proofs.QueueFacts.{all_stay, more_behind, queues_on}
@@ -222,13 +222,9 @@ heard_at None message end actors = (all_stay 0 actors.host_calls, refl)
 heard_at (Some side.Host) message end actors = (more_behind 0 actors.host_calls (sends_of (end_answer actors.drivers message end)), refl)
 heard_at (Some side.Remote) message end actors = (all_stay 0 actors.host_calls, refl)
 
-pub heard : (core : CoreState) (caller : ℕ) (end : CallEnd)
-    → IsQueued 0 core.actors.host_calls (after_call_end core caller end).actors.host_calls × ((after_call_end core caller end).actors.worker_calls ≡ core.actors.worker_calls)
-heard core caller end = by core.bench
-  where
-    by : (found : Option BenchState) → IsQueued 0 core.actors.host_calls (seen_by core caller end found).actors.host_calls × ((seen_by core caller end found).actors.worker_calls ≡ core.actors.worker_calls)
-    by None = (all_stay 0 core.actors.host_calls, refl)
-    by (Some bench) = heard_at (end_of bench.link.callers caller) (message_of bench caller end) end core.actors
+pub heard : (bench : BenchState) (caller : ℕ) (end : CallEnd) (actors : ActorsState)
+    → let after = actors_after_end bench caller end actors in IsQueued 0 actors.host_calls after.host_calls × (after.worker_calls ≡ actors.worker_calls)
+heard bench caller end actors = heard_at (end_of bench.link.callers caller) (message_of bench caller end) end actors
 
 pub host_queued : (core : CoreState) → IsQueued 1 core.actors.host_calls (step_by actor.Host core).core.actors.host_calls
 host_queued core = (host_steps (with_turn_after actor.Host core) core.bench).calls

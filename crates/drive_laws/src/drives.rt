@@ -14,9 +14,9 @@ ghost use Rattle.link_bench.specs.Benches.{BenchState, advance_walk, begin_fault
 ghost use Rattle.crash_recover.specs.declared.actors.Actor.{Actor};
 ghost use Rattle.crash_recover.specs.declared.actors.Actor.TheVariants as actor;
 ghost use Rattle.crash_recover.specs.declared.core_drives.Driven.TheVariants as driven;
-ghost use Rattle.crash_recover.specs.Actors.{other_actor};
+ghost use Rattle.crash_recover.specs.Actors.{ActorsState, other_actor};
 ghost use Rattle.crash_recover.specs.Cores.{CoreState, LoadState};
-ghost use Rattle.crash_recover.specs.Drives.{after_call_end, drive_step, has_calls, is_idle, is_idle_actor, placed_map};
+ghost use Rattle.crash_recover.specs.Drives.{actors_after_end, drive_step, has_calls, is_idle, is_idle_actor, placed_map};
 ghost use Rattle.drive_laws.specs.Places.{StaysAt, GoesOn};
 ghost use Rattle.drive_laws.specs.Queues.{IsQueued, IsServed};
 ghost use Rattle.drive_laws.specs.Steps.{step_by, rests, after_steps, steps_made, after_drive};
@@ -72,8 +72,8 @@ pub fn pending()
     ensures worker { (core : CoreState) → IsServed core.actors.worker_calls (step_by actor.Worker core).core.actors.worker_calls }
     ensures others { (core : CoreState) → ((step_by actor.Host core).core.actors.worker_calls ≡ core.actors.worker_calls)
         × ((step_by actor.Worker core).core.actors.host_calls ≡ core.actors.host_calls) }
-    ensures heard { (core : CoreState) (caller : ℕ) (end : CallEnd) → let after = after_call_end core caller end in
-        IsQueued 0 core.actors.host_calls after.actors.host_calls × (after.actors.worker_calls ≡ core.actors.worker_calls) }
+    ensures heard { (bench : BenchState) (caller : ℕ) (end : CallEnd) (actors : ActorsState) → let after = actors_after_end bench caller end actors in
+        IsQueued 0 actors.host_calls after.host_calls × (after.worker_calls ≡ actors.worker_calls) }
     ensures steps { (core : CoreState) (count : ℕ) → IsQueued count core.actors.host_calls (after_steps count core).actors.host_calls }
 {}
 

@@ -1,28 +1,22 @@
 -- What is done under the name of a core keeps what each change of a core keeps.
-use Rattle.std.proofs.Common.{◌≡◌, ℕ, zero, suc, ◌+◌, ◌==◌, Bool, List, [], ◌∷◌, ◌++◌, Option, Some, None, Ok, Err, refl}
+use Rattle.std.proofs.Common.{ℕ, zero, suc, ◌+◌, ◌==◌, Bool, List, [], ◌∷◌, ◌++◌, Option, Some, None, refl}
 use Rattle.std.proofs.lemmas.Bool.{cond_both}
 use Rattle.rp_base.specs.declared.kinds.CrashKind.{CrashKind}
 use Rattle.rp_base.specs.declared.kinds.DriverKind.{DriverKind}
-use Rattle.rp_base.specs.declared.kinds.LifeState.{LifeState}
-use Rattle.rp_base.specs.declared.kinds.LifeState.TheVariants.{Offline, Running, Crashed}
 use Rattle.rp_base.specs.declared.kinds.Switch.{Switch}
 use Rattle.rp_base.specs.declared.limits.TheConstants.{STEPS_MOST}
 use Rattle.memory_pool.specs.declared.regions.Region.{Region}
-use Rattle.proc_state.specs.declared.answers.LifeFault.{LifeFault}
-use Rattle.host_driver.specs.Drivers.{Declared}
+use Rattle.proc_state.specs.Lives.{is_up}
 use Rattle.journal.specs.declared.events.Event.{Event}
 use Rattle.journal.specs.declared.events.Event.TheVariants as event
 use Rattle.link_bench.specs.declared.acts.LinkAct.{LinkAct}
 use Rattle.link_bench.specs.Benches.{BenchState}
 use Rattle.crash_recover.specs.declared.core_faults.AddFault.{AddFault}
-use Rattle.crash_recover.specs.declared.core_faults.CoreFault.{CoreFault}
 use Rattle.crash_recover.specs.CoreActs.{core_act, core_act_on}
-use Rattle.crash_recover.specs.CoreBoots.{after_boot, after_shutdown, boot_fault, needs_image, shutdown_fault}
-use Rattle.crash_recover.specs.CoreCrashes.{after_report}
-use Rattle.crash_recover.specs.CoreRecoveries.{after_recovery, readied_core, recovery_fault, reopen_fault}
 use Rattle.crash_recover.specs.CoreRings.{core_ring}
 use Rattle.crash_recover.specs.Cores.{CoreState, LoadState, add_fault, driver_add_fault, with_driver}
 use Rattle.crash_recover.specs.Drives.{drive_step}
+use Rattle.core_laws.proofs.Outcomes.{Stays, boot_stays, detach_stays, handover_stays, recovery_stays, report_stays, shutdown_stays}
 use Rattle.script_run.specs.declared.acts.CoreAct.{CoreAct}
 use Rattle.script_run.specs.declared.acts.CoreAct.TheVariants as act
 use Rattle.script_run.specs.declared.acts.LinkView.{LinkView}
@@ -30,11 +24,10 @@ use Rattle.script_run.specs.declared.acts.LinkView.TheVariants as view
 use Rattle.script_run.specs.declared.acts.NamedAct.{NamedAct}
 use Rattle.script_run.specs.declared.acts.NamedAct.TheVariants as under
 use Rattle.script_run.specs.CoreCommands.{core_act_effect, core_effect}
-use Rattle.script_run.specs.CoreDrives.{drive_effect, drive_effect_in, drive_steps, rest_event, rests_or, step_then}
-use Rattle.script_run.specs.CoreEffects.{CoreEffect, added_effect, core_tells, core_tells_all, declared_effect, driver_effect, is_on, recovery_effect, region_effect}
+use Rattle.script_run.specs.CoreDrives.{drive_effect, drive_steps, rest_event, rests_or, step_then}
+use Rattle.script_run.specs.CoreEffects.{CoreEffect, added_effect, core_tells, declared_effect, driver_effect, is_on, recovery_effect, region_effect}
 use Rattle.script_run.specs.CoreLinks.{core_link_effect, core_ring_effect, core_shown_effect, core_turn_holder, core_view_effect, found_ring_effect, found_view_effect}
-use Rattle.script_run.specs.CoreLives.{boot_effect, boot_unless, core_stops, crash_effect, crash_effect_in, fetched_boot_effect, first_crash_effect, found_or_told, image_boot_effect, image_bytes, last_shutdown_effect, live_inc, shutdown_effect, shutdown_unless}
-use Rattle.script_run.specs.CoreRestarts.{fetched_recovery_effect, image_recovery_effect, named_recovery_effect, recover_effect, recovery_unless, reload_fault, reloaded_effect, restarted_effect}
+use Rattle.script_run.specs.CoreLives.{boot_effect, booted_image, core_stops, crash_effect, detach_effect, found_image, handover_effect, may_step, recover_effect, shutdown_effect}
 use Rattle.script_run.specs.CoreViews.{loaded_table_effect, mem_effect, table_effect, trace_effect}
 use Rattle.script_run.specs.NamedCores.{NamedCoreState}
 use Rattle.script_run.specs.NamedImages.{ImageState}
@@ -43,13 +36,8 @@ use Rattle.script_run.specs.Stores.{Answer}
 -- each change of a core keeps this of it, an act of which this may be known too
 pub record KeepCores (Fits : LinkAct (List ℕ) → Type 0) (C : CoreState → Type 0) : Type 0 where
   pub region : (core : CoreState) (region : Region) → C core → C (record core { regions = core.regions ++ region ∷ [] })
-  pub driver : (core : CoreState) (declared : Declared) → C core → C (with_driver core declared)
-  pub switch : (core : CoreState) (on : Bool) → C core → C (record core { life = record core.life { recovery = on } })
-  pub boot : (core : CoreState) (name image : List ℕ) → C core → C (after_boot core name image)
-  pub shutdown : (core : CoreState) → C core → C (after_shutdown core)
-  pub report : (core : CoreState) → C core → C (after_report core)
-  pub readied : (core : CoreState) → recovery_fault core.life ≡ None → C core → C (readied_core core)
-  pub recovery : (core : CoreState) (image : List ℕ) → recovery_fault core.life ≡ None → reopen_fault core ≡ None → C core → C (after_recovery core image)
+  pub driver : (core : CoreState) (channel : List ℕ) (kind : DriverKind) → C core → C (with_driver core (channel, kind))
+  pub lives : Stays C
   pub drive : (core : CoreState) → C core → C (drive_step core).core
   pub act : (core : CoreState) (steps : ℕ) (asked : LinkAct (List ℕ)) → Fits asked → C core → C (core_act core steps asked).core
 
@@ -106,7 +94,7 @@ module _ (Fits : LinkAct (List ℕ) → Type 0) (C : CoreState → Type 0) (keep
     region_kept region = added region (add_fault core region)
 
     declared_at : (channel : List ℕ) (kind : DriverKind) (why : Option AddFault) → LeavesCore (declared_effect name core steps channel kind why)
-    declared_at channel kind None = keep.driver core (channel, kind) is
+    declared_at channel kind None = keep.driver core channel kind is
     declared_at channel kind (Some why) = is
 
     driver_kept : (channel : List ℕ) (kind : DriverKind) → LeavesCore (driver_effect name core steps channel kind)
@@ -114,7 +102,7 @@ module _ (Fits : LinkAct (List ℕ) → Type 0) (C : CoreState → Type 0) (keep
     driver_kept channel kind = declared_at channel kind (driver_add_fault core channel)
 
     switch_kept : (set : Switch) → LeavesCore (recovery_effect name core steps set)
-    switch_kept set = keep.switch core (is_on set) is
+    switch_kept set = keep.lives.same core (record core.life { recovery = is_on set }) core.image core.loaded (record { inc = refl; up = refl }) is
 
     table_at : (found : Option LoadState) → LeavesCore (loaded_table_effect name core steps found)
     table_at None = is
@@ -135,85 +123,29 @@ module _ (Fits : LinkAct (List ℕ) → Type 0) (C : CoreState → Type 0) (keep
   -- ---- lives
 
   module _ (name : List ℕ) (core : CoreState) (steps : ℕ) (is : C core) where
-    boot_at : (image bytes : List ℕ) (why : Option CoreFault) → LeavesCore (boot_unless name image core steps bytes why)
-    boot_at image bytes None = keep.boot core image bytes is
-    boot_at image bytes (Some why) = is
-
-    image_booted : (image bytes : List ℕ) → LeavesCore (image_boot_effect name image core steps bytes)
-    unfolding image_boot_effect
-    image_booted image bytes = boot_at image bytes (boot_fault core bytes)
-
-    fetched_booted : (image : List ℕ) (found : Answer) → LeavesCore (fetched_boot_effect name image core steps found)
-    fetched_booted image (Ok bytes) = image_booted image bytes
-    fetched_booted image (Err why) = is
-
     boot_kept : (images : List ImageState) (answer : Answer) (image : List ℕ) → LeavesCore (boot_effect images answer name core steps image)
     unfolding boot_effect
-    boot_kept images answer image =
-        cond_both (needs_image core) (fetched_boot_effect name image core steps (found_or_told answer (image_bytes images image))) (image_boot_effect name image core steps []) LeavesCore
-        (λ _. fetched_booted image (found_or_told answer (image_bytes images image))) (λ _. image_booted image [])
+    boot_kept images answer image = boot_stays C keep.lives core image (found_image images answer image) is
 
-    last_shut : (live : Option ℕ) → LeavesCore (last_shutdown_effect name core steps live)
-    unfolding last_shutdown_effect
-    last_shut None = keep.shutdown core is
-    last_shut (Some inc) =
-        cond_both (steps == STEPS_MOST) (core_stops core steps) (core_tells_all (after_shutdown core) (steps + 1) (event.Closed name inc ∷ event.Offline name ∷ [])) LeavesCore
-        (λ _. is) (λ _. keep.shutdown core is)
-
-    shut_at : (why : Option CoreFault) → LeavesCore (shutdown_unless name core steps why)
-    shut_at None =
-        cond_both (core.life.users == 1) (last_shutdown_effect name core steps (live_inc core.bench))
-        (core_tells (after_shutdown core) steps (event.Users name (after_shutdown core).life.users)) LeavesCore (λ _. last_shut (live_inc core.bench)) (λ _. keep.shutdown core is)
-    shut_at (Some why) = is
-
-    shutdown_kept : LeavesCore (shutdown_effect name core steps)
-    unfolding shutdown_effect
-    shutdown_kept = shut_at (shutdown_fault core)
-
-    first_crash : (kind : CrashKind) (found : Option BenchState) → LeavesCore (first_crash_effect name core steps kind found)
-    unfolding first_crash_effect
-    first_crash kind None = keep.report core is
-    first_crash kind (Some bench) =
-        cond_both (steps == STEPS_MOST) (core_stops core steps)
-        (core_tells_all (after_report core) (steps + 1) (event.Closed name bench.link.era.inc ∷ event.Crashed name kind ∷ [])) LeavesCore (λ _. is) (λ _. keep.report core is)
-
-    crash_in : (state : LifeState) (kind : CrashKind) → LeavesCore (crash_effect_in state name core steps kind)
-    crash_in Offline kind = is
-    crash_in Running kind = first_crash kind core.bench
-    crash_in Crashed kind = is
-
-    crash_kept : (kind : CrashKind) → LeavesCore (crash_effect name core steps kind)
-    unfolding crash_effect
-    crash_kept kind = crash_in core.life.state kind
-
-    module _ (may : recovery_fault core.life ≡ None) where
-      restarted : (image bytes : List ℕ) (why : Option CoreFault) → reopen_fault core ≡ why → LeavesCore (restarted_effect name image core steps bytes why)
-      restarted image bytes None clear = keep.recovery core bytes may clear is
-      restarted image bytes (Some why) refused = keep.readied core may is
-
-      reloaded : (image bytes : List ℕ) (why : Option CoreFault) → LeavesCore (reloaded_effect name image core steps bytes why)
-      reloaded image bytes None = restarted image bytes (reopen_fault core) refl
-      reloaded image bytes (Some why) = is
-
-      image_recovered : (image bytes : List ℕ) → LeavesCore (image_recovery_effect name image core steps bytes)
-      unfolding image_recovery_effect
-      image_recovered image bytes = reloaded image bytes (reload_fault core bytes)
-
-      fetched_recovered : (image : List ℕ) (found : Answer) → LeavesCore (fetched_recovery_effect name image core steps found)
-      fetched_recovered image (Ok bytes) = image_recovered image bytes
-      fetched_recovered image (Err why) = is
-
-      named_recovered : (images : List ImageState) (answer : Answer) (image : Option (List ℕ)) → LeavesCore (named_recovery_effect images answer name core steps image)
-      named_recovered images answer None = is
-      named_recovered images answer (Some image) = fetched_recovered image (found_or_told answer (image_bytes images image))
-
-    recover_unless : (images : List ImageState) (answer : Answer) (why : Option LifeFault) → recovery_fault core.life ≡ why → LeavesCore (recovery_unless images answer name core steps why)
-    recover_unless images answer None may = named_recovered may images answer core.image
-    recover_unless images answer (Some why) refused = is
+    handover_kept : (images : List ImageState) (answer : Answer) (image : List ℕ) → LeavesCore (handover_effect images answer name core steps image)
+    unfolding handover_effect
+    handover_kept images answer image = handover_stays C keep.lives core image (found_image images answer image) is
 
     recover_kept : (images : List ImageState) (answer : Answer) → LeavesCore (recover_effect images answer name core steps)
     unfolding recover_effect
-    recover_kept images answer = recover_unless images answer (recovery_fault core.life) refl
+    recover_kept images answer = recovery_stays C keep.lives core (found_image images answer (booted_image name core)) is
+
+    shutdown_kept : LeavesCore (shutdown_effect name core steps)
+    unfolding shutdown_effect
+    shutdown_kept = shutdown_stays C keep.lives (may_step steps) core is
+
+    detach_kept : LeavesCore (detach_effect name core steps)
+    unfolding detach_effect
+    detach_kept = detach_stays C keep.lives (may_step steps) core is
+
+    crash_kept : (kind : CrashKind) → LeavesCore (crash_effect name core steps kind)
+    unfolding crash_effect
+    crash_kept kind = report_stays C keep.lives (may_step steps) core is
 
   -- ---- drives
 
@@ -229,15 +161,11 @@ module _ (Fits : LinkAct (List ℕ) → Type 0) (C : CoreState → Type 0) (keep
       (cond_both (steps == STEPS_MOST) (core_stops core steps) (step_then name is_quiet (drive_step core) (λ next. drive_steps more name is_quiet next (steps + 1))) LeavesCore
       (λ _. is) (λ _. driven more name is_quiet (drive_step core).core (steps + 1) (keep.drive core is)))
 
-  drive_in : (state : LifeState) (name : List ℕ) (is_quiet : Bool) (core : CoreState) (steps count : ℕ) → C core
-      → LeavesCore (drive_effect_in state name is_quiet core steps count)
-  drive_in Offline name is_quiet core steps count is = is
-  drive_in Running name is_quiet core steps count is = driven count name is_quiet core steps is
-  drive_in Crashed name is_quiet core steps count is = is
-
   drive_kept : (name : List ℕ) (is_quiet : Bool) (core : CoreState) (steps count : ℕ) → C core → LeavesCore (drive_effect name is_quiet core steps count)
   unfolding drive_effect
-  drive_kept name is_quiet core steps count is = drive_in core.life.state name is_quiet core steps count is
+  drive_kept name is_quiet core steps count is =
+      cond_both (is_up core.life.state) (drive_steps count name is_quiet core steps) (core_tells core steps (event.NotRunning name)) LeavesCore
+      (λ _. driven count name is_quiet core steps is) (λ _. is)
 
   -- ---- what is done under the name of a core
 
@@ -247,7 +175,9 @@ module _ (Fits : LinkAct (List ℕ) → Type 0) (C : CoreState → Type 0) (keep
   core_act_kept images answer is_quiet on steps (act.Region region) is = region_kept on.name on.core steps is region
   core_act_kept images answer is_quiet on steps (act.Driver channel kind) is = driver_kept on.name on.core steps is channel kind
   core_act_kept images answer is_quiet on steps (act.Boot image) is = boot_kept on.name on.core steps is images answer image
+  core_act_kept images answer is_quiet on steps (act.Handover image) is = handover_kept on.name on.core steps is images answer image
   core_act_kept images answer is_quiet on steps act.Shutdown is = shutdown_kept on.name on.core steps is
+  core_act_kept images answer is_quiet on steps act.Detach is = detach_kept on.name on.core steps is
   core_act_kept images answer is_quiet on steps act.State is = is
   core_act_kept images answer is_quiet on steps act.Table is = table_kept on.name on.core steps is
   core_act_kept images answer is_quiet on steps (act.Trace trace) is = trace_kept on.name on.core steps is trace

@@ -1,11 +1,11 @@
 -- A run keeps what its cores keep of their links.
-use Rattle.std.proofs.Common.{List, [], ◌∷◌, All, refl}
+use Rattle.std.proofs.Common.{ℕ, List, [], ◌∷◌}
 use Rattle.script_lang.specs.declared.commands.Command.{Command}
 use Rattle.link_bench.specs.declared.acts.LinkAct.{LinkAct}
 use Rattle.link_bench.specs.Benches.{BenchState}
 use Rattle.core_laws.specs.KeptCores.{IsKeptCore}
 use Rattle.core_laws.proofs.CoreActs.{core_act_kept}
-use Rattle.core_laws.proofs.KeptCores.{core_booted, core_driven, core_readied, core_recovered, core_reported, core_shut, found_same}
+use Rattle.core_laws.proofs.KeptCores.{core_driven, kept_stays}
 use Rattle.script_run.specs.declared.acts.Line.{Line}
 use Rattle.script_run.specs.declared.acts.Line.TheVariants as line
 use Rattle.script_run.specs.declared.acts.NamedAct.{NamedAct}
@@ -16,7 +16,7 @@ use Rattle.script_run.specs.Runs.{RunState, effect_of, run_of}
 use Rattle.script_run.specs.Stores.{Answer, Told}
 use Rattle.run_laws.specs.Kept.{AreKept}
 use Rattle.run_laws.proofs.CoreWalks.{FitsNamed, KeepCores}
-use Rattle.run_laws.proofs.RunWalks.{AreAll, AreFitting, FitsLine, KeepRuns, effect_keeps, runs_keep}
+use Rattle.run_laws.proofs.RunWalks.{AreFitting, FitsLine, KeepRuns, effect_keeps, runs_keep}
 
 -- nothing is asked of acts, nor of links
 abbrev AnyAct : LinkAct (List ℕ) → Type 0
@@ -35,6 +35,7 @@ any_named (under.Core asked) = tt
 any_line : (wanted : Line (List RecipeLine) (List ℕ)) → FitsLine AnyAct wanted
 any_line (line.Image name lines) = tt
 any_line (line.Quiet set) = tt
+any_line (line.Dump name image) = tt
 any_line (line.On name wanted) = any_named wanted
 
 any_lines : (commands : List Command) → AreFitting AnyAct commands
@@ -44,13 +45,8 @@ any_lines (first ∷ more) = (any_line (line_of first), any_lines more)
 pub cores_kept : KeepCores AnyAct IsKeptCore
 cores_kept = record {
   region = λ core region is. is;
-  driver = λ core declared is. is;
-  switch = λ core on is. found_same core.life _ core.bench refl refl is;
-  boot = λ core name image is. core_booted core name image is;
-  shutdown = λ core is. core_shut core is;
-  report = λ core is. core_reported core is;
-  readied = λ core may is. core_readied core is;
-  recovery = λ core image may clear is. core_recovered core image is may clear;
+  driver = λ core channel kind is. is;
+  lives = kept_stays;
   drive = λ core is. core_driven core is;
   act = λ core steps asked fits is. core_act_kept core steps asked is;
 }

@@ -1,5 +1,5 @@
 -- A run keeps that the actors of its cores hold what their calls give back.
-use Rattle.std.proofs.Common.{◌≡◌, Bool, true, not, List, [], All, Option, Some, None, IfSome, refl, sym, subst}
+use Rattle.std.proofs.Common.{◌≡◌, Bool, true, not, List, [], Option, Some, None, IfSome, refl, sym, subst}
 use Rattle.rp_base.specs.declared.kinds.End.TheVariants as side
 use Rattle.lane_model.specs.Links.{lanes_of}
 use Rattle.script_lang.specs.declared.commands.Command.{Command}
@@ -12,17 +12,18 @@ use Rattle.core_laws.specs.BenchMoves.{IsReachedBench, IsReachedCore}
 use Rattle.core_laws.specs.KeptCores.{IsKeptCore}
 use Rattle.core_laws.specs.PendingCalls.{AreFitLanes, IsReadyBench, IsReadyCore}
 use Rattle.core_laws.proofs.CoreActs.{core_act_ready}
-use Rattle.core_laws.proofs.CoreMoves.{new_core_reached}
-use Rattle.core_laws.proofs.PendingDrives.{drive_ready, report_ready}
-use Rattle.core_laws.proofs.PendingOthers.{boot_ready, readied_ready, recovery_ready, shutdown_ready}
-use Rattle.script_run.specs.NamedCores.{NamedCoreState}
+use Rattle.core_laws.proofs.CoreMoves.{new_core_reached, reached_stays}
+use Rattle.core_laws.proofs.KeptCores.{kept_stays}
+use Rattle.core_laws.proofs.Outcomes.{Stays}
+use Rattle.core_laws.proofs.PendingDrives.{drive_ready}
+use Rattle.core_laws.proofs.PendingOthers.{ready_stays}
 use Rattle.script_run.specs.Runs.{ObjectsState, RunState, effect_of, regions_of, run_of}
 use Rattle.script_run.specs.Stores.{Answer, Told}
 use Rattle.run_laws.specs.Kept.{AreKept, AreReady}
 use Rattle.run_laws.specs.Reached.{AreReached}
 use Rattle.run_laws.proofs.CoreWalks.{KeepCores}
 use Rattle.run_laws.proofs.CoresKept.{cores_kept}
-use Rattle.run_laws.proofs.RunWalks.{AreAll, KeepRuns, effect_keeps, runs_keep}
+use Rattle.run_laws.proofs.RunWalks.{KeepRuns, effect_keeps, runs_keep}
 use Rattle.run_laws.proofs.RunsReached.{cores_reached, line_fits, lines_fit, link_reached, new_link_reached}
 
 -- other drivers leave what the actors hold
@@ -41,6 +42,40 @@ record IsSoundCore (core : CoreState) : Type 0 where
   pub kept : IsKeptCore core
   pub ready : IsReadyCore core
 
+sound_stays : Stays IsSoundCore
+sound_stays = record {
+  same = λ core life image loaded same is. record {
+    reached = reached_stays.same core life image loaded same is.reached;
+    kept = kept_stays.same core life image loaded same is.kept;
+    ready = ready_stays.same core life image loaded same is.ready;
+  };
+  started = λ core life up. record {
+    reached = reached_stays.started core life up;
+    kept = kept_stays.started core life up;
+    ready = ready_stays.started core life up;
+  };
+  unlinked = λ core life image loaded is. record {
+    reached = reached_stays.unlinked core life image loaded is.reached;
+    kept = kept_stays.unlinked core life image loaded is.kept;
+    ready = ready_stays.unlinked core life image loaded is.ready;
+  };
+  crashed = λ core life stops is. record {
+    reached = reached_stays.crashed core life stops is.reached;
+    kept = kept_stays.crashed core life stops is.kept;
+    ready = ready_stays.crashed core life stops is.ready;
+  };
+  readied = λ core may is. record {
+    reached = reached_stays.readied core may is.reached;
+    kept = kept_stays.readied core may is.kept;
+    ready = ready_stays.readied core may is.ready;
+  };
+  recovered = λ core given may opens is. record {
+    reached = reached_stays.recovered core given may opens is.reached;
+    kept = kept_stays.recovered core given may opens is.kept;
+    ready = ready_stays.recovered core given may opens is.ready;
+  };
+}
+
 sound_cores : KeepCores IsFitAct IsSoundCore
 sound_cores = record {
   region = λ core region is. record {
@@ -48,33 +83,12 @@ sound_cores = record {
     kept = cores_kept.region core region is.kept;
     ready = record { begun = is.ready.begun; calls = is.ready.calls };
   };
-  driver = λ core declared is. record {
-    reached = cores_reached.driver core declared is.reached;
-    kept = cores_kept.driver core declared is.kept;
-    ready = record { begun = is.ready.begun; calls = λ running. same_calls core.actors _ core.bench refl refl refl (is.ready.calls running) };
+  driver = λ core channel kind is. record {
+    reached = cores_reached.driver core channel kind is.reached;
+    kept = cores_kept.driver core channel kind is.kept;
+    ready = record { begun = is.ready.begun; calls = λ up. same_calls core.actors _ core.bench refl refl refl (is.ready.calls up) };
   };
-  switch = λ core on is. record {
-    reached = cores_reached.switch core on is.reached;
-    kept = cores_kept.switch core on is.kept;
-    ready = record { begun = is.ready.begun; calls = is.ready.calls };
-  };
-  boot = λ core name image is. record {
-    reached = cores_reached.boot core name image is.reached;
-    kept = cores_kept.boot core name image is.kept;
-    ready = boot_ready core name image is.ready;
-  };
-  shutdown = λ core is. record { reached = cores_reached.shutdown core is.reached; kept = cores_kept.shutdown core is.kept; ready = shutdown_ready core is.ready };
-  report = λ core is. record { reached = cores_reached.report core is.reached; kept = cores_kept.report core is.kept; ready = report_ready core is.ready };
-  readied = λ core may is. record {
-    reached = cores_reached.readied core may is.reached;
-    kept = cores_kept.readied core may is.kept;
-    ready = readied_ready core may is.ready;
-  };
-  recovery = λ core image may clear is. record {
-    reached = cores_reached.recovery core image may clear is.reached;
-    kept = cores_kept.recovery core image may clear is.kept;
-    ready = recovery_ready core image is.ready;
-  };
+  lives = sound_stays;
   drive = λ core is. record {
     reached = cores_reached.drive core is.reached;
     kept = cores_kept.drive core is.kept;

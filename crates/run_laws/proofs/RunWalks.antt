@@ -1,5 +1,5 @@
 -- A run keeps what is kept of its links and of its cores.
-use Rattle.std.proofs.Common.{◌≡◌, ℕ, Bool, true, false, List, [], ◌∷◌, All, length, Option, Some, None, slice_get, refl, subst}
+use Rattle.std.proofs.Common.{◌≡◌, ℕ, Bool, false, List, [], ◌∷◌, All, length, Option, Some, None, Result, Ok, Err, slice_get, refl, subst}
 use Rattle.std.proofs.lemmas.Bool.{cond_both}
 use Rattle.std.proofs.lemmas.List.Elements.{All-nil, All-push, All-set}
 use Rattle.std.proofs.lemmas.Option.{get_or_from_slice_get, slice_get_within}
@@ -8,6 +8,7 @@ use Rattle.lane_model.specs.declared.calls.LinkConfig.{LinkConfig}
 use Rattle.script_lang.specs.declared.commands.Command.{Command}
 use Rattle.script_lang.specs.declared.commands.RegionSet.{RegionSet}
 use Rattle.script_lang.specs.declared.recipes.RecipeLine.{RecipeLine}
+use Rattle.journal.specs.declared.events.Event.{Event}
 use Rattle.journal.specs.declared.events.Event.TheVariants as event
 use Rattle.image_maker.specs.Images.{image_of}
 use Rattle.link_bench.specs.declared.acts.LinkAct.{LinkAct}
@@ -24,7 +25,7 @@ use Rattle.script_run.specs.Acts.{line_of}
 use Rattle.script_run.specs.LinkCommands.{link_effect}
 use Rattle.script_run.specs.NamedCores.{NamedCoreState}
 use Rattle.script_run.specs.NamedLinks.{NamedLink}
-use Rattle.script_run.specs.Runs.{ObjectsState, Run, RunEffect, RunState, asked_name, core_located_effect, core_made_effect, core_place, effect_of, found_core_effect, found_effect, has_image, image_effect, is_full, line_effect, located_effect, made_effect, making_effect, name_effect, new_end, new_run, place_of, quiet_effect, regions_of, run_from, run_of, run_on, run_tells, run_told, unnamed_effect, with_image, without_link_effect}
+use Rattle.script_run.specs.Runs.{ObjectsState, Run, RunEffect, RunState, asked_name, core_located_effect, core_made_effect, core_place, dump_answer, dump_effect, dumped_effect, effect_of, found_core_effect, found_effect, has_image, image_effect, is_full, line_effect, located_effect, made_effect, making_effect, name_effect, new_end, new_run, place_of, quiet_effect, regions_of, run_from, run_of, run_on, run_tells, run_told, unnamed_effect, with_image, without_link_effect}
 use Rattle.script_run.specs.Stores.{Answer, Told, later_told, told_answer}
 use Rattle.run_laws.proofs.CoreWalks.{FitsNamed, KeepCores, core_kept}
 
@@ -48,6 +49,7 @@ pub record KeepRuns (Fits : LinkAct (List ℕ) → Type 0) (L : BenchState → T
 abbrev pub FitsLine : (LinkAct (List ℕ) → Type 0) → Line (List RecipeLine) (List ℕ) → Type 0
 FitsLine Fits (line.Image name lines) = Unit {0}
 FitsLine Fits (line.Quiet set) = Unit {0}
+FitsLine Fits (line.Dump name image) = Unit {0}
 FitsLine Fits (line.On name wanted) = FitsNamed Fits wanted
 
 -- this is known of the acts of commands
@@ -135,9 +137,18 @@ module _ (Fits : LinkAct (List ℕ) → Type 0) (L : BenchState → Type 0) (C :
       (run_tells (with_image run name (image_of lines)) (event.Image name (length (image_of lines)))) LeavesRun (λ _. are)
       (λ _. record { links = are.links; cores = are.cores })
 
+  dumped : (run : RunState) (image : List ℕ) (answered : Result (List ℕ) Event) → AreAll L C run.objects → LeavesRun (dumped_effect run image answered)
+  dumped run image (Ok bytes) are = record { links = are.links; cores = are.cores }
+  dumped run image (Err told) are = are
+
+  dump_kept : (run : RunState) (name image : List ℕ) → AreAll L C run.objects → LeavesRun (dump_effect run name image)
+  unfolding dump_effect
+  dump_kept run name image are = dumped run image (dump_answer run.objects name image) are
+
   by_line : (answer : Answer) (run : RunState) (wanted : Line (List RecipeLine) (List ℕ)) → FitsLine Fits wanted → AreAll L C run.objects → LeavesRun (line_effect answer run wanted)
   by_line answer run (line.Image name lines) fits are = imaged run name lines are
   by_line answer run (line.Quiet set) fits are = quieted run set are
+  by_line answer run (line.Dump name image) fits are = dump_kept run name image are
   by_line answer run (line.On name wanted) fits are = by_name answer run name wanted fits are
 
   -- a command

@@ -1,5 +1,5 @@
 -- What a run leaves of its links and its cores is reached, kept and ready.
-use Rattle.std.proofs.Common.{◌≡◌, ℕ, ◌+◌, ◌==◌, Bool, false, List, [], ◌∷◌, All, Option, Some, None, IfSome, refl, ap, arith}
+use Rattle.std.proofs.Common.{◌≡◌, ℕ, ◌+◌, ◌==◌, Bool, false, List, [], ◌∷◌, Option, Some, None, IfSome, refl, arith}
 use Rattle.std.specs.Prelude.{Contains}
 use Rattle.std.proofs.lemmas.Bool.{cond_both}
 use Rattle.std.proofs.lemmas.List.Elements.{All-contains}
@@ -13,7 +13,6 @@ use Rattle.channel_bus.specs.Sides.{EndState}
 use Rattle.script_lang.specs.declared.commands.Command.{Command}
 use Rattle.script_lang.specs.declared.commands.Command.TheVariants as command
 use Rattle.script_lang.specs.Runnable.{AreRunnable, IsRunnable}
-use Rattle.link_bench.specs.declared.acts.LinkAct.{LinkAct}
 use Rattle.link_bench.specs.Acts.{IsFitAct}
 use Rattle.link_bench.specs.Benches.{BenchState, new_bench_of}
 use Rattle.link_bench.specs.BenchCrashes.{after_close}
@@ -21,7 +20,7 @@ use Rattle.link_bench.specs.Watchers.{nobody_sees}
 use Rattle.core_laws.specs.BenchMoves.{IsReached, IsReachedBench, IsReachedCore}
 use Rattle.core_laws.proofs.BenchMoves.{closed, new_reached, reopened}
 use Rattle.core_laws.proofs.CoreActs.{acted_reached, core_act_reached}
-use Rattle.core_laws.proofs.CoreMoves.{core_booted, core_driven, core_readied, core_recovered, core_reported, core_shut, new_core_reached}
+use Rattle.core_laws.proofs.CoreMoves.{core_driven, new_core_reached, reached_stays}
 use Rattle.core_laws.proofs.Handed.{got_front, got_whole, handed_once}
 use Rattle.core_laws.proofs.KeptCrashes.{reached_sound}
 use Rattle.script_run.specs.declared.acts.ManagerAct.{ManagerAct}
@@ -38,13 +37,14 @@ use Rattle.script_run.specs.Runs.{RunState, effect_of, new_end, regions_of, run_
 use Rattle.script_run.specs.Stores.{Answer, Told}
 use Rattle.run_laws.specs.Reached.{AreReached, HandsInOrder}
 use Rattle.run_laws.proofs.CoreWalks.{FitsNamed, KeepCores}
-use Rattle.run_laws.proofs.RunWalks.{AreAll, AreFitting, FitsLine, KeepRuns, effect_keeps, runs_keep}
+use Rattle.run_laws.proofs.RunWalks.{AreFitting, FitsLine, KeepRuns, effect_keeps, runs_keep}
 
 -- ---- acts of commands that can be run
 
 pub line_fits : (wanted : Command) → IsRunnable wanted → FitsLine IsFitAct (line_of wanted)
 line_fits (command.Image name lines) runs = tt
 line_fits (command.Quiet set) runs = tt
+line_fits (command.Dump name image) runs = tt
 line_fits (command.Link name to_host to_remote book) runs = tt
 line_fits (command.NsLink name to_host to_remote book) runs = tt
 line_fits (command.Core name regions book) runs = tt
@@ -73,7 +73,9 @@ line_fits (command.Channels name) runs = tt
 line_fits (command.Region name kind da pa len) runs = tt
 line_fits (command.Driver name channel kind) runs = tt
 line_fits (command.Boot name image) runs = tt
+line_fits (command.Handover name image) runs = tt
 line_fits (command.Shutdown name) runs = tt
+line_fits (command.Detach name) runs = tt
 line_fits (command.State name) runs = tt
 line_fits (command.Table name) runs = tt
 line_fits (command.Trace name trace) runs = tt
@@ -122,13 +124,8 @@ link_reached on steps (under.Core asked) fits is = is
 pub cores_reached : KeepCores IsFitAct IsReachedCore
 cores_reached = record {
   region = λ core region is. record { bench = is.bench; calls = is.calls };
-  driver = λ core declared is. record { bench = is.bench; calls = record { host = is.calls.host; worker = is.calls.worker } };
-  switch = λ core on is. record { bench = is.bench; calls = is.calls };
-  boot = λ core name image is. core_booted core name image is;
-  shutdown = λ core is. core_shut core is;
-  report = λ core is. core_reported core is;
-  readied = λ core may is. core_readied core is;
-  recovery = λ core image may clear is. core_recovered core image is clear;
+  driver = λ core channel kind is. record { bench = is.bench; calls = record { host = is.calls.host; worker = is.calls.worker } };
+  lives = reached_stays;
   drive = λ core is. core_driven core is;
   act = λ core steps asked fits is. core_act_reached core steps asked fits is;
 }

@@ -5,10 +5,10 @@ use Rattle.core_laws.specs.PendingCalls.{IsReadyCore}
 use Rattle.script_run.specs.NamedCores.{NamedCoreState}
 use Rattle.script_run.specs.Runs.{ObjectsState}
 
--- the link of each core of a run has the core's own callers in use, no turn that is the manager's, and the incarnation of the core's life, live exactly while the core runs
+-- the link of each core of a run has the core's own callers in use, no turn that is the manager's, and the incarnation of the core's life, live exactly while the core is up
 abbrev pub AreKept : ObjectsState → Type 0
 AreKept objects = All (λ (named : NamedCoreState). IsKeptCore named.core) objects.cores
 
--- the actors of each core of a run hold, while the core runs, what their calls give back, and have begun no call without a step of it
+-- the actors of each core of a run hold, while the core is up, what their calls give back, and have begun no call without a step of it
 abbrev pub AreReady : ObjectsState → Type 0
 AreReady objects = All (λ (named : NamedCoreState). IsReadyCore named.core) objects.cores

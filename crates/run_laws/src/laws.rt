@@ -50,13 +50,13 @@ pub fn links_in_order()
 {}
 
 /// After each list of commands the link of each core has the core's own callers in use, 0 at the host and 1 at the remote, no turn of it is the
-/// manager's, and it is in the incarnation of the core's life, live exactly while the core runs.
+/// manager's, and it is in the incarnation of the core's life, live exactly while the core is up.
 pub fn cores_kept()
     ensures command { (answer : Answer) (run : RunState) (command : Command) → AreKept run.objects → AreKept (effect_of answer run command).run.objects }
     ensures run { (told : Told) (commands : List Command) → AreKept (run_of told commands).last.objects }
 {}
 
-/// The actors of each core hold, while the core runs, what their calls give back, so that the next call of each may always begin, and have begun
+/// The actors of each core hold, while the core is up, what their calls give back, so that the next call of each may always begin, and have begun
 /// no call without a step of it.
 pub fn cores_ready()
     ensures command { (answer : Answer) (run : RunState) (command : Command) → IsRunnable command → AreReached run.objects → AreKept run.objects

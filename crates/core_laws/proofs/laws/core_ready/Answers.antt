@@ -1,16 +1,20 @@
-use Rattle.core_laws.proofs.PendingDrives.{drive_ready, report_ready}
-use Rattle.core_laws.proofs.PendingOthers.{boot_ready, readied_ready, recovery_ready, shutdown_ready}
+use Rattle.core_laws.specs.PendingCalls.{IsReadyCore}
+use Rattle.core_laws.proofs.Outcomes.{boot_stays, detach_stays, handover_stays, recovery_stays, report_stays, shutdown_stays}
+use Rattle.core_laws.proofs.PendingDrives.{drive_ready}
+use Rattle.core_laws.proofs.PendingOthers.{readied_ready, ready_stays}
 use Rattle.core_laws.proofs.CoreActs.{core_act_ready}
 use Rattle.core_laws.proofs.laws.core_ready.Goals as goal
 
 pub returns : goal.returns
 returns c = record {
   new = λ regions kinds book. record { begun = tt; calls = λ _. tt };
-  boot = boot_ready;
-  shutdown = shutdown_ready;
-  report = report_ready;
+  boot = boot_stays IsReadyCore ready_stays;
+  handover = handover_stays IsReadyCore ready_stays;
+  shutdown = shutdown_stays IsReadyCore ready_stays;
+  detach = detach_stays IsReadyCore ready_stays;
+  report = report_stays IsReadyCore ready_stays;
   readied = readied_ready;
-  recovery = recovery_ready;
+  recovery = recovery_stays IsReadyCore ready_stays;
   drive = drive_ready;
   act = core_act_ready;
 }
