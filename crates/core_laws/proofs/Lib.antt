@@ -17,3 +17,6 @@ pub mod PendingOthers
 pub mod Outcomes
 pub mod KeptActs
 pub mod CoreActs
+pub mod Starts
+pub mod Beginnings
+pub mod ActMoves

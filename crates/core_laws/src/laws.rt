@@ -1,6 +1,6 @@
 //! Laws of the links of benches and of cores. Each is the contract of an empty function, and speaks of definitions alone.
 
-ghost use Rattle.std.specs.Prelude.{◌≡◌, ◌<◌, ℕ, Bool, false, true, List, None, Some};
+ghost use Rattle.std.specs.Prelude.{◌≡◌, ◌≢◌, ◌↔◌, ◌<◌, ℕ, Bool, false, true, List, None, Some, IfSome, Ok};
 ghost use Rattle.rp_base.specs.declared.kinds.End.{End};
 ghost use Rattle.lane_model.specs.declared.calls.LinkConfig.{LinkConfig};
 ghost use Rattle.lane_model.specs.declared.calls.Wish.{Wish};
@@ -24,11 +24,16 @@ ghost use Rattle.crash_recover.specs.CoreLeaves.{detach_of, shutdown_of};
 ghost use Rattle.crash_recover.specs.CoreRecoveries.{readied_core, recovery_fault, recovery_of, reopen_fault, reopened_core};
 ghost use Rattle.crash_recover.specs.Cores.{CoreState, new_core};
 ghost use Rattle.crash_recover.specs.CoreActs.{core_act};
-ghost use Rattle.crash_recover.specs.Drives.{drive_step, first_or_take};
+ghost use Rattle.crash_recover.specs.Drives.{actors_after_end, drive_step, first_or_take};
 ghost use Rattle.core_laws.specs.BenchMoves.{ComesBy, IsReached, IsReachedBench, IsReachedCore, WasBoundOnTheWay, history_of};
 ghost use Rattle.core_laws.specs.KeptCores.{AreOwnUsed, IsKeptBench, IsKeptCore, IsUnmanaged, crash_reaches, end_after_crash, with_next_life};
 ghost use Rattle.core_laws.specs.PendingCalls.{HasNoneBegun, IsReadyBench, IsReadyCore};
-ghost use Rattle.proc_state.specs.Lives.{CoreLife};
+ghost use Rattle.proc_state.specs.Lives.{CoreLife, most};
+ghost use Rattle.rp_base.specs.declared.kinds.LifeState.TheVariants as state;
+ghost use Rattle.core_laws.specs.FoundImages.{FindsLoadable};
+ghost use Rattle.core_laws.specs.ClosedLinks.{StaysClosed};
+ghost use Rattle.core_laws.specs.Beginnings.{BeginsEmpty, begins_life};
+ghost use Rattle.crash_recover.specs.declared.core_answers.Start.{Start};
 ghost use Rattle.rp_base.specs.declared.kinds.End.TheVariants as side;
 ghost use Rattle.host_driver.specs.Drivers.{Declared};
 ghost use Rattle.memory_pool.specs.declared.regions.Region.{Region};
@@ -68,6 +73,19 @@ pub fn bench_reached()
     ensures end_caller { (bench : BenchState) (caller : ℕ) → IsReachedBench bench → bench.link.era.is_live ≡ false
         → IsReachedBench (after_reclaim bench caller) }
     ensures reopen { (bench : BenchState) → IsReachedBench bench → unopened_by bench.link ≡ None → IsReachedBench (after_reopen bench) }
+{}
+
+/// What an act for callers does to a link, as a command of a script asks it, are moves of the link, one after the other. So in a closed incarnation no act
+/// hands anything over, and none opens it again.
+pub fn acts_are_moves()
+    ensures moves { (own : ℕ) (bench : BenchState) (steps : ℕ) (act : LinkAct (List ℕ)) → IsFitAct act → IsReachedBench bench
+        → ComesBy side_meaning bench.link (link_act nobody_sees own bench (tt {0}) steps act).bench.link }
+    ensures of_core { (own : ℕ) (bench : BenchState) (actors : ActorsState) (steps : ℕ) (act : LinkAct (List ℕ)) → IsFitAct act → IsReachedBench bench
+        → ComesBy side_meaning bench.link (link_act actors_after_end own bench actors steps act).bench.link }
+    ensures closed { (own : ℕ) (bench : BenchState) (steps : ℕ) (act : LinkAct (List ℕ)) → IsFitAct act → IsReachedBench bench → bench.link.era.is_live ≡ false
+        → StaysClosed bench.link (link_act nobody_sees own bench (tt {0}) steps act).bench.link }
+    ensures closed_of_core { (own : ℕ) (bench : BenchState) (actors : ActorsState) (steps : ℕ) (act : LinkAct (List ℕ)) → IsFitAct act → IsReachedBench bench
+        → bench.link.era.is_live ≡ false → StaysClosed bench.link (link_act actors_after_end own bench actors steps act).bench.link }
 {}
 
 /// The link of a core comes so too, from its boot to its last shutdown or detach, over crashes and recoveries, over each step of its actors, whose
@@ -112,6 +130,26 @@ pub fn handed_due()
         → let lane = lane_to link end in
         IsBound side_meaning lane.desk bound
         → got bound.endpoint sender (handings_to (history_of link reached) end) ≡ due side_meaning lane.desk bound sender (handed_front lane.lane) }
+{}
+
+/// A boot makes an offline core with an incarnation left run exactly where an image was found that loads over the core's regions, and a handover
+/// makes an offline core detached exactly there. A boot of a detached core attaches to it exactly where an incarnation is left.
+pub fn starts_just_where()
+    ensures boot { (core : CoreState) (name : List ℕ) (found : Found) → core.life.state ≡ state.Offline → core.life.incarnation ≢ most
+        → ((boot_of core name found).core.life.state ≡ state.Running) ↔ FindsLoadable core found }
+    ensures handover { (core : CoreState) (name : List ℕ) (found : Found) → core.life.state ≡ state.Offline
+        → ((handover_of core name found).core.life.state ≡ state.Detached) ↔ FindsLoadable core found }
+    ensures attach { (core : CoreState) (name : List ℕ) (found : Found) → core.life.state ≡ state.Detached
+        → ((boot_of core name found).core.life.state ≡ state.Attached) ↔ (core.life.incarnation ≢ most) }
+{}
+
+/// Where a life of a core begins, by a boot, an attach or a recovery, its link is live and empty on both lanes: what is handed over in a life was accepted
+/// in it.
+pub fn lives_begin_empty()
+    ensures boot { (core : CoreState) (name : List ℕ) (found : Found) (did : Start) → begins_life did ≡ true → (boot_of core name found).answer ≡ Ok did
+        → IfSome (boot_of core name found).core.bench BeginsEmpty }
+    ensures recovery { (core : CoreState) (found : Found) (did : Start) → begins_life did ≡ true → (recovery_of core found).answer ≡ Ok did
+        → IfSome (recovery_of core found).core.bench BeginsEmpty }
 {}
 
 /// The link of a core always has the core's own callers in use, 0 at the host and 1 at the remote, no turn of it is ever the manager's, and it is in

@@ -3,3 +3,4 @@ pub mod RunWalks
 pub mod RunsReached
 pub mod CoresKept
 pub mod CoresReady
+pub mod StartsInRuns

@@ -1,7 +1,18 @@
 //! Laws of runs: over a store of images, and of the links that they leave. Each is the contract of an empty function, and speaks of definitions alone.
 
-ghost use Rattle.std.specs.Prelude.{◌≡◌, ℕ, List, Option, Some, false, Contains, IfSome};
+ghost use Rattle.std.specs.Prelude.{◌≡◌, ◌≢◌, ◌↔◌, ℕ, List, Option, Some, false, Contains, IfSome};
+ghost use Rattle.rp_base.specs.declared.kinds.LifeState.TheVariants as state;
+ghost use Rattle.proc_state.specs.Lives.{most};
+ghost use Rattle.core_laws.specs.FoundImages.{FindsLoadable};
 ghost use Rattle.script_lang.specs.declared.commands.Command.{Command};
+ghost use Rattle.script_lang.specs.declared.commands.Command.TheVariants as command;
+ghost use Rattle.rp_base.specs.declared.kinds.CrashKind.{CrashKind};
+ghost use Rattle.crash_recover.specs.CoreBoots.{boot_of, handover_of};
+ghost use Rattle.crash_recover.specs.CoreCrashes.{report_of};
+ghost use Rattle.crash_recover.specs.CoreLeaves.{detach_of, shutdown_of};
+ghost use Rattle.crash_recover.specs.CoreRecoveries.{recovery_of};
+ghost use Rattle.script_run.specs.CoreLives.{booted_image, found_image, may_step};
+ghost use Rattle.run_laws.specs.Starts.{IsCoreAt, core_at, state_at};
 ghost use Rattle.script_lang.specs.Runnable.{AreRunnable, IsRunnable};
 ghost use Rattle.lane_model.specs.Soundness.{SoundLink};
 ghost use Rattle.link_bench.specs.Benches.{BenchState};
@@ -47,6 +58,38 @@ pub fn links_in_order()
         → Contains (run_of told commands).last.objects.links named → HandsInOrder named.bench.link }
     ensures cores { (told : Told) (commands : List Command) (named : NamedCoreState) → AreRunnable commands
         → Contains (run_of told commands).last.objects.cores named → IfSome named.core.bench (λ (bench : BenchState). HandsInOrder bench.link) }
+{}
+
+/// A command that is about the life of a core of a run leaves of it what the core's call leaves, over the image of the script or else of the
+/// store: so what holds of these calls holds in runs.
+pub fn calls_of_cores()
+    ensures boot { (answer : Answer) (run : RunState) (name : List ℕ) (place : ℕ) (on : NamedCoreState) → IsCoreAt run name place on → (image : List ℕ)
+        → core_at (effect_of answer run (command.Boot name image)).run place ≡ Some (boot_of on.core image (found_image run.objects.images answer image)).core }
+    ensures handover { (answer : Answer) (run : RunState) (name : List ℕ) (place : ℕ) (on : NamedCoreState) → IsCoreAt run name place on → (image : List ℕ)
+        → core_at (effect_of answer run (command.Handover name image)).run place ≡ Some (handover_of on.core image (found_image run.objects.images answer image)).core }
+    ensures recovery { (answer : Answer) (run : RunState) (name : List ℕ) (place : ℕ) (on : NamedCoreState) → IsCoreAt run name place on
+        → core_at (effect_of answer run (command.Recover name)).run place ≡ Some (recovery_of on.core (found_image run.objects.images answer (booted_image on.name on.core))).core }
+    ensures shutdown { (answer : Answer) (run : RunState) (name : List ℕ) (place : ℕ) (on : NamedCoreState) → IsCoreAt run name place on
+        → core_at (effect_of answer run (command.Shutdown name)).run place ≡ Some (shutdown_of (may_step run.steps) on.core).core }
+    ensures detach { (answer : Answer) (run : RunState) (name : List ℕ) (place : ℕ) (on : NamedCoreState) → IsCoreAt run name place on
+        → core_at (effect_of answer run (command.Detach name)).run place ≡ Some (detach_of (may_step run.steps) on.core).core }
+    ensures crash { (answer : Answer) (run : RunState) (name : List ℕ) (place : ℕ) (on : NamedCoreState) → IsCoreAt run name place on → (kind : CrashKind)
+        → core_at (effect_of answer run (command.Crash name kind)).run place ≡ Some (report_of (may_step run.steps) on.core).core }
+{}
+
+/// Of the core of a name in a run: a boot makes it run, where it is offline and has an incarnation left, exactly where an image was found, of the script
+/// or else of the store, that loads over its regions; a handover makes an offline core detached exactly there; and a boot attaches to a detached
+/// core exactly where an incarnation is left.
+pub fn starts_just_where()
+    ensures boot { (answer : Answer) (run : RunState) (name image : List ℕ) (place : ℕ) (on : NamedCoreState) → IsCoreAt run name place on
+        → on.core.life.state ≡ state.Offline → on.core.life.incarnation ≢ most
+        → (state_at (effect_of answer run (command.Boot name image)).run place ≡ Some state.Running) ↔ FindsLoadable on.core (found_image run.objects.images answer image) }
+    ensures handover { (answer : Answer) (run : RunState) (name image : List ℕ) (place : ℕ) (on : NamedCoreState) → IsCoreAt run name place on
+        → on.core.life.state ≡ state.Offline
+        → (state_at (effect_of answer run (command.Handover name image)).run place ≡ Some state.Detached) ↔ FindsLoadable on.core (found_image run.objects.images answer image) }
+    ensures attach { (answer : Answer) (run : RunState) (name image : List ℕ) (place : ℕ) (on : NamedCoreState) → IsCoreAt run name place on
+        → on.core.life.state ≡ state.Detached
+        → (state_at (effect_of answer run (command.Boot name image)).run place ≡ Some state.Attached) ↔ (on.core.life.incarnation ≢ most) }
 {}
 
 /// After each list of commands the link of each core has the core's own callers in use, 0 at the host and 1 at the remote, no turn of it is the
