@@ -85,7 +85,7 @@ shut_on : (now : Recorded EndState) (moves : List Move) → now.link.era.is_live
 shut_on now [] shut = shut
 shut_on now (move ∷ moves) shut = shut_on (after_move side_meaning now move) moves (move_shut side_meaning now.link move shut).shut
 
-closed_by : (before after : LinkState EndState) → ComesBy side_meaning before after → before.era.is_live ≡ false → StaysClosed before after
+pub closed_by : (before after : LinkState EndState) → ComesBy side_meaning before after → before.era.is_live ≡ false → StaysClosed before after
 closed_by before after came shut =
     subst (StaysClosed before) came.left
     (record {

@@ -4,3 +4,4 @@ pub mod RunsReached
 pub mod CoresKept
 pub mod CoresReady
 pub mod StartsInRuns
+pub mod ClosedLinks

@@ -24,7 +24,7 @@ use Rattle.core_laws.proofs.Starts.{attaches_where, boots_where, hands_over_wher
 use Rattle.run_laws.specs.Starts.{IsCoreAt, core_at, state_at}
 
 -- what is set at a place stands there
-set_there : {X : Type 0} (items : List X) (i : ℕ) (item found : X) → slice_get items i ≡ Some found → slice_get (slice_set items i item) i ≡ Some item
+pub set_there : {X : Type 0} (items : List X) (i : ℕ) (item found : X) → slice_get items i ≡ Some found → slice_get (slice_set items i item) i ≡ Some item
 set_there [] i item found is = absurd (cc)
 set_there (x ∷ xs) zero item found is = refl
 set_there (x ∷ xs) (suc i) item found is = set_there xs i item found is

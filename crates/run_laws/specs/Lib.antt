@@ -1,3 +1,4 @@
 pub mod Reached
 pub mod Kept
 pub mod Starts
+pub mod ClosedLinks

@@ -1,6 +1,6 @@
 //! Laws of runs: over a store of images, and of the links that they leave. Each is the contract of an empty function, and speaks of definitions alone.
 
-ghost use Rattle.std.specs.Prelude.{◌≡◌, ◌≢◌, ◌↔◌, ℕ, List, Option, Some, false, Contains, IfSome};
+ghost use Rattle.std.specs.Prelude.{◌≡◌, ◌≢◌, ◌↔◌, ℕ, List, Option, Some, false, Contains, IfSome, slice_get};
 ghost use Rattle.rp_base.specs.declared.kinds.LifeState.TheVariants as state;
 ghost use Rattle.proc_state.specs.Lives.{most};
 ghost use Rattle.core_laws.specs.FoundImages.{FindsLoadable};
@@ -12,6 +12,8 @@ ghost use Rattle.crash_recover.specs.CoreCrashes.{report_of};
 ghost use Rattle.crash_recover.specs.CoreLeaves.{detach_of, shutdown_of};
 ghost use Rattle.crash_recover.specs.CoreRecoveries.{recovery_of};
 ghost use Rattle.script_run.specs.CoreLives.{booted_image, found_image, may_step};
+ghost use Rattle.core_laws.specs.BenchMoves.{IsReachedBench};
+ghost use Rattle.run_laws.specs.ClosedLinks.{LeavesClosed, ReopensOther};
 ghost use Rattle.run_laws.specs.Starts.{IsCoreAt, core_at, state_at};
 ghost use Rattle.script_lang.specs.Runnable.{AreRunnable, IsRunnable};
 ghost use Rattle.lane_model.specs.Soundness.{SoundLink};
@@ -90,6 +92,14 @@ pub fn starts_just_where()
     ensures attach { (answer : Answer) (run : RunState) (name image : List ℕ) (place : ℕ) (on : NamedCoreState) → IsCoreAt run name place on
         → on.core.life.state ≡ state.Detached
         → (state_at (effect_of answer run (command.Boot name image)).run place ≡ Some state.Attached) ↔ (on.core.life.incarnation ≢ most) }
+{}
+
+/// From a close of a link on, no command of a script but a reopening of that link hands anything over on it or opens it: the link at a place of a run
+/// that is closed stands closed at that place behind the command, with nothing more handed over on either lane.
+pub fn closed_hands_none()
+    ensures { (answer : Answer) (run : RunState) (asked : Command) (place : ℕ) (on : NamedLink) → IsRunnable asked
+        → slice_get run.objects.links place ≡ Some on → IsReachedBench on.bench → on.bench.link.era.is_live ≡ false → ReopensOther run place asked
+        → LeavesClosed on.bench (effect_of answer run asked).run place }
 {}
 
 /// After each list of commands the link of each core has the core's own callers in use, 0 at the host and 1 at the remote, no turn of it is the
