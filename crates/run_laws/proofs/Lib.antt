@@ -5,3 +5,4 @@ pub mod CoresKept
 pub mod CoresReady
 pub mod StartsInRuns
 pub mod ClosedLinks
+pub mod CrashedCores

@@ -82,7 +82,7 @@ hands_over_in_run answer run name image place on at offline =
 
 -- ---- the core behind each call
 
-core_behind : (run : RunState) (name : List ℕ) (place : ℕ) (on : NamedCoreState) (effect : CoreEffect) → IsCoreAt run name place on
+pub core_behind : (run : RunState) (name : List ℕ) (place : ℕ) (on : NamedCoreState) (effect : CoreEffect) → IsCoreAt run name place on
     → core_at (placed_core_effect run place on effect).run place ≡ Some effect.core
 core_behind run name place on effect at =
     ap (option_map (λ (on : NamedCoreState). on.core)) (set_there run.objects.cores place (record on { core = effect.core }) on at.found)

@@ -2,3 +2,4 @@ pub mod Reached
 pub mod Kept
 pub mod Starts
 pub mod ClosedLinks
+pub mod CrashedCores

@@ -1,6 +1,6 @@
 //! Laws of runs: over a store of images, and of the links that they leave. Each is the contract of an empty function, and speaks of definitions alone.
 
-ghost use Rattle.std.specs.Prelude.{◌≡◌, ◌≢◌, ◌↔◌, ℕ, List, Option, Some, false, Contains, IfSome, slice_get};
+ghost use Rattle.std.specs.Prelude.{◌≡◌, ◌≢◌, ◌↔◌, ℕ, List, Option, Some, false, Contains, IfSome, IsSomeAnd, slice_get};
 ghost use Rattle.rp_base.specs.declared.kinds.LifeState.TheVariants as state;
 ghost use Rattle.proc_state.specs.Lives.{most};
 ghost use Rattle.core_laws.specs.FoundImages.{FindsLoadable};
@@ -13,6 +13,13 @@ ghost use Rattle.crash_recover.specs.CoreLeaves.{detach_of, shutdown_of};
 ghost use Rattle.crash_recover.specs.CoreRecoveries.{recovery_of};
 ghost use Rattle.script_run.specs.CoreLives.{booted_image, found_image, may_step};
 ghost use Rattle.core_laws.specs.BenchMoves.{IsReachedBench};
+ghost use Rattle.core_laws.specs.BenchMoves.{IsReachedCore};
+ghost use Rattle.script_run.specs.declared.acts.CoreAct.TheVariants as core;
+ghost use Rattle.script_run.specs.declared.acts.NamedAct.{NamedAct};
+ghost use Rattle.script_run.specs.declared.acts.NamedAct.TheVariants as under;
+ghost use Rattle.script_run.specs.Acts.{IsFitNamed};
+ghost use Rattle.script_run.specs.Runs.{name_effect};
+ghost use Rattle.run_laws.specs.CrashedCores.{StaysCrashed};
 ghost use Rattle.run_laws.specs.ClosedLinks.{LeavesClosed, ReopensOther};
 ghost use Rattle.run_laws.specs.Starts.{IsCoreAt, core_at, state_at};
 ghost use Rattle.script_lang.specs.Runnable.{AreRunnable, IsRunnable};
@@ -100,6 +107,14 @@ pub fn closed_hands_none()
     ensures { (answer : Answer) (run : RunState) (asked : Command) (place : ℕ) (on : NamedLink) → IsRunnable asked
         → slice_get run.objects.links place ≡ Some on → IsReachedBench on.bench → on.bench.link.era.is_live ≡ false → ReopensOther run place asked
         → LeavesClosed on.bench (effect_of answer run asked).run place }
+{}
+
+/// And from a crash of a core on, nothing that is done under its name but a recovery hands anything over on its link or opens it: the core stays crashed,
+/// and its link closed, as it is while a core isn't up.
+pub fn crashed_hands_none()
+    ensures { (answer : Answer) (run : RunState) (name : List ℕ) (place : ℕ) (on : NamedCoreState) (wanted : NamedAct (List ℕ)) → IsCoreAt run name place on
+        → IsFitNamed wanted → IsReachedCore on.core → on.core.life.state ≡ state.Crashed → IfSome on.core.bench (λ (bench : BenchState). bench.link.era.is_live ≡ false)
+        → wanted ≢ under.Core core.Recover → IsSomeAnd (core_at (name_effect answer run name wanted).run place) (StaysCrashed on.core) }
 {}
 
 /// After each list of commands the link of each core has the core's own callers in use, 0 at the host and 1 at the remote, no turn of it is the
