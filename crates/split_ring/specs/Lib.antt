@@ -1,0 +1,4 @@
+pub mod Openings
+pub mod Links
+pub mod Seats
+pub mod Sends
