@@ -1,11 +1,8 @@
 -- What a caller's seat knows: its one pass, its call, and the slots that are out with it (own).
-use Rattle.std.specs.Prelude.{◌≡◌, ◌<◌, ℕ, List, [], ◌∷◌, ◌++◌}
+use Rattle.std.specs.Prelude.{◌≡◌, ◌<◌, ℕ, List, [], ◌∷◌}
 use Rattle.atomic_table.specs.Seated.{TableId}
-use Rattle.rp_base.specs.declared.kinds.End.{End}
-use Rattle.rp_base.specs.declared.kinds.End.TheVariants as side
 use Rattle.link_words.specs.declared.rule.Call.{Call}
 use Rattle.link_words.specs.declared.rule.Call.TheVariants.{Idle, Rests}
-use Rattle.link_words.specs.declared.rule.Event.{Event}
 use Rattle.link_words.specs.declared.rule.LinkSizes.{LinkSizes}
 use Rattle.link_words.specs.declared.rule.Pass.{Pass}
 use Rattle.link_words.specs.declared.rule.Slot.{Slot}
@@ -26,12 +23,6 @@ pub record IsAt (me : SeatState) (call : Call) (slots : List (ℕ × Slot)) : Ty
   pub one : me.0.passes ≡ pass_in me ∷ []
   pub in_call : (pass_in me).call ≡ call
   pub out : me.1 ≡ slots
-
--- the pass is that of the same caller, with the same buffers in hand, and has done these steps more, the newest first
-pub record HasDone (events : List Event) (me me' : SeatState) : Type 0 where
-  pub own : (pass_in me').own ≡ events ++ (pass_in me).own
-  pub number : (pass_in me').number ≡ (pass_in me).number
-  pub hands : (pass_in me').hands ≡ (pass_in me).hands
 
 -- the seat is one of this table, which has these sizes
 pub record IsSeatOf (table : TableId) (sizes : LinkSizes) (table_id : TableId) (me : SeatState) : Type 0 where

@@ -2,12 +2,16 @@
 #![tactic(auto)]
 
 mod callers;
+mod gives;
 mod layouts;
 mod links;
 mod sends;
-#[cfg(test)]
-mod tests;
+mod slots;
+mod takes;
+mod turns;
 
 pub use callers::{Caller, CallerId, Manager};
+pub use gives::GiveBusy;
 pub use links::SharedLink;
 pub use sends::SendFault;
+pub use takes::{TakeFault, Taken};

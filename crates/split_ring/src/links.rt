@@ -1,8 +1,10 @@
 //! A link that threads share, and its making.
-ghost use Rattle.std.specs.Prelude.{◌≡◌, ◌<◌, ◌≤◌, [], IfOk, IfSome, IfNone, Some, None};
+ghost use Rattle.std.specs.Prelude.{◌≡◌, ◌+◌, ◌<◌, ◌≤◌, [], IfOk, IfSome, IfNone, Some, None};
 ghost use Rattle.lane_model.specs.Conditions.{IsConfig};
 ghost use Rattle.lane_model.specs.Desks.{IsFreshDesk};
 ghost use Rattle.lane_model.specs.Links.{free_number};
+ghost use Rattle.rp_base.specs.declared.limits.TheConstants.{BOOK_MOST};
+ghost use Rattle.ring_core.specs.Rings.{return_count};
 ghost use Rattle.link_words.specs.Fresh.{sizes_for};
 ghost use Rattle.link_words.specs.Words.{sizes_at, buffer_slot};
 ghost use Rattle.split_ring.specs.Links.{IsFitLink, IsManager, HasDeskSeat};
@@ -142,6 +144,17 @@ impl<D: Desk> SharedLink<D> {
             End::Host => self.sizes.to_host,
             End::Remote => self.sizes.to_remote,
         }
+    }
+
+    /// How many entries of the return ring of the lane to an end were published when so many buffers
+    /// are back.
+    pub(crate) fn return_count(&self, lane: End, returned: u64) -> u64
+        requires { returned ≤ BOOK_MOST }
+        ensures count { result ≡ return_count (sizes_at self.now.sizes lane) returned }
+        ensures most { result ≤ BOOK_MOST + 256 }
+    {
+        let sizes = self.sizes_of(lane);
+        u64::from(sizes.capacity - sizes.own) + returned
     }
 
     /// The slot of a buffer of the lane to an end.

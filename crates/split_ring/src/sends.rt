@@ -1,35 +1,36 @@
 //! A send: a function for each step, and the whole walk.
-ghost use Rattle.std.specs.Prelude.{◌≡◌, ◌≢◌, ◌+◌, ◌<◌, ◌≤◌, ℕ, List, ◌∷◌, [], IfOk, IfErr};
-ghost use Rattle.atomic_table.specs.Table.{rest};
+ghost use Rattle.std.specs.Prelude.{◌≡◌, ◌≢◌, ◌+◌, ◌≤◌, ◌%◌, ◌<◌, ℕ, ◌∷◌, [], IfOk, IfErr, length};
 ghost use Rattle.rp_base.specs.declared.limits.TheConstants.{BOOK_MOST};
-ghost use Rattle.rp_base.specs.declared.kinds.Era.{Era};
-ghost use Rattle.lane_model.specs.declared.calls.CallEnd.TheVariants as call_end;
+ghost use Rattle.lane_model.specs.declared.calls.CallEnd.{CallEnd};
+ghost use Rattle.lane_model.specs.declared.recoveries.LaneTurn.TheVariants as lane_turn;
 ghost use Rattle.lane_model.specs.declared.stages.SendStage.TheVariants as stage;
-ghost use Rattle.link_words.specs.declared.rule.Call.TheVariants.{Rests};
-ghost use Rattle.link_words.specs.declared.rule.Event.{Event};
+ghost use Rattle.ring_core.specs.Rings.{return_count, entry_length};
 ghost use Rattle.link_words.specs.declared.rule.Event.TheVariants.{Step, Publish};
 ghost use Rattle.link_words.specs.declared.rule.Made.TheVariants as made;
-ghost use Rattle.link_words.specs.declared.rule.SenderSide.{SenderSide};
 ghost use Rattle.link_words.specs.declared.rule.Slot.{Slot};
-ghost use Rattle.link_words.specs.declared.rule.Slot.TheVariants.{Buffer, Sender};
-ghost use Rattle.lane_model.specs.declared.calls.CallEnd.{CallEnd};
-ghost use Rattle.split_ring.specs.declared.sends.SendCall.{SendCall};
-ghost use Rattle.link_words.specs.Words.{other, sender_slot, era_word};
-ghost use Rattle.split_ring.specs.Seats.{pass_in, IsAt, HasDone, IsSeatOf, IsCaller};
-ghost use Rattle.split_ring.specs.Sends.{send_call, send_left, send_slots, send_buffer, live_era, HasNoRoom, HasSent, IsSendWalk};
+ghost use Rattle.link_words.specs.declared.rule.Slot.TheVariants.{Buffer};
+ghost use Rattle.link_words.specs.Parts.{AreNear};
+ghost use Rattle.link_words.specs.Words.{other, sender_slot};
+ghost use Rattle.split_ring.specs.Seats.{IsSeatOf, IsCaller};
+ghost use Rattle.split_ring.specs.Sends.{live_era, IsSendAt, IsFilledAt, HasNoRoom, HasSettled, IsSend};
+ghost use Rattle.split_ring.specs.Turns.{HasSender, IsLeaving};
+ghost use Rattle.split_ring.specs.Walks.{HasDone, same_hands};
 
 use crate::callers::{Caller, CallerId};
 use crate::links::SharedLink;
+use crate::slots::{accept_in, accepted_in, fill};
+use crate::turns::{era_of, is_live_in, other};
 use lane_model::{Desk, LaneTurn, Wish};
 use link_words::{
-    CallStart, EraUse, IndexUse, LinkSeat, Ring, SenderSide, Slot, leave_turn, load_entry,
-    load_era, load_index, publish_index, store_entry, take_turn,
+    EraUse, IndexUse, LinkSeat, Ring, load_entry, load_era, load_index, publish_index, store_entry,
 };
+use ring_core::RingSizes;
 use rp_base::{CallerNo, End, Era, Message};
+use std::snapshot::Snapshot;
 use vring_layout::UsedWord;
 
 /// Why a send ended otherwise.
-#[derive(Clone, Copy)]
+#[derive(Clone, Copy, Debug)]
 pub enum SendFault {
     /// Another had the sender's turn.
     Busy(CallerNo),
@@ -45,19 +46,10 @@ pub enum SendFault {
 #[derive(Drop)]
 pub(crate) struct SendCall {
     pub who: CallerId,
-    pub message: Message,
+    /// The message, for the proofs alone.
+    pub message: Snapshot<Message>,
     pub accepted: u64,
     pub buffer: u32,
-}
-
-/// The other end.
-fn other(end: End) -> End
-    ensures { result ≡ other end }
-{
-    match end {
-        End::Host => End::Remote,
-        End::Remote => End::Host,
-    }
 }
 
 /// The slot of the sender's side state of the lane to an end.
@@ -70,14 +62,13 @@ fn sender_slot(lane: End) -> usize
     }
 }
 
-/// The era of a word.
-pub(crate) fn era_of(word: u64) -> Era
-    ensures { (era : Era) → word ≡ era_word era → era.inc < 4294967296 → result ≡ era }
+/// How many buffers are not out, by the return index, which is near the count of accepted messages.
+fn free_buffers(index: u64, sizes: &RingSizes, accepted: u64) -> u64
+    requires sizes { sizes.now.own ≤ sizes.now.capacity }
+    requires most { (sizes.now.capacity ≤ 256) × (accepted ≤ BOOK_MOST) × (index < 65536) }
+    ensures { (returned : ℕ) → index ≡ return_count sizes.now returned % 65536 → AreNear sizes.now.capacity accepted returned → result + accepted ≡ returned + sizes.now.capacity }
 {
-    Era {
-        inc: (word / 2 % 4_294_967_296) as u32,
-        is_live: word % 2 == 1,
-    }
+    (index + u64::from(sizes.own) + 65_536 - accepted % 65_536) % 65_536
 }
 
 impl<D: Desk> SharedLink<D> {
@@ -90,84 +81,58 @@ impl<D: Desk> SharedLink<D> {
     pub fn try_send(&self, caller: &mut Caller, message: &Message) -> Result<u64, SendFault>
         requires caller { IsCaller self.now.table.shared.table_id self.now.sizes caller.old.id caller.old.seat.table_id caller.old.seat.me }
         ensures caller { (caller.new.id ≡ caller.old.id) × IsCaller self.now.table.shared.table_id self.now.sizes caller.new.id caller.new.seat.table_id caller.new.seat.me }
-        ensures walk { (walk : List Event) × IsSendWalk self.now.sizes caller.old.id message.now result walk × HasDone walk caller.old.seat.me caller.new.seat.me }
+        ensures walk { IsSend D.row.coded D.meaning self.now.sizes caller.old.id message.now result caller.old.seat.me caller.new.seat.me }
     {
         let who = caller.id;
-        let seat = &mut caller.seat;
-        let call = match self.enter_send(seat, who, message) {
-            Ok(call) => call,
-            Err(holder) => return Err(SendFault::Busy(holder)),
-        };
-        let result = self.send_on(seat, call);
-        self.leave_sender(seat, other(who.end));
-        result
+        let wish = Wish::Send(message.copy());
+        if let Err(holder) = self.enter(&mut caller.seat, who, wish) {
+            return Err(SendFault::Busy(holder));
+        }
+        let answer = self.send_on(&mut caller.seat, who, message);
+        self.leave(&mut caller.seat, other(who.end), LaneTurn::Sender);
+        answer
     }
 
     /// The steps of a send behind its first, up to the one that settles its end.
-    fn send_on(&self, seat: &mut LinkSeat, mut call: SendCall) -> Result<u64, SendFault>
-        requires seat { IsSeatOf self.now.table.shared.table_id self.now.sizes seat.old.table_id seat.old.me }
-        requires call { IsAt seat.old.me (send_call call stage.Turn) (send_slots call call.accepted) × (call.accepted ≤ BOOK_MOST) }
-        ensures seat { IsSeatOf self.now.table.shared.table_id self.now.sizes seat.new.table_id seat.new.me }
-        ensures settled { HasSent self.now.sizes call result seat.old.me seat.new.me }
-    {
-        if let Err(era) = self.find_send_era(seat, &call) {
-            return Err(SendFault::Dead(era));
-        }
-        self.look_for_room(seat, &call)?;
-        self.take_buffer(seat, &mut call);
-        self.store_message(seat, &call);
-        self.publish_message(seat, &call);
-        Ok(call.accepted)
-    }
-
-    /// Step 1 of a send: one attempt to take the sender's turn.
-    ///
-    /// Errors: the holder of the turn, exactly where it was another's.
-    fn enter_send(
+    fn send_on(
         &self,
         seat: &mut LinkSeat,
         who: CallerId,
         message: &Message,
-    ) -> Result<SendCall, CallerNo>
-        requires caller { IsCaller self.now.table.shared.table_id self.now.sizes who seat.old.table_id seat.old.me }
+    ) -> Result<u64, SendFault>
+        requires seat { IsSeatOf self.now.table.shared.table_id self.now.sizes seat.old.table_id seat.old.me }
+        requires turn { HasSender who message.now seat.old.me }
         ensures seat { IsSeatOf self.now.table.shared.table_id self.now.sizes seat.new.table_id seat.new.me }
-        ensures entered { IfOk result (λ call. IsAt seat.new.me (send_call call stage.Turn) (send_slots call call.accepted) × (call.who ≡ who) × (call.message ≡ message.now) × (call.accepted ≤ BOOK_MOST)
-            × HasDone (Step (made.Turn 0) ∷ []) seat.old.me seat.new.me) }
-        ensures busy { IfErr result (λ holder. IsAt seat.new.me (Rests who.end) [] × HasDone (Step (made.Turn (holder + 1)) ∷ []) seat.old.me seat.new.me) }
+        ensures settled { HasSettled D.row.coded D.meaning self.now.sizes who message.now result seat.old.me seat.new.me }
     {
-        let start = CallStart {
-            caller: who.number,
-            end: who.end,
-            follows: who.follows,
-            wish: Wish::Send(message.copy()),
-        };
-        let found = take_turn(&self.table.shared, seat, start);
-        if found != 0 {
-            return Err((found - 1) as CallerNo);
+        let mut call = self.send_begun(seat, who, message);
+        if let Err(era) = self.find_send_era(seat, &call) {
+            return Err(SendFault::Dead(era));
         }
-        let accepted = self.accepted_count(seat, sender_slot(other(who.end)));
-        Ok(SendCall {
-            who,
-            message: message.copy(),
-            accepted,
-            buffer: 0,
-        })
+        if let Err(fault) = self.look_for_room(seat, &call) {
+            return Err(fault);
+        }
+        call.buffer = self.take_free(seat, &call);
+        self.store_message(seat, &call, message);
+        self.publish_message(seat, &call);
+        Ok(call.accepted)
     }
 
-    /// How many messages were accepted, by the sender's side state, which is the last slot that is out.
-    fn accepted_count(&self, seat: &mut LinkSeat, slot: usize) -> u64
-        requires table { seat.old.table_id ≡ self.now.table.shared.table_id }
-        requires slot { (x : SenderSide) × (seat.old.me.1 ≡ (slot, Sender x) ∷ rest seat.old.me.1) }
-        ensures same { (seat.new.table_id ≡ seat.old.table_id) × (seat.new.me ≡ seat.old.me) }
-        ensures count { (x : SenderSide) → seat.old.me.1 ≡ (slot, Sender x) ∷ rest seat.old.me.1 → result ≡ x.accepted }
+    /// A send that has its turn, by its side state.
+    fn send_begun(&self, seat: &mut LinkSeat, who: CallerId, message: &Message) -> SendCall
+        requires seat { IsSeatOf self.now.table.shared.table_id self.now.sizes seat.old.table_id seat.old.me }
+        requires turn { HasSender who message.now seat.old.me }
+        ensures seat { IsSeatOf self.now.table.shared.table_id self.now.sizes seat.new.table_id seat.new.me }
+        ensures call { IsSendAt result stage.Turn seat.new.me × (result.who ≡ who) × (result.message.value ≡ message.now) }
+        ensures still { HasDone D.row.coded D.meaning [] same_hands seat.old.me seat.new.me }
     {
-        let side = self.table.shared.exchange(seat, slot, Slot::Empty);
-        let accepted = match &side {
-            Slot::Sender(side) => side.accepted,
-            _ => 0,
-        };
-        drop(self.table.shared.exchange(seat, slot, side));
-        accepted
+        let slot = sender_slot(other(who.end));
+        SendCall {
+            who,
+            message: Snapshot::of(message),
+            accepted: accepted_in(seat.slot_mut(&self.table.shared, slot)),
+            buffer: 0,
+        }
     }
 
     /// Step 2 of a send: it goes on in its incarnation, live.
@@ -175,15 +140,15 @@ impl<D: Desk> SharedLink<D> {
     /// Errors: the era that was found, exactly where it is another or a closed one.
     fn find_send_era(&self, seat: &mut LinkSeat, call: &SendCall) -> Result<(), Era>
         requires seat { IsSeatOf self.now.table.shared.table_id self.now.sizes seat.old.table_id seat.old.me }
-        requires call { IsAt seat.old.me (send_call call.now stage.Turn) (send_slots call.now call.now.accepted) }
+        requires call { IsSendAt call.now stage.Turn seat.old.me }
         ensures seat { IsSeatOf self.now.table.shared.table_id self.now.sizes seat.new.table_id seat.new.me }
-        ensures live { IfOk result (λ _. IsAt seat.new.me (send_call call.now stage.Era) (send_slots call.now call.now.accepted)
-            × HasDone (Step (made.Era (live_era call.now.who.follows)) ∷ []) seat.old.me seat.new.me) }
-        ensures dead { IfErr result (λ era. IsAt seat.new.me (send_left call.now (call_end.Dead era) call.now.accepted) (send_slots call.now call.now.accepted)
-            × (era ≢ live_era call.now.who.follows) × HasDone (Step (made.Era era) ∷ []) seat.old.me seat.new.me) }
+        ensures live { IfOk result (λ _. IsSendAt call.now stage.Era seat.new.me
+            × HasDone D.row.coded D.meaning (Step (made.Era (live_era call.now.who.follows)) ∷ []) same_hands seat.old.me seat.new.me) }
+        ensures dead { IfErr result (λ era. (era ≢ live_era call.now.who.follows) × IsLeaving lane_turn.Sender (other call.now.who.end) seat.new.me
+            × HasDone D.row.coded D.meaning (Step (made.Era era) ∷ []) same_hands seat.old.me seat.new.me) }
     {
         let era = era_of(load_era(&self.table.shared, seat, EraUse::Send));
-        if era.is_live && era.inc == call.who.follows {
+        if is_live_in(era, call.who.follows) {
             Ok(())
         } else {
             Err(era)
@@ -192,22 +157,23 @@ impl<D: Desk> SharedLink<D> {
 
     /// Step 3 of a send: it looks for room by the return index.
     ///
-    /// Errors: that each buffer is out, then that the book is full.
+    /// Errors: that each buffer is out, else that the book is full.
     fn look_for_room(&self, seat: &mut LinkSeat, call: &SendCall) -> Result<(), SendFault>
         requires seat { IsSeatOf self.now.table.shared.table_id self.now.sizes seat.old.table_id seat.old.me }
-        requires call { IsAt seat.old.me (send_call call.now stage.Era) (send_slots call.now call.now.accepted) × (call.now.accepted ≤ BOOK_MOST) }
+        requires call { IsSendAt call.now stage.Era seat.old.me }
         ensures seat { IsSeatOf self.now.table.shared.table_id self.now.sizes seat.new.table_id seat.new.me }
-        ensures room { IfOk result (λ _. IsAt seat.new.me (send_call call.now stage.Look) (send_slots call.now call.now.accepted)
-            × ((returned : ℕ) × HasDone (Step (made.Room call.now.accepted returned) ∷ []) seat.old.me seat.new.me)) }
-        ensures none { IfErr result (λ fault. HasNoRoom self.now.sizes call.now fault seat.old.me seat.new.me) }
+        ensures room { IfOk result (λ _. IsSendAt call.now stage.Look seat.new.me
+            × ((returned : ℕ) × HasDone D.row.coded D.meaning (Step (made.Room call.now.accepted returned) ∷ []) same_hands seat.old.me seat.new.me)) }
+        ensures none { IfErr result (λ found. (returned : ℕ) × (ended : CallEnd) × HasNoRoom self.now.sizes call.now returned found ended
+            × IsLeaving lane_turn.Sender (other call.now.who.end) seat.new.me
+            × HasDone D.row.coded D.meaning (Step (made.Room call.now.accepted returned) ∷ []) same_hands seat.old.me seat.new.me) }
     {
         let lane = other(call.who.end);
         let index = load_index(&self.table.shared, seat, lane, IndexUse::Room);
         let sizes = self.sizes_of(lane);
-        let capacity = u64::from(sizes.capacity);
-        let coming = (index + u64::from(sizes.own) + 131_072 - call.accepted % 65_536) % 65_536;
-        let returned = call.accepted + coming - capacity;
-        if coming == 0 {
+        let free = free_buffers(index, &sizes, call.accepted);
+        if free == 0 {
+            let returned = call.accepted - u64::from(sizes.capacity);
             Err(SendFault::NoBuffer(call.accepted, returned))
         } else if call.accepted == u64::from(self.sizes.book) {
             Err(SendFault::BookFull(call.accepted))
@@ -217,50 +183,41 @@ impl<D: Desk> SharedLink<D> {
     }
 
     /// Step 4 of a send: a buffer is out, of the sender's own list or of the return ring.
-    fn take_buffer(&self, seat: &mut LinkSeat, call: &mut SendCall)
+    fn take_free(&self, seat: &mut LinkSeat, call: &SendCall) -> u32
         requires seat { IsSeatOf self.now.table.shared.table_id self.now.sizes seat.old.table_id seat.old.me }
-        requires call { IsAt seat.old.me (send_call call.old stage.Look) (send_slots call.old call.old.accepted) × (call.old.accepted ≤ BOOK_MOST) }
+        requires call { IsSendAt call.now stage.Look seat.old.me }
         ensures seat { IsSeatOf self.now.table.shared.table_id self.now.sizes seat.new.table_id seat.new.me }
-        ensures call { call.new ≡ record call.old { buffer = call.new.buffer } }
-        ensures out { ((y : Slot) × IsAt seat.new.me (send_call call.new stage.Buffer) (send_buffer self.now.sizes call.new y)) × HasDone (Step (made.Buffer call.new.buffer) ∷ []) seat.old.me seat.new.me }
+        ensures out { (y : Slot) × IsFilledAt self.now.sizes (record call.now { buffer = result }) stage.Buffer y seat.new.me }
+        ensures done { HasDone D.row.coded D.meaning (Step (made.Buffer result) ∷ []) same_hands seat.old.me seat.new.me }
     {
         let lane = other(call.who.end);
         let own = u64::from(self.sizes_of(lane).own);
+        let table = &self.table.shared;
         if call.accepted < own {
-            load_index(&self.table.shared, seat, lane, IndexUse::OwnBuffer);
-            call.buffer = call.accepted as u32;
-        } else {
-            let entry = load_entry(
-                &self.table.shared,
-                &self.sizes,
-                seat,
-                lane,
-                Ring::Return,
-                call.accepted - own,
-            );
-            call.buffer = (entry % 4_294_967_296) as u32;
+            load_index(table, seat, lane, IndexUse::OwnBuffer);
+            return call.accepted as u32;
         }
+        let count = call.accepted - own;
+        let entry = load_entry(table, &self.sizes, seat, lane, Ring::Return, count);
+        (entry % 4_294_967_296) as u32
     }
 
     /// Step 5 of a send: the message is in the buffer, and the forward entry names it.
-    fn store_message(&self, seat: &mut LinkSeat, call: &SendCall)
+    fn store_message(&self, seat: &mut LinkSeat, call: &SendCall, message: &Message)
         requires seat { IsSeatOf self.now.table.shared.table_id self.now.sizes seat.old.table_id seat.old.me }
-        requires call { (y : Slot) × IsAt seat.old.me (send_call call.now stage.Buffer) (send_buffer self.now.sizes call.now y) }
+        requires call { (y : Slot) × IsFilledAt self.now.sizes call.now stage.Buffer y seat.old.me }
+        requires message { call.now.message.value ≡ message.now }
         ensures seat { IsSeatOf self.now.table.shared.table_id self.now.sizes seat.new.table_id seat.new.me }
-        ensures stored { IsAt seat.new.me (send_call call.now stage.Entry) (send_buffer self.now.sizes call.now (Buffer call.now.message)) × HasDone (Step made.Entry ∷ []) seat.old.me seat.new.me }
+        ensures stored { IsFilledAt self.now.sizes call.now stage.Entry (Buffer message.now) seat.new.me }
+        ensures done { HasDone D.row.coded D.meaning (Step made.Entry ∷ []) same_hands seat.old.me seat.new.me }
     {
         let lane = other(call.who.end);
         let slot = self.buffer_slot(lane, call.buffer);
         let table = &self.table.shared;
-        drop(table.exchange(seat, slot, Slot::Buffer(call.message.copy())));
-        let len = if self.sizes_of(lane).own == 0 {
-            call.message.bytes().len() as u32
-        } else {
-            0
-        };
+        fill(seat.slot_mut(table, slot), message);
         let entry = UsedWord {
             id: call.buffer,
-            len,
+            len: entry_length(&self.sizes_of(lane), message),
         };
         store_entry(table, &self.sizes, seat, lane, Ring::Forward, call.accepted, entry);
     }
@@ -268,25 +225,26 @@ impl<D: Desk> SharedLink<D> {
     /// Step 6 of a send: the message is accepted, and the buffer at home.
     fn publish_message(&self, seat: &mut LinkSeat, call: &SendCall)
         requires seat { IsSeatOf self.now.table.shared.table_id self.now.sizes seat.old.table_id seat.old.me }
-        requires call { IsAt seat.old.me (send_call call.now stage.Entry) (send_buffer self.now.sizes call.now (Buffer call.now.message)) × (call.now.accepted ≤ BOOK_MOST) }
+        requires call { IsFilledAt self.now.sizes call.now stage.Entry (Buffer call.now.message.value) seat.old.me }
         ensures seat { IsSeatOf self.now.table.shared.table_id self.now.sizes seat.new.table_id seat.new.me }
-        ensures published { IsAt seat.new.me (send_left call.now (call_end.Sent call.now.accepted) (call.now.accepted + 1)) (send_slots call.now (call.now.accepted + 1))
-            × HasDone (Publish (other call.now.who.end) call.now.who.follows call.now.accepted call.now.message ∷ []) seat.old.me seat.new.me }
+        ensures published { IsLeaving lane_turn.Sender (other call.now.who.end) seat.new.me }
+        ensures done { HasDone D.row.coded D.meaning (Publish (other call.now.who.end) call.now.who.follows call.now.accepted call.now.message.value ∷ []) same_hands seat.old.me seat.new.me }
     {
         let lane = other(call.who.end);
         let table = &self.table.shared;
         let accepted = call.accepted + 1;
         publish_index(table, seat, lane, Ring::Forward, accepted);
-        drop(table.exchange(seat, sender_slot(lane), Slot::Sender(SenderSide { accepted })));
+        accept_in(seat.slot_mut(table, sender_slot(lane)), accepted);
     }
+}
 
-    /// The last step of a send: the turn is free.
-    fn leave_sender(&self, seat: &mut LinkSeat, lane: End)
-        requires seat { IsSeatOf self.now.table.shared.table_id self.now.sizes seat.old.table_id seat.old.me }
-        requires call { (call : SendCall) × (ended : CallEnd) × (accepted : ℕ) × (lane ≡ other call.who.end) × IsAt seat.old.me (send_left call ended accepted) (send_slots call accepted) }
-        ensures seat { IsSeatOf self.now.table.shared.table_id self.now.sizes seat.new.table_id seat.new.me }
-        ensures left { IsAt seat.new.me (Rests (other lane)) [] × HasDone (Step made.Left ∷ []) seat.old.me seat.new.me }
-    {
-        leave_turn(&self.table.shared, seat, lane, LaneTurn::Sender);
+/// The length in a forward entry.
+fn entry_length(sizes: &RingSizes, message: &Message) -> u32
+    ensures { result ≡ entry_length sizes.now (length message.now) }
+{
+    if sizes.own == 0 {
+        message.bytes().len() as u32
+    } else {
+        0
     }
 }

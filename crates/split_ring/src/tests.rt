@@ -1,7 +1,0 @@
-use std::test::Fail;
-
-#[test]
-fn nothing(rt: HostRuntime) -> Result<(), Fail> {
-    assert_eq!(rt; 1, 1);
-    Ok(())
-}
