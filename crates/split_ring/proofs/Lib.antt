@@ -4,3 +4,6 @@ pub mod TurnSteps
 pub mod Eras
 pub mod SendSteps
 pub mod SendWalks
+pub mod TakeSteps
+pub mod TakeWalks
+pub mod GiveSteps

@@ -69,6 +69,15 @@ lent me call k k' y more at same = at.out ∙ (λ i. (sym same i, y) ∷ rest (s
 pub rewritten : (me : SeatState) (call : Call) (k k' : ℕ) (y w : Slot) (more : List (ℕ × Slot)) → IsAt me call ((k, y) ∷ more) → k' ≡ k → IsAt (me.0, (k', w) ∷ rest me.1) call ((k, w) ∷ more)
 rewritten me call k k' y w more at same = record { one = at.one; in_call = at.in_call; out = λ i. (same i, w) ∷ rest (at.out i) }
 
+second : Slot → List (ℕ × Slot) → Slot
+second y [] = y
+second y (p ∷ ps) = p.1
+
+-- what is in the slot that was taken last
+pub inside : (me : SeatState) (call : Call) (k k' : ℕ) (y w : Slot) (more : List (ℕ × Slot)) → IsAt me call ((k, y) ∷ more) → me.1 ≡ (k', w) ∷ rest me.1 → w ≡ y
+unfolding second
+inside me call k k' y w more at is = ap (second w) (sym is ∙ at.out)
+
 -- a pass after a step: another call, with these entries before those of its list
 pub record Moves (p q : Pass) (call : Call) (events : List Event) (hands : List ℕ → List ℕ) : Type 0 where
   pub in_call : q.call ≡ call

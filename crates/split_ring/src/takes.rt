@@ -207,19 +207,18 @@ impl<D: Desk> SharedLink<D> {
         let slot = self.buffer_slot(who.end, buffer);
         let message = message_in(seat.slot_mut(table, slot));
         let era = era_of(load_era(table, seat, EraUse::Hand));
-        if !is_live_in(era, who.follows) {
-            return Err(era);
+        if is_live_in(era, who.follows) {
+            let side = seat.slot_mut(table, receiver_slot(who.end));
+            let verdict = self.judge(side, who.number, buffer, &message);
+            let filled = Buffer {
+                id: (buffer % 65_536) as u16,
+                message,
+            };
+            let held = Held::of(lane_number(who.end), who.number, call.handed, filled);
+            Ok(Taken { held, verdict })
+        } else {
+            Err(era)
         }
-        let side = seat.slot_mut(table, receiver_slot(who.end));
-        let verdict = self.judge(side, who.number, buffer, &message);
-        let filled = Buffer {
-            id: (buffer % 65_536) as u16,
-            message,
-        };
-        Ok(Taken {
-            held: Held::of(lane_number(who.end), who.number, call.handed, filled),
-            verdict,
-        })
     }
 
     /// The desk judges the next message, which is in the caller's hands then.
@@ -238,11 +237,10 @@ impl<D: Desk> SharedLink<D> {
             unreachable!()
         };
         let number = side.handed();
-        let verdict = match side.end() {
+        side.hand_over(caller, buffer);
+        match side.end() {
             End::Host => side.deliver(&self.host.shared, number, message),
             End::Remote => side.deliver(&self.remote.shared, number, message),
-        };
-        side.hand_over(caller, buffer);
-        verdict
+        }
     }
 }

@@ -1,0 +1,2 @@
+use Rattle.split_ring.proofs.TakeSteps.{alone}
+use Rattle.split_ring.proofs.links.SharedLink.try_give.Goals as goal
