@@ -7,3 +7,4 @@ pub mod SendWalks
 pub mod TakeSteps
 pub mod TakeWalks
 pub mod GiveSteps
+pub mod Makes

@@ -1,6 +1,6 @@
 //! Who steps on a link: its callers and its manager.
-ghost use Rattle.std.specs.Prelude.{◌≡◌};
-ghost use Rattle.split_ring.specs.Seats.{pass_in};
+ghost use Rattle.std.specs.Prelude.{◌≡◌, ◌<◌, Some, None, IfSome};
+ghost use Rattle.lane_model.specs.Links.{free_number};
 
 use link_words::LinkSeat;
 use rp_base::{CallerNo, End, Inc};
@@ -49,4 +49,15 @@ pub struct Manager {
     pub(crate) seat: LinkSeat,
     /// The callers in use, by number.
     pub(crate) users: [Option<End>; 64],
+}
+
+/// The least number that is not in use.
+pub(crate) fn least_free(users: &[Option<End>; 64]) -> Option<CallerNo>
+    ensures number { result ≡ free_number users.now }
+    ensures within { IfSome result (λ number. number < 64) }
+{
+    match users.iter().position(|found| found.is_none()) {
+        None => None,
+        Some(place) => Some(place as CallerNo),
+    }
 }

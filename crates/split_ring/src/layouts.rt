@@ -65,7 +65,8 @@ fn push_entries(words: &mut Vec<u64>, sizes: &RingSizes) -> Result<(), NoMemory>
     let stocked = sizes.capacity - sizes.own;
     push_blanks(words, sizes.entries)?;
     push_numbers(words, sizes.own, stocked)?;
-    push_blanks(words, sizes.entries - u32::from(stocked))
+    push_blanks(words, sizes.entries - u32::from(stocked))?;
+    Ok(())
 }
 
 /// The words of a new link, each apart from the next.

@@ -10,15 +10,16 @@ ghost use Rattle.link_words.specs.Words.{sizes_at, buffer_slot};
 ghost use Rattle.split_ring.specs.Links.{IsFitLink, IsManager, HasDeskSeat};
 ghost use Rattle.split_ring.specs.Seats.{IsCaller, pass_in};
 
-use crate::callers::{Caller, CallerId, Manager};
+use crate::callers::{Caller, CallerId, Manager, least_free};
 use crate::layouts::{new_slots, new_words, ring_sizes};
 use atomic_table::{Seat, Table};
 use lane_model::{Desk, LinkConfig};
+use link_words::laws::opening_meets_rule;
 use link_words::{
     DeskRule, DeskTables, DeskView, LinkSeat, LinkSizes, LinkWords, Slot, View, split,
 };
 use ring_core::RingSizes;
-use rp_base::{CallerNo, End, NoMemory};
+use rp_base::{End, Inc, NoMemory};
 use std::alloc::Global;
 use std::snapshot::Snapshot;
 
@@ -51,6 +52,13 @@ fn desk_table<D: Desk>(
     }
 }
 
+/// The first incarnation.
+fn first_of(config: &LinkConfig) -> Inc
+    ensures { result ≡ config.now.first }
+{
+    config.first
+}
+
 impl<D: Desk> SharedLink<D> {
     /// A new link, live in its first incarnation, and the one who makes its callers.
     ///
@@ -74,7 +82,7 @@ impl<D: Desk> SharedLink<D> {
             to_host: ring_sizes(config.num0, true),
             to_remote: ring_sizes(config.num1, false),
             book: config.book,
-            first: config.first,
+            first: first_of(&config),
             desks: DeskTables {
                 host: Snapshot::of(&host_badge),
                 remote: Snapshot::of(&remote_badge),
@@ -82,6 +90,7 @@ impl<D: Desk> SharedLink<D> {
         };
         let words = new_words(alloc, &sizes)?;
         let slots = new_slots(alloc, &sizes, host_badge, remote_badge)?;
+        opening_meets_rule::<D>();
         match Table::new(alloc, &words, slots, &sizes) {
             Ok((table, seat)) => Ok((
                 SharedLink {
@@ -120,17 +129,6 @@ impl<D: Desk> SharedLink<D> {
             },
             seat,
         })
-    }
-}
-
-/// The least number that is not in use.
-fn least_free(users: &[Option<End>; 64]) -> Option<CallerNo>
-    ensures number { result ≡ free_number users.now }
-    ensures within { IfSome result (λ number. number < 64) }
-{
-    match users.iter().position(|found| found.is_none()) {
-        None => None,
-        Some(place) => Some(place as CallerNo),
     }
 }
 
