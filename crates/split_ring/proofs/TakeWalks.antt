@@ -1,6 +1,8 @@
 -- The steps of a take, put together.
-use Rattle.std.proofs.Common.{◌≡◌, ◌≢◌, ◌⊎◌, inl, inr, ℕ, ◌++◌, List, [], ◌∷◌, refl, sym, subst}
-use Rattle.std.specs.Prelude.{Result, Ok, Err}
+use Rattle.std.proofs.Common.{◌≡◌, ◌≢◌, ◌⊎◌, inl, inr, ℕ, ◌++◌, List, [], ◌∷◌, length, refl, sym, ap, ◌∙◌, subst}
+use Rattle.std.specs.Prelude.{Result, Ok, Err, IfOk}
+use lib.ListN.{get_elem?}
+use mathlib.Core.Option.{some}
 use base.Stored.{Coded}
 use Rattle.rp_base.specs.declared.kinds.Era.{Era}
 use Rattle.lane_model.specs.declared.recoveries.LaneTurn.TheVariants as lane_turn
@@ -14,7 +16,8 @@ use Rattle.split_ring.specs.declared.takes.TakeCall.{TakeCall}
 use Rattle.split_ring.specs.declared.takes.Taken.{Taken}
 use Rattle.split_ring.specs.declared.takes.TakeFault.{TakeFault}
 use Rattle.split_ring.specs.declared.takes.TakeFault.TheVariants as fault
-use Rattle.split_ring.specs.Receives.{IsHandedTo, HasSettledTake, IsTake, hands_after}
+use Rattle.split_ring.specs.Receives.{IsHandedTo, IsHeldBy, HasSettledTake, IsTake, hands_after}
+use Rattle.split_ring.specs.Seats.{pass_in}
 use Rattle.split_ring.specs.Sends.{live_era}
 use Rattle.split_ring.specs.Turns.{IsLeaving}
 use Rattle.split_ring.specs.Walks.{same_hands, one_more, HasDone}
@@ -96,3 +99,16 @@ module _ {D : Type 0} (coded : Coded D) (meaning : DeskMeaning D) where
     done = done_then coded meaning (Step made.Left ∷ []) (settled.steps ++ Step (made.Turn 0) ∷ []) same_hands (hands_after answer) a d e
         (done_then coded meaning settled.steps (Step (made.Turn 0) ∷ []) (hands_after answer) same_hands a b d entered settled.done) left;
   }
+
+last_of : (xs : List ℕ) (n : ℕ) → get_elem? (xs ++ n ∷ []) (length xs) ≡ some n
+last_of [] n = refl
+last_of (x ∷ xs) n = last_of xs n
+
+-- what was handed over is in hand
+pub in_hand : {D : Type 0} (coded : Coded D) (meaning : DeskMeaning D) (who : CallerId) (answer : Result Taken TakeFault) (me me' : SeatState) → IsTake coded meaning who answer me me' → IfOk answer (λ taken. IsHeldBy who taken.held me')
+in_hand coded meaning who (Err fault) me me' take = tt
+in_hand coded meaning who (Ok taken) me me' take = record {
+  lane = take.is.4.lane;
+  caller = take.is.4.caller;
+  numbered = (length (pass_in me).hands, ap (λ (l : List ℕ). get_elem? l (length (pass_in me).hands)) take.done.in_hand ∙ last_of (pass_in me).hands taken.held.number);
+}

@@ -5,3 +5,4 @@ pub mod Turns
 pub mod Walks
 pub mod Sends
 pub mod Receives
+pub mod Callers

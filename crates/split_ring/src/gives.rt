@@ -1,13 +1,14 @@
 //! A give: a function for each step, and the whole walk.
-ghost use Rattle.std.specs.Prelude.{◌≡◌, ◌+◌, ◌≤◌, ℕ, ◌∷◌, []};
+ghost use Rattle.std.specs.Prelude.{◌≡◌, ◌+◌, ◌≤◌, ℕ, ◌∷◌, [], IfErr};
 ghost use Rattle.lane_model.specs.declared.recoveries.LaneTurn.TheVariants as lane_turn;
 ghost use Rattle.lane_model.specs.declared.stages.GiveStage.TheVariants as give_stage;
 ghost use Rattle.lane_model.specs.declared.stages.Work.TheVariants as work;
 ghost use Rattle.link_words.specs.declared.rule.Event.TheVariants.{Step};
 ghost use Rattle.link_words.specs.declared.rule.Made.TheVariants as made;
 ghost use Rattle.link_words.specs.Steps.{hands_but};
-ghost use Rattle.split_ring.specs.Receives.{IsHeldBy, IsGive, IsGiveAt, hands_left};
-ghost use Rattle.split_ring.specs.Seats.{IsSeatOf, IsCaller};
+ghost use Rattle.split_ring.specs.Callers.{Holds, IsCallerOf, IsAfterCall, MakesGive};
+ghost use Rattle.split_ring.specs.Receives.{IsGiveAt};
+ghost use Rattle.split_ring.specs.Seats.{IsSeatOf};
 ghost use Rattle.split_ring.specs.Turns.{HasReceiver, IsLeaving};
 ghost use Rattle.split_ring.specs.Walks.{HasDone, same_hands};
 
@@ -33,10 +34,11 @@ impl<D: Desk> SharedLink<D> {
     ///
     /// Errors: exactly where another had the receiver's turn, with the buffer.
     pub fn try_give(&self, caller: &mut Caller, held: Held) -> Result<u64, GiveBusy>
-        requires caller { IsCaller self.now.table.shared.table_id self.now.sizes caller.old.id caller.old.seat.table_id caller.old.seat.me }
-        requires held { IsHeldBy caller.old.id held caller.old.seat.me }
-        ensures caller { (caller.new.id ≡ caller.old.id) × IsCaller self.now.table.shared.table_id self.now.sizes caller.new.id caller.new.seat.table_id caller.new.seat.me }
-        ensures walk { IsGive D.row.coded D.meaning held result caller.old.seat.me caller.new.seat.me }
+        requires caller { IsCallerOf self.now caller.old }
+        requires held { Holds caller.old held }
+        ensures caller { IsAfterCall self.now caller.old caller.new }
+        ensures walk { MakesGive D.row.coded D.meaning caller.old held result caller.new }
+        ensures held { IfErr result (λ busy. Holds caller.new busy.held) }
     {
         let who = caller.id;
         let number = held.number();

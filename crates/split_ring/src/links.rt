@@ -7,8 +7,8 @@ ghost use Rattle.rp_base.specs.declared.limits.TheConstants.{BOOK_MOST};
 ghost use Rattle.ring_core.specs.Rings.{return_count};
 ghost use Rattle.link_words.specs.Fresh.{sizes_for};
 ghost use Rattle.link_words.specs.Words.{sizes_at, buffer_slot};
-ghost use Rattle.split_ring.specs.Links.{IsFitLink, IsManager, HasDeskSeat};
-ghost use Rattle.split_ring.specs.Seats.{IsCaller, pass_in};
+ghost use Rattle.split_ring.specs.Links.{IsFitLink, HasDeskSeat};
+ghost use Rattle.split_ring.specs.Seats.{pass_in};
 
 use crate::callers::{Caller, CallerId, Manager, least_free};
 use crate::layouts::{new_slots, new_words, ring_sizes};
@@ -60,6 +60,8 @@ fn first_of(config: &LinkConfig) -> Inc
 }
 
 impl<D: Desk> SharedLink<D> {
+    ghost use Rattle.split_ring.specs.Callers.{IsCallerOf, IsManagerOf};
+
     /// A new link, live in its first incarnation, and the one who makes its callers.
     ///
     /// Errors: only for want of memory.
@@ -72,7 +74,7 @@ impl<D: Desk> SharedLink<D> {
         requires config { IsConfig config }
         requires desks { IsFreshDesk D.meaning host × IsFreshDesk D.meaning remote }
         ensures sizes { IfOk result (λ made. made.0.sizes ≡ sizes_for config made.0.sizes.desks) }
-        ensures manager { IfOk result (λ made. IsManager made.0.table.shared.table_id made.0.sizes made.1.users made.1.seat.table_id made.1.seat.me) }
+        ensures manager { IfOk result (λ made. IsManagerOf made.0 made.1) }
     {
         let (host, host_seat) = desk_table(alloc, host)?;
         let (remote, remote_seat) = desk_table(alloc, remote)?;
@@ -111,11 +113,10 @@ impl<D: Desk> SharedLink<D> {
     /// A new caller on this end, under the least number that is not in use. There is none exactly
     /// where 64 are in use.
     pub fn caller(&self, manager: &mut Manager, end: End) -> Option<Caller>
-        requires { IsManager self.now.table.shared.table_id self.now.sizes manager.old.users manager.old.seat.table_id manager.old.seat.me }
-        ensures manager { IsManager self.now.table.shared.table_id self.now.sizes manager.new.users manager.new.seat.table_id manager.new.seat.me }
-        ensures some { IfSome result (λ caller. (free_number manager.old.users ≡ Some caller.id.number) × (caller.id.end ≡ end)
-            × (caller.id.follows ≡ self.now.sizes.first)
-            × IsCaller self.now.table.shared.table_id self.now.sizes caller.id caller.seat.table_id caller.seat.me × ((pass_in caller.seat.me).own ≡ [])) }
+        requires { IsManagerOf self.now manager.old }
+        ensures manager { IsManagerOf self.now manager.new }
+        ensures some { IfSome result (λ caller. (free_number manager.old.users ≡ Some caller.id.number) × (caller.id.end ≡ end) × (caller.id.follows ≡ self.now.sizes.first)
+            × IsCallerOf self.now caller × ((pass_in caller.seat.me).own ≡ [])) }
         ensures none { IfNone result (free_number manager.old.users ≡ None) }
     {
         let number = least_free(&manager.users)?;

@@ -11,8 +11,9 @@ ghost use Rattle.link_words.specs.declared.rule.Slot.{Slot};
 ghost use Rattle.link_words.specs.declared.rule.Slot.TheVariants.{Buffer};
 ghost use Rattle.link_words.specs.Parts.{AreNear};
 ghost use Rattle.link_words.specs.Words.{other, sender_slot};
-ghost use Rattle.split_ring.specs.Seats.{IsSeatOf, IsCaller};
-ghost use Rattle.split_ring.specs.Sends.{live_era, IsSendAt, IsFilledAt, HasNoRoom, HasSettled, IsSend};
+ghost use Rattle.split_ring.specs.Callers.{IsCallerOf, IsAfterCall, MakesSend};
+ghost use Rattle.split_ring.specs.Seats.{IsSeatOf};
+ghost use Rattle.split_ring.specs.Sends.{live_era, IsSendAt, IsFilledAt, HasNoRoom, HasSettled};
 ghost use Rattle.split_ring.specs.Turns.{HasSender, IsLeaving};
 ghost use Rattle.split_ring.specs.Walks.{HasDone, same_hands};
 
@@ -79,9 +80,9 @@ impl<D: Desk> SharedLink<D> {
     /// one that the caller follows, live; `NoBuffer` exactly where each buffer is out, then `BookFull` exactly
     /// where the book is full. After each the caller is in no call.
     pub fn try_send(&self, caller: &mut Caller, message: &Message) -> Result<u64, SendFault>
-        requires caller { IsCaller self.now.table.shared.table_id self.now.sizes caller.old.id caller.old.seat.table_id caller.old.seat.me }
-        ensures caller { (caller.new.id ≡ caller.old.id) × IsCaller self.now.table.shared.table_id self.now.sizes caller.new.id caller.new.seat.table_id caller.new.seat.me }
-        ensures walk { IsSend D.row.coded D.meaning self.now.sizes caller.old.id message.now result caller.old.seat.me caller.new.seat.me }
+        requires { IsCallerOf self.now caller.old }
+        ensures caller { IsAfterCall self.now caller.old caller.new }
+        ensures walk { MakesSend D.row.coded D.meaning self.now caller.old message.now result caller.new }
     {
         let who = caller.id;
         let wish = Wish::Send(message.copy());

@@ -11,8 +11,9 @@ ghost use Rattle.link_words.specs.declared.rule.Slot.TheVariants.{Receiver};
 ghost use Rattle.link_words.specs.PlacedDesks.{table_at, IsRightTo};
 ghost use Rattle.link_words.specs.Steps.{handed_side};
 ghost use Rattle.link_words.specs.Words.{receiver_slot};
-ghost use Rattle.split_ring.specs.Receives.{lane_number, IsTakeAt, HasBufferOut, IsHandedTo, IsTake, HasSettledTake, hands_after};
-ghost use Rattle.split_ring.specs.Seats.{IsSeatOf, IsCaller};
+ghost use Rattle.split_ring.specs.Callers.{Holds, IsCallerOf, IsAfterCall, MakesTake};
+ghost use Rattle.split_ring.specs.Receives.{lane_number, IsTakeAt, HasBufferOut, IsHandedTo, HasSettledTake};
+ghost use Rattle.split_ring.specs.Seats.{IsSeatOf};
 ghost use Rattle.split_ring.specs.Sends.{live_era};
 ghost use Rattle.split_ring.specs.Turns.{HasReceiver, IsLeaving, receive_slots};
 ghost use Rattle.split_ring.specs.Walks.{HasDone, same_hands, one_more};
@@ -87,9 +88,10 @@ impl<D: Desk> SharedLink<D> {
     /// one that the caller follows, live, before or after the look; `Empty` exactly where each accepted
     /// message was handed over. After each the caller is in no call.
     pub fn try_take(&self, caller: &mut Caller) -> Result<Taken, TakeFault>
-        requires caller { IsCaller self.now.table.shared.table_id self.now.sizes caller.old.id caller.old.seat.table_id caller.old.seat.me }
-        ensures caller { (caller.new.id ≡ caller.old.id) × IsCaller self.now.table.shared.table_id self.now.sizes caller.new.id caller.new.seat.table_id caller.new.seat.me }
-        ensures walk { IsTake D.row.coded D.meaning caller.old.id result caller.old.seat.me caller.new.seat.me }
+        requires { IsCallerOf self.now caller.old }
+        ensures caller { IsAfterCall self.now caller.old caller.new }
+        ensures walk { MakesTake D.row.coded D.meaning caller.old result caller.new }
+        ensures held { IfOk result (λ taken. Holds caller.new taken.held) }
     {
         let who = caller.id;
         if let Err(holder) = self.enter(&mut caller.seat, who, Wish::Take) {
