@@ -103,5 +103,5 @@ opened_is config desks host remote =
     let first : return_count z.to_host 0 ≡ z.to_host.capacity - z.to_host.own = omega arith in
     let last : return_count z.to_remote 0 ≡ z.to_remote.capacity - z.to_remote.own = omega arith in
     let rest = lane_entries z.to_host (map entry_word (replicate z.to_remote.entries (entry_of 0)) ++ (map entry_word (opened_returns z.to_remote) ++ []))
-        ∙ ap (λ (l : List ℕ). opened_entries z.to_host ++ l) (lane_entries z.to_remote [] ∙ append-nil (opened_entries z.to_remote)) in
+    ∙ ap (λ (l : List ℕ). opened_entries z.to_host ++ l) (lane_entries z.to_remote [] ∙ append-nil (opened_entries z.to_remote)) in
     λ i. 0 ∷ (config.first * 2 + 1) ∷ 0 ∷ 0 ∷ 0 ∷ 0 ∷ 0 ∷ first i ∷ 0 ∷ last i ∷ rest i

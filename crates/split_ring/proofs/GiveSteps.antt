@@ -67,10 +67,10 @@ module _ {D : Type 0} (coded : Coded D) (meaning : DeskMeaning D) where
       → Moves p (with_given p) (Receives who.end (turn.Leaving who.number (end.Gave number)) (side_given x number) 0 []) [] (λ hands. hands_but hands number)
   given_pass who number x p in_call =
       let is : with_given p ≡ record p { call = Receives who.end (turn.Leaving who.number (end.Gave number)) (side_given x number) 0 []; hands = hands_but p.hands number } =
-        ap (λ (k : Call). receive_or p (λ e t y b message. under_way_or p (λ caller r. given_or p (λ number. record p {
-          call = Receives e (turn.Leaving caller (end.Gave number)) (record y { returned = y.returned + 1; hands = hands_without y.hands number }) b message;
-          hands = hands_but p.hands number;
-        }) r.work) t) k) in_call in
+      ap (λ (k : Call). receive_or p (λ e t y b message. under_way_or p (λ caller r. given_or p (λ number. record p {
+        call = Receives e (turn.Leaving caller (end.Gave number)) (record y { returned = y.returned + 1; hands = hands_without y.hands number }) b message;
+        hands = hands_but p.hands number;
+      }) r.work) t) k) in_call in
       record { in_call = ap (λ (r : Pass). r.call) is; own = ap (λ (r : Pass). r.own) is; number = ap (λ (r : Pass). r.number) is; in_hand = ap (λ (r : Pass). r.hands) is }
 
   pub gives_back : (me me' : SeatState) (who : CallerId) (returned number : ℕ) → (at : IsGiveAt who returned (work.Give number give_stage.Entry) me) → GivePublishes me me' → IsRingStep coded meaning me me'

@@ -8,3 +8,4 @@ pub mod TakeSteps
 pub mod TakeWalks
 pub mod GiveSteps
 pub mod Makes
+pub mod Crosses

@@ -237,5 +237,5 @@ module _ {D : Type 0} (coded : Coded D) (meaning : DeskMeaning D) where
           → Moves p (with_publish p) (Sends (other c.who.end) (turn.Leaving c.who.number (end.Sent c.accepted)) (record { accepted = c.accepted + 1 }) c.buffer) (Publish (other c.who.end) c.who.follows c.accepted c.message.value ∷ []) same_hands
       published p in_call =
           let is : with_publish p ≡ record p { call = Sends (other c.who.end) (turn.Leaving c.who.number (end.Sent c.accepted)) (record { accepted = c.accepted + 1 }) c.buffer; own = Publish (other c.who.end) c.who.follows c.accepted c.message.value ∷ p.own }
-              = ap (λ (k : Call). send_or p (λ e t x b. under_way_or p (λ caller s. record p { call = Sends e (turn.Leaving caller (end.Sent x.accepted)) (record { accepted = x.accepted + 1 }) b; own = Publish e s.follows x.accepted s.message ∷ p.own }) t) k) in_call in
+          = ap (λ (k : Call). send_or p (λ e t x b. under_way_or p (λ caller s. record p { call = Sends e (turn.Leaving caller (end.Sent x.accepted)) (record { accepted = x.accepted + 1 }) b; own = Publish e s.follows x.accepted s.message ∷ p.own }) t) k) in_call in
           record { in_call = ap (λ (r : Pass). r.call) is; own = ap (λ (r : Pass). r.own) is; number = ap (λ (r : Pass). r.number) is; in_hand = ap (λ (r : Pass). r.hands) is }

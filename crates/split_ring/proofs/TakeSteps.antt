@@ -195,7 +195,7 @@ module _ {D : Type 0} (coded : Coded D) (meaning : DeskMeaning D) where
   -- the handing, where the message is handed over to the call of a pass, and where it isn't
   handed_pass : (c : TakeCall) (x : ReceiverSide) (b : ℕ) (m : List ℕ) (era : Era) (desk : D) (p : Pass) → p.call ≡ receive_call c.who (work.Take take_stage.Buffer) x b m → is_live_in era c.who.follows ≡ true
       → Moves p (noted (made.Era era) (with_handing coded meaning era desk p)) (Receives c.who.end (turn.Leaving c.who.number (end.Took x.handed (meaning.verdict desk x.handed m))) (handed_side coded meaning desk x c.who.number b m) b m)
-          (Step (made.Era era) ∷ Take c.who.end c.who.follows x.handed m ∷ []) (one_more x.handed)
+      (Step (made.Era era) ∷ Take c.who.end c.who.follows x.handed m ∷ []) (one_more x.handed)
   handed_pass c x b m era desk p in_call live =
       let handed : Pass = record p {
         call = Receives c.who.end (turn.Leaving c.who.number (end.Took x.handed (meaning.verdict desk x.handed m))) (handed_side coded meaning desk x c.who.number b m) b m;
@@ -203,12 +203,12 @@ module _ {D : Type 0} (coded : Coded D) (meaning : DeskMeaning D) where
         hands = p.hands ++ x.handed ∷ [];
       } in let dead : Pass = with_call p (Receives c.who.end (turn.Leaving c.who.number (end.Dead era)) x b m) in
       let is : with_handing coded meaning era desk p ≡ handed = ap (λ (k : Call). receive_or p (λ e t y a message. under_way_or p (λ caller r. cond (is_live_in era r.follows)
-        (record p {
-          call = Receives e (turn.Leaving caller (end.Took y.handed (meaning.verdict desk y.handed message))) (handed_side coded meaning desk y caller a message) a message;
-          own = Take e r.follows y.handed message ∷ p.own;
-          hands = p.hands ++ y.handed ∷ [];
-        })
-        (with_call p (Receives e (turn.Leaving caller (end.Dead era)) y a message))) t) k) in_call ∙ ap (λ (a : Bool). cond a handed dead) live in
+      (record p {
+        call = Receives e (turn.Leaving caller (end.Took y.handed (meaning.verdict desk y.handed message))) (handed_side coded meaning desk y caller a message) a message;
+        own = Take e r.follows y.handed message ∷ p.own;
+        hands = p.hands ++ y.handed ∷ [];
+      })
+      (with_call p (Receives e (turn.Leaving caller (end.Dead era)) y a message))) t) k) in_call ∙ ap (λ (a : Bool). cond a handed dead) live in
       record { in_call = ap (λ (r : Pass). r.call) is; own = ap (λ (r : Pass). Step (made.Era era) ∷ r.own) is; number = ap (λ (r : Pass). r.number) is; in_hand = ap (λ (r : Pass). r.hands) is }
 
   dead_pass : (c : TakeCall) (x : ReceiverSide) (b : ℕ) (m : List ℕ) (era : Era) (desk : D) (p : Pass) → p.call ≡ receive_call c.who (work.Take take_stage.Buffer) x b m → is_live_in era c.who.follows ≡ false
@@ -220,12 +220,12 @@ module _ {D : Type 0} (coded : Coded D) (meaning : DeskMeaning D) where
         hands = p.hands ++ x.handed ∷ [];
       } in let dead : Pass = with_call p (Receives c.who.end (turn.Leaving c.who.number (end.Dead era)) x b m) in
       let is : with_handing coded meaning era desk p ≡ dead = ap (λ (k : Call). receive_or p (λ e t y a message. under_way_or p (λ caller r. cond (is_live_in era r.follows)
-        (record p {
-          call = Receives e (turn.Leaving caller (end.Took y.handed (meaning.verdict desk y.handed message))) (handed_side coded meaning desk y caller a message) a message;
-          own = Take e r.follows y.handed message ∷ p.own;
-          hands = p.hands ++ y.handed ∷ [];
-        })
-        (with_call p (Receives e (turn.Leaving caller (end.Dead era)) y a message))) t) k) in_call ∙ ap (λ (a : Bool). cond a handed dead) live in
+      (record p {
+        call = Receives e (turn.Leaving caller (end.Took y.handed (meaning.verdict desk y.handed message))) (handed_side coded meaning desk y caller a message) a message;
+        own = Take e r.follows y.handed message ∷ p.own;
+        hands = p.hands ++ y.handed ∷ [];
+      })
+      (with_call p (Receives e (turn.Leaving caller (end.Dead era)) y a message))) t) k) in_call ∙ ap (λ (a : Bool). cond a handed dead) live in
       record { in_call = ap (λ (r : Pass). r.call) is; own = ap (λ (r : Pass). Step (made.Era era) ∷ r.own) is; number = ap (λ (r : Pass). r.number) is; in_hand = ap (λ (r : Pass). r.hands) is }
 
   -- what a handing leaves: the side state that is out is still as it was

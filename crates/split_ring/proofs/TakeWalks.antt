@@ -78,7 +78,7 @@ module _ {D : Type 0} (coded : Coded D) (meaning : DeskMeaning D) where
   pub handed : (c : TakeCall) (buffer : ℕ) (taken : Taken) (a b d e f h : SeatState) → HasDone coded meaning [] same_hands a b → HasDone coded meaning (Step (made.Era (live_era c.who.follows)) ∷ []) same_hands b d
       → (accepted : ℕ) × HasDone coded meaning (Step (made.Waiting c.handed accepted) ∷ []) same_hands d e → HasDone coded meaning (Step (made.Buffer buffer) ∷ []) same_hands e f
       → IsLeaving lane_turn.Receiver c.who.end h → (message : List ℕ) × IsHandedTo meaning c.who c.handed message taken
-          × HasDone coded meaning (Step (made.Era (live_era c.who.follows)) ∷ Take c.who.end c.who.follows c.handed message ∷ []) (one_more c.handed) f h
+      × HasDone coded meaning (Step (made.Era (live_era c.who.follows)) ∷ Take c.who.end c.who.follows c.handed message ∷ []) (one_more c.handed) f h
       → HasSettledTake coded meaning c.who (Ok taken) a h
   handed c buffer taken a b d e f h begun live look out leaves took =
       let upto : List Event = Step (made.Buffer buffer) ∷ Step (made.Waiting c.handed look.0) ∷ Step (made.Era (live_era c.who.follows)) ∷ [] in

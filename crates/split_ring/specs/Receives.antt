@@ -64,14 +64,14 @@ abbrev pub IsTakeWalk : {D : Type 0} → DeskMeaning D → CallerId → Result T
 IsTakeWalk meaning who (Err (take_fault.Busy holder)) walk = walk ≡ Step (made.Turn (holder + 1)) ∷ []
 IsTakeWalk meaning who (Err (take_fault.Dead era)) walk =
     ((walk ≡ Step made.Left ∷ Step (made.Era era) ∷ Step (made.Turn 0) ∷ [])
-        ⊎ ((buffer : ℕ) × (handed accepted : ℕ) × (walk ≡ Step made.Left ∷ Step (made.Era era) ∷ Step (made.Buffer buffer) ∷ Step (made.Waiting handed accepted)
-            ∷ Step (made.Era (live_era who.follows)) ∷ Step (made.Turn 0) ∷ [])))
+    ⊎ ((buffer : ℕ) × (handed accepted : ℕ) × (walk ≡ Step made.Left ∷ Step (made.Era era) ∷ Step (made.Buffer buffer) ∷ Step (made.Waiting handed accepted)
+    ∷ Step (made.Era (live_era who.follows)) ∷ Step (made.Turn 0) ∷ [])))
     × (era ≢ live_era who.follows)
 IsTakeWalk meaning who (Err (take_fault.Empty accepted)) walk =
     walk ≡ Step made.Left ∷ Step (made.Waiting accepted accepted) ∷ Step (made.Era (live_era who.follows)) ∷ Step (made.Turn 0) ∷ []
 IsTakeWalk meaning who (Ok taken) walk = (number : ℕ) × (message : List ℕ) × (buffer accepted : ℕ) × IsHandedTo meaning who number message taken
     × (walk ≡ Step made.Left ∷ Step (made.Era (live_era who.follows)) ∷ Take who.end who.follows number message ∷ Step (made.Buffer buffer)
-        ∷ Step (made.Waiting number accepted) ∷ Step (made.Era (live_era who.follows)) ∷ Step (made.Turn 0) ∷ [])
+    ∷ Step (made.Waiting number accepted) ∷ Step (made.Era (live_era who.follows)) ∷ Step (made.Turn 0) ∷ [])
 
 -- what is in hand after it
 abbrev pub hands_after : Result Taken TakeFault → List ℕ → List ℕ

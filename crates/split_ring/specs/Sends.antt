@@ -73,7 +73,7 @@ IsSendWalk z who message (Err (fault.BookFull accepted)) walk = (returned : ℕ)
     × (accepted ≢ returned + (sizes_at z (other who.end)).capacity) × (accepted ≡ z.book)
 IsSendWalk z who message (Ok number) walk = (returned : ℕ) × (buffer : ℕ)
     × (walk ≡ Step made.Left ∷ Publish (other who.end) who.follows number message ∷ Step made.Entry ∷ Step (made.Buffer buffer)
-        ∷ Step (made.Room number returned) ∷ Step (made.Era (live_era who.follows)) ∷ Step (made.Turn 0) ∷ [])
+    ∷ Step (made.Room number returned) ∷ Step (made.Era (live_era who.follows)) ∷ Step (made.Turn 0) ∷ [])
 
 -- a send did a whole walk, and what is in hand is as before
 pub record IsSend {D : Type 0} (coded : Coded D) (meaning : DeskMeaning D) (z : LinkSizes) (who : CallerId) (message : List ℕ) (answer : Result ℕ SendFault) (me me' : SeatState) : Type 0 where

@@ -8,6 +8,7 @@ mod links;
 mod sends;
 mod slots;
 mod takes;
+mod threads;
 mod turns;
 
 pub use callers::{Caller, CallerId, Manager};

@@ -24,12 +24,15 @@ use std::alloc::Global;
 use std::snapshot::Snapshot;
 
 /// The table of a desk, with its memory.
-type OwnedDesk<D> = Table<D, DeskView, Snapshot<D>, DeskRule<D>, Global>;
+pub(crate) type OwnedDesk<D> = Table<D, DeskView, Snapshot<D>, DeskRule<D>, Global>;
+
+/// The table of the words, with its memory.
+pub(crate) type OwnedTable<D> = Table<Slot, View, LinkSizes, LinkWords<D>, Global>;
 
 /// A link that threads share, through a `&`.
 #[derive(Drop)]
 pub struct SharedLink<D: Desk> {
-    pub(crate) table: Table<Slot, View, LinkSizes, LinkWords<D>, Global>,
+    pub(crate) table: OwnedTable<D>,
     pub(crate) host: OwnedDesk<D>,
     pub(crate) remote: OwnedDesk<D>,
     pub(crate) sizes: LinkSizes,

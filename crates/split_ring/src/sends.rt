@@ -220,7 +220,15 @@ impl<D: Desk> SharedLink<D> {
             id: call.buffer,
             len: entry_length(&self.sizes_of(lane), message),
         };
-        store_entry(table, &self.sizes, seat, lane, Ring::Forward, call.accepted, entry);
+        store_entry(
+            table,
+            &self.sizes,
+            seat,
+            lane,
+            Ring::Forward,
+            call.accepted,
+            entry,
+        );
     }
 
     /// Step 6 of a send: the message is accepted, and the buffer at home.

@@ -92,10 +92,15 @@ returns-then-is_live_in-clause-left g c =
     let after : Call = Receives who.end (turn.Leaving who.number (end.Took x.handed (meaning.verdict h.desk x.handed m))) (handed_side coded meaning h.desk x who.number b m) b m in
     let me3 : SeatState = (me2.0, (c.receiver_slot.result, c.judge-verdict.new.slot) ∷ rest me2.1) in
     let said : c.message_in-message.result ≡ m = c.message_in-message.ensures m (inside me (receive_call who w x b m) (buffer_slot z.to_host.capacity who.end b) k (Buffer m) c.slot_mut.result.now (receive_slots who x) out.at c.slot_mut.ensures.value) in
-    let judged = c.judge-verdict.ensures.judged x h.desk (inside me2 after (receiver_slot who.end) c.receiver_slot.result (Receiver x) c.slot_mut-side.result.now [] h.at c.slot_mut-side.ensures.value) h.right.code in
-    (who.number, end.Took x.handed (meaning.verdict h.desk x.handed m), handed_side coded meaning h.desk x who.number b m, b, m,
+    let judged = c.judge-verdict.ensures.judged x h.desk (inside me2 after (receiver_slot who.end) c.receiver_slot.result (Receiver x) c.slot_mut-side.result.now [] h.at c.slot_mut-side.ensures.value) h.right.code in (
+      who.number,
+      end.Took x.handed (meaning.verdict h.desk x.handed m),
+      handed_side coded meaning h.desk x who.number b m,
+      b,
+      m,
       subst (λ (y : Slot). IsAt me3 after ((receiver_slot who.end, y) ∷ [])) (judged.1 ∙ ap (λ (l : List ℕ). Receiver (handed_side coded meaning h.desk x who.number b l)) said)
-      (rewritten me2 after (receiver_slot who.end) c.receiver_slot.result (Receiver x) c.judge-verdict.new.slot [] h.at c.receiver_slot.ensures))
+          (rewritten me2 after (receiver_slot who.end) c.receiver_slot.result (Receiver x) c.judge-verdict.new.slot [] h.at c.receiver_slot.ensures),
+    )
 
 pub returns-then-is_live_in-clause-handed : goal.returns-then-is_live_in-clause-handed
 returns-then-is_live_in-clause-handed g c =
@@ -108,8 +113,8 @@ returns-then-is_live_in-clause-handed g c =
     let after : Call = Receives who.end (turn.Leaving who.number (end.Took x.handed (meaning.verdict h.desk x.handed m))) (handed_side coded meaning h.desk x who.number b m) b m in
     let me3 : SeatState = (me2.0, (c.receiver_slot.result, c.judge-verdict.new.slot) ∷ rest me2.1) in
     let said : c.message_in-message.result ≡ m = c.message_in-message.ensures m (inside me (receive_call who w x b m) (buffer_slot z.to_host.capacity who.end b) k (Buffer m) c.slot_mut.result.now (receive_slots who x) out.at c.slot_mut.ensures.value) in
-    let judged = c.judge-verdict.ensures.judged x h.desk (inside me2 after (receiver_slot who.end) c.receiver_slot.result (Receiver x) c.slot_mut-side.result.now [] h.at c.slot_mut-side.ensures.value) h.right.code in
-    (m,
+    let judged = c.judge-verdict.ensures.judged x h.desk (inside me2 after (receiver_slot who.end) c.receiver_slot.result (Receiver x) c.slot_mut-side.result.now [] h.at c.slot_mut-side.ensures.value) h.right.code in (
+      m,
       record {
         lane = ap (λ (q : HeldBuffer). q.lane) c.of-held.ensures ∙ c.lane_number.ensures;
         caller = ap (λ (q : HeldBuffer). q.caller) c.of-held.ensures;
@@ -119,5 +124,6 @@ returns-then-is_live_in-clause-handed g c =
         judged = judged.0 ∙ (λ i. meaning.verdict h.desk (out.handed i) (said i));
       },
       subst (λ (i : ℕ). HasDone coded meaning (Step (made.Era (live_era who.follows)) ∷ Take who.end who.follows i m ∷ []) (one_more i) me me3) out.handed
-      (done_then coded meaning [] (Step (made.Era (live_era who.follows)) ∷ Take who.end who.follows x.handed m ∷ []) same_hands (one_more x.handed) me me2 me3
-      (done_then coded meaning (Step (made.Era (live_era who.follows)) ∷ Take who.end who.follows x.handed m ∷ []) [] (one_more x.handed) same_hands me me1 me2 (still coded meaning me me1 refl) h.done) (still coded meaning me2 me3 refl)))
+          (done_then coded meaning [] (Step (made.Era (live_era who.follows)) ∷ Take who.end who.follows x.handed m ∷ []) same_hands (one_more x.handed) me me2 me3
+          (done_then coded meaning (Step (made.Era (live_era who.follows)) ∷ Take who.end who.follows x.handed m ∷ []) [] (one_more x.handed) same_hands me me1 me2 (still coded meaning me me1 refl) h.done) (still coded meaning me2 me3 refl)),
+    )

@@ -37,10 +37,15 @@ returns-clause-given g c =
     let all = gives_back coded meaning me me' who c.args.returned number q c.publish_index.ensures.told (stores coded meaning me me' (place_in (ring_index ring.Return who.end)) ((c.return_count-count.result + 1) % 65536) c.publish_index.ensures.step) in
     let after : Call = Receives who.end (turn.Leaving who.number (end.Gave number)) (side_given x number) 0 [] in
     let me'' : SeatState = (me'.0, (c.receiver_slot.result, c.give_back_in.new.slot) ∷ rest me'.1) in
-    let back = c.give_back_in.ensures x (inside me' after (receiver_slot who.end) c.receiver_slot.result (Receiver x) c.slot_mut.result.now [] all.0 c.slot_mut.ensures.value) in
-    (who.number, end.Gave number, side_given x number, 0, [],
+    let back = c.give_back_in.ensures x (inside me' after (receiver_slot who.end) c.receiver_slot.result (Receiver x) c.slot_mut.result.now [] all.0 c.slot_mut.ensures.value) in (
+      who.number,
+      end.Gave number,
+      side_given x number,
+      0,
+      [],
       subst (λ (y : Slot). IsAt me'' after ((receiver_slot who.end, y) ∷ [])) back
-      (rewritten me' after (receiver_slot who.end) c.receiver_slot.result (Receiver x) c.give_back_in.new.slot [] all.0 c.receiver_slot.ensures))
+          (rewritten me' after (receiver_slot who.end) c.receiver_slot.result (Receiver x) c.give_back_in.new.slot [] all.0 c.receiver_slot.ensures),
+    )
 
 pub returns-clause-done : goal.returns-clause-done
 returns-clause-done g c =

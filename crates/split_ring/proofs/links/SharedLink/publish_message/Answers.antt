@@ -26,17 +26,22 @@ publish_index-requires-clause-call g c =
 pub slot_mut-requires : goal.slot_mut-requires
 slot_mut-requires g c =
     let me = c.args.seat.now.me in let call = c.args.call.now in let me' = c.publish_index.new.seat.me in
-    let all = publishes_message g.row.D.coded g.D.Desk.meaning c.args.self.now.sizes me me' call c.requires.call c.publish_index.ensures.told (stores g.row.D.coded g.D.Desk.meaning me me' (place_in (ring_index ring.Forward c.other-lane.result)) ((call.accepted + 1) % 65536) c.publish_index.ensures.step) in
-    (c.publish_index.ensures.same.0 ∙ c.requires.seat.at_table,
-      (Sender (record { accepted = call.accepted }), lent me' (Sends (other call.who.end) (turn.Leaving call.who.number (end.Sent call.accepted)) (record { accepted = call.accepted + 1 }) call.buffer) (sender_slot (other call.who.end)) c.sender_slot.result (Sender (record { accepted = call.accepted })) [] all.0 (c.sender_slot.ensures ∙ ap sender_slot c.other-lane.ensures)))
+    let all = publishes_message g.row.D.coded g.D.Desk.meaning c.args.self.now.sizes me me' call c.requires.call c.publish_index.ensures.told (stores g.row.D.coded g.D.Desk.meaning me me' (place_in (ring_index ring.Forward c.other-lane.result)) ((call.accepted + 1) % 65536) c.publish_index.ensures.step) in (
+      c.publish_index.ensures.same.0 ∙ c.requires.seat.at_table,
+      (Sender (record { accepted = call.accepted }), lent me' (Sends (other call.who.end) (turn.Leaving call.who.number (end.Sent call.accepted)) (record { accepted = call.accepted + 1 }) call.buffer) (sender_slot (other call.who.end)) c.sender_slot.result (Sender (record { accepted = call.accepted })) [] all.0 (c.sender_slot.ensures ∙ ap sender_slot c.other-lane.ensures)),
+    )
 
 pub returns-clause-published : goal.returns-clause-published
 returns-clause-published g c =
     let me = c.args.seat.now.me in let call = c.args.call.now in let me' = c.publish_index.new.seat.me in
-    let all = publishes_message g.row.D.coded g.D.Desk.meaning c.args.self.now.sizes me me' call c.requires.call c.publish_index.ensures.told (stores g.row.D.coded g.D.Desk.meaning me me' (place_in (ring_index ring.Forward c.other-lane.result)) ((call.accepted + 1) % 65536) c.publish_index.ensures.step) in
-    (call.who.number, end.Sent call.accepted, record { accepted = call.accepted + 1 }, call.buffer,
+    let all = publishes_message g.row.D.coded g.D.Desk.meaning c.args.self.now.sizes me me' call c.requires.call c.publish_index.ensures.told (stores g.row.D.coded g.D.Desk.meaning me me' (place_in (ring_index ring.Forward c.other-lane.result)) ((call.accepted + 1) % 65536) c.publish_index.ensures.step) in (
+      call.who.number,
+      end.Sent call.accepted,
+      record { accepted = call.accepted + 1 },
+      call.buffer,
       subst (λ (w : Slot). IsAt (me'.0, (c.sender_slot.result, c.accept_in.new.slot) ∷ rest me'.1) (Sends (other call.who.end) (turn.Leaving call.who.number (end.Sent call.accepted)) (record { accepted = call.accepted + 1 }) call.buffer) ((sender_slot (other call.who.end), w) ∷ [])) c.accept_in.ensures
-      (rewritten me' (Sends (other call.who.end) (turn.Leaving call.who.number (end.Sent call.accepted)) (record { accepted = call.accepted + 1 }) call.buffer) (sender_slot (other call.who.end)) c.sender_slot.result (Sender (record { accepted = call.accepted })) c.accept_in.new.slot [] all.0 (c.sender_slot.ensures ∙ ap sender_slot c.other-lane.ensures)))
+          (rewritten me' (Sends (other call.who.end) (turn.Leaving call.who.number (end.Sent call.accepted)) (record { accepted = call.accepted + 1 }) call.buffer) (sender_slot (other call.who.end)) c.sender_slot.result (Sender (record { accepted = call.accepted })) c.accept_in.new.slot [] all.0 (c.sender_slot.ensures ∙ ap sender_slot c.other-lane.ensures)),
+    )
 
 pub returns-clause-done : goal.returns-clause-done
 returns-clause-done g c =
