@@ -1,7 +1,6 @@
 -- Words that stand apart, appended.
 use Rattle.std.proofs.Common.{◌≡◌, ◌≤◌, ◌-◌, length, length-append, append-nil, ℕ, ◌+◌, ◌*◌, suc, zero, List, [], ◌∷◌, ◌++◌, map, replicate, refl, sym, ap, ◌∙◌, arith, append_assoc}
 use Rattle.std.specs.List.{range_with_len}
-use Rattle.vring_layout.specs.declared.words.UsedWord.{UsedWord}
 use Rattle.ring_core.specs.Rings.{entry_of, opened_returns, return_count}
 use Rattle.lane_model.specs.declared.calls.LinkConfig.{LinkConfig}
 use Rattle.ring_core.specs.declared.states.RingSizes.{RingSizes}

@@ -1,14 +1,10 @@
 -- The steps of a give, as its caller's seat is told them, and put together.
-use Rattle.std.proofs.Common.{◌≡◌, ℕ, ◌+◌, ◌≤◌, List, [], ◌∷◌, ◌++◌, refl, sym, ap, ◌∙◌, subst}
-use Rattle.std.specs.Prelude.{Result, Ok, Err}
+use Rattle.std.proofs.Common.{◌≡◌, ℕ, ◌+◌, List, [], ◌∷◌, refl, sym, ap, ◌∙◌, subst}
+use Rattle.std.specs.Prelude.{Ok}
 use base.Stored.{Coded}
-use Rattle.rp_base.specs.declared.limits.TheConstants.{BOOK_MOST}
 use Rattle.lane_model.specs.declared.calls.CallEnd.TheVariants as end
-use Rattle.lane_model.specs.declared.recoveries.LaneTurn.TheVariants as lane_turn
 use Rattle.lane_model.specs.declared.stages.GiveStage.TheVariants as give_stage
-use Rattle.lane_model.specs.declared.stages.Turn.{Turn}
 use Rattle.lane_model.specs.declared.stages.Turn.TheVariants as turn
-use Rattle.lane_model.specs.declared.stages.Work.{Work}
 use Rattle.lane_model.specs.declared.stages.Work.TheVariants as work
 use Rattle.lane_model.specs.Desks.{DeskMeaning}
 use Rattle.lane_model.specs.HeldBuffers.{HeldBuffer}
@@ -23,14 +19,13 @@ use Rattle.link_words.specs.declared.rule.LinkSizes.{LinkSizes}
 use Rattle.link_words.specs.declared.rule.Made.TheVariants as made
 use Rattle.link_words.specs.declared.rule.Pass.{Pass}
 use Rattle.link_words.specs.declared.rule.ReceiverSide.{ReceiverSide}
-use Rattle.link_words.specs.Calls.{SeatState, noted, receive_or, under_way_or, with_receive, place_of}
+use Rattle.link_words.specs.Calls.{SeatState, noted, receive_or, under_way_or, place_of}
 use Rattle.link_words.specs.Steps.{GiveStoresAt, GivePublishesAt, GiveStoresEntry, GivePublishes, returned_by, given_or, hands_but, with_entry, with_given}
 use Rattle.link_words.specs.Words.{sizes_at}
 use Rattle.split_ring.specs.declared.callers.CallerId.{CallerId}
-use Rattle.split_ring.specs.declared.gives.GiveBusy.{GiveBusy}
-use Rattle.split_ring.specs.Receives.{IsGiveAt, IsGive, hands_left}
+use Rattle.split_ring.specs.Receives.{IsGiveAt, IsGive}
 use Rattle.split_ring.specs.Seats.{pass_in, IsAt}
-use Rattle.split_ring.specs.Turns.{IsLeaving, receive_call, receive_slots}
+use Rattle.split_ring.specs.Turns.{receive_call, receive_slots}
 use Rattle.split_ring.specs.Walks.{same_hands, IsRingStep, HasDone}
 use Rattle.split_ring.proofs.Seats.{Moves, after_step, stepped_once, done_then}
 use Rattle.split_ring.proofs.TakeSteps.{alone, receiving, turned, side_is, sizes_is, work_at}

@@ -1,6 +1,6 @@
 -- A new link: what its making and that of its callers have to show.
-use Rattle.std.proofs.Common.{◌≡◌, ◌≤◌, ◌<◌, ◌^◌, ◌+◌, ℕ, zero, suc, List, [], ◌∷◌, ◌++◌, length, replicate, refl, sym, ap, ◌∙◌, subst, arith, cond, eqb, true, false, min}
-use Rattle.std.specs.Prelude.{Option, Some, None, slice_set, IsTrue}
+use Rattle.std.proofs.Common.{◌≡◌, ◌≤◌, ◌<◌, ◌^◌, ℕ, zero, suc, List, [], ◌∷◌, ◌++◌, length, replicate, refl, sym, ap, ◌∙◌, subst, arith, true, false}
+use Rattle.std.specs.Prelude.{Option, Some, None, slice_set}
 use lib.ListN.{get_elem?}
 use base.Stored.{Gv, Coded}
 use Rattle.atomic_table.specs.Seated.{TableId}
@@ -17,23 +17,19 @@ use Rattle.link_words.specs.declared.codes.DeskRight.{DeskRight}
 use Rattle.link_words.specs.declared.codes.DeskTables.{DeskTables}
 use Rattle.link_words.specs.declared.codes.DeskView.{DeskView}
 use Rattle.link_words.specs.declared.copies.LinkCopy.{LinkCopy}
-use Rattle.link_words.specs.declared.rule.Call.TheVariants.{Rests}
 use Rattle.link_words.specs.declared.rule.LinkSizes.{LinkSizes}
 use Rattle.link_words.specs.declared.rule.Pass.{Pass}
 use Rattle.link_words.specs.declared.rule.Slot.{Slot}
 use Rattle.link_words.specs.declared.rule.View.{View}
-use Rattle.link_words.specs.Calls.{SeatState}
-use Rattle.link_words.specs.DeskSeats.{code_in, home_view}
+use Rattle.link_words.specs.DeskSeats.{code_in}
 use Rattle.link_words.specs.Fresh.{sizes_for, opened_slots}
 use Rattle.link_words.specs.Layouts.{layout}
-use Rattle.link_words.specs.Passes.{Manages, all_but_last, last_pass_only, new_pass, first_incarnation, only_new, with_new_caller, with_caller_as, without_last, without_new}
+use Rattle.link_words.specs.Passes.{Manages, all_but_last, last_pass_only, new_pass, first_incarnation, only_new, with_new_caller, with_caller_as, without_new}
 use Rattle.link_words.specs.PlacedDesks.{right_at}
 use Rattle.link_words.specs.Rule.{LinkRule, first_view}
 use Rattle.link_words.specs.Words.{words_of}
-use Rattle.split_ring.specs.declared.callers.CallerId.{CallerId}
-use Rattle.split_ring.specs.Links.{HasDeskSeat, IsManager}
+use Rattle.split_ring.specs.Links.{HasDeskSeat}
 use Rattle.split_ring.specs.Openings.{opened_words}
-use Rattle.split_ring.specs.Seats.{first_pass, pass_in, IsCaller}
 use Rattle.split_ring.proofs.Apart.{opened_is}
 
 copies_length : (n : ℕ) → (let none : List ℕ = [] in length (replicate n none)) ≡ n

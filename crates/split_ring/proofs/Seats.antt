@@ -1,7 +1,6 @@
 -- A caller's seat after a step of link_words, and after several.
-use Rattle.std.proofs.Common.{◌≡◌, ◌⊎◌, inl, inr, ℕ, ◌++◌, List, [], ◌∷◌, Bool, true, cond, refl, sym, ap, ◌∙◌, subst, eqb, append_assoc, eq-eqb}
+use Rattle.std.proofs.Common.{◌≡◌, inl, inr, ℕ, ◌++◌, List, [], ◌∷◌, Bool, true, cond, refl, sym, ap, ◌∙◌, subst, eqb, append_assoc, eq-eqb}
 use lib.ListN.{get_elem?}
-use mathlib.Core.Option.{some}
 use base.Stored.{Coded}
 use Rattle.atomic_table.specs.Table.{rest}
 use Rattle.rp_base.specs.declared.kinds.End.{End}
@@ -24,7 +23,7 @@ use Rattle.link_words.specs.declared.rule.View.{View}
 use Rattle.link_words.specs.Calls.{SeatState, Becomes, with_pass_at, has_side, first_side, place_of, place_with, call_at}
 use Rattle.link_words.specs.Passes.{Mover, place_of_number}
 use Rattle.link_words.specs.Steps.{Begins, GoesOn, HasWord, StoresWord}
-use Rattle.link_words.specs.Words.{other, sender_slot, receiver_slot, buffer_slot}
+use Rattle.link_words.specs.Words.{sender_slot, receiver_slot, buffer_slot}
 use Rattle.split_ring.specs.Seats.{first_pass, pass_in, IsAt}
 use Rattle.split_ring.specs.Walks.{same_hands, IsRingStep, HasStepped, HasDone}
 

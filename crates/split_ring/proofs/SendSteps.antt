@@ -1,11 +1,10 @@
 -- The steps of a send, as its caller's seat is told them.
-use Rattle.std.proofs.Common.{◌≡◌, ◌≢◌, ℕ, ◌+◌, ◌-◌, ◌<◌, ◌≤◌, ◌%◌, List, [], ◌∷◌, Bool, true, false, cond, eqb, length, refl, sym, ap, ◌∙◌, subst, arith, eq-eqb, ne_eqb}
+use Rattle.std.proofs.Common.{◌≡◌, ◌≢◌, ℕ, ◌+◌, ◌-◌, ◌<◌, ◌%◌, List, [], ◌∷◌, Bool, true, false, cond, eqb, length, refl, sym, ap, ◌∙◌, subst, arith, eq-eqb, ne_eqb}
 use base.Stored.{Coded}
 use Rattle.atomic_table.specs.Table.{rest}
 use Rattle.rp_base.specs.declared.kinds.End.{End}
 use Rattle.rp_base.specs.declared.kinds.End.TheVariants as side
 use Rattle.rp_base.specs.declared.kinds.Era.{Era}
-use Rattle.rp_base.specs.declared.limits.TheConstants.{BOOK_MOST}
 use Rattle.lane_model.specs.declared.calls.CallEnd.{CallEnd}
 use Rattle.lane_model.specs.declared.calls.CallEnd.TheVariants as end
 use Rattle.lane_model.specs.declared.recoveries.LaneTurn.TheVariants as lane_turn
@@ -30,11 +29,11 @@ use Rattle.link_words.specs.declared.rule.Pass.{Pass}
 use Rattle.link_words.specs.declared.rule.SenderSide.{SenderSide}
 use Rattle.link_words.specs.declared.rule.Slot.{Slot}
 use Rattle.link_words.specs.declared.rule.Slot.TheVariants.{Buffer, Sender}
-use Rattle.link_words.specs.Calls.{SeatState, SendAt, Notes, noted, send_or, receive_or, under_way_or, with_send, place_of, call_at}
+use Rattle.link_words.specs.Calls.{SeatState, SendAt, Notes, noted, send_or, receive_or, under_way_or, with_send, place_of}
 use Rattle.link_words.specs.Parts.{AreNear}
 use Rattle.link_words.specs.Passes.{with_call}
 use Rattle.link_words.specs.Steps.{SendLoadsEra, SendLooks, SendTakesBuffer, SendStoresEntry, SendStoresAt, SendPublishes, SendPublishesAt, accepted_by, sizes_by, slot_by, lane_by, look_turn, with_publish}
-use Rattle.link_words.specs.Words.{other, sizes_at, sender_slot, buffer_slot, era_word}
+use Rattle.link_words.specs.Words.{other, sizes_at, buffer_slot, era_word}
 use Rattle.split_ring.specs.declared.sends.SendCall.{SendCall}
 use Rattle.split_ring.specs.declared.sends.SendFault.TheVariants as fault
 use Rattle.split_ring.specs.Seats.{pass_in, IsAt}

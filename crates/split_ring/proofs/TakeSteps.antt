@@ -1,16 +1,14 @@
 -- The steps of a take, as its caller's seat is told them.
-use Rattle.std.proofs.Common.{◌≡◌, ◌≢◌, ℕ, ◌+◌, ◌<◌, ◌≤◌, ◌%◌, List, [], ◌∷◌, ◌++◌, Bool, true, false, cond, eqb, length, refl, sym, ap, ◌∙◌, subst, arith, eq-eqb, ne_eqb}
+use Rattle.std.proofs.Common.{◌≡◌, ◌≢◌, ℕ, ◌+◌, ◌<◌, ◌≤◌, ◌%◌, List, [], ◌∷◌, ◌++◌, Bool, true, false, cond, length, refl, sym, ap, ◌∙◌, subst, arith, eq-eqb, ne_eqb}
 use base.Stored.{Coded}
 use Rattle.atomic_table.specs.Table.{rest}
 use Rattle.rp_base.specs.declared.kinds.End.{End}
 use Rattle.rp_base.specs.declared.kinds.End.TheVariants as side
 use Rattle.rp_base.specs.declared.kinds.Era.{Era}
-use Rattle.rp_base.specs.declared.limits.TheConstants.{BOOK_MOST, CAPACITY_MOST}
-use Rattle.lane_model.specs.declared.calls.CallEnd.{CallEnd}
+use Rattle.rp_base.specs.declared.limits.TheConstants.{CAPACITY_MOST}
 use Rattle.lane_model.specs.declared.calls.CallEnd.TheVariants as end
 use Rattle.lane_model.specs.declared.recoveries.LaneTurn.TheVariants as lane_turn
 use Rattle.lane_model.specs.declared.stages.Receiving.{Receiving}
-use Rattle.lane_model.specs.declared.stages.TakeStage.{TakeStage}
 use Rattle.lane_model.specs.declared.stages.TakeStage.TheVariants as take_stage
 use Rattle.lane_model.specs.declared.stages.Turn.{Turn}
 use Rattle.lane_model.specs.declared.stages.Turn.TheVariants as turn
@@ -35,8 +33,8 @@ use Rattle.link_words.specs.declared.rule.Slot.TheVariants.{Buffer, Receiver}
 use Rattle.link_words.specs.Calls.{SeatState, WorkAt, Notes, noted, send_or, receive_or, under_way_or, with_receive, place_of, call_at}
 use Rattle.link_words.specs.Passes.{with_call}
 use Rattle.link_words.specs.PlacedDesks.{IsRightTo, no_right}
-use Rattle.link_words.specs.Steps.{HandsAt, TakeLoadsEra, TakeLooks, TakeTakesBuffer, TakeHands, handed_by, hands_by, returned_by, desk_by, sizes_by, slot_by, lane_by, take_look_turn, with_handing, handed_side}
-use Rattle.link_words.specs.Words.{other, sizes_at, receiver_slot, buffer_slot, era_word}
+use Rattle.link_words.specs.Steps.{HandsAt, TakeLoadsEra, TakeLooks, TakeTakesBuffer, TakeHands, handed_by, sizes_by, slot_by, lane_by, take_look_turn, with_handing, handed_side}
+use Rattle.link_words.specs.Words.{sizes_at, buffer_slot, era_word}
 use Rattle.split_ring.specs.declared.callers.CallerId.{CallerId}
 use Rattle.split_ring.specs.declared.takes.TakeCall.{TakeCall}
 use Rattle.split_ring.specs.Openings.{IsOpenable}

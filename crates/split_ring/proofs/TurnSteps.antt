@@ -1,9 +1,8 @@
 -- The first and the last step of a call, as its caller's seat is told them.
-use Rattle.std.proofs.Common.{◌≡◌, ◌≢◌, ℕ, ◌+◌, ◌<◌, ◌≤◌, List, [], ◌∷◌, refl, sym, ap, ◌∙◌, subst}
+use Rattle.std.proofs.Common.{◌≡◌, ◌≢◌, ℕ, ◌+◌, List, [], ◌∷◌, refl, sym, ap, ◌∙◌, subst}
 use base.Stored.{Coded}
 use Rattle.atomic_table.specs.Table.{rest}
 use Rattle.rp_base.specs.declared.kinds.End.{End}
-use Rattle.rp_base.specs.declared.limits.TheConstants.{BOOK_MOST}
 use Rattle.lane_model.specs.declared.calls.Wish.{Wish}
 use Rattle.lane_model.specs.declared.calls.Wish.TheVariants as wish
 use Rattle.lane_model.specs.declared.recoveries.LaneTurn.{LaneTurn}
@@ -16,12 +15,11 @@ use Rattle.link_words.specs.declared.rule.Call.{Call}
 use Rattle.link_words.specs.declared.rule.Call.TheVariants.{Sends, Receives, Rests}
 use Rattle.link_words.specs.declared.rule.Event.TheVariants.{Step}
 use Rattle.link_words.specs.declared.rule.Made.TheVariants as made
-use Rattle.link_words.specs.declared.rule.Pass.{Pass}
 use Rattle.link_words.specs.declared.rule.Slot.{Slot}
 use Rattle.link_words.specs.declared.rule.Slot.TheVariants.{Sender, Receiver}
 use Rattle.link_words.specs.Calls.{SeatState, RestsAt, Notes, noted, send_or, receive_or, place_of}
 use Rattle.link_words.specs.Passes.{with_call, place_of_number}
-use Rattle.link_words.specs.Steps.{EndsAt, LeavesTurn, TakesTurn, TakesReceiver, TakesSender, first_work}
+use Rattle.link_words.specs.Steps.{EndsAt, LeavesTurn, TakesTurn, TakesReceiver, first_work}
 use Rattle.link_words.specs.Words.{other, sender_slot, receiver_slot}
 use Rattle.split_ring.specs.declared.callers.CallerId.{CallerId}
 use Rattle.split_ring.specs.Seats.{pass_in, IsAt}

@@ -3,7 +3,6 @@ use Rattle.std.specs.Prelude.{◌≡◌, ◌≢◌, ◌⊎◌, ◌+◌, ◌≤�
 use base.Stored.{Coded}
 use Rattle.rp_base.specs.declared.kinds.End.{End}
 use Rattle.rp_base.specs.declared.kinds.End.TheVariants as side
-use Rattle.rp_base.specs.declared.kinds.Era.{Era}
 use Rattle.rp_base.specs.declared.limits.TheConstants.{BOOK_MOST}
 use Rattle.lane_model.specs.declared.recoveries.LaneTurn.TheVariants as lane_turn
 use Rattle.lane_model.specs.declared.stages.Work.{Work}
@@ -14,7 +13,6 @@ use Rattle.link_words.specs.declared.rule.Event.TheVariants.{Step, Take}
 use Rattle.link_words.specs.declared.rule.Made.TheVariants as made
 use Rattle.link_words.specs.declared.rule.LinkSizes.{LinkSizes}
 use Rattle.link_words.specs.declared.rule.ReceiverSide.{ReceiverSide}
-use Rattle.link_words.specs.declared.rule.Slot.{Slot}
 use Rattle.link_words.specs.declared.rule.Slot.TheVariants.{Buffer}
 use Rattle.link_words.specs.Calls.{SeatState}
 use Rattle.link_words.specs.Passes.{HasNumber}
@@ -23,7 +21,7 @@ use Rattle.link_words.specs.Words.{buffer_slot}
 use Rattle.split_ring.specs.Seats.{IsAt, pass_in}
 use Rattle.split_ring.specs.Sends.{live_era}
 use Rattle.split_ring.specs.Turns.{IsLeaving, receive_call, receive_slots}
-use Rattle.split_ring.specs.Walks.{HasDone, same_hands, one_more}
+use Rattle.split_ring.specs.Walks.{HasDone, one_more}
 use Rattle.split_ring.specs.declared.callers.CallerId.{CallerId}
 use Rattle.split_ring.specs.declared.takes.Taken.{Taken}
 use Rattle.split_ring.specs.declared.takes.TakeCall.{TakeCall}

@@ -6,7 +6,6 @@ use Rattle.rp_base.specs.declared.limits.TheConstants.{BOOK_MOST}
 use Rattle.lane_model.specs.declared.calls.CallEnd.{CallEnd}
 use Rattle.lane_model.specs.declared.calls.CallEnd.TheVariants as end
 use Rattle.lane_model.specs.declared.stages.SendStage.{SendStage}
-use Rattle.lane_model.specs.declared.stages.SendStage.TheVariants as stage
 use Rattle.lane_model.specs.declared.recoveries.LaneTurn.TheVariants as lane_turn
 use Rattle.lane_model.specs.declared.stages.Turn.TheVariants as turn
 use Rattle.lane_model.specs.Desks.{DeskMeaning}
@@ -17,7 +16,7 @@ use Rattle.link_words.specs.declared.rule.Event.TheVariants.{Step, Publish}
 use Rattle.link_words.specs.declared.rule.Made.TheVariants as made
 use Rattle.link_words.specs.declared.rule.LinkSizes.{LinkSizes}
 use Rattle.link_words.specs.declared.rule.Slot.{Slot}
-use Rattle.link_words.specs.declared.rule.Slot.TheVariants.{Sender, Buffer}
+use Rattle.link_words.specs.declared.rule.Slot.TheVariants.{Sender}
 use Rattle.link_words.specs.Words.{other, sizes_at, sender_slot, buffer_slot}
 use Rattle.link_words.specs.Calls.{SeatState}
 use Rattle.split_ring.specs.Seats.{IsAt}

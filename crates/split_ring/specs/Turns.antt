@@ -1,5 +1,5 @@
 -- A call that has taken its turn, and one whose end is settled (own).
-use Rattle.std.specs.Prelude.{◌≡◌, ◌≤◌, ℕ, List, [], ◌∷◌}
+use Rattle.std.specs.Prelude.{◌≤◌, ℕ, List, [], ◌∷◌}
 use Rattle.rp_base.specs.declared.kinds.End.{End}
 use Rattle.rp_base.specs.declared.limits.TheConstants.{BOOK_MOST}
 use Rattle.lane_model.specs.declared.calls.CallEnd.{CallEnd}

@@ -1,6 +1,6 @@
-use Rattle.std.proofs.Common.{ℕ, List, [], ◌∷◌, ◌++◌, replicate, sym, ap, ◌∙◌, append_assoc}
+use Rattle.std.proofs.Common.{List, [], ◌∷◌, ◌++◌, sym, ap, ◌∙◌}
 use Rattle.link_words.specs.declared.rule.Slot.{Slot}
-use Rattle.link_words.specs.declared.rule.Slot.TheVariants.{Sender, Receiver, Buffer}
+use Rattle.link_words.specs.declared.rule.Slot.TheVariants.{Sender, Receiver}
 use Rattle.link_words.specs.Fresh.{opened_sender}
 use Rattle.split_ring.proofs.Apart.{buffers_are}
 use Rattle.split_ring.proofs.layouts.new_slots.Goals as goal

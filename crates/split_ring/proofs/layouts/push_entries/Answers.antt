@@ -1,4 +1,4 @@
-use Rattle.std.proofs.Common.{ℕ, ◌-◌, List, [], ◌∷◌, ◌++◌, replicate, ap, ◌∙◌}
+use Rattle.std.proofs.Common.{ℕ, ◌-◌, List, ◌++◌, replicate, ap, ◌∙◌}
 use Rattle.std.specs.List.{range_with_len}
 use Rattle.link_words.specs.Layouts.{words_apart}
 use Rattle.split_ring.proofs.Apart.{three_apart}

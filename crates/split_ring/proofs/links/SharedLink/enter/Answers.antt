@@ -1,4 +1,4 @@
-use Rattle.std.proofs.Common.{◌≡◌, ◌≢◌, ℕ, ◌+◌, ◌-◌, arith}
+use Rattle.std.proofs.Common.{◌≡◌, ◌+◌, ◌-◌, arith}
 use Rattle.link_words.specs.Layouts.{place_in}
 use Rattle.link_words.specs.Steps.{turn_word_for}
 use Rattle.split_ring.proofs.Seats.{begins}

@@ -1,7 +1,6 @@
 use Rattle.std.proofs.Common.{sym, ◌∙◌}
 use Rattle.lane_model.specs.declared.stages.SendStage.TheVariants as stage
 use Rattle.split_ring.specs.Sends.{send_slots}
-use Rattle.split_ring.specs.Turns.{IsLeaving}
 use Rattle.link_words.specs.Words.{other}
 use Rattle.split_ring.proofs.Seats.{finds}
 use Rattle.split_ring.proofs.SendSteps.{alone, send_at, send_live, send_dead}

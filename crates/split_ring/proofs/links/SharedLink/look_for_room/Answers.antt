@@ -6,7 +6,7 @@ use Rattle.ring_core.specs.Rings.{return_count}
 use Rattle.link_words.specs.Calls.{SendAt}
 use Rattle.link_words.specs.Layouts.{place_in}
 use Rattle.link_words.specs.Parts.{AreNear}
-use Rattle.link_words.specs.Words.{other, return_word, sizes_at}
+use Rattle.link_words.specs.Words.{return_word, sizes_at}
 use Rattle.split_ring.specs.Sends.{send_slots}
 use Rattle.split_ring.proofs.Seats.{finds}
 use Rattle.split_ring.proofs.SendSteps.{alone, send_at, finds_room, finds_none, finds_full}

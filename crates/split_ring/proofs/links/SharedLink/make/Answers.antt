@@ -1,12 +1,10 @@
-use Rattle.std.proofs.Common.{◌≡◌, ◌≤◌, ◌<◌, ℕ, List, [], ◌∷◌, length, refl, sym, ap, ◌∙◌, subst, arith}
+use Rattle.std.proofs.Common.{◌≡◌, ◌<◌, ℕ, length, refl, sym, ap, ◌∙◌, subst, arith}
 use Rattle.rp_base.specs.declared.kinds.End.TheVariants as side
-use Rattle.ring_core.specs.declared.states.RingSizes.{RingSizes}
 use Rattle.link_words.specs.declared.codes.DeskRight.{DeskRight}
 use Rattle.link_words.specs.declared.codes.DeskTables.{DeskTables}
 use Rattle.link_words.specs.declared.rule.LinkSizes.{LinkSizes}
 use Rattle.link_words.specs.DeskSeats.{code_in}
 use Rattle.link_words.specs.Fresh.{sizes_for}
-use Rattle.link_words.specs.PlacedDesks.{right_at}
 use Rattle.link_words.specs.declared.rule.View.{View}
 use Rattle.link_words.specs.Calls.{SeatState}
 use Rattle.link_words.specs.Layouts.{layout}

@@ -1,4 +1,4 @@
-use Rattle.std.proofs.Common.{◌≡◌, ℕ, ◌∷◌, [], ap, ◌∙◌}
+use Rattle.std.proofs.Common.{[], ap, ◌∙◌}
 use Rattle.lane_model.specs.declared.stages.SendStage.TheVariants as stage
 use Rattle.lane_model.specs.declared.stages.Turn.TheVariants as turn
 use Rattle.link_words.specs.declared.rule.Call.TheVariants.{Sends}

@@ -1,10 +1,9 @@
-use Rattle.std.proofs.Common.{◌≡◌, ◌≤◌, ℕ, ◌+◌, ◌*◌, ◌∷◌, [], refl, sym, ap, ◌∙◌, subst}
+use Rattle.std.proofs.Common.{◌≤◌, ℕ, ◌+◌, ◌*◌, ◌∷◌, [], refl, sym, ap, ◌∙◌, subst}
 use Rattle.atomic_table.specs.Table.{rest}
 use Rattle.rp_base.specs.declared.limits.TheConstants.{BOOK_MOST}
 use Rattle.lane_model.specs.declared.stages.GiveStage.TheVariants as give_stage
 use Rattle.lane_model.specs.declared.stages.Work.TheVariants as work
 use Rattle.vring_layout.specs.declared.words.UsedWord.{UsedWord}
-use Rattle.ring_core.specs.RingSteps.{held_buffer}
 use Rattle.ring_core.specs.Rings.{return_count}
 use Rattle.link_words.specs.declared.rule.Event.TheVariants.{Step}
 use Rattle.link_words.specs.declared.rule.Made.TheVariants as made

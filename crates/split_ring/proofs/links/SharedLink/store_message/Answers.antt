@@ -1,8 +1,7 @@
-use Rattle.std.proofs.Common.{◌≡◌, ℕ, ◌+◌, ◌*◌, ◌∷◌, [], List, length, refl, sym, ap, ◌∙◌, subst}
+use Rattle.std.proofs.Common.{◌≡◌, ◌+◌, ◌*◌, ◌∷◌, [], length, refl, sym, ap, ◌∙◌, subst}
 use Rattle.atomic_table.specs.Table.{rest}
 use Rattle.rp_base.specs.declared.kinds.End.{End}
 use Rattle.lane_model.specs.declared.stages.SendStage.TheVariants as stage
-use Rattle.ring_core.specs.declared.states.RingSizes.{RingSizes}
 use Rattle.ring_core.specs.Rings.{entry_length}
 use Rattle.link_words.specs.declared.rule.Event.TheVariants.{Step}
 use Rattle.link_words.specs.declared.rule.Made.TheVariants as made
@@ -13,9 +12,9 @@ use Rattle.link_words.specs.Layouts.{place_in}
 use Rattle.link_words.specs.declared.rule.Ring.TheVariants as ring
 use Rattle.vring_layout.specs.declared.words.UsedWord.{UsedWord}
 use Rattle.link_words.specs.Words.{other, buffer_slot, sizes_at, entry_number}
-use Rattle.split_ring.specs.Sends.{send_call, send_slots, send_buffer, IsFilledAt}
+use Rattle.split_ring.specs.Sends.{send_call, send_slots, IsFilledAt}
 use Rattle.split_ring.specs.Walks.{same_hands}
-use Rattle.split_ring.proofs.Seats.{stores, lent, rewritten, done_then, still}
+use Rattle.split_ring.proofs.Seats.{stores, rewritten, done_then, still}
 use Rattle.split_ring.proofs.SendSteps.{stores_at, stores_entry}
 use Rattle.split_ring.proofs.links.SharedLink.store_message.Goals as goal
 
