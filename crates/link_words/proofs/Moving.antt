@@ -15,7 +15,8 @@ use Rattle.atomic_table.specs.Table.{State, keeps, Splits, Joins, Allows}
 use Rattle.atomic_table.proofs.Lists.{at_set, set_else}
 use Rattle.atomic_table.proofs.Lists.{set_here, at_longer}
 use Rattle.link_words.specs.declared.copies.LinkCopy.{LinkCopy}
-use Rattle.link_words.specs.Passes.{without_new, only_new}
+use Rattle.link_words.specs.Passes.{only_new}
+use Rattle.link_words.specs.Steps.{IsMakingOf}
 use mathlib.Core.Option.{some-injective}
 use Rattle.std.proofs.Common.{zero, suc, ◌-◌, refl}
 use Rattle.std.specs.Prelude.{None}
@@ -264,8 +265,24 @@ module _ {B : Type 0} {kc : Coded B} {kz : DeskTables} (cd : Coded (PlacedDesk k
       not_minding : (i : End) → false ≡ true → ⊥
       not_minding i never = absurd (cc)
 
+  -- the step that it is
+  making : (st : State Slot View) (m : LaneLink (RingState (PlacedDesk kc kz))) (p : ℕ) (r : Shows cd desk z st m p) (id : ℕ) (me : SeatState) (e : End) (n : ℕ) → get_elem? st.views id ≡ some me.0 → Manages me.0 → free_number me.0.users ≡ Some n → IsMakingOf cd desk e me (with_new_caller e me.0 (Some (copied cd (made_link m e n))), me.1)
+  making st m p r id me e n at manages number =
+      let known = r.numbers.manager id me.0 at manages in let free : (k : ℕ) → free_number me.0.users ≡ Some k → free_number m.callers ≡ Some k = λ k is. ap free_number (sym known.users) ∙ is in
+      let picked = Some (copied cd (made_link m e n)) in record {
+        state = m;
+        sound = state_in r;
+        may = tt;
+        users = known.users;
+        after = λ k is. let f = free_is m.callers k (free k is) in subst (λ (o : Option ℕ). IsCallOf (record m { callers = with_caller m.callers e o }) 0 k (Rests e)) (sym (free k is)) (rests_new m 0 (state_in r) e k f.0 f.1);
+        copy = λ c none_out was. (
+          known.copy c was none_out,
+          ap (λ (o : Option ℕ). (with_caller_as e me.0 picked o).copy) number ∙ ap (λ (o : Option ℕ). Some (copied cd (record m { callers = with_caller m.callers e o }))) (sym (free n number)),
+        );
+      }
+
   -- the idle word is loaded, and a caller is made on this end
-  pub enlists_caller : (slots id : ℕ) (me : SeatState) (e : End) (n : ℕ) → Manages me.0 → free_number me.0.users ≡ Some n → Allows (WordsRule cd desk z) slots id me 0 (λ y. y) (λ y me'. me' ≡ (with_new_caller e me.0 me'.0.copy, me.1))
+  pub enlists_caller : (slots id : ℕ) (me : SeatState) (e : End) (n : ℕ) → Manages me.0 → free_number me.0.users ≡ Some n → Allows (WordsRule cd desk z) slots id me 0 (λ y. y) (λ y me'. (me' ≡ (with_new_caller e me.0 me'.0.copy, me.1)) × IsMakingOf cd desk e me me')
   enlists_caller slots id me e n manages number st (m, p, r) wide at _ =
       let k = Some (copied cd (made_link m e n)) in (
         with_new_caller e me.0 k,
@@ -273,7 +290,10 @@ module _ {B : Type 0} {kc : Coded B} {kz : DeskTables} (cd : Coded (PlacedDesk k
         tt,
         subst (λ (ws : List ℕ). WordsRule cd desk z (record { words = ws; homes = st.homes; views = set st.views id (with_new_caller e me.0 k) })) (sym (set-get_or st.words 0 0))
             (enlists st m p r id me.0 e n at manages number k (λ c same. sym (some_copy (copied cd (made_link m e n)) c same))),
-        (λ i. (with_new_caller e me.0 (sym (ap (λ (o : Option ℕ). (with_caller_as e me.0 k o).copy) number) i), me.1)),
+        (
+          (λ i. (with_new_caller e me.0 (sym (ap (λ (o : Option ℕ). (with_caller_as e me.0 k o).copy) number) i), me.1)),
+          making st m p r id me e n at manages number,
+        ),
       )
 
   -- the manager's last pass is not its own, where one was made
@@ -282,29 +302,34 @@ module _ {B : Type 0} {kc : Coded B} {kz : DeskTables} (cd : Coded (PlacedDesk k
   not_own (x ∷ []) q p e = some-injective q p e
   not_own (x ∷ y ∷ ps) q p e = not_own (y ∷ ps) q p (ap (get_elem? (x ∷ y ∷ (ps ++ q ∷ []))) (let k : suc (length (y ∷ (ps ++ q ∷ [])) - 1) ≡ length (x ∷ y ∷ (ps ++ q ∷ [])) - 1 = omega arith in k) ∙ e)
 
-  set_twice : (views : List View) (id : ℕ) (a b : View) → set (set views id a) id b ≡ set views id b
-  set_twice [] id a b = refl
-  set_twice (x ∷ xs) zero a b = refl
-  set_twice (x ∷ xs) (suc id) a b = ap (λ (l : List View). x ∷ l) (set_twice xs id a b)
+  -- the last pass of the view is the new caller's
+  pub new_last : (v : View) (e : End) (n : ℕ) (k : Option LinkCopy) → free_number v.users ≡ Some n → n < 64 → (q : Pass) → get_elem? (with_new_caller e v k).passes (length (with_new_caller e v k).passes - 1) ≡ some q → q.number ≢ 64
+  new_last v e n k number low q last same =
+      let is = ap (λ (o : Option ℕ). (with_caller_as e v k o).passes) number in
+      let which = not_own v.passes (new_pass e n (first_incarnation n v)) q (ap (λ (ps : List Pass). get_elem? ps (length ps - 1)) (sym is) ∙ last) in let num : n ≡ q.number = ap (λ (x : Pass). x.number) which in omega (arith, low, num, same)
 
-  more_manages : (v : View) (e : End) (n : ℕ) → Manages v → Manages (with_caller_as e v None (Some n))
-  more_manages v e n (k, b, there, is) = (k, b, at_longer v.passes (new_pass e n (first_incarnation n v) ∷ []) k b there, is)
+pub still_manages : (v : View) (e : End) (k : Option LinkCopy) → Manages v → Manages (with_new_caller e v k)
+still_manages v e k manages = go (free_number v.users)
+  where
+    go : (o : Option ℕ) → Manages (with_caller_as e v k o)
+    go None = manages
+    go (Some n) = (manages.0, manages.1, at_longer v.passes (new_pass e n (first_incarnation n v) ∷ []) manages.0 manages.1 manages.2, manages.3)
 
-  low_of : (views : List View) (id : ℕ) (v : View) → get_elem? views id ≡ some v → id < length views
-  low_of [] id v e = absurd (some-ne-none v (sym e))
-  low_of (x ∷ xs) zero v e = omega arith
-  low_of (x ∷ xs) (suc id) v e = let low = low_of xs id v e in omega (arith, low)
+-- the new caller's seat knows nothing of a copy
+pub only_any : (v : View) (e : End) (k : Option LinkCopy) → only_last (with_new_caller e v k) ≡ only_new e v
+only_any v e k = go (free_number v.users)
+  where
+    go : (o : Option ℕ) → only_last (with_caller_as e v k o) ≡ only_last (with_caller_as e v None o)
+    go None = refl
+    go (Some n) = refl
 
-  -- a caller is made and goes out, in one step
-  pub makes : (id : ℕ) (v : View) (e : End) (n : ℕ) → Manages v → free_number v.users ≡ Some n → n < 64 → Splits (WordsRule cd desk z) id v (without_new e v) (only_new e v)
-  makes id v e n manages number low st (m, p, r) at =
-      let u = with_caller_as e v None (Some n) in let is : with_new_caller e v None ≡ u = ap (λ (o : Option ℕ). with_caller_as e v None o) number in
-      let made = enlists st m p r id v e n at manages number None (λ c never. absurd (no_copy c never)) in let views = set st.views id u in
-      let st' = with_views st views in let there : get_elem? views id ≡ some u = set_here st.views id u (low_of st.views id v at) in
-      let out = splits id u (more_manages v e n manages) (λ q last same. let which = not_own v.passes (new_pass e n (first_incarnation n v)) q last in let num : n ≡ q.number = ap (λ (x : Pass). x.number) which in omega (arith, low, num, same))
-      st' (subst (λ (y : View). WordsRule cd desk z (with_views st (set st.views id y))) is made) there in
-      subst (λ (y : View). WordsRule cd desk z (with_views st (set st.views id (without_last y) ++ only_last y ∷ []))) (sym is)
-      (subst (λ (l : List View). WordsRule cd desk z (with_views st (l ++ only_last u ∷ []))) (set_twice st.views id u (without_last u)) out)
-    where
-      no_copy : (c : LinkCopy) → Path (Option LinkCopy) None (Some c) → ⊥
-      no_copy c e = absurd (cc)
+-- a making speaks of the copy alone
+pub making_same : {B : Type 0} {kc : Coded B} {kz : DeskTables} (cd : Coded (PlacedDesk kc kz)) (desk : DeskMeaning (PlacedDesk kc kz)) (e : End) (me me' me'' : SeatState) → me''.0.copy ≡ me'.0.copy → IsMakingOf cd desk e me me' → IsMakingOf cd desk e me me''
+making_same cd desk e me me' me'' same s = record {
+  state = s.state;
+  sound = s.sound;
+  may = s.may;
+  users = s.users;
+  after = s.after;
+  copy = λ k none_out was. let c = s.copy k none_out was in (c.0, same ∙ c.1);
+}

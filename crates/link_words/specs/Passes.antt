@@ -110,9 +110,9 @@ with_caller_as e v k (Some n) = record v { copy = k; passes = v.passes ++ new_pa
 abbrev pub with_new_caller : End → View → Option_of LinkCopy → View
 with_new_caller e v k = with_caller_as e v k (free_number v.users)
 
--- a split: a caller is made, and goes out to a seat of its own
-abbrev pub without_new : End → View → View
-without_new e v = without_last (with_new_caller e v None)
+-- a caller is made, and goes out to a seat of its own; the copy is what the making picks
+abbrev pub without_new : End → View → Option_of LinkCopy → View
+without_new e v k = without_last (with_new_caller e v k)
 
 -- the view of the new caller's seat
 abbrev pub only_new : End → View → View

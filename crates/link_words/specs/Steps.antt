@@ -27,6 +27,7 @@ use Rattle.lane_model.specs.declared.stages.Work.{Work}
 use Rattle.lane_model.specs.declared.stages.Work.TheVariants as work
 use Rattle.lane_model.specs.Desks.{DeskMeaning}
 use Rattle.lane_model.specs.Lanes.{is_live_in}
+use Rattle.lane_model.specs.Links.{free_number}
 use Rattle.lane_model.specs.Receives.{after_take_era, desk_end}
 use Rattle.lane_model.specs.Sends.{after_send_era}
 use Rattle.ring_core.specs.declared.states.RingSizes.{RingSizes}
@@ -57,7 +58,7 @@ use Rattle.link_words.specs.declared.rule.Ring.TheVariants as ring
 use Rattle.link_words.specs.Calls.{SendAt, WorkAt, SendEnds, ReceiveEnds}
 use Rattle.link_words.specs.Calls.{SeatState, send_or, receive_or, under_way_or, with_send, with_receive, place_of, call_at, number_at, Becomes, Notes}
 use Rattle.link_words.specs.Codes.{copied}
-use Rattle.link_words.specs.Deeds.{Deed, Steps, after_deed, MayDo, IsSoundState}
+use Rattle.link_words.specs.Deeds.{Deed, Enlists, Steps, after_deed, MayDo, IsSoundState}
 use Rattle.link_words.specs.Parts.{AreNear}
 use Rattle.link_words.specs.Passes.{Manages, HasNumber, with_call, place_of_number}
 use Rattle.link_words.specs.Rule.{IsCallOf}
@@ -100,6 +101,21 @@ GoesOn coded meaning me Reads me' = GoesOnWith (placed_coded coded me.0.sizes.de
 
 abbrev pub Begins : {D : Type 0} (coded : Coded D) → DeskMeaning D → (me : SeatState) → (LaneLink (RingState (PlacedDesk coded me.0.sizes.desks)) → LaneLink (RingState (PlacedDesk coded me.0.sizes.desks)) → Type 0) → ℕ → ℕ → Wish → SeatState → Type 0
 Begins coded meaning me Reads number follows wished me' = BeginsWith (placed_coded coded me.0.sizes.desks) (placed_meaning coded me.0.sizes.desks meaning) Reads number follows wished me me'
+
+-- a caller is made on this end: in some sound state, whose callers in use are those that the manager's view knows, the deed may be done, and in the
+-- state after it the caller of the least free number is in no call. Where the manager has a copy of the state, and none of its callers is out, that state is the copy's,
+-- and the copy follows
+pub record IsMakingOf {B : Type 0} {kc : Coded B} {kz : DeskTables} (coded : Coded (PlacedDesk kc kz)) (desk : DeskMeaning (PlacedDesk kc kz)) (e : End) (me me' : SeatState) : Type 0 where
+  pub state : LaneLink (RingState (PlacedDesk kc kz))
+  pub sound : IsSoundState desk state
+  pub may : MayDo desk state (Enlists e)
+  pub users : me.0.users ≡ state.callers
+  pub after : (n : ℕ) → free_number me.0.users ≡ Some n → IsCallOf (after_deed desk state (Enlists e)) 0 n (Rests e)
+  pub copy : (k : LinkCopy) → me.0.out ≡ [] → me.0.copy ≡ Some k → (k ≡ copied coded state) × (me'.0.copy ≡ Some (copied coded (after_deed desk state (Enlists e))))
+
+-- the same, with the desks in the tables that the seat knows
+abbrev pub MakesCaller : {D : Type 0} → Coded D → DeskMeaning D → End → SeatState → SeatState → Type 0
+MakesCaller coded meaning e me me' = IsMakingOf (placed_coded coded me.0.sizes.desks) (placed_meaning coded me.0.sizes.desks meaning) e me me'
 
 -- the work of a call that has done its first step
 abbrev pub first_work : Wish → Work

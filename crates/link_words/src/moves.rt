@@ -1,25 +1,33 @@
 //! How the steps of the manager's seat change views, and how seats are split and joined. These types are for the proofs alone.
 use crate::rule::{Slot, View};
 use atomic_table::{Join, Play, Split};
+use lane_model::Desk;
+use std::marker::PhantomData;
 
 /// A caller of the host is made, which the manager carries.
-pub struct EnlistsHost;
+pub struct EnlistsHost<D> {
+    marker: PhantomData<D>,
+}
 
-impl Play<Slot, View> for EnlistsHost {
+impl<D: Desk> Play<Slot, View> for EnlistsHost<D> {
     ghost use Rattle.rp_base.specs.declared.kinds.End.TheVariants as side;
     ghost use Rattle.link_words.specs.Seats.{EnlistsCaller};
+    ghost use Rattle.link_words.specs.Steps.{MakesCaller};
 
-    ghost then = { λ st m r m'. EnlistsCaller side.Host m m' };
+    ghost then = { λ st m r m'. EnlistsCaller side.Host m m' × MakesCaller D.row.coded D.meaning side.Host m m' };
 }
 
 /// A caller of the remote is made, which the manager carries.
-pub struct EnlistsRemote;
+pub struct EnlistsRemote<D> {
+    marker: PhantomData<D>,
+}
 
-impl Play<Slot, View> for EnlistsRemote {
+impl<D: Desk> Play<Slot, View> for EnlistsRemote<D> {
     ghost use Rattle.rp_base.specs.declared.kinds.End.TheVariants as side;
     ghost use Rattle.link_words.specs.Seats.{EnlistsCaller};
+    ghost use Rattle.link_words.specs.Steps.{MakesCaller};
 
-    ghost then = { λ st m r m'. EnlistsCaller side.Remote m m' };
+    ghost then = { λ st m r m'. EnlistsCaller side.Remote m m' × MakesCaller D.row.coded D.meaning side.Remote m m' };
 }
 
 /// The caller that the step names ends.
@@ -67,30 +75,6 @@ impl Split<View> for GoesOut {
     ghost left = { without_last };
 
     ghost right = { only_last };
-}
-
-/// A caller of the host is made, and goes to a new seat.
-pub struct MakesHost;
-
-impl Split<View> for MakesHost {
-    ghost use Rattle.rp_base.specs.declared.kinds.End.TheVariants as side;
-    ghost use Rattle.link_words.specs.Passes.{without_new, only_new};
-
-    ghost left = { without_new side.Host };
-
-    ghost right = { only_new side.Host };
-}
-
-/// A caller of the remote is made, and goes to a new seat.
-pub struct MakesRemote;
-
-impl Split<View> for MakesRemote {
-    ghost use Rattle.rp_base.specs.declared.kinds.End.TheVariants as side;
-    ghost use Rattle.link_words.specs.Passes.{without_new, only_new};
-
-    ghost left = { without_new side.Remote };
-
-    ghost right = { only_new side.Remote };
 }
 
 /// The passes of a seat come to the manager's.

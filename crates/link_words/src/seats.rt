@@ -8,10 +8,11 @@ ghost use Rattle.link_words.specs.declared.rule.Pass.{Pass};
 ghost use Rattle.link_words.specs.declared.rule.Call.TheVariants.{Rests};
 ghost use Rattle.link_words.specs.Passes.{HasNumber, numbers_of, Manages, Mover, without_last, only_last, with_passes_from, after_end_with, place_of_number, without_new, only_new};
 ghost use Rattle.link_words.specs.Seats.{Settles, EnlistsCaller, EndsCaller, LearnsEra, ClosesEra};
+ghost use Rattle.link_words.specs.Steps.{MakesCaller};
 ghost use Rattle.link_words.specs.Words.{words_in};
 
 use crate::moves::{
-    ComesBack, EndsReturned, EnlistsHost, EnlistsRemote, GoesOut, MakesHost, MakesRemote,
+    ComesBack, EndsReturned, EnlistsHost, EnlistsRemote, GoesOut,
     TellsClosesEra, TellsEndsCaller, TellsLearnsEra, TellsSettles,
 };
 use crate::places::ERA_PLACE;
@@ -19,17 +20,16 @@ use crate::rule::{LinkSeat, LinkTable, Slot};
 use lane_model::Desk;
 use rp_base::{CallerNo, End, Inc};
 
-/// A caller of this end is made under the least number that is free, and goes out to a seat of its own.
+/// A caller of this end is made under the least number that is free, and goes out to a seat of its own. It loads the idle word twice.
 pub fn split<D: Desk>(table: &LinkTable<D>, manager: &mut LinkSeat, end: End) -> LinkSeat
-    requires table { (manager.old.table_id ≡ table.now.table_id) × (words_in table.now.key ≤ table.now.table_id.words) }
+    requires table { (manager.old.table_id ≡ table.now.table_id) × (words_in table.now.key ≤ table.now.table_id.words) × (manager.old.me.0.sizes ≡ table.now.key) }
     requires manager { Manages manager.old.me.0 × ((n : ℕ) × (free_number manager.old.me.0.users ≡ Some n) × (n < 64)) }
-    ensures manager { (manager.new.table_id ≡ manager.old.table_id) × (manager.new.id ≡ manager.old.id) × (manager.new.me ≡ (without_new end manager.old.me.0, manager.old.me.1)) }
+    ensures manager { (manager.new.table_id ≡ manager.old.table_id) × (manager.new.id ≡ manager.old.id) × (manager.new.me ≡ (without_new end manager.old.me.0 manager.new.me.0.copy, manager.old.me.1)) }
     ensures caller { (result.table_id ≡ manager.old.table_id) × (result.me ≡ (only_new end manager.old.me.0, [])) }
+    ensures step { MakesCaller D.row.coded D.meaning end manager.old.me manager.new.me }
 {
-    match end {
-        End::Host => table.split_seat::<MakesHost>(manager),
-        End::Remote => table.split_seat::<MakesRemote>(manager),
-    }
+    enlist_carried(table, manager, end);
+    let_go(table, manager)
 }
 
 /// The last caller that the manager carries goes out, to a seat of its own.
@@ -44,14 +44,15 @@ pub fn let_go<D: Desk>(table: &LinkTable<D>, manager: &mut LinkSeat) -> LinkSeat
 
 /// A caller of this end is made under the least number that is free, and the manager carries it.
 pub fn enlist_carried<D: Desk>(table: &LinkTable<D>, manager: &mut LinkSeat, end: End)
-    requires table { (manager.old.table_id ≡ table.now.table_id) × (words_in table.now.key ≤ table.now.table_id.words) }
+    requires table { (manager.old.table_id ≡ table.now.table_id) × (words_in table.now.key ≤ table.now.table_id.words) × (manager.old.me.0.sizes ≡ table.now.key) }
     requires manager { Manages manager.old.me.0 × ((n : ℕ) × (free_number manager.old.me.0.users ≡ Some n)) }
     ensures same { (manager.new.table_id ≡ manager.old.table_id) × (manager.new.id ≡ manager.old.id) }
     ensures told { EnlistsCaller end manager.old.me manager.new.me }
+    ensures step { MakesCaller D.row.coded D.meaning end manager.old.me manager.new.me }
 {
     match end {
-        End::Host => table.load::<EnlistsHost>(manager, 0),
-        End::Remote => table.load::<EnlistsRemote>(manager, 0),
+        End::Host => table.load::<EnlistsHost<D>>(manager, 0),
+        End::Remote => table.load::<EnlistsRemote<D>>(manager, 0),
     };
 }
 

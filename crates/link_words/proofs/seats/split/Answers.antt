@@ -1,12 +1,33 @@
+use Rattle.std.proofs.Common.{◌≡◌, ◌-◌, [], length, sym, ap, ◌∙◌, subst}
+use lib.ListN.{get_elem?}
+use Rattle.link_words.specs.declared.rule.View.{View}
+use Rattle.link_words.specs.Calls.{SeatState}
+use Rattle.link_words.specs.Passes.{Manages, only_last, without_last, with_new_caller}
 use Rattle.link_words.specs.PlacedDesks.{placed_coded, placed_meaning}
-use Rattle.std.proofs.Common.{arith}
-use Rattle.rp_base.specs.declared.kinds.End.TheVariants as side
-use Rattle.link_words.proofs.Apart.{splits_apart}
-use Rattle.link_words.proofs.Moving.{makes}
+use Rattle.link_words.proofs.Moving.{making_same, new_last, only_any, still_manages}
 use Rattle.link_words.proofs.seats.split.Goals as goal
 
-pub split_seat-requires : goal.split_seat-requires
-split_seat-requires g c = let q = c.requires.manager in let wide = c.requires.table.1 in (c.requires.table.0, omega (arith, wide), splits_apart (placed_coded g.row.D.coded c.args.table.now.key.desks) (placed_meaning g.row.D.coded c.args.table.now.key.desks g.D.Desk.meaning) c.args.table.now.key _ _ _ _ (makes (placed_coded g.row.D.coded c.args.table.now.key.desks) (placed_meaning g.row.D.coded c.args.table.now.key.desks g.D.Desk.meaning) c.args.table.now.key _ _ side.Host q.1.0 q.0 q.1.1 q.1.2))
+pub let_go-requires-clause-manager : goal.let_go-requires-clause-manager
+let_go-requires-clause-manager g c =
+    let q = c.requires.manager in let v = c.args.manager.now.me.0 in let m = c.enlist_carried.new.manager.me in
+    let is : m.0 ≡ with_new_caller c.args.end v m.0.copy = ap (λ (s : SeatState). s.0) c.enlist_carried.ensures.told in (
+      subst Manages (sym is) (still_manages v c.args.end m.0.copy q.0),
+      λ p at. new_last (placed_coded g.row.D.coded c.args.manager.now.me.0.sizes.desks) (placed_meaning g.row.D.coded c.args.manager.now.me.0.sizes.desks g.D.Desk.meaning) v.sizes v c.args.end q.1.0 m.0.copy q.1.1 q.1.2 p (ap (λ (x : View). get_elem? x.passes (length x.passes - 1)) (sym is) ∙ at),
+    )
 
-pub split_seat-requires-in-Remote : goal.split_seat-requires-in-Remote
-split_seat-requires-in-Remote g c = let q = c.requires.manager in let wide = c.requires.table.1 in (c.requires.table.0, omega (arith, wide), splits_apart (placed_coded g.row.D.coded c.args.table.now.key.desks) (placed_meaning g.row.D.coded c.args.table.now.key.desks g.D.Desk.meaning) c.args.table.now.key _ _ _ _ (makes (placed_coded g.row.D.coded c.args.table.now.key.desks) (placed_meaning g.row.D.coded c.args.table.now.key.desks g.D.Desk.meaning) c.args.table.now.key _ _ side.Remote q.1.0 q.0 q.1.1 q.1.2))
+pub returns-clause-manager : goal.returns-clause-manager
+returns-clause-manager g c =
+    let v = c.args.manager.now.me.0 in let m = c.enlist_carried.new.manager.me in let left = c.let_go.ensures.manager.2 in let told = c.enlist_carried.ensures.told in
+    let copy = ap (λ (s : SeatState). s.0.copy) left in (
+      c.let_go.ensures.manager.0 ∙ c.enlist_carried.ensures.same.0,
+      c.let_go.ensures.manager.1 ∙ c.enlist_carried.ensures.same.1,
+      left ∙ ((λ i. (without_last (told i).0, (told i).1)) ∙ (λ i. (without_last (with_new_caller c.args.end v (sym copy i)), c.args.manager.now.me.1))),
+    )
+
+pub returns-clause-caller : goal.returns-clause-caller
+returns-clause-caller g c =
+    let v = c.args.manager.now.me.0 in let m = c.enlist_carried.new.manager.me in let told = c.enlist_carried.ensures.told in
+    (c.let_go.ensures.caller.0 ∙ c.enlist_carried.ensures.same.0, c.let_go.ensures.caller.1 ∙ ((λ i. (only_last (told i).0, [])) ∙ (λ i. (only_any v c.args.end m.0.copy i, []))))
+
+pub returns-clause-step : goal.returns-clause-step
+returns-clause-step g c = making_same (placed_coded g.row.D.coded c.args.manager.now.me.0.sizes.desks) (placed_meaning g.row.D.coded c.args.manager.now.me.0.sizes.desks g.D.Desk.meaning) c.args.end c.args.manager.now.me c.enlist_carried.new.manager.me c.let_go.new.manager.me (ap (λ (s : SeatState). s.0.copy) c.let_go.ensures.manager.2) c.enlist_carried.ensures.step

@@ -1,0 +1,65 @@
+// Eight callers of one link, four on each end, each on a thread of its own: each sends and takes its messages, and each number that was
+// handed over is compared with the book of its lane.
+#![tactic(auto)]
+
+ghost use Rattle.split_ring.specs.Callers.{IsCallerOf};
+
+mod books;
+mod workers;
+
+use crate::books::Book;
+use crate::workers::{Log, MESSAGES, Worker, workers};
+use channel_bus::Side;
+use lane_model::LinkConfig;
+use rp_base::{End, NoMemory};
+use split_ring::SharedLink;
+use std::alloc::Global;
+use std::thread::Threads;
+use std::{io, thread};
+
+fn main(rt: HostRuntime) -> io::Result<()> {
+    match run(&rt, rt.alloc()) {
+        Ok((to_host, to_remote)) => {
+            println!(rt; "to the host: {}", to_host)?;
+            println!(rt; "to the remote: {}", to_remote)
+        }
+        Err(_) => println!(rt; "no memory"),
+    }
+}
+
+/// Runs the callers, and enters what they did into the books of the two lanes.
+fn run<R: Threads + Sync>(rt: &R, alloc: Global) -> Result<(Book, Book), NoMemory> {
+    let config = LinkConfig {
+        num0: 64,
+        num1: 64,
+        book: 4 * MESSAGES,
+        first: 1,
+        base: 0,
+    };
+    let host = Side::new(alloc, false, Vec::new(alloc))?;
+    let remote = Side::new(alloc, false, Vec::new(alloc))?;
+    let (link, mut manager) = SharedLink::make(alloc, config, host, remote)?;
+    let jobs = workers(alloc, &link, &mut manager)?;
+    let logs = thread::map_vec(
+        rt,
+        jobs,
+        &|worker: Worker| -> Log
+            requires { IsCallerOf link worker.caller }
+        { workers::run(&link, worker) },
+    )?;
+    let mut to_host = Book::new(alloc)?;
+    let mut to_remote = Book::new(alloc)?;
+    for log in &logs {
+        match log.end {
+            End::Host => to_remote.add(&log.sent),
+            End::Remote => to_host.add(&log.sent),
+        }
+    }
+    for log in &logs {
+        match log.end {
+            End::Host => to_host.take(&log.taken),
+            End::Remote => to_remote.take(&log.taken),
+        }
+    }
+    Ok((to_host, to_remote))
+}

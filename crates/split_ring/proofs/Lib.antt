@@ -1,0 +1,11 @@
+pub mod Apart
+pub mod Seats
+pub mod TurnSteps
+pub mod Eras
+pub mod SendSteps
+pub mod SendWalks
+pub mod TakeSteps
+pub mod TakeWalks
+pub mod GiveSteps
+pub mod Makes
+pub mod Crosses

@@ -1,0 +1,41 @@
+use Rattle.std.proofs.Common.{◌≡◌, List, [], ◌∷◌, refl, sym, ap, ◌∙◌, subst}
+use Rattle.std.specs.Prelude.{Some, slice_set}
+use Rattle.lane_model.specs.Links.{free_number}
+use Rattle.link_words.specs.declared.rule.Pass.{Pass}
+use Rattle.link_words.specs.Calls.{SeatState}
+use Rattle.link_words.specs.Passes.{Manages, new_pass, first_incarnation}
+use Rattle.split_ring.specs.Seats.{first_pass}
+use Rattle.split_ring.proofs.Makes.{manager_after, caller_after}
+use Rattle.split_ring.proofs.links.SharedLink.caller.Goals as goal
+
+pub returns-clause-manager : goal.returns-clause-manager
+returns-clause-manager g c =
+    let m = c.split-seat.ensures.manager in let v = c.args.manager.now.seat.me.0 in let n = c.in_ok-number.number in
+    let free : free_number v.users ≡ Some n = ap free_number c.requires.knows ∙ sym c.in_ok-number.ensures.number in
+    let after = manager_after c.args.end v c.split-seat.new.manager.me.0.copy n free c.requires.manages in
+    record {
+      at_table = m.0 ∙ c.requires.at_table;
+      manages = subst (λ (s : SeatState). Manages s.0) (sym m.2) after.0;
+      knows = ap (λ (s : SeatState). s.0.users) m.2 ∙ (after.1 ∙ ap (λ (l : List _). slice_set l n (Some c.args.end)) c.requires.knows);
+      told = ap (λ (s : SeatState). s.0.sizes) m.2 ∙ (after.2 ∙ c.requires.told);
+      empty = ap (λ (s : SeatState). s.1) m.2 ∙ c.requires.empty;
+    }
+
+pub returns-clause-some : goal.returns-clause-some
+returns-clause-some g c =
+    let m = c.split-seat.ensures.caller in let v = c.args.manager.now.seat.me.0 in let n = c.in_ok-number.number in let e = c.args.end in
+    let free : free_number v.users ≡ Some n = ap free_number c.requires.knows ∙ sym c.in_ok-number.ensures.number in
+    let after = caller_after e v n free in
+    let passes : c.split-seat.result.me.0.passes ≡ new_pass e n (first_incarnation n v) ∷ [] = ap (λ (s : SeatState). s.0.passes) m.1 ∙ after.0 in
+    let pass = ap first_pass passes in (
+      sym c.in_ok-number.ensures.number,
+      refl,
+      refl,
+      record {
+        seat = record { at_table = m.0 ∙ c.requires.at_table; told = ap (λ (s : SeatState). s.0.sizes) m.1 ∙ (after.1 ∙ c.requires.told) };
+        rests = record { one = passes ∙ ap (λ (p : Pass). p ∷ []) (sym pass); in_call = ap (λ (p : Pass). p.call) pass; out = ap (λ (s : SeatState). s.1) m.1 };
+        number = ap (λ (p : Pass). p.number) pass;
+        low = c.in_ok-number.ensures.within;
+      },
+      ap (λ (p : Pass). p.own) pass,
+    )

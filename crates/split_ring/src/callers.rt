@@ -1,0 +1,63 @@
+//! Who steps on a link: its callers and its manager.
+ghost use Rattle.std.specs.Prelude.{◌≡◌, ◌<◌, Some, None, IfSome};
+ghost use Rattle.lane_model.specs.Links.{free_number};
+
+use link_words::LinkSeat;
+use rp_base::{CallerNo, End, Inc};
+
+/// A caller's number and end, and the incarnation that its calls follow.
+#[derive(Clone, Copy)]
+pub struct CallerId {
+    pub number: CallerNo,
+    pub end: End,
+    pub follows: Inc,
+}
+
+/// One user of a link, on one end of it. It may go to another thread.
+#[derive(Drop)]
+pub struct Caller {
+    pub(crate) id: CallerId,
+    pub(crate) seat: LinkSeat,
+}
+
+impl Caller {
+    /// Its number, under which the turns that it has are marked.
+    pub fn number(&self) -> CallerNo
+        ensures { result ≡ self.now.id.number }
+    {
+        self.id.number
+    }
+
+    /// The end that it is on.
+    pub fn end(&self) -> End
+        ensures { result ≡ self.now.id.end }
+    {
+        self.id.end
+    }
+
+    /// The incarnation that its calls follow.
+    pub fn followed(&self) -> Inc
+        ensures { result ≡ self.now.id.follows }
+    {
+        self.id.follows
+    }
+}
+
+/// The one who makes callers. Its own number is 64.
+#[derive(Drop)]
+pub struct Manager {
+    pub(crate) seat: LinkSeat,
+    /// The callers in use, by number.
+    pub(crate) users: [Option<End>; 64],
+}
+
+/// The least number that is not in use.
+pub(crate) fn least_free(users: &[Option<End>; 64]) -> Option<CallerNo>
+    ensures number { result ≡ free_number users.now }
+    ensures within { IfSome result (λ number. number < 64) }
+{
+    match users.iter().position(|found| found.is_none()) {
+        None => None,
+        Some(place) => Some(place as CallerNo),
+    }
+}

@@ -1,0 +1,86 @@
+//! A give: a function for each step, and the whole walk.
+ghost use Rattle.std.specs.Prelude.{◌≡◌, ◌+◌, ◌≤◌, ℕ, ◌∷◌, [], IfErr};
+ghost use Rattle.lane_model.specs.declared.recoveries.LaneTurn.TheVariants as lane_turn;
+ghost use Rattle.lane_model.specs.declared.stages.GiveStage.TheVariants as give_stage;
+ghost use Rattle.lane_model.specs.declared.stages.Work.TheVariants as work;
+ghost use Rattle.link_words.specs.declared.rule.Event.TheVariants.{Step};
+ghost use Rattle.link_words.specs.declared.rule.Made.TheVariants as made;
+ghost use Rattle.link_words.specs.Steps.{hands_but};
+ghost use Rattle.split_ring.specs.Callers.{Holds, IsCallerOf, IsAfterCall, MakesGive};
+ghost use Rattle.split_ring.specs.Receives.{IsGiveAt};
+ghost use Rattle.split_ring.specs.Seats.{IsSeatOf};
+ghost use Rattle.split_ring.specs.Turns.{HasReceiver, IsLeaving};
+ghost use Rattle.split_ring.specs.Walks.{HasDone, same_hands};
+
+use crate::callers::{Caller, CallerId};
+use crate::links::SharedLink;
+use crate::slots::{give_back_in, returned_in};
+use crate::takes::receiver_slot;
+use lane_model::{Desk, Held, LaneTurn, Wish};
+use link_words::{LinkSeat, Ring, publish_index, store_entry};
+use rp_base::CallerNo;
+use vring_layout::UsedWord;
+
+/// Another had the receiver's turn of a give, which hands its buffer back.
+#[derive(Drop)]
+pub struct GiveBusy {
+    pub holder: CallerNo,
+    pub held: Held,
+}
+
+impl<D: Desk> SharedLink<D> {
+    /// One attempt to give a buffer back, in any era: the number of its message. It takes no memory and does
+    /// not wait.
+    ///
+    /// Errors: exactly where another had the receiver's turn, with the buffer.
+    pub fn try_give(&self, caller: &mut Caller, held: Held) -> Result<u64, GiveBusy>
+        requires caller { IsCallerOf self.now caller.old }
+        requires held { Holds caller.old held }
+        ensures caller { IsAfterCall self.now caller.old caller.new }
+        ensures walk { MakesGive D.row.coded D.meaning caller.old held result caller.new }
+        ensures held { IfErr result (λ busy. Holds caller.new busy.held) }
+    {
+        let who = caller.id;
+        let number = held.number();
+        if let Err(holder) = self.enter(&mut caller.seat, who, Wish::Give(number)) {
+            return Err(GiveBusy { holder, held });
+        }
+        let returned = self.store_given(&mut caller.seat, who, number);
+        self.publish_given(&mut caller.seat, who, number, returned);
+        self.leave(&mut caller.seat, who.end, LaneTurn::Receiver);
+        Ok(number)
+    }
+
+    /// Step 2 of a give: the return entry names the buffer. The answer is how many buffers are back.
+    fn store_given(&self, seat: &mut LinkSeat, who: CallerId, number: u64) -> u64
+        requires seat { IsSeatOf self.now.table.shared.table_id self.now.sizes seat.old.table_id seat.old.me }
+        requires turn { HasReceiver who (work.Give number give_stage.Turn) seat.old.me }
+        ensures seat { IsSeatOf self.now.table.shared.table_id self.now.sizes seat.new.table_id seat.new.me }
+        ensures stored { IsGiveAt who result (work.Give number give_stage.Entry) seat.new.me }
+        ensures done { HasDone D.row.coded D.meaning (Step made.Entry ∷ []) same_hands seat.old.me seat.new.me }
+    {
+        let table = &self.table.shared;
+        let lane = who.end;
+        let slot = receiver_slot(lane);
+        let (returned, buffer) = returned_in(seat.slot_mut(table, slot), number);
+        let entry = UsedWord { id: buffer, len: 0 };
+        let count = self.return_count(lane, returned);
+        store_entry(table, &self.sizes, seat, lane, Ring::Return, count, entry);
+        returned
+    }
+
+    /// Step 3 of a give: the buffer is back.
+    fn publish_given(&self, seat: &mut LinkSeat, who: CallerId, number: u64, returned: u64)
+        requires seat { IsSeatOf self.now.table.shared.table_id self.now.sizes seat.old.table_id seat.old.me }
+        requires call { IsGiveAt who returned (work.Give number give_stage.Entry) seat.old.me }
+        ensures seat { IsSeatOf self.now.table.shared.table_id self.now.sizes seat.new.table_id seat.new.me }
+        ensures given { IsLeaving lane_turn.Receiver who.end seat.new.me }
+        ensures done { HasDone D.row.coded D.meaning (Step (made.Gave (returned + 1)) ∷ []) (λ hands. hands_but hands number) seat.old.me seat.new.me }
+    {
+        let table = &self.table.shared;
+        let lane = who.end;
+        let count = self.return_count(lane, returned) + 1;
+        publish_index(table, seat, lane, Ring::Return, count);
+        give_back_in(seat.slot_mut(table, receiver_slot(lane)), number);
+    }
+}

@@ -1,0 +1,18 @@
+// A link that threads share: its words and slots as one table, the callers and the manager, and their calls over the steps of link_words.
+#![tactic(auto)]
+
+mod callers;
+mod gives;
+mod layouts;
+mod links;
+mod sends;
+mod slots;
+mod takes;
+mod threads;
+mod turns;
+
+pub use callers::{Caller, CallerId, Manager};
+pub use gives::GiveBusy;
+pub use links::SharedLink;
+pub use sends::SendFault;
+pub use takes::{TakeFault, Taken};

@@ -1,0 +1,85 @@
+//! What is in a slot that is out with a seat, read and written in its place.
+ghost use Rattle.std.specs.Prelude.{◌≡◌, ◌+◌, ◌<◌, ◌≤◌, ◌^◌, ℕ, List, length};
+ghost use Rattle.rp_base.specs.declared.kinds.End.TheVariants as side;
+ghost use Rattle.rp_base.specs.declared.limits.TheConstants.{CAPACITY_MOST};
+ghost use Rattle.ring_core.specs.RingSteps.{held_buffer, hands_without};
+ghost use Rattle.link_words.specs.declared.rule.ReceiverSide.{ReceiverSide};
+ghost use Rattle.link_words.specs.declared.rule.SenderSide.{SenderSide};
+ghost use Rattle.link_words.specs.declared.rule.Slot.TheVariants.{Buffer, Receiver, Sender};
+ghost use Rattle.link_words.specs.Steps.{handed_side};
+
+use lane_model::Desk;
+use link_words::{DeskTable, ReceiverState, SenderSide, Slot};
+use rp_base::{CallerNo, End, Message, Verdict};
+
+/// How many messages were accepted, by the sender's side state.
+pub(crate) fn accepted_in(slot: &Slot) -> u64
+    requires { (x : SenderSide) × (slot.now ≡ Sender x) }
+    ensures { (x : SenderSide) → slot.now ≡ Sender x → result ≡ x.accepted }
+{
+    match slot {
+        Slot::Sender(side) => side.accepted,
+        _ => 0,
+    }
+}
+
+/// So many messages are accepted.
+pub(crate) fn accept_in(slot: &mut Slot, accepted: u64)
+    ensures { slot.new ≡ Sender (record { accepted = accepted }) }
+{
+    *slot = Slot::Sender(SenderSide { accepted });
+}
+
+/// The message is in the buffer. It writes as many bytes as the message has.
+pub(crate) fn fill(slot: &mut Slot, message: &Message)
+    ensures { slot.new ≡ Buffer message.now }
+{
+    match slot {
+        Slot::Buffer(buffer) => buffer.set(message.bytes(), &[]),
+        _ => *slot = Slot::Buffer(message.copy()),
+    }
+}
+
+/// A copy of the message in the buffer.
+pub(crate) fn message_in(slot: &Slot) -> Message
+    requires { (x : List ℕ) × (slot.now ≡ Buffer x) }
+    ensures { (x : List ℕ) → slot.now ≡ Buffer x → result ≡ x }
+{
+    match slot {
+        Slot::Buffer(message) => message.copy(),
+        _ => Message::empty(),
+    }
+}
+
+/// How many messages were handed over, by the receiver's side state.
+pub(crate) fn handed_in(slot: &Slot) -> u64
+    requires { (x : ReceiverSide) × (slot.now ≡ Receiver x) }
+    ensures { (x : ReceiverSide) → slot.now ≡ Receiver x → result ≡ x.handed }
+{
+    match slot {
+        Slot::Receiver(side) => side.handed(),
+        _ => 0,
+    }
+}
+
+/// How many buffers are back, by the receiver's side state, and the buffer in which the message of this
+/// number is in hand.
+pub(crate) fn returned_in(slot: &Slot, number: u64) -> (u64, u32)
+    requires { (x : ReceiverSide) × (slot.now ≡ Receiver x) }
+    ensures { (x : ReceiverSide) → slot.now ≡ Receiver x → (result.0 ≡ x.returned) × (result.1 ≡ held_buffer x.hands number) }
+{
+    match slot {
+        Slot::Receiver(side) => (side.returned(), side.buffer_of(number)),
+        _ => (0, 0),
+    }
+}
+
+/// The buffer of the message of this number is back.
+pub(crate) fn give_back_in(slot: &mut Slot, number: u64)
+    requires { (x : ReceiverSide) × (slot.old ≡ Receiver x) × (x.returned < 2 ^ 60) }
+    ensures { (x : ReceiverSide) → slot.old ≡ Receiver x → slot.new ≡ Receiver (record x { returned = x.returned + 1; hands = hands_without x.hands number }) }
+{
+    if let Slot::Receiver(side) = slot {
+        side.give_back(number);
+    }
+}

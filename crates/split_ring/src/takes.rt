@@ -1,0 +1,249 @@
+//! A take: a function for each step, and the whole walk.
+ghost use Rattle.std.specs.Prelude.{◌≡◌, ◌≢◌, ◌+◌, ◌≤◌, ◌<◌, ◌%◌, ℕ, List, ◌∷◌, [], length, IfOk, IfErr};
+ghost use Rattle.rp_base.specs.declared.limits.TheConstants.{BOOK_MOST, CAPACITY_MOST};
+ghost use Rattle.lane_model.specs.declared.recoveries.LaneTurn.TheVariants as lane_turn;
+ghost use Rattle.lane_model.specs.declared.stages.TakeStage.TheVariants as take_stage;
+ghost use Rattle.lane_model.specs.declared.stages.Work.TheVariants as work;
+ghost use Rattle.link_words.specs.declared.rule.Event.TheVariants.{Step, Take};
+ghost use Rattle.link_words.specs.declared.rule.Made.TheVariants as made;
+ghost use Rattle.link_words.specs.declared.rule.ReceiverSide.{ReceiverSide};
+ghost use Rattle.link_words.specs.declared.rule.Slot.TheVariants.{Receiver};
+ghost use Rattle.link_words.specs.PlacedDesks.{table_at, IsRightTo};
+ghost use Rattle.link_words.specs.Steps.{handed_side};
+ghost use Rattle.link_words.specs.Words.{receiver_slot};
+ghost use Rattle.split_ring.specs.Callers.{Holds, IsCallerOf, IsAfterCall, MakesTake};
+ghost use Rattle.split_ring.specs.Receives.{lane_number, IsTakeAt, HasBufferOut, IsHandedTo, HasSettledTake};
+ghost use Rattle.split_ring.specs.Seats.{IsSeatOf};
+ghost use Rattle.split_ring.specs.Sends.{live_era};
+ghost use Rattle.split_ring.specs.Turns.{HasReceiver, IsLeaving, receive_slots};
+ghost use Rattle.split_ring.specs.Walks.{HasDone, same_hands, one_more};
+
+use crate::callers::{Caller, CallerId};
+use crate::links::SharedLink;
+use crate::slots::{handed_in, message_in};
+use crate::turns::{era_of, is_live_in};
+use lane_model::{Desk, Held, LaneTurn, Wish};
+use link_words::{EraUse, IndexUse, LinkSeat, Ring, Slot, load_entry, load_era, load_index};
+use rp_base::{Buffer, CallerNo, End, Era, Message, Verdict};
+
+/// A message that was handed over, in its buffer, and what the desk said of it.
+#[derive(Drop)]
+pub struct Taken {
+    pub held: Held,
+    pub verdict: Verdict,
+}
+
+/// Why a take ended otherwise.
+#[derive(Clone, Copy, Debug)]
+pub enum TakeFault {
+    /// Another had the receiver's turn.
+    Busy(CallerNo),
+    /// The era is not the one that the caller follows, live.
+    Dead(Era),
+    /// Each accepted message was handed over: how many there are.
+    Empty(u64),
+}
+
+/// A take that has the receiver's turn.
+#[derive(Clone, Copy)]
+pub(crate) struct TakeCall {
+    pub who: CallerId,
+    /// How many messages were handed over.
+    pub handed: u64,
+}
+
+/// The slot of the receiver's side state of the lane to an end.
+pub(crate) fn receiver_slot(lane: End) -> usize
+    ensures { result ≡ receiver_slot lane }
+{
+    match lane {
+        End::Host => 1,
+        End::Remote => 3,
+    }
+}
+
+/// The number of the lane to an end.
+pub(crate) fn lane_number(end: End) -> u8
+    ensures { result ≡ lane_number end }
+{
+    match end {
+        End::Host => 0,
+        End::Remote => 1,
+    }
+}
+
+/// How many messages are accepted and not handed over, by the forward index.
+fn waiting_messages(index: u64, handed: u64) -> u64
+    requires { (index < 65536) × (handed ≤ BOOK_MOST) }
+    ensures { (accepted : ℕ) → index ≡ accepted % 65536 → handed ≤ accepted → accepted ≤ handed + 256 → result + handed ≡ accepted }
+{
+    (index + 65_536 - handed % 65_536) % 65_536
+}
+
+impl<D: Desk> SharedLink<D> {
+    /// One attempt to be handed the next message of the lane to the caller's end. It takes no memory and does
+    /// not wait. The buffer stays the caller's until it gives it back.
+    ///
+    /// Errors: `Busy` exactly where another had the receiver's turn; `Dead` exactly where the era is not the
+    /// one that the caller follows, live, before or after the look; `Empty` exactly where each accepted
+    /// message was handed over. After each the caller is in no call.
+    pub fn try_take(&self, caller: &mut Caller) -> Result<Taken, TakeFault>
+        requires { IsCallerOf self.now caller.old }
+        ensures caller { IsAfterCall self.now caller.old caller.new }
+        ensures walk { MakesTake D.row.coded D.meaning caller.old result caller.new }
+        ensures held { IfOk result (λ taken. Holds caller.new taken.held) }
+    {
+        let who = caller.id;
+        if let Err(holder) = self.enter(&mut caller.seat, who, Wish::Take) {
+            return Err(TakeFault::Busy(holder));
+        }
+        let answer = self.take_on(&mut caller.seat, who);
+        self.leave(&mut caller.seat, who.end, LaneTurn::Receiver);
+        answer
+    }
+
+    /// The steps of a take behind its first, up to the one that settles its end.
+    fn take_on(&self, seat: &mut LinkSeat, who: CallerId) -> Result<Taken, TakeFault>
+        requires seat { IsSeatOf self.now.table.shared.table_id self.now.sizes seat.old.table_id seat.old.me }
+        requires turn { HasReceiver who (work.Take take_stage.Turn) seat.old.me }
+        ensures seat { IsSeatOf self.now.table.shared.table_id self.now.sizes seat.new.table_id seat.new.me }
+        ensures settled { HasSettledTake D.row.coded D.meaning who result seat.old.me seat.new.me }
+    {
+        let call = self.take_begun(seat, who);
+        if let Err(era) = self.find_take_era(seat, &call) {
+            return Err(TakeFault::Dead(era));
+        }
+        if let Err(accepted) = self.look_for_message(seat, &call) {
+            return Err(TakeFault::Empty(accepted));
+        }
+        let buffer = self.take_filled(seat, &call);
+        match self.hand_over(seat, &call, buffer) {
+            Ok(taken) => Ok(taken),
+            Err(era) => Err(TakeFault::Dead(era)),
+        }
+    }
+
+    /// A take that has its turn, by its side state.
+    fn take_begun(&self, seat: &mut LinkSeat, who: CallerId) -> TakeCall
+        requires seat { IsSeatOf self.now.table.shared.table_id self.now.sizes seat.old.table_id seat.old.me }
+        requires turn { HasReceiver who (work.Take take_stage.Turn) seat.old.me }
+        ensures seat { IsSeatOf self.now.table.shared.table_id self.now.sizes seat.new.table_id seat.new.me }
+        ensures call { IsTakeAt result (work.Take take_stage.Turn) seat.new.me × (result.who ≡ who) }
+        ensures still { HasDone D.row.coded D.meaning [] same_hands seat.old.me seat.new.me }
+    {
+        let slot = receiver_slot(who.end);
+        TakeCall {
+            who,
+            handed: handed_in(seat.slot_mut(&self.table.shared, slot)),
+        }
+    }
+
+    /// Step 2 of a take: it goes on in its incarnation, live.
+    ///
+    /// Errors: the era that was found, exactly where it is another or a closed one.
+    fn find_take_era(&self, seat: &mut LinkSeat, call: &TakeCall) -> Result<(), Era>
+        requires seat { IsSeatOf self.now.table.shared.table_id self.now.sizes seat.old.table_id seat.old.me }
+        requires call { IsTakeAt call.now (work.Take take_stage.Turn) seat.old.me }
+        ensures seat { IsSeatOf self.now.table.shared.table_id self.now.sizes seat.new.table_id seat.new.me }
+        ensures live { IfOk result (λ _. IsTakeAt call.now (work.Take take_stage.Era) seat.new.me
+            × HasDone D.row.coded D.meaning (Step (made.Era (live_era call.now.who.follows)) ∷ []) same_hands seat.old.me seat.new.me) }
+        ensures dead { IfErr result (λ era. (era ≢ live_era call.now.who.follows) × IsLeaving lane_turn.Receiver call.now.who.end seat.new.me
+            × HasDone D.row.coded D.meaning (Step (made.Era era) ∷ []) same_hands seat.old.me seat.new.me) }
+    {
+        let era = era_of(load_era(&self.table.shared, seat, EraUse::Take));
+        if is_live_in(era, call.who.follows) {
+            Ok(())
+        } else {
+            Err(era)
+        }
+    }
+
+    /// Step 3 of a take: it looks for a message by the forward index.
+    ///
+    /// Errors: how many messages were accepted, exactly where each was handed over.
+    fn look_for_message(&self, seat: &mut LinkSeat, call: &TakeCall) -> Result<(), u64>
+        requires seat { IsSeatOf self.now.table.shared.table_id self.now.sizes seat.old.table_id seat.old.me }
+        requires call { IsTakeAt call.now (work.Take take_stage.Era) seat.old.me }
+        ensures seat { IsSeatOf self.now.table.shared.table_id self.now.sizes seat.new.table_id seat.new.me }
+        ensures message { IfOk result (λ _. IsTakeAt call.now (work.Take take_stage.Look) seat.new.me
+            × ((accepted : ℕ) × HasDone D.row.coded D.meaning (Step (made.Waiting call.now.handed accepted) ∷ []) same_hands seat.old.me seat.new.me)) }
+        ensures empty { IfErr result (λ accepted. (accepted ≡ call.now.handed) × IsLeaving lane_turn.Receiver call.now.who.end seat.new.me
+            × HasDone D.row.coded D.meaning (Step (made.Waiting accepted accepted) ∷ []) same_hands seat.old.me seat.new.me) }
+    {
+        let index = load_index(&self.table.shared, seat, call.who.end, IndexUse::Message);
+        if waiting_messages(index, call.handed) == 0 {
+            Err(call.handed)
+        } else {
+            Ok(())
+        }
+    }
+
+    /// Step 4 of a take: the buffer of the next message is out.
+    fn take_filled(&self, seat: &mut LinkSeat, call: &TakeCall) -> u32
+        requires seat { IsSeatOf self.now.table.shared.table_id self.now.sizes seat.old.table_id seat.old.me }
+        requires call { IsTakeAt call.now (work.Take take_stage.Look) seat.old.me }
+        ensures seat { IsSeatOf self.now.table.shared.table_id self.now.sizes seat.new.table_id seat.new.me }
+        ensures out { (message : List ℕ) × HasBufferOut self.now.sizes call.now (work.Take take_stage.Buffer) result message seat.new.me }
+        ensures done { HasDone D.row.coded D.meaning (Step (made.Buffer result) ∷ []) same_hands seat.old.me seat.new.me }
+    {
+        let table = &self.table.shared;
+        let entry = load_entry(
+            table,
+            &self.sizes,
+            seat,
+            call.who.end,
+            Ring::Forward,
+            call.handed,
+        );
+        (entry % 4_294_967_296) as u32
+    }
+
+    /// Step 5 of a take: in its incarnation, live, the message is handed to the caller, and the desk
+    /// judges it.
+    ///
+    /// Errors: the era that was found, exactly where it is another or a closed one.
+    fn hand_over(&self, seat: &mut LinkSeat, call: &TakeCall, buffer: u32) -> Result<Taken, Era>
+        requires seat { IsSeatOf self.now.table.shared.table_id self.now.sizes seat.old.table_id seat.old.me }
+        requires call { (message : List ℕ) × HasBufferOut self.now.sizes call.now (work.Take take_stage.Buffer) buffer message seat.old.me }
+        ensures seat { IsSeatOf self.now.table.shared.table_id self.now.sizes seat.new.table_id seat.new.me }
+        ensures left { IsLeaving lane_turn.Receiver call.now.who.end seat.new.me }
+        ensures handed { IfOk result (λ taken. (message : List ℕ) × IsHandedTo D.meaning call.now.who call.now.handed message taken
+            × HasDone D.row.coded D.meaning (Step (made.Era (live_era call.now.who.follows)) ∷ Take call.now.who.end call.now.who.follows call.now.handed message ∷ []) (one_more call.now.handed) seat.old.me seat.new.me) }
+        ensures dead { IfErr result (λ era. (era ≢ live_era call.now.who.follows) × HasDone D.row.coded D.meaning (Step (made.Era era) ∷ []) same_hands seat.old.me seat.new.me) }
+    {
+        let who = call.who;
+        let table = &self.table.shared;
+        let slot = self.buffer_slot(who.end, buffer);
+        let message = message_in(seat.slot_mut(table, slot));
+        let era = era_of(load_era(table, seat, EraUse::Hand));
+        if is_live_in(era, who.follows) {
+            let side = seat.slot_mut(table, receiver_slot(who.end));
+            let verdict = self.judge(side, who.number, buffer, &message);
+            let filled = Buffer {
+                id: (buffer % 65_536) as u16,
+                message,
+            };
+            let held = Held::of(lane_number(who.end), who.number, call.handed, filled);
+            Ok(Taken { held, verdict })
+        } else {
+            Err(era)
+        }
+    }
+
+    /// The desk judges the next message, which is in the caller's hands then.
+    fn judge(&self, slot: &mut Slot, caller: CallerNo, buffer: u32, message: &Message) -> Verdict
+        requires side { (x : ReceiverSide) × (slot.old ≡ Receiver x) × (x.handed ≤ BOOK_MOST) × (length x.hands < CAPACITY_MOST) × (x.desk.table ≡ table_at self.now.sizes.desks x.desk.end) }
+        ensures judged { (x : ReceiverSide) (desk : D) → slot.old ≡ Receiver x → x.desk.code ≡ D.row.coded.code desk
+            → (result ≡ D.meaning.verdict desk x.handed message.now) × (slot.new ≡ Receiver (handed_side D.row.coded D.meaning desk x caller buffer message.now)) }
+    {
+        let Slot::Receiver(side) = slot else {
+            unreachable!()
+        };
+        let number = side.handed();
+        side.hand_over(caller, buffer);
+        match side.end() {
+            End::Host => side.deliver(&self.host.shared, number, message),
+            End::Remote => side.deliver(&self.remote.shared, number, message),
+        }
+    }
+}

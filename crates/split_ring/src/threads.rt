@@ -1,0 +1,31 @@
+//! What may cross threads.
+use crate::callers::{Caller, Manager};
+use crate::links::{OwnedDesk, OwnedTable, SharedLink};
+use lane_model::Desk;
+use link_words::Slot;
+
+fn send<T: Send>() {}
+
+fn sync<T: Sync>() {}
+
+fn slot_is_send() {
+    send::<Slot>();
+}
+
+fn caller_is_send() {
+    send::<Caller>();
+    send::<Manager>();
+}
+
+fn words_are_shared<D: Desk>() {
+    sync::<OwnedTable<D>>();
+}
+
+fn desk_is_shared<D: Desk + Send>() {
+    sync::<OwnedDesk<D>>();
+}
+
+fn link_is_shared<D: Desk + Send>() {
+    send::<SharedLink<D>>();
+    sync::<SharedLink<D>>();
+}
