@@ -12,8 +12,8 @@ ghost use Rattle.link_words.specs.Steps.{MakesCaller};
 ghost use Rattle.link_words.specs.Words.{words_in};
 
 use crate::moves::{
-    ComesBack, EndsReturned, EnlistsHost, EnlistsRemote, GoesOut,
-    TellsClosesEra, TellsEndsCaller, TellsLearnsEra, TellsSettles,
+    ComesBack, EndsReturned, EnlistsHost, EnlistsRemote, GoesOut, TellsClosesEra, TellsEndsCaller,
+    TellsLearnsEra, TellsSettles,
 };
 use crate::places::ERA_PLACE;
 use crate::rule::{LinkSeat, LinkTable, Slot};
