@@ -1,5 +1,5 @@
 // Tests of calls that the program doesn't make: a bench step by step, the calls of a caller on a core's link, single steps
-// of its actors over a store of images, and a run of a script that was read before.
+// of its actors and a handover over a store of images, and a run of a script that was read before.
 #![tactic(auto)]
 
 #[cfg(test)]
@@ -8,6 +8,8 @@ mod benches;
 mod callers;
 #[cfg(test)]
 mod drives;
+#[cfg(test)]
+mod handovers;
 #[cfg(test)]
 mod scripts;
 #[cfg(test)]
