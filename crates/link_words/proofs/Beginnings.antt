@@ -31,7 +31,7 @@ use Rattle.link_words.specs.declared.rule.Slot.TheVariants.{Sender, Receiver}
 use Rattle.link_words.specs.declared.rule.View.{View}
 use Rattle.link_words.specs.Calls.{SeatState, RestsAt, call_at}
 use Rattle.link_words.specs.Deeds.{Steps}
-use Rattle.link_words.specs.Histories.{hands_of}
+use Rattle.link_words.specs.Histories.{hands_of, is_past_take_era}
 use Rattle.link_words.specs.Layouts.{place_in}
 use Rattle.link_words.specs.Passes.{HasNumber, with_call, place_of_number}
 use Rattle.link_words.specs.Rule.{IsCallOf, Shows, PlacedRule}
@@ -123,11 +123,11 @@ module _ {B : Type 0} {kc : Coded B} {kz : DeskTables} (cd : Coded (PlacedDesk k
   send_begins message fits is = begins_by (wish.Send message) (sender_word (other e)) (λ y. either (eqb y 0) new y) (SendBeginsBy cd desk z me s.mover (other e) follows message) (TakesSender (other e) number follows message me) is
       (starts cd desk z n id me s.mover (other e) follows new message fits (s.call ∙ ap Rests (sym (other_twice e))) suc_number) (takes_sender message)
 
-  work_begins : (w : Wish) (first : Work) → ((lanes : Lanes (RingState (PlacedDesk kc kz))) (caller : ℕ) → first_step (ring_form desk) lanes caller follows w ≡ receive_first (ring_form desk) lanes caller follows first) → work_is_out first ≡ false
+  work_begins : (w : Wish) (first : Work) → ((lanes : Lanes (RingState (PlacedDesk kc kz))) (caller : ℕ) → first_step (ring_form desk) lanes caller follows w ≡ receive_first (ring_form desk) lanes caller follows first) → work_is_out first ≡ false → is_past_take_era first ≡ false
       → ((st : State Slot View) (m : LaneLink (RingState (PlacedDesk kc kz))) (p : ℕ) → Shows cd desk z st m p → get_elem? st.views id ≡ some me.0 → IsFitWish w (lane_to m e).lane.lane.held s.mover.pass.number) → place ≡ place_in (receiver_word e)
       → Allows (PlacedRule cd desk z) n id me place (λ y. either (eqb y 0) new y) (λ y me'. TakesReceiver e number follows first me y me' × (y ≤ 65) × BeginsWith cd desk (HasWord place y) number follows w me me')
-  work_begins w first begins inside fits is = begins_by w (receiver_word e) (λ y. either (eqb y 0) new y) (TakeBeginsBy me s.mover e follows first) (TakesReceiver e number follows first me) is
-      (takes_turn desk w first follows begins cd z id me s.mover e s.call inside fits n new suc_number) (takes_receiver first)
+  work_begins w first begins inside early fits is = begins_by w (receiver_word e) (λ y. either (eqb y 0) new y) (TakeBeginsBy me s.mover e follows first) (TakesReceiver e number follows first me) is
+      (takes_turn desk w first follows begins cd z id me s.mover e s.call inside early fits n new suc_number) (takes_receiver first)
 
   give_fits : (k : ℕ) → HasNumber s.mover.pass.hands k → (st : State Slot View) (m : LaneLink (RingState (PlacedDesk kc kz))) (p : ℕ) → Shows cd desk z st m p → get_elem? st.views id ≡ some me.0 → IsFitWish (wish.Give k) (lane_to m e).lane.lane.held s.mover.pass.number
   give_fits k has st m p r at =
@@ -139,10 +139,10 @@ module _ {B : Type 0} {kc : Coded B} {kz : DeskTables} (cd : Coded (PlacedDesk k
   pub call_begins : (w : Wish) → IsFit w s.mover.pass.hands → place ≡ place_in (turn_word_for e w)
       → Allows (PlacedRule cd desk z) n id me place (λ y. either (eqb y 0) new y) (λ y me'. TakesTurn e number follows w me y me' × (y ≤ 65) × BeginsWith cd desk (HasWord place y) number follows w me me')
   call_begins (wish.Send message) fits is = send_begins message fits is
-  call_begins wish.Take fits is = work_begins wish.Take (first_work wish.Take) (λ lanes caller. refl) refl (λ st m p r at. tt) is
-  call_begins (wish.Give k) fits is = work_begins (wish.Give k) (first_work (wish.Give k)) (λ lanes caller. refl) refl (give_fits k fits) is
-  call_begins (wish.Bind address) fits is = work_begins (wish.Bind address) (first_work (wish.Bind address)) (λ lanes caller. refl) refl (λ st m p r at. tt) is
-  call_begins (wish.Unbind address) fits is = work_begins (wish.Unbind address) (first_work (wish.Unbind address)) (λ lanes caller. refl) refl (λ st m p r at. tt) is
+  call_begins wish.Take fits is = work_begins wish.Take (first_work wish.Take) (λ lanes caller. refl) refl refl (λ st m p r at. tt) is
+  call_begins (wish.Give k) fits is = work_begins (wish.Give k) (first_work (wish.Give k)) (λ lanes caller. refl) refl refl (give_fits k fits) is
+  call_begins (wish.Bind address) fits is = work_begins (wish.Bind address) (first_work (wish.Bind address)) (λ lanes caller. refl) refl refl (λ st m p r at. tt) is
+  call_begins (wish.Unbind address) fits is = work_begins (wish.Unbind address) (first_work (wish.Unbind address)) (λ lanes caller. refl) refl refl (λ st m p r at. tt) is
 
 -- the word of a turn stands before the entries
 pub wish_low : (e : End) (w : Wish) → place_in (turn_word_for e w) < 160

@@ -11,11 +11,13 @@ use Rattle.lane_model.specs.declared.states.BookEntry.{BookEntry}
 use Rattle.lane_model.specs.Desks.{DeskMeaning}
 use Rattle.ring_core.specs.declared.states.RingState.{RingState}
 use Rattle.link_words.specs.declared.rule.Event.{Event}
-use Rattle.link_words.specs.declared.rule.Event.TheVariants.{Step, Publish, Take}
+use Rattle.link_words.specs.declared.rule.Event.TheVariants.{Step, Count, Publish, Take}
 use Rattle.link_words.specs.Words.{lane_to, with_lane}
 use Rattle.link_words.specs.Deeds.{link_after_opening}
-use Rattle.link_words.specs.Histories.{same_end, entries_by, sends_in, NoneLater, takes_by, takes_in, ReadsIn, NoneOf}
+use Rattle.link_words.specs.declared.rule.Counted.{Counted}
+use Rattle.link_words.specs.Histories.{same_end, entries_by, sends_in, NoneLater, takes_by, takes_in, ReadsIn, NoneOf, IsWithin, counts_told, counts_published, counts_taken, seen, books_of, counts_of}
 use Rattle.link_words.proofs.Parts.{SendsAgree, TakesAt}
+use Rattle.link_words.proofs.Seen.{Grows, seen_kept, seen_more, seen_none}
 use Rattle.link_words.specs.Rule.{IsHistory}
 
 entries_more : (b : Bool) (number : ℕ) (message : List ℕ) (xs : List (ℕ × List ℕ)) → List (ℕ × List ℕ)
@@ -79,10 +81,15 @@ before_more [] entry k low = absurd (omega arith)
 before_more (b ∷ book) entry zero low = refl
 before_more (b ∷ book) entry (suc k) low = before_more book entry k (omega arith)
 
+-- the counts of a lane on which nothing is accepted or handed over
+grows_kept : {D : Type 0} (s old : RingState D) → s.lane.lane.accepted ≡ old.lane.lane.accepted → s.lane.lane.takers ≡ old.lane.lane.takers → old.lane.lane.returned ≤ s.lane.lane.returned → Grows old s
+grows_kept s old book handed back = let a = ap length book in let h = ap length handed in record { accepted = omega (arith, a); handed = omega (arith, h); returned = back }
+
 -- an entry more leaves what was read
 read_push : (e : End) (inc : ℕ) (book : List BookEntry) (entry : BookEntry) (own : List Event) → ReadsIn e inc book own → ReadsIn e inc (book ++ entry ∷ []) own
 read_push e inc book entry [] has = tt
 read_push e inc book entry (Step made ∷ own) has = read_push e inc book entry own has
+read_push e inc book entry (Count lane i counts ∷ own) has = read_push e inc book entry own has
 read_push e inc book entry (Publish lane i number message ∷ own) has = read_push e inc book entry own has
 read_push e inc book entry (Take lane i number message ∷ own) has =
     ((λ here now. let was = has.0 here now in let long = length-append book (entry ∷ []) in let low = was.0 in (omega (arith, low, long), was.1 ∙ before_more book entry number was.0)), read_push e inc book entry own has.1)
@@ -97,20 +104,63 @@ read_more m side.Remote s entry book own has side.Remote = subst (λ (b : List B
 read_none : (e : End) (inc next : ℕ) (book : List BookEntry) (own : List Event) → inc < next → NoneLater inc own → ReadsIn e next book own
 read_none e inc next book [] later none = tt
 read_none e inc next book (Step made ∷ own) later none = read_none e inc next book own later none
+read_none e inc next book (Count lane i counts ∷ own) later none = read_none e inc next book own later none.1
 read_none e inc next book (Publish lane i number message ∷ own) later none = read_none e inc next book own later none.1
 read_none e inc next book (Take lane i number message ∷ own) later none = ((λ here now. let low = none.0 in absurd (omega (arith, low, later, now))), read_none e inc next book own later none.1)
 
+-- the counts of a lane with a message more, or a handing more
+grows_published : {D : Type 0} (s old : RingState D) (entry : BookEntry) → s.lane.lane.accepted ≡ old.lane.lane.accepted ++ entry ∷ [] → s.lane.lane.takers ≡ old.lane.lane.takers → s.lane.lane.returned ≡ old.lane.lane.returned → Grows old s
+grows_published s old entry book handed back = let more = ap length book ∙ length-append old.lane.lane.accepted (entry ∷ []) in let same = ap length handed in record { accepted = omega (arith, more); handed = omega (arith, same); returned = omega (arith, back) }
+
+published_within : {D : Type 0} (s old : RingState D) (entry : BookEntry) → s.lane.lane.accepted ≡ old.lane.lane.accepted ++ entry ∷ [] → (nth : ℕ) → nth ≡ length old.lane.lane.accepted → IsWithin (counts_published nth) (counts_of (books_of s))
+published_within s old entry book nth at = let more = ap length book ∙ length-append old.lane.lane.accepted (entry ∷ []) in record { accepted = omega (arith, more, at); handed = omega arith; returned = omega arith }
+
+grows_taken : {D : Type 0} (s old : RingState D) (c : ℕ) → s.lane.lane.takers ≡ old.lane.lane.takers ++ c ∷ [] → s.lane.lane.accepted ≡ old.lane.lane.accepted → s.lane.lane.returned ≡ old.lane.lane.returned → Grows old s
+grows_taken s old c handed book back = let more = ap length handed ∙ length-append old.lane.lane.takers (c ∷ []) in let same = ap length book in record { accepted = omega (arith, same); handed = omega (arith, more); returned = omega (arith, back) }
+
+took_within : {D : Type 0} (s old : RingState D) (c : ℕ) → s.lane.lane.takers ≡ old.lane.lane.takers ++ c ∷ [] → (nth : ℕ) → nth ≡ length old.lane.lane.takers → IsWithin (counts_taken nth) (counts_of (books_of s))
+took_within s old c handed nth at = let more = ap length handed ∙ length-append old.lane.lane.takers (c ∷ []) in record { accepted = omega arith; handed = omega (arith, more, at); returned = omega arith }
+
+-- a history that reads the same books, where no buffer comes out again
+pub history_kept : {D : Type 0} (m : LaneLink (RingState D)) (e : End) (s : RingState D) → s.lane.lane.accepted ≡ (lane_to m e).lane.lane.accepted → s.lane.lane.takers ≡ (lane_to m e).lane.lane.takers → (lane_to m e).lane.lane.returned ≤ s.lane.lane.returned
+    → (number first : ℕ) (own : List Event) → IsHistory m number first own → IsHistory (with_lane m e s) number first own
+history_kept m e s book handed back number first own has =
+    record { sent = sent_same m e s book number first own has.sent; taken = taken_same m e s handed number first own has.taken; read = read_same m e s book own has.read; none_later = later m e s number first own has.none_later; counts = seen_kept m e s (grows_kept s (lane_to m e) book handed back) own has.counts }
+
+-- and the mover tells of the counts of the lane, in the current incarnation
+pub history_counted : {D : Type 0} (m : LaneLink (RingState D)) (e : End) (s : RingState D) → s.lane.lane.accepted ≡ (lane_to m e).lane.lane.accepted → s.lane.lane.takers ≡ (lane_to m e).lane.lane.takers → (lane_to m e).lane.lane.returned ≤ s.lane.lane.returned
+    → (number first f : ℕ) (counts : Counted) (own : List Event) → f ≡ m.era.inc → IsWithin (counts_told counts) (counts_of (books_of s)) → IsHistory m number first own → IsHistory (with_lane m e s) number first (Count e f counts ∷ own)
+history_counted m e s book handed back number first f counts own now within has = record {
+  sent = sent_same m e s book number first own has.sent;
+  taken = taken_same m e s handed number first own has.taken;
+  read = read_same m e s book own has.read;
+  none_later = later m e s number first (Count e f counts ∷ own) (let n = now in omega (arith, n), has.none_later);
+  counts = seen_more m e s f (counts_told counts) within (grows_kept s (lane_to m e) book handed back) own has.counts;
+}
+
 -- the mover accepts a message in its incarnation, which is the current one
 pub history_published : {D : Type 0} (m : LaneLink (RingState D)) (e : End) (s : RingState D) (entry : BookEntry) → s.lane.lane.accepted ≡ (lane_to m e).lane.lane.accepted ++ entry ∷ []
-    → (number first f nth : ℕ) (own : List Event) → s.lane.lane.takers ≡ (lane_to m e).lane.lane.takers → entry.caller ≡ number → f ≡ m.era.inc → nth ≡ length (lane_to m e).lane.lane.accepted
+    → (number first f nth : ℕ) (own : List Event) → s.lane.lane.takers ≡ (lane_to m e).lane.lane.takers → s.lane.lane.returned ≡ (lane_to m e).lane.lane.returned → entry.caller ≡ number → f ≡ m.era.inc → nth ≡ length (lane_to m e).lane.lane.accepted
     → IsHistory m number first own → IsHistory (with_lane m e s) number first (Publish e f nth entry.message ∷ own)
-history_published {D} m side.Host s entry book number first f nth own handed is current at has = record { sent = λ i. go i; taken = taken_same m side.Host s handed number first own has.taken; read = read_more m side.Host s entry book own has.read; none_later = (let c = current in omega arith, has.none_later) }
+history_published {D} m side.Host s entry book number first f nth own handed back is current at has = record {
+  sent = λ i. go i;
+  taken = taken_same m side.Host s handed number first own has.taken;
+  read = read_more m side.Host s entry book own has.read;
+  none_later = (let c = current in omega arith, has.none_later);
+  counts = seen_more m side.Host s f (counts_published nth) (published_within s (lane_to m side.Host) entry book nth at) (grows_published s (lane_to m side.Host) entry book handed back) own has.counts;
+}
   where
     go : (i : End) → SendsAgree (with_lane m side.Host s) i number first (Publish side.Host f nth entry.message ∷ own)
     go side.Host since = ap (entries_by number 0) book ∙ (entries_own number m.to_host.lane.lane.accepted entry is
         ∙ ((λ k. has.sent side.Host since k ++ (sym at k, entry.message) ∷ []) ∙ ap (λ (y : Bool). cond y (sends_in side.Host m.era.inc own ++ (nth, entry.message) ∷ []) (sends_in side.Host m.era.inc own)) (sym (eq-eqb f m.era.inc current))))
     go side.Remote since = has.sent side.Remote since
-history_published {D} m side.Remote s entry book number first f nth own handed is current at has = record { sent = λ i. go i; taken = taken_same m side.Remote s handed number first own has.taken; read = read_more m side.Remote s entry book own has.read; none_later = (let c = current in omega arith, has.none_later) }
+history_published {D} m side.Remote s entry book number first f nth own handed back is current at has = record {
+  sent = λ i. go i;
+  taken = taken_same m side.Remote s handed number first own has.taken;
+  read = read_more m side.Remote s entry book own has.read;
+  none_later = (let c = current in omega arith, has.none_later);
+  counts = seen_more m side.Remote s f (counts_published nth) (published_within s (lane_to m side.Remote) entry book nth at) (grows_published s (lane_to m side.Remote) entry book handed back) own has.counts;
+}
   where
     go : (i : End) → SendsAgree (with_lane m side.Remote s) i number first (Publish side.Remote f nth entry.message ∷ own)
     go side.Remote since = ap (entries_by number 0) book ∙ (entries_own number m.to_remote.lane.lane.accepted entry is
@@ -119,13 +169,13 @@ history_published {D} m side.Remote s entry book number first f nth own handed i
 
 -- another accepts a message
 pub history_other : {D : Type 0} (m : LaneLink (RingState D)) (e : End) (s : RingState D) (entry : BookEntry) → s.lane.lane.accepted ≡ (lane_to m e).lane.lane.accepted ++ entry ∷ []
-    → (number first : ℕ) (own : List Event) → s.lane.lane.takers ≡ (lane_to m e).lane.lane.takers → entry.caller ≢ number → IsHistory m number first own → IsHistory (with_lane m e s) number first own
-history_other m side.Host s entry book number first own handed apart has = record { sent = λ i. go i; taken = taken_same m side.Host s handed number first own has.taken; read = read_more m side.Host s entry book own has.read; none_later = has.none_later }
+    → (number first : ℕ) (own : List Event) → s.lane.lane.takers ≡ (lane_to m e).lane.lane.takers → s.lane.lane.returned ≡ (lane_to m e).lane.lane.returned → entry.caller ≢ number → IsHistory m number first own → IsHistory (with_lane m e s) number first own
+history_other m side.Host s entry book number first own handed back apart has = record { sent = λ i. go i; taken = taken_same m side.Host s handed number first own has.taken; read = read_more m side.Host s entry book own has.read; none_later = has.none_later; counts = seen_kept m side.Host s (grows_published s (lane_to m side.Host) entry book handed back) own has.counts }
   where
     go : (i : End) → SendsAgree (with_lane m side.Host s) i number first own
     go side.Host since = ap (entries_by number 0) book ∙ (entries_other number 0 m.to_host.lane.lane.accepted entry apart ∙ has.sent side.Host since)
     go side.Remote since = has.sent side.Remote since
-history_other m side.Remote s entry book number first own handed apart has = record { sent = λ i. go i; taken = taken_same m side.Remote s handed number first own has.taken; read = read_more m side.Remote s entry book own has.read; none_later = has.none_later }
+history_other m side.Remote s entry book number first own handed back apart has = record { sent = λ i. go i; taken = taken_same m side.Remote s handed number first own has.taken; read = read_more m side.Remote s entry book own has.read; none_later = has.none_later; counts = seen_kept m side.Remote s (grows_published s (lane_to m side.Remote) entry book handed back) own has.counts }
   where
     go : (i : End) → SendsAgree (with_lane m side.Remote s) i number first own
     go side.Remote since = ap (entries_by number 0) book ∙ (entries_other number 0 m.to_remote.lane.lane.accepted entry apart ∙ has.sent side.Remote since)
@@ -133,8 +183,12 @@ history_other m side.Remote s entry book number first own handed apart has = rec
 
 -- a close
 pub history_shut : {D : Type 0} (m : LaneLink (RingState D)) (inc number first : ℕ) (own : List Event) → m.era.inc ≡ inc → IsHistory m number first own → IsHistory (record m { era = record { inc = inc; is_live = false } }) number first own
-history_shut {D} m inc number first own is has = record { sent = λ i. go i; taken = λ i. took i; read = λ i. red i; none_later = subst (λ (n : ℕ). NoneLater n own) is has.none_later }
+history_shut {D} m inc number first own is has = record { sent = λ i. go i; taken = λ i. took i; read = λ i. red i; none_later = subst (λ (n : ℕ). NoneLater n own) is has.none_later; counts = λ i. saw i }
   where
+    saw : (i : End) → IsWithin (seen i inc own) (counts_of (books_of (lane_to (record m { era = record { inc = inc; is_live = false } }) i)))
+    saw side.Host = subst (λ (n : ℕ). IsWithin (seen side.Host n own) (counts_of (books_of m.to_host))) is (has.counts side.Host)
+    saw side.Remote = subst (λ (n : ℕ). IsWithin (seen side.Remote n own) (counts_of (books_of m.to_remote))) is (has.counts side.Remote)
+
     red : (i : End) → ReadsIn i inc (lane_to (record m { era = record { inc = inc; is_live = false } }) i).lane.lane.accepted own
     red side.Host = subst (λ (n : ℕ). ReadsIn side.Host n m.to_host.lane.lane.accepted own) is (has.read side.Host)
     red side.Remote = subst (λ (n : ℕ). ReadsIn side.Remote n m.to_remote.lane.lane.accepted own) is (has.read side.Remote)
@@ -150,6 +204,7 @@ history_shut {D} m inc number first own is has = record { sent = λ i. go i; tak
 mine_none : (e : End) (inc next : ℕ) (own : List Event) → inc < next → NoneLater inc own → sends_in e next own ≡ []
 mine_none e inc next [] later none = refl
 mine_none e inc next (Step made ∷ own) later none = mine_none e inc next own later none
+mine_none e inc next (Count lane i counts ∷ own) later none = mine_none e inc next own later none.1
 mine_none e inc next (Take lane i number message ∷ own) later none = mine_none e inc next own later none.1
 mine_none e inc next (Publish lane i number message ∷ own) later none =
     ap (λ (y : Bool). cond (same_end lane e && y) (sends_in e next own ++ (number, message) ∷ []) (sends_in e next own)) (ne_eqb i next (λ same. let low = none.0 in omega arith))
@@ -162,12 +217,14 @@ mine_none e inc next (Publish lane i number message ∷ own) later none =
 none_more : (inc next : ℕ) (own : List Event) → inc ≤ next → NoneLater inc own → NoneLater next own
 none_more inc next [] more none = tt
 none_more inc next (Step made ∷ own) more none = none_more inc next own more none
+none_more inc next (Count lane i counts ∷ own) more none = (le_trans none.0 more, none_more inc next own more none.1)
 none_more inc next (Publish lane i number message ∷ own) more none = (le_trans none.0 more, none_more inc next own more none.1)
 none_more inc next (Take lane i number message ∷ own) more none = (le_trans none.0 more, none_more inc next own more none.1)
 
 took_none : (e : End) (inc next : ℕ) (own : List Event) → inc < next → NoneLater inc own → takes_in e next own ≡ []
 took_none e inc next [] later none = refl
 took_none e inc next (Step made ∷ own) later none = took_none e inc next own later none
+took_none e inc next (Count lane i counts ∷ own) later none = took_none e inc next own later none.1
 took_none e inc next (Publish lane i number message ∷ own) later none = took_none e inc next own later none.1
 took_none e inc next (Take lane i number message ∷ own) later none =
     ap (λ (y : Bool). cond (same_end lane e && y) (takes_in e next own ++ number ∷ []) (takes_in e next own)) (ne_eqb i next (λ same. let low = none.0 in omega arith))
@@ -179,7 +236,7 @@ took_none e inc next (Take lane i number message ∷ own) later none =
 
 -- the next incarnation: nothing is in its books, and nobody has sent in it
 pub history_opened : {D : Type 0} (desk : DeskMeaning D) (m : LaneLink (RingState D)) (number first : ℕ) (own : List Event) → IsHistory m number first own → IsHistory (link_after_opening desk m) number first own
-history_opened {D} desk m number first own has = record { sent = λ i. go i; taken = λ i. took i; read = λ i. read_none i m.era.inc (m.era.inc + 1) (lane_to (link_after_opening desk m) i).lane.lane.accepted own (omega arith) has.none_later; none_later = none_more m.era.inc (m.era.inc + 1) own (omega arith) has.none_later }
+history_opened {D} desk m number first own has = record { sent = λ i. go i; taken = λ i. took i; read = λ i. read_none i m.era.inc (m.era.inc + 1) (lane_to (link_after_opening desk m) i).lane.lane.accepted own (omega arith) has.none_later; none_later = none_more m.era.inc (m.era.inc + 1) own (omega arith) has.none_later; counts = λ i. seen_none i m.era.inc (m.era.inc + 1) own _ (omega arith) has.none_later }
   where
     go : (i : End) → SendsAgree (link_after_opening desk m) i number first own
     go side.Host since = sym (mine_none side.Host m.era.inc (m.era.inc + 1) own (omega arith) has.none_later)
@@ -208,9 +265,15 @@ takes_other : (caller : ℕ) (cs : List ℕ) (c : ℕ) → c ≢ caller → take
 takes_other caller cs c apart = takes_push caller 0 cs c ∙ (ap (λ (y : Bool). takes_by caller 0 cs ++ cond y ((0 + length cs) ∷ []) []) (ne_eqb c caller apart) ∙ append_none (takes_by caller 0 cs))
 
 -- the mover is handed a message in its incarnation, which is the current one
-pub history_took : {D : Type 0} (m : LaneLink (RingState D)) (e : End) (s : RingState D) (c : ℕ) → s.lane.lane.takers ≡ (lane_to m e).lane.lane.takers ++ c ∷ [] → s.lane.lane.accepted ≡ (lane_to m e).lane.lane.accepted
+pub history_took : {D : Type 0} (m : LaneLink (RingState D)) (e : End) (s : RingState D) (c : ℕ) → s.lane.lane.takers ≡ (lane_to m e).lane.lane.takers ++ c ∷ [] → s.lane.lane.accepted ≡ (lane_to m e).lane.lane.accepted → s.lane.lane.returned ≡ (lane_to m e).lane.lane.returned
     → (number first f nth : ℕ) (message : List ℕ) (own : List Event) → c ≡ number → f ≡ m.era.inc → nth ≡ length (lane_to m e).lane.lane.takers → (nth < length (lane_to m e).lane.lane.accepted) × (message ≡ message_at (lane_to m e).lane.lane.accepted nth) → IsHistory m number first own → IsHistory (with_lane m e s) number first (Take e f nth message ∷ own)
-history_took {D} m side.Host s c handed book number first f nth message own is current at found has = record { sent = λ i. go i; taken = λ i. took i; read = read_same m side.Host s book (Take side.Host f nth message ∷ own) (λ i. red i); none_later = (let x = current in omega arith, has.none_later) }
+history_took {D} m side.Host s c handed book back number first f nth message own is current at found has = record {
+  sent = λ i. go i;
+  taken = λ i. took i;
+  read = read_same m side.Host s book (Take side.Host f nth message ∷ own) (λ i. red i);
+  none_later = (let x = current in omega arith, has.none_later);
+  counts = seen_more m side.Host s f (counts_taken nth) (took_within s (lane_to m side.Host) c handed nth at) (grows_taken s (lane_to m side.Host) c handed book back) own has.counts;
+}
   where
     go : (i : End) → SendsAgree (with_lane m side.Host s) i number first (Take side.Host f nth message ∷ own)
     go side.Host since = ap (entries_by number 0) book ∙ has.sent side.Host since
@@ -224,7 +287,13 @@ history_took {D} m side.Host s c handed book number first f nth message own is c
     took side.Host since = ap (takes_by number 0) handed ∙ (takes_own number m.to_host.lane.lane.takers c is
         ∙ ((λ k. has.taken side.Host since k ++ sym at k ∷ []) ∙ ap (λ (y : Bool). cond y (takes_in side.Host m.era.inc own ++ nth ∷ []) (takes_in side.Host m.era.inc own)) (sym (eq-eqb f m.era.inc current))))
     took side.Remote since = has.taken side.Remote since
-history_took {D} m side.Remote s c handed book number first f nth message own is current at found has = record { sent = λ i. go i; taken = λ i. took i; read = read_same m side.Remote s book (Take side.Remote f nth message ∷ own) (λ i. red i); none_later = (let x = current in omega arith, has.none_later) }
+history_took {D} m side.Remote s c handed book back number first f nth message own is current at found has = record {
+  sent = λ i. go i;
+  taken = λ i. took i;
+  read = read_same m side.Remote s book (Take side.Remote f nth message ∷ own) (λ i. red i);
+  none_later = (let x = current in omega arith, has.none_later);
+  counts = seen_more m side.Remote s f (counts_taken nth) (took_within s (lane_to m side.Remote) c handed nth at) (grows_taken s (lane_to m side.Remote) c handed book back) own has.counts;
+}
   where
     go : (i : End) → SendsAgree (with_lane m side.Remote s) i number first (Take side.Remote f nth message ∷ own)
     go side.Remote since = ap (entries_by number 0) book ∙ has.sent side.Remote since
@@ -240,10 +309,10 @@ history_took {D} m side.Remote s c handed book number first f nth message own is
     took side.Host since = has.taken side.Host since
 
 -- another is handed a message
-pub history_handed : {D : Type 0} (m : LaneLink (RingState D)) (e : End) (s : RingState D) (c : ℕ) → s.lane.lane.takers ≡ (lane_to m e).lane.lane.takers ++ c ∷ [] → s.lane.lane.accepted ≡ (lane_to m e).lane.lane.accepted
+pub history_handed : {D : Type 0} (m : LaneLink (RingState D)) (e : End) (s : RingState D) (c : ℕ) → s.lane.lane.takers ≡ (lane_to m e).lane.lane.takers ++ c ∷ [] → s.lane.lane.accepted ≡ (lane_to m e).lane.lane.accepted → s.lane.lane.returned ≡ (lane_to m e).lane.lane.returned
     → (number first : ℕ) (own : List Event) → c ≢ number → IsHistory m number first own → IsHistory (with_lane m e s) number first own
-history_handed m e s c handed book number first own apart has =
-    record { sent = sent_same m e s book number first own has.sent; taken = λ i. took e handed i (has.taken i); read = read_same m e s book own has.read; none_later = later m e s number first own has.none_later }
+history_handed m e s c handed book back number first own apart has =
+    record { sent = sent_same m e s book number first own has.sent; taken = λ i. took e handed i (has.taken i); read = read_same m e s book own has.read; none_later = later m e s number first own has.none_later; counts = seen_kept m e s (grows_taken s (lane_to m e) c handed book back) own has.counts }
   where
     took : (e : End) → s.lane.lane.takers ≡ (lane_to m e).lane.lane.takers ++ c ∷ [] → (i : End) → TakesAt m i number first own → TakesAt (with_lane m e s) i number first own
     took side.Host handed side.Host was since = ap (takes_by number 0) handed ∙ (takes_other number m.to_host.lane.lane.takers c apart ∙ was since)

@@ -1,4 +1,5 @@
 -- The close is that of the ring form, made by any seat.
+use Rattle.link_words.specs.Steps.{IsCloseOf}
 use Rattle.link_words.specs.declared.codes.DeskTables.{DeskTables}
 use Rattle.link_words.specs.PlacedDesks.{PlacedDesk}
 use Rattle.std.proofs.Common.{◌≡◌, ℕ, ◌+◌, ◌*◌, ◌<◌, Bool, true, false, cond, eqb, ◌&&◌, List, get_or, set, refl, sym, ap, ◌∙◌, subst, inl, ⊎_elim, arith, eq-eqb, ne_eqb}
@@ -25,10 +26,10 @@ use Rattle.link_words.specs.declared.rule.Call.TheVariants.{Idle, Sends, Rests, 
 use Rattle.link_words.specs.declared.rule.Pass.{Pass}
 use Rattle.link_words.specs.declared.rule.View.{View}
 use Rattle.link_words.specs.Words.{lane_to, era_word, shelf_to}
-use Rattle.link_words.specs.Histories.{IsCurrent}
+use Rattle.link_words.specs.Histories.{IsCurrent, IsCurrentTake, IsOfNow}
 use Rattle.link_words.proofs.Books.{history_shut, none_shut}
 use Rattle.link_words.specs.Deeds.{Closes, Deed, after_deed, MayDo, IsStill, AreManagers, IsSoundState}
-use Rattle.link_words.specs.Rule.{IsCallOf, HasCall, HistoryOf, HandsOf, Shows, WordsRule}
+use Rattle.link_words.specs.Rule.{IsCallOf, HasCall, HistoryOf, HandsOf, Shows, WordsRule, LatestOf}
 use Rattle.link_words.specs.Parts.{has_for_manager, HoldsBuffers}
 use Rattle.link_words.specs.Codes.{copied}
 use Rattle.link_words.specs.Passes.{Mover, with_pass, with_call}
@@ -36,7 +37,7 @@ use Rattle.link_words.specs.Calls.{SeatState}
 use Rattle.link_words.specs.Seats.{ClosesEra}
 use Rattle.link_words.proofs.Frames.{some_copy, each_set, numbers_set, keepers_set, manager_set}
 use Rattle.link_words.proofs.Kept.{deed_kept}
-use Rattle.link_words.proofs.Parts.{state_in, sizes_in, told_in, buffers_in, put_together, one_more}
+use Rattle.link_words.proofs.Parts.{state_in, told_in, buffers_in, put_together, one_more}
 
 -- an era can be read off its word
 pub era_is : (i j : ℕ) (a b : Bool) → i * 2 + cond a 1 0 ≡ j * 2 + cond b 1 0 → (i ≡ j) × (a ≡ b)
@@ -76,9 +77,9 @@ shut_call m inc k (Reclaims side.Remote x) live has = has
 shut_call m inc k (EndsHeld side.Remote x) live has = (has.0, has.1, has.2, has.3, refl, has.5)
 shut_call m inc k (Sends side.Host t x buffer) live has = (has.0, has.1, subst (IsCurrent t) (ap (λ (x : Era). x.inc) live) has.2)
 shut_call m inc k (Sends side.Remote t x buffer) live has = (has.0, has.1, subst (IsCurrent t) (ap (λ (x : Era). x.inc) live) has.2)
-shut_call m inc k (Receives side.Host t x buffer msg) live has = has
+shut_call m inc k (Receives side.Host t x buffer msg) live has = (has.0, has.1, subst (IsCurrentTake t) (ap (λ (x : Era). x.inc) live) has.2)
 shut_call m inc k (EndsReceive side.Host t x buffer msg) live has = (has.0, has.1, refl)
-shut_call m inc k (Receives side.Remote t x buffer msg) live has = has
+shut_call m inc k (Receives side.Remote t x buffer msg) live has = (has.0, has.1, subst (IsCurrentTake t) (ap (λ (x : Era). x.inc) live) has.2)
 shut_call m inc k (EndsReceive side.Remote t x buffer msg) live has = (has.0, has.1, refl)
 shut_call m inc k (EndsSend side.Host t x buffer) live has = (has.0, has.1, refl)
 shut_call m inc k (EndsSend side.Remote t x buffer) live has = (has.0, has.1, refl)
@@ -112,6 +113,7 @@ module _ {B : Type 0} {kc : Coded B} {kz : DeskTables} (cd : Coded (PlacedDesk k
             (record {
               own = each (HistoryOf m) (HistoryOf m) r.numbers.places r.histories.own (λ j l q there apart had. had) (r.histories.own id o.place o.pass (v, at, o.here));
               hands = each (HandsOf m) (HandsOf m) r.numbers.places r.histories.hands (λ j l q there apart had. had) (r.histories.hands id o.place o.pass (v, at, o.here));
+              latest = each (LatestOf m) (LatestOf m) r.numbers.places r.histories.latest (λ j l q there apart had. had) (r.histories.latest id o.place o.pass (v, at, o.here));
             })
             (record {
               places = numbers_set st.views id v u o w at refl refl r.numbers.places;
@@ -138,6 +140,7 @@ module _ {B : Type 0} {kc : Coded B} {kz : DeskTables} (cd : Coded (PlacedDesk k
         (record {
           own = r.histories.own;
           hands = r.histories.hands;
+          latest = r.histories.latest;
         })
         (record {
           places = r.numbers.places;
@@ -148,10 +151,10 @@ module _ {B : Type 0} {kc : Coded B} {kz : DeskTables} (cd : Coded (PlacedDesk k
   )
 
   pub closes : (n id : ℕ) (me : SeatState) (o : Mover me.0) (inc old new : ℕ) → old ≡ era_word (record { inc = inc; is_live = true }) → new ≡ era_word (record { inc = inc; is_live = false })
-      → Allows (WordsRule cd desk z) n id me 1 (λ y. either (eqb y old) new y) (ClosesEra me)
+      → Allows (WordsRule cd desk z) n id me 1 (λ y. either (eqb y old) new y) (λ y me'. ClosesEra me y me' × IsCloseOf cd desk inc y me me')
   closes n id me o inc old new is_old is_new st (m, p, r₀) wide at _ =
       let y : ℕ = get_or st.words 1 0 in let word : y ≡ era_word m.era = ap (λ (ws : List ℕ). get_or ws 1 0) r₀.words_are in
-      exchanged y old new (λ f. (w : View) × (a : Act Slot) × Valid st.homes me.1 a × WordsRule cd desk z (stepped st 1 f id me.1 w a) × ClosesEra me y (w, carried_after me.1 a))
+      exchanged y old new (λ f. (w : View) × (a : Act Slot) × Valid st.homes me.1 a × WordsRule cd desk z (stepped st 1 f id me.1 w a) × (ClosesEra me y (w, carried_after me.1 a) × IsCloseOf cd desk inc y me (w, carried_after me.1 a)))
       (λ hit.
       let era : m.era ≡ record { inc = inc; is_live = true } = era_of_word m.era (record { inc = inc; is_live = true }) (sym word ∙ (hit ∙ is_old)) in
       let r : Shows cd desk z st m 0 = ⊎_elim (λ (none_reset : p ≡ 0). subst (Shows cd desk z st m) none_reset r₀) (λ (still : IsStill m). absurd (true-false (ap (λ (x : Era). x.is_live) (sym era) ∙ still.0))) r₀.turns.still in
@@ -175,6 +178,7 @@ module _ {B : Type 0} {kc : Coded B} {kz : DeskTables} (cd : Coded (PlacedDesk k
               (record {
                 own = each (HistoryOf m) (HistoryOf m') r.numbers.places r.histories.own (λ j l q there apart. history_shut m inc q.number q.first q.own (ap (λ (x : Era). x.inc) era)) (history_shut m inc o.pass.number o.pass.first o.pass.own (ap (λ (x : Era). x.inc) era) (r.histories.own id o.place o.pass (me.0, at, o.here)));
                 hands = each (HandsOf m) (HandsOf m') r.numbers.places r.histories.hands (λ j l q there apart. shut_hands m inc q) (shut_hands m inc o.pass (r.histories.hands id o.place o.pass (me.0, at, o.here)));
+                latest = each (LatestOf m) (LatestOf m') r.numbers.places r.histories.latest (λ j l q there apart had. subst (λ (x : Era). IsOfNow x.inc q.number q.hands q.own) era had) (subst (λ (x : Era). IsOfNow x.inc o.pass.number o.pass.hands o.pass.own) era (r.histories.latest id o.place o.pass (me.0, at, o.here)));
               })
               (record {
                 places = numbers_set st.views id me.0 u o o.pass at again refl r.numbers.places;
@@ -183,8 +187,14 @@ module _ {B : Type 0} {kc : Coded B} {kz : DeskTables} (cd : Coded (PlacedDesk k
                 short = subst (λ (x : Era). x.inc < 4294967296) era r.numbers.short;
               }),
         ),
-        (m.era, word, refl),
+        ((m.era, word, refl), record { state = m; sound = state_in r; found = word; copy = λ k manages none was. ((r.numbers.manager id me.0 at manages).copy k was none, ap (λ (x : LaneLink (RingState (PlacedDesk kc kz))). Some (copied cd x)) deed) }),
       ))
       (λ miss.
       let other : is_live_in m.era inc ≡ false = not_live_in inc m.era.inc m.era.is_live (λ same live. miss (word ∙ ((λ k. era_word (record { inc = same k; is_live = live k })) ∙ sym is_old))) in
-      (me.0, keeps, tt, stays st m p r₀ 1 y id me.1 me.0 (Closes inc) at refl tt (sym (ap (λ (b : Bool). cond b (record m { era = record { inc = inc; is_live = false } }) m) other)), (m.era, word, refl)))
+      let same : m ≡ link_after_close m inc = sym (ap (λ (b : Bool). cond b (record m { era = record { inc = inc; is_live = false } }) m) other) in (
+        me.0,
+        keeps,
+        tt,
+        stays st m p r₀ 1 y id me.1 me.0 (Closes inc) at refl tt same,
+        ((m.era, word, refl), record { state = m; sound = state_in r₀; found = word; copy = λ k manages none was. let is = (r₀.numbers.manager id me.0 at manages).copy k was none in (is, was ∙ ap Some (is ∙ ap (copied cd) same)) }),
+      ))

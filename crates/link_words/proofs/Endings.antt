@@ -30,7 +30,7 @@ use Rattle.link_words.specs.declared.rule.View.{View}
 use Rattle.link_words.specs.Words.{other, lane_to, era_word}
 use Rattle.link_words.specs.Passes.{PassAt, HasNumber, Manages, Mover, numbers_of, spent_view, without_pass, after_end_at, callers_without, after_end_with}
 use Rattle.link_words.specs.Deeds.{Frees, MayDo}
-use Rattle.link_words.specs.Rule.{HasCall, IsCallOf, HistoryOf, HandsOf, Shows, WordsRule}
+use Rattle.link_words.specs.Rule.{HasCall, IsCallOf, HistoryOf, HandsOf, Shows, WordsRule, LatestOf}
 use Rattle.link_words.specs.Parts.{Knows, ManagerKnows}
 use Rattle.link_words.specs.Histories.{hands_of}
 use Rattle.link_words.specs.Calls.{SeatState}
@@ -122,6 +122,7 @@ module _ {B : Type 0} {kc : Coded B} {kz : DeskTables} (cd : Coded (PlacedDesk k
       (each_from st.views views went from (HasCall m p) (HasCall m' p) r.turns.calls (λ j l q at has. call_with m cs p q.number q.call (end_else m.callers n q.number None (gone j l q at)) has))
       (each_from st.views views went from (HistoryOf m) (HistoryOf m') r.histories.own (λ j l q at has. history_with m cs q has))
       (each_from st.views views went from (HandsOf m) (HandsOf m') r.histories.hands (λ j l q at has. hands_with m cs q (end_else m.callers n q.number None (gone j l q at)) has))
+      (each_from st.views views went from (LatestOf m) (LatestOf m) r.histories.latest (λ j l q at has. has))
       (numbers_from st.views views went from r.numbers.places) (keepers_from st.views views went from r.turns.keepers) manager
 
   -- a carried caller ends

@@ -21,9 +21,9 @@ use Rattle.rp_base.specs.declared.kinds.End.{End}
 use Rattle.link_words.specs.declared.rule.Pass.{Pass}
 use Rattle.link_words.specs.Passes.{Manages, Mover, with_pass}
 use Rattle.link_words.specs.Rule.{IsCallOf, Shows}
-use Rattle.link_words.specs.Calls.{SeatState, call_at, number_at, with_pass_at, Becomes}
-use Rattle.link_words.specs.Steps.{IsStepOf, StoresWord, HasWord}
-use Rattle.link_words.specs.Deeds.{Deed, after_deed, MayDo}
+use Rattle.link_words.specs.Calls.{SeatState, call_at, number_at, own_at, in_hand_at, with_pass_at, Becomes}
+use Rattle.link_words.specs.Steps.{IsStepOf, StoresWord, HasWord, IsCloseOf}
+use Rattle.link_words.specs.Deeds.{Deed, after_deed, MayDo, Closes}
 use Rattle.link_words.proofs.Parts.{state_in}
 use Rattle.link_words.specs.Words.{words_of}
 use Rattle.link_words.specs.Layouts.{layout, place_in}
@@ -60,6 +60,11 @@ pub copy_after : {B : Type 0} {kc : Coded B} {kz : DeskTables} (cd : Coded (Plac
     → me'.0.copy ≡ Some (copied cd (after_deed desk known d))
 copy_after cd desk Reads d number before after me me' step known manages none_out was =
     let c = step.copy (copied cd known) manages none_out was in c.1 ∙ ap (λ (s : LaneLink (RingState _)). Some (copied cd (after_deed desk s d))) (sym (copied_one cd known step.state c.0))
+
+pub copy_closed : {B : Type 0} {kc : Coded B} {kz : DeskTables} (cd : Coded (PlacedDesk kc kz)) (desk : DeskMeaning (PlacedDesk kc kz)) (inc n : ℕ) (me me' : SeatState) → IsCloseOf cd desk inc n me me' → (known : LaneLink (RingState (PlacedDesk kc kz))) → Manages me.0 → me.0.out ≡ [] → me.0.copy ≡ Some (copied cd known)
+    → me'.0.copy ≡ Some (copied cd (after_deed desk known (Closes inc)))
+copy_closed cd desk inc n me me' step known manages none_out was =
+    let c = step.copy (copied cd known) manages none_out was in c.1 ∙ ap (λ (s : LaneLink (RingState _)). Some (copied cd (after_deed desk s (Closes inc)))) (sym (copied_one cd known step.state c.0))
 
 -- the word of this number was found to be this, before the step, or is this after it
 abbrev pub ReadsAt : {B : Type 0} {kc : Coded B} {kz : DeskTables} → ℕ → ℕ → LaneLink (RingState (PlacedDesk kc kz)) → LaneLink (RingState (PlacedDesk kc kz)) → Type 0
@@ -125,6 +130,16 @@ number_at_is [] k p at = absurd (some-ne-none p (sym at))
 number_at_is (x ∷ xs) zero p at = ap (λ (q : Pass). q.number) (sym (some-injective x p at))
 number_at_is (x ∷ xs) (suc k) p at = number_at_is xs k p at
 
+own_at_is : (ps : List Pass) (k : ℕ) (p : Pass) → get_elem? ps k ≡ some p → p.own ≡ own_at k ps
+own_at_is [] k p at = absurd (some-ne-none p (sym at))
+own_at_is (x ∷ xs) zero p at = ap (λ (q : Pass). q.own) (sym (some-injective x p at))
+own_at_is (x ∷ xs) (suc k) p at = own_at_is xs k p at
+
+in_hand_at_is : (ps : List Pass) (k : ℕ) (p : Pass) → get_elem? ps k ≡ some p → p.hands ≡ in_hand_at k ps
+in_hand_at_is [] k p at = absurd (some-ne-none p (sym at))
+in_hand_at_is (x ∷ xs) zero p at = ap (λ (q : Pass). q.hands) (sym (some-injective x p at))
+in_hand_at_is (x ∷ xs) (suc k) p at = in_hand_at_is xs k p at
+
 passes_at : (f : Pass → Pass) (ps : List Pass) (k : ℕ) (p : Pass) → get_elem? ps k ≡ some p → set ps k (f p) ≡ with_pass_at f k ps
 passes_at f [] k p at = refl
 passes_at f (x ∷ xs) zero p at = ap (λ (q : Pass). f q ∷ xs) (sym (some-injective x p at))
@@ -136,6 +151,12 @@ module _ (me : SeatState) (o : Mover me.0) (k : ℕ) (place : o.place ≡ k) whe
 
   pub call_is : o.pass.call ≡ call_at k me.0.passes
   call_is = call_at_is me.0.passes o.place o.pass o.here ∙ ap (λ (i : ℕ). call_at i me.0.passes) place
+
+  pub own_is : o.pass.own ≡ own_at k me.0.passes
+  own_is = own_at_is me.0.passes o.place o.pass o.here ∙ ap (λ (i : ℕ). own_at i me.0.passes) place
+
+  pub in_hand_is : o.pass.hands ≡ in_hand_at k me.0.passes
+  in_hand_is = in_hand_at_is me.0.passes o.place o.pass o.here ∙ ap (λ (i : ℕ). in_hand_at i me.0.passes) place
 
   -- the view in which the mover is another pass, told by its place
   pub becomes : (f : Pass → Pass) (w : Pass) (slots : List (ℕ × Slot)) (me' : SeatState) → w ≡ f o.pass → me' ≡ (with_pass me.0 o w me'.0.copy, slots) → Becomes f k slots me me'

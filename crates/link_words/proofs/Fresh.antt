@@ -2,6 +2,7 @@
 use Rattle.link_words.specs.declared.codes.DeskTables.{DeskTables}
 use Rattle.link_words.specs.PlacedDesks.{PlacedDesk, right_to}
 use Rattle.link_words.specs.Histories.{NoneOf}
+use Rattle.link_words.proofs.Seen.{nothing_within}
 use Rattle.std.proofs.Common.{◌≡◌, ℕ, ◌<◌, zero, suc, List, [], ◌∷◌, ◌++◌, map, length, refl, sym, ap, ◌∙◌, subst, inl, arith, true, false}
 use mathlib.Core.Option.{some, some-injective, some-ne-none}
 use mathlib.Core.Option.{Option as Option_of}
@@ -33,7 +34,7 @@ use Rattle.link_words.specs.declared.rule.View.{View}
 use Rattle.link_words.specs.Passes.{PassAt}
 use Rattle.link_words.specs.Words.{lane_to, words_of, shelf_to}
 use Rattle.link_words.proofs.Parts.{SendsAgree, TakesAt}
-use Rattle.link_words.specs.Rule.{HasCall, HistoryOf, HandsOf, WordsRule, first_view}
+use Rattle.link_words.specs.Rule.{HasCall, HistoryOf, HandsOf, WordsRule, first_view, LatestOf}
 use Rattle.link_words.specs.Parts.{HoldsBuffers, Knows}
 use Rattle.link_words.specs.Histories.{hands_of}
 use Rattle.link_words.proofs.Parts.{put_together}
@@ -88,8 +89,9 @@ module _ {B : Type 0} {kc : Coded B} {kz : DeskTables} (cd : Coded (PlacedDesk k
               still = inl refl;
             })
             (record {
-              own = λ j l q there. subst (HistoryOf m) (first z j l q there).2 (record { sent = λ i. none i; taken = λ i. none_taken i; read = λ i. tt; none_later = tt });
+              own = λ j l q there. subst (HistoryOf m) (first z j l q there).2 (record { sent = λ i. none i; taken = λ i. none_taken i; read = λ i. tt; none_later = tt; counts = λ i. nothing_within _ });
               hands = λ j l q there. subst (HandsOf m) (first z j l q there).2 (λ e user. hand e);
+              latest = λ j l q there. subst (LatestOf m) (first z j l q there).2 (inl refl);
             })
             (record {
               places = λ i k j l p q ep eq _. let a = first z i k p ep in let b = first z j l q eq in (a.0 ∙ sym b.0, a.1 ∙ sym b.1);

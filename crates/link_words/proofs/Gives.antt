@@ -1,13 +1,14 @@
 -- The later steps of a give: the return entry, and the return index; and step 2 of a binding or an unbinding.
+use Rattle.link_words.proofs.Users.{user_latest}
 use Rattle.link_words.specs.declared.codes.DeskTables.{DeskTables}
 use Rattle.link_words.specs.PlacedDesks.{PlacedDesk, right_to}
-use Rattle.std.proofs.Common.{◌≡◌, ◌≢◌, ℕ, ◌+◌, ◌*◌, ◌%◌, ◌<◌, Bool, true, false, cond, eqb, not, ◌&&◌, List, [], ◌∷◌, length, get_or, set, refl, sym, ap, ◌∙◌, subst, arith, ne_eqb, length-set}
+use Rattle.std.proofs.Common.{◌≡◌, ◌≢◌, ℕ, ◌+◌, ◌*◌, ◌%◌, ◌<◌, ◌≤◌, Bool, true, false, cond, eqb, not, ◌&&◌, List, [], ◌∷◌, length, get_or, set, refl, sym, ap, ◌∙◌, subst, arith, ne_eqb, length-set, inr}
 use Rattle.std.specs.Prelude.{Some, None}
 use Rattle.std.proofs.lemmas.Bool.{eqb-true}
 use Rattle.std.proofs.Math.Nat.{mod-lt, mod-add-mod}
 use mathlib.Core.Option.{some}
 use lib.ListN.{get_elem?}
-use Rattle.atomic_table.specs.Table.{State, Me, Act, keeps, Valid, carried_after, stepped, Allows}
+use Rattle.atomic_table.specs.Table.{State, Act, keeps, Valid, carried_after, stepped, Allows}
 use base.Stored.{Coded}
 use Rattle.rp_base.specs.declared.kinds.End.{End}
 use Rattle.rp_base.specs.declared.kinds.End.TheVariants as side
@@ -43,7 +44,7 @@ use Rattle.link_words.specs.Codes.{copied}
 use Rattle.link_words.specs.Deeds.{Steps, after_deed}
 use Rattle.link_words.specs.Histories.{hands_of}
 use Rattle.link_words.specs.Parts.{HoldsBuffers}
-use Rattle.link_words.specs.Passes.{Mover, with_pass, with_call, with_call_and_hands}
+use Rattle.link_words.specs.Passes.{Mover, with_pass, with_call}
 use Rattle.link_words.specs.Rule.{IsCallOf, Shows, WordsRule}
 use Rattle.link_words.specs.Steps.{hands_but}
 use Rattle.link_words.specs.Turns.{is_manager}
@@ -51,15 +52,17 @@ use Rattle.link_words.specs.Words.{other, lane_to, with_lane, era_word, entry_wo
 use Rattle.link_words.proofs.Buffers.{loaded, rings_to}
 use Rattle.link_words.proofs.Entries.{ahead, sizes_known, return_found}
 use Rattle.link_words.proofs.Exact.{StepBy, write_by, ReadsAt, read_by, WritesAt}
-use Rattle.link_words.proofs.Tells.{BindLoadsEraBy}
+use Rattle.link_words.proofs.Tells.{BindLoadsEraBy, GivesBackBy}
 use Rattle.link_words.proofs.Frames.{keepers_set, words_seen, return_in}
 use Rattle.link_words.proofs.Hands.{hands_here, hands_at}
 use Rattle.link_words.proofs.Kept.{no_send, receive_deed, receive_may}
-use Rattle.link_words.proofs.LaneSteps.{no_call, lane_moves, lane_moves_by, hands_kept}
+use Rattle.link_words.proofs.LaneSteps.{no_call, lane_moves, lane_moves_noting, hands_kept, with_step}
+use Rattle.link_words.proofs.Books.{history_counted}
+use Rattle.link_words.specs.declared.rule.Counted.TheVariants.{Gave}
+use Rattle.link_words.specs.declared.rule.Event.TheVariants.{Count}
 use Rattle.link_words.proofs.Looks.{returns_set, sizes_is}
 use Rattle.link_words.proofs.Parts.{rings_in, buffers_in}
 use Rattle.link_words.proofs.Sends.{has_of, some_number, true-false}
-use mathlib.Core.Path.{Path}
 use Rattle.link_words.proofs.Held.{shelved_receiver}
 use Rattle.link_words.proofs.Takes.{with_receiver, others_receive, here_receives, at_zero'}
 use Rattle.std.proofs.lemmas.List.{get_or-set_same}
@@ -119,7 +122,7 @@ module _ {B : Type 0} {kc : Coded B} {kz : DeskTables} (cd : Coded (PlacedDesk k
       let has : has_call s₀.lane.receiver o.pass.number ≡ true = has_of s₀.lane.receiver o.pass.number (ap holder h.1.0 ∙ h.1.1) (ap is_manager h.1.0) in
       let may = receive_may desk m e o.pass.number 0 h.0 has in
       let deed : with_lane m e s' ≡ after_deed desk m (Steps o.pass.number 0 None) = ap (λ (u : RingState (PlacedDesk kc kz)). with_lane m e ((ring_form desk).received_on u m.era)) (sym is) ∙ receive_deed desk m e o.pass.number 0 h.0 (no_send desk m e o.pass.number r.sound has) in
-      let mine : IsCallOf (with_lane m e s') 0 o.pass.number w = here_receives desk m e s' o.pass.number t' x b msg h.0 (refl, h.1.1, h.1.2, (λ out. absurd (true-false (sym out))), refl) in (
+      let mine : IsCallOf (with_lane m e s') 0 o.pass.number w = here_receives desk m e s' o.pass.number t' x b msg h.0 (refl, h.1.1, h.1.2, (λ out. absurd (true-false (sym out))), refl) (λ past. absurd (true-false (sym past))) in (
         _,
         keeps,
         tt,
@@ -144,7 +147,7 @@ module _ {B : Type 0} {kc : Coded B} {kz : DeskTables} (cd : Coded (PlacedDesk k
   -- step 3 of a give: the return index tells that the buffer is back
   pub gives_back : (n id : ℕ) (me : SeatState) (o : Mover me.0) (e : End) (c f k : ℕ) (x : ReceiverSide) (b new : ℕ) (msg : List ℕ) → o.pass.call ≡ Receives e (turn.Taken c (record { follows = f; work = work.Give k give_stage.Entry })) x b msg
       → new ≡ (return_count (sizes_at z e) x.returned + 1) % 65536
-      → Allows (WordsRule cd desk z) n id me (return_word e) (λ _. new) (λ _ me'. (me' ≡ (with_pass me.0 o (with_call_and_hands o.pass (Receives e (turn.Leaving c (end.Gave k)) (record x { returned = x.returned + 1; hands = hands_without x.hands k }) b msg) (hands_but o.pass.hands k)) me'.0.copy, me.1))
+      → Allows (WordsRule cd desk z) n id me (return_word e) (λ _. new) (λ _ me'. GivesBackBy me o e c k x b msg me'
       × StepBy cd desk (WritesAt (return_word e) new) me o (Steps o.pass.number 0 None) me')
   gives_back n id me o e c f k x b new msg call new_is st (m, p, r₀) wide at _ =
       let t : Turn Receiving = turn.Taken c (record { follows = f; work = work.Give k give_stage.Entry }) in
@@ -159,14 +162,15 @@ module _ {B : Type 0} {kc : Coded B} {kz : DeskTables} (cd : Coded (PlacedDesk k
       let side : x' ≡ receiver_side s' = ap (λ (u : ReceiverSide). record u { returned = u.returned + 1; hands = hands_without u.hands k }) h.1.2 in
       let has : has_call s₀.lane.receiver o.pass.number ≡ true = has_of s₀.lane.receiver o.pass.number (ap holder h.1.0 ∙ h.1.1) (ap is_manager h.1.0) in
       let held_now : hands_of o.pass.number s.lane.lane.held ≡ o.pass.hands = hands_at m e o.pass h.0 (r.histories.hands id o.place o.pass (me.0, at, o.here)) in
-      let pass : Pass = with_call_and_hands o.pass w (hands_but o.pass.hands k) in
+      let own = Count e m.era.inc (Gave (x.returned + 1)) ∷ o.pass.own in let pass : Pass = with_step o.pass w own (hands_but o.pass.hands k) in let past = r.histories.own id o.place o.pass (me.0, at, o.here) in
+      let saw = past.counts e in let saw_returned = saw.returned in let least : s.lane.lane.returned ≤ s'.lane.lane.returned = omega arith in
       let may = receive_may desk m e o.pass.number 0 h.0 has in
       let deed : with_lane m e s' ≡ after_deed desk m (Steps o.pass.number 0 None) = ap (λ (u : RingState (PlacedDesk kc kz)). with_lane m e ((ring_form desk).received_on u m.era)) (sym is) ∙ receive_deed desk m e o.pass.number 0 h.0 (no_send desk m e o.pass.number r.sound has) in
-      let mine : IsCallOf (with_lane m e s') 0 o.pass.number w = here_receives desk m e s' o.pass.number t' x' b msg h.0 (refl, h.1.1, side, (λ out. absurd (true-false (sym out))), refl) in (
+      let mine : IsCallOf (with_lane m e s') 0 o.pass.number w = here_receives desk m e s' o.pass.number t' x' b msg h.0 (refl, h.1.1, side, (λ out. absurd (true-false (sym out))), refl) tt in (
         _,
         keeps,
         tt,
-        lane_moves_by cd desk z st m r e s s' is (return_word e) new id me.1 me.0 o w (hands_but o.pass.hands k) keeps (Steps o.pass.number 0 None) (shelf_to r.shelves e) at
+        lane_moves_noting cd desk z st m r e s s' is (return_word e) new id me.1 me.0 o w own (hands_but o.pass.hands k) keeps (Steps o.pass.number 0 None) (shelf_to r.shelves e) at
             may
             deed
             (ap (set (words_at e (era_word m.era) (lane_words s) (lane_words (lane_to m (other e)))) (return_word e)) index ∙ return_set e (era_word m.era) (next_index s.rings.return_index) (lane_words s) (lane_words (lane_to m (other e))))
@@ -174,11 +178,13 @@ module _ {B : Type 0} {kc : Coded B} {kz : DeskTables} (cd : Coded (PlacedDesk k
             (record { long = q.long; full = q.full; home = q.home })
             mine
             (λ j l u there apart. others_receive desk m e s' t o.pass.number h.1.0 h.1.1 refl refl refl refl (λ i ne. no_call desk t' o.pass.number i h.1.1 ne) u.number apart u.call)
-            refl refl refl
+            refl refl refl least
+            (history_counted m e s' refl refl least o.pass.number o.pass.first m.era.inc (Gave (x.returned + 1)) o.pass.own refl (record { accepted = omega arith; handed = omega arith; returned = omega (arith, back) }) past)
+            (inr (inr refl))
             (hands_here m e s' pass h.0 ((λ i. hands_of (sym who i) (without s.lane.lane.held k c)) ∙ (hands_given c k s.lane.lane.held ∙ (λ i. hands_but (hands_of (who i) s.lane.lane.held) k) ∙ ap (λ (l : List ℕ). hands_but l k) held_now)))
             (λ u apart. hands_kept desk m e s' u (λ was. hands_stay c k u.number s.lane.lane.held (λ same_one. apart (sym who ∙ same_one)) ∙ (ap (λ (y : RingState (PlacedDesk kc kz)). hands_of u.number y.lane.lane.held) (sym is) ∙ was)))
             (keepers_set st.views id me.0 (with_pass me.0 o pass (Some (copied cd (with_lane m e s')))) o pass at refl refl (λ i l. absurd (true-false (sym l))) r.turns.keepers),
-        (refl, write_by (return_word e) new cd desk z st m r id me o pass (Steps o.pass.number 0 None) (with_lane m e s') me.1 (index ∙ return_in m e s') at may deed mine),
+        ((m.era.inc, user_latest m o.pass e h.0 r.numbers.many (r.histories.latest id o.place o.pass (me.0, at, o.here)), record { not_below = omega (arith, back, saw_returned); none_later = past.none_later }, refl), write_by (return_word e) new cd desk z st m r id me o pass (Steps o.pass.number 0 None) (with_lane m e s') me.1 (index ∙ return_in m e s') at may deed mine),
       )
 
   -- step 2 of a binding or an unbinding, where the call ends so and leaves this desk
@@ -193,7 +199,7 @@ module _ {B : Type 0} {kc : Coded B} {kz : DeskTables} (cd : Coded (PlacedDesk k
       let may = receive_may desk m e o.pass.number 0 h.0 has in
       let deed : with_lane m e s' ≡ after_deed desk m (Steps o.pass.number 0 None) =
       ap (with_lane m e) (sym does) ∙ (ap (λ (u : RingState (PlacedDesk kc kz)). with_lane m e ((ring_form desk).received_on u m.era)) (sym is) ∙ receive_deed desk m e o.pass.number 0 h.0 (no_send desk m e o.pass.number r.sound has)) in
-      let mine : IsCallOf (with_lane m e s') 0 o.pass.number call = here_receives desk m e s' o.pass.number t' x' b msg h.0 (refl, h.1.1, side, (λ out. absurd (true-false (sym out))), refl) in (
+      let mine : IsCallOf (with_lane m e s') 0 o.pass.number call = here_receives desk m e s' o.pass.number t' x' b msg h.0 (refl, h.1.1, side, (λ out. absurd (true-false (sym out))), refl) tt in (
         _,
         lane_moves cd desk z st m r e s s' is 1 (get_or st.words 1 0) id me.1 me.0 o call keeps (Steps o.pass.number 0 None) (shelf_to r.shelves e) at
             may

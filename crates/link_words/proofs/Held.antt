@@ -2,7 +2,7 @@
 -- closed while it has it, and leaves it without what the caller held.
 use Rattle.link_words.specs.declared.codes.DeskTables.{DeskTables}
 use Rattle.link_words.specs.PlacedDesks.{PlacedDesk}
-use Rattle.std.proofs.Common.{◌≡◌, ◌≢◌, ℕ, ◌<◌, ◌≤◌, Bool, true, false, eqb, List, [], ◌∷◌, length, get_or, refl, sym, ap, ◌∙◌, subst, ⊎_elim, arith, suc-ne-zero}
+use Rattle.std.proofs.Common.{◌≡◌, ◌≢◌, ℕ, ◌<◌, ◌≤◌, Bool, true, false, eqb, List, [], ◌∷◌, length, get_or, refl, sym, ap, ◌∙◌, subst, ⊎_elim, arith, suc-ne-zero, inl, inr}
 use Rattle.std.specs.Prelude.{Some, None}
 use mathlib.Core.Option.{some, none}
 use mathlib.Core.Option.{Option as Option_of}
@@ -194,7 +194,7 @@ module _ {B : Type 0} {kc : Coded B} {kz : DeskTables} (cd : Coded (PlacedDesk k
             (shelved_receiver s₀ s' (shelf_to r.shelves e) (ap receiver_is_out free) refl refl refl refl refl refl refl ((buffers_in r) e))
             (minded m e s' o.pass.number user refl sends)
             (λ j l u there apart. others_beside desk m e s' refl refl refl u.number refl u.call (λ having had. free_for_all m e 0 free u.number u.call having had))
-            refl refl refl (hands_kept desk m e s' o.pass (λ was. was) (r.histories.hands id o.place o.pass (me.0, at, o.here))) (λ u apart. hands_kept desk m e s' u (λ was. was))
+            refl refl refl refl (r.histories.latest id o.place o.pass (me.0, at, o.here)) (hands_kept desk m e s' o.pass (λ was. was) (r.histories.hands id o.place o.pass (me.0, at, o.here))) (λ u apart. hands_kept desk m e s' u (λ was. was))
             (keepers_new st.views id me.0 (with_pass me.0 o (with_call o.pass w) (Some (copied cd (with_lane m e s')))) o (with_call o.pass w) at refl
             (λ i mine j l u there theirs. let same = same_end_is i e mine in free_for_all m e 0 free u.number u.call (minds_has e u.call (subst (λ (q : End). has_for_manager q u.call ≡ true) same theirs)) (r.turns.calls j l u there))
             r.turns.keepers),
@@ -263,7 +263,7 @@ module _ {B : Type 0} {kc : Coded B} {kz : DeskTables} (cd : Coded (PlacedDesk k
             (shelved_receiver s₀ s' (shelf_to r.shelves e) (ap receiver_is_out h.1) refl refl refl refl refl refl refl ((buffers_in r) e))
             (receive_rests cd desk z m e s' c h.0 refl h.5)
             (λ j l u there apart. others_beside desk m e s' refl refl refl u.number refl u.call (λ having had. alone st m r e id me.0 o at mine h.1 j l u there apart having had))
-            refl refl refl (hands_here m e s' (with_call_and_hands o.pass (Rests e) []) h.0 (hands_none c s₀.lane.lane.held)) (λ u apart. hands_kept desk m e s' u (λ was. hands_others c u.number s₀.lane.lane.held apart ∙ was))
+            refl refl refl refl (inr (inl refl)) (hands_here m e s' (with_call_and_hands o.pass (Rests e) []) h.0 (hands_none c s₀.lane.lane.held)) (λ u apart. hands_kept desk m e s' u (λ was. hands_others c u.number s₀.lane.lane.held apart ∙ was))
             (keepers_set st.views id me.0 (with_pass me.0 o (with_call_and_hands o.pass (Rests e) []) (Some (copied cd (with_lane m e s')))) o (with_call_and_hands o.pass (Rests e) []) at refl refl (λ i k. absurd (true-false (sym k))) r.turns.keepers),
         refl,
       )

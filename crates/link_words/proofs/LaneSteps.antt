@@ -2,7 +2,7 @@
 use Rattle.link_words.specs.declared.codes.DeskTables.{DeskTables}
 use Rattle.link_words.specs.PlacedDesks.{PlacedDesk}
 use Rattle.link_words.specs.Histories.{NoneOf}
-use Rattle.std.proofs.Common.{◌≡◌, ◌≢◌, ℕ, ◌<◌, true, false, List, length, set, refl, sym, ap, ◌∙◌, subst, inl, ne_eqb}
+use Rattle.std.proofs.Common.{◌≡◌, ◌≢◌, ℕ, ◌<◌, ◌≤◌, arith, true, false, List, length, set, refl, sym, ap, ◌∙◌, subst, inl, ne_eqb}
 use Rattle.std.specs.Prelude.{Option, Some, None}
 use mathlib.Core.Option.{some}
 use mathlib.Core.Path.{Path}
@@ -12,6 +12,7 @@ use Rattle.atomic_table.specs.Table.{State, Act, homes_after, stepped}
 use Rattle.rp_base.specs.declared.kinds.End.{End}
 use Rattle.rp_base.specs.declared.kinds.End.TheVariants as side
 use Rattle.lane_model.specs.declared.lane_links.LaneLink.{LaneLink}
+use Rattle.lane_model.specs.declared.states.Holding.{Holding}
 use Rattle.lane_model.specs.declared.stages.Turn.{Turn}
 use Rattle.lane_model.specs.declared.stages.Turn.TheVariants as turn
 use Rattle.lane_model.specs.declared.stages.Sending.{Sending}
@@ -34,17 +35,21 @@ use Rattle.rp_base.specs.declared.kinds.Era.{Era}
 use Rattle.link_words.specs.Passes.{PassAt, Mover, with_pass, with_call, with_call_and_hands}
 use Rattle.link_words.specs.Words.{other, lane_to, with_lane, era_word, lane_words, words_of, words_at, lane_homes, homes_at, homes_of, shelf_to, with_shelf, receiver_side}
 use Rattle.link_words.specs.declared.rule.Event.{Event}
-use Rattle.link_words.specs.Histories.{IsCurrent}
+use Rattle.link_words.specs.Histories.{IsCurrent, IsOfNow}
 use Rattle.link_words.specs.Rule.{IsHistory}
 use Rattle.link_words.specs.Deeds.{Deed, after_deed, MayDo, AreManagers, IsSoundState}
-use Rattle.link_words.specs.Rule.{HistoryOf, HandsOf, IsCallOf, HasCall, fresh_block, Shows, WordsRule}
+use Rattle.link_words.specs.Rule.{HistoryOf, HandsOf, LatestOf, IsCallOf, HasCall, fresh_block, Shows, WordsRule}
 use Rattle.link_words.specs.Parts.{has_for_manager, AreKeepersApart, SendsAt, HoldsBuffers}
 use Rattle.link_words.specs.Histories.{hands_of}
 use Rattle.link_words.proofs.Frames.{some_copy, each_set, numbers_set, keepers_set, manager_set, each_lane, words_seen, homes_seen, same_lane, same_shelf}
-use Rattle.link_words.proofs.Books.{sent_same, taken_same, read_same, later, none_same}
+use Rattle.link_words.proofs.Books.{history_kept, none_same}
 use Rattle.link_words.proofs.Kept.{deed_kept}
 use Rattle.link_words.proofs.Parts.{state_in, told_in, IsAsTold, buffers_in, put_together, one_more}
 use Rattle.link_words.specs.Turns.{turns_of}
+
+-- the pass in another call, with another list and other numbers in hand
+abbrev pub with_step : Pass → Call → List Event → List ℕ → Pass
+with_step p call own hands = record p { call = call; own = own; hands = hands }
 
 abbrev option_or_zero : Option ℕ → ℕ
 option_or_zero None = 0
@@ -81,7 +86,7 @@ module _ {B : Type 0} {kc : Coded B} {kz : DeskTables} (desk : DeskMeaning (Plac
       absurd (apart (one_holder (lane_to m side.Host).lane.sender number k (ap holder is ∙ mine) (ap holder has.1.0 ∙ has.1.1)))
   others_send m side.Host s t number is mine receiver beside taking book after k apart (Sends side.Remote u x buffer) has = has
   others_send m side.Host s t number is mine receiver beside taking book after k apart (Receives side.Host u x buffer msg) has =
-      (has.0, (receiver ∙ has.1.0, has.1.1, has.1.2 ∙ sym beside, λ out. let o = has.1.3 out in (taking ∙ o.0, o.1 ∙ sym (book (ap receiver_is_out has.1.0 ∙ out))), has.1.4))
+      (has.0, (receiver ∙ has.1.0, has.1.1, has.1.2 ∙ sym beside, λ out. let o = has.1.3 out in (taking ∙ o.0, o.1 ∙ sym (book (ap receiver_is_out has.1.0 ∙ out))), has.1.4), has.2)
   others_send m side.Host s t number is mine receiver beside taking book after k apart (EndsReceive side.Host u x buffer msg) has =
       (has.0, (receiver ∙ has.1.0, has.1.1, has.1.2 ∙ sym beside, λ out. let o = has.1.3 out in (taking ∙ o.0, o.1 ∙ sym (book (ap receiver_is_out has.1.0 ∙ out))), has.1.4), has.2)
   others_send m side.Host s t number is mine receiver beside taking book after k apart (Receives side.Remote u x buffer msg) has = has
@@ -104,7 +109,7 @@ module _ {B : Type 0} {kc : Coded B} {kz : DeskTables} (desk : DeskMeaning (Plac
       absurd (apart (one_holder (lane_to m side.Remote).lane.sender number k (ap holder is ∙ mine) (ap holder has.1.0 ∙ has.1.1)))
   others_send m side.Remote s t number is mine receiver beside taking book after k apart (Sends side.Host u x buffer) has = has
   others_send m side.Remote s t number is mine receiver beside taking book after k apart (Receives side.Remote u x buffer msg) has =
-      (has.0, (receiver ∙ has.1.0, has.1.1, has.1.2 ∙ sym beside, λ out. let o = has.1.3 out in (taking ∙ o.0, o.1 ∙ sym (book (ap receiver_is_out has.1.0 ∙ out))), has.1.4))
+      (has.0, (receiver ∙ has.1.0, has.1.1, has.1.2 ∙ sym beside, λ out. let o = has.1.3 out in (taking ∙ o.0, o.1 ∙ sym (book (ap receiver_is_out has.1.0 ∙ out))), has.1.4), has.2)
   others_send m side.Remote s t number is mine receiver beside taking book after k apart (EndsReceive side.Remote u x buffer msg) has =
       (has.0, (receiver ∙ has.1.0, has.1.1, has.1.2 ∙ sym beside, λ out. let o = has.1.3 out in (taking ∙ o.0, o.1 ∙ sym (book (ap receiver_is_out has.1.0 ∙ out))), has.1.4), has.2)
   others_send m side.Remote s t number is mine receiver beside taking book after k apart (Receives side.Host u x buffer msg) has = has
@@ -141,7 +146,7 @@ module _ {B : Type 0} {kc : Coded B} {kz : DeskTables} (desk : DeskMeaning (Plac
       absurd (free_none k u (sym free ∙ has.1.0) has.1.1)
   others_free_send m side.Host s free receiver beside taking book k after (Sends side.Remote u x buffer) has = has
   others_free_send m side.Host s free receiver beside taking book k after (Receives side.Host u x buffer msg) has =
-      (has.0, (receiver ∙ has.1.0, has.1.1, has.1.2 ∙ sym beside, λ out. let o = has.1.3 out in (taking ∙ o.0, o.1 ∙ sym (book (ap receiver_is_out has.1.0 ∙ out))), has.1.4))
+      (has.0, (receiver ∙ has.1.0, has.1.1, has.1.2 ∙ sym beside, λ out. let o = has.1.3 out in (taking ∙ o.0, o.1 ∙ sym (book (ap receiver_is_out has.1.0 ∙ out))), has.1.4), has.2)
   others_free_send m side.Host s free receiver beside taking book k after (EndsReceive side.Host u x buffer msg) has =
       (has.0, (receiver ∙ has.1.0, has.1.1, has.1.2 ∙ sym beside, λ out. let o = has.1.3 out in (taking ∙ o.0, o.1 ∙ sym (book (ap receiver_is_out has.1.0 ∙ out))), has.1.4), has.2)
   others_free_send m side.Host s free receiver beside taking book k after (Receives side.Remote u x buffer msg) has = has
@@ -164,7 +169,7 @@ module _ {B : Type 0} {kc : Coded B} {kz : DeskTables} (desk : DeskMeaning (Plac
       absurd (free_none k u (sym free ∙ has.1.0) has.1.1)
   others_free_send m side.Remote s free receiver beside taking book k after (Sends side.Host u x buffer) has = has
   others_free_send m side.Remote s free receiver beside taking book k after (Receives side.Remote u x buffer msg) has =
-      (has.0, (receiver ∙ has.1.0, has.1.1, has.1.2 ∙ sym beside, λ out. let o = has.1.3 out in (taking ∙ o.0, o.1 ∙ sym (book (ap receiver_is_out has.1.0 ∙ out))), has.1.4))
+      (has.0, (receiver ∙ has.1.0, has.1.1, has.1.2 ∙ sym beside, λ out. let o = has.1.3 out in (taking ∙ o.0, o.1 ∙ sym (book (ap receiver_is_out has.1.0 ∙ out))), has.1.4), has.2)
   others_free_send m side.Remote s free receiver beside taking book k after (EndsReceive side.Remote u x buffer msg) has =
       (has.0, (receiver ∙ has.1.0, has.1.1, has.1.2 ∙ sym beside, λ out. let o = has.1.3 out in (taking ∙ o.0, o.1 ∙ sym (book (ap receiver_is_out has.1.0 ∙ out))), has.1.4), has.2)
   others_free_send m side.Remote s free receiver beside taking book k after (Receives side.Host u x buffer msg) has = has
@@ -202,10 +207,6 @@ module _ {B : Type 0} {kc : Coded B} {kz : DeskTables} (desk : DeskMeaning (Plac
   era_same m side.Host s = refl
   era_same m side.Remote s = refl
 
-  -- a history that reads the same books
-  history_kept : (m : LaneLink (RingState (PlacedDesk kc kz))) (e : End) (s : RingState (PlacedDesk kc kz)) → s.lane.lane.accepted ≡ (lane_to m e).lane.lane.accepted → s.lane.lane.takers ≡ (lane_to m e).lane.lane.takers → (number first : ℕ) (own : List Event) → IsHistory m number first own → IsHistory (with_lane m e s) number first own
-  history_kept m e s book handed number first own has = record { sent = sent_same m e s book number first own has.sent; taken = taken_same m e s handed number first own has.taken; read = read_same m e s book own has.read; none_later = later m e s number first own has.none_later }
-
   -- hands, where a lane has what the caller holds as it was
   pub hands_kept : (m : LaneLink (RingState (PlacedDesk kc kz))) (e : End) (s : RingState (PlacedDesk kc kz)) (q : Pass) → (hands_of q.number (lane_to m e).lane.lane.held ≡ q.hands → hands_of q.number s.lane.lane.held ≡ q.hands) → HandsOf m q → HandsOf (with_lane m e s) q
   hands_kept m side.Host s q stays has side.Host user = stays (has side.Host user)
@@ -223,9 +224,9 @@ module _ {B : Type 0} {kc : Coded B} {kz : DeskTables} (cd : Coded (PlacedDesk k
       → HoldsBuffers s' l' → IsCallOf (with_lane m e s') 0 w.number w.call → ((j l : ℕ) (q : Pass) → PassAt st.views j l q → o.pass.number ≢ q.number → IsCallOf m 0 q.number q.call → IsCallOf (with_lane m e s') 0 q.number q.call)
       → w.number ≡ o.pass.number → Path (RingSizes × ℕ) (s'.rings.sizes, s'.lane.lane.book) (s.rings.sizes, s.lane.lane.book)
       → HistoryOf (with_lane m e s') w → ((q : Pass) → o.pass.number ≢ q.number → HistoryOf m q → HistoryOf (with_lane m e s') q)
-      → HandsOf (with_lane m e s') w → ((q : Pass) → o.pass.number ≢ q.number → HandsOf m q → HandsOf (with_lane m e s') q) → ((n : ℕ) → end_of m.callers n ≡ None → NoneOf m n → NoneOf (with_lane m e s') n) → AreKeepersApart (set st.views id (with_pass v o w (Some (copied cd (with_lane m e s')))))
+      → IsOfNow m.era.inc w.number w.hands w.own → HandsOf (with_lane m e s') w → ((q : Pass) → o.pass.number ≢ q.number → HandsOf m q → HandsOf (with_lane m e s') q) → ((n : ℕ) → end_of m.callers n ≡ None → NoneOf m n → NoneOf (with_lane m e s') n) → AreKeepersApart (set st.views id (with_pass v o w (Some (copied cd (with_lane m e s')))))
       → WordsRule cd desk z (stepped st i n id cs (with_pass v o w (Some (copied cd (with_lane m e s')))) a)
-  lane_moves_with z st m r e s s' is i n id cs v o w a d l' at may deed words homes shelved mine others number sizes history histories hand hands fresh keepers =
+  lane_moves_with z st m r e s s' is i n id cs v o w a d l' at may deed words homes shelved mine others number sizes history histories latest hand hands fresh keepers =
       let each = each_set st.views id v (with_pass v o w (Some (copied cd (with_lane m e s')))) o w at refl in (
         with_lane m e s',
         0,
@@ -246,6 +247,7 @@ module _ {B : Type 0} {kc : Coded B} {kz : DeskTables} (cd : Coded (PlacedDesk k
             (record {
               own = each (HistoryOf m) (HistoryOf (with_lane m e s')) r.numbers.places r.histories.own (λ j l q there. histories q) history;
               hands = each (HandsOf m) (HandsOf (with_lane m e s')) r.numbers.places r.histories.hands (λ j l q there. hands q) hand;
+              latest = each (LatestOf m) (LatestOf (with_lane m e s')) r.numbers.places r.histories.latest (λ j l q there apart had. subst (λ (x : Era). IsOfNow x.inc q.number q.hands q.own) (sym (era_same desk m e s')) had) (subst (λ (x : Era). IsOfNow x.inc w.number w.hands w.own) (sym (era_same desk m e s')) latest);
             })
             (record {
               places = numbers_set st.views id v (with_pass v o w (Some (copied cd (with_lane m e s')))) o w at refl number r.numbers.places;
@@ -257,22 +259,60 @@ module _ {B : Type 0} {kc : Coded B} {kz : DeskTables} (cd : Coded (PlacedDesk k
             }),
       )
 
-  -- the same, where nothing is accepted and no step is of the own list
+  -- the same, where nothing is accepted or handed over, and the mover's list becomes this one
+  pub lane_moves_noting : (z : LinkSizes) (st : State Slot View) (m : LaneLink (RingState (PlacedDesk kc kz))) (r : Shows cd desk z st m 0) (e : End) (s s' : RingState (PlacedDesk kc kz)) → lane_to m e ≡ s
+      → (i n id : ℕ) (cs : List (ℕ × Slot)) (v : View) (o : Mover v) (call : Call) (own : List Event) (hands : List ℕ) (a : Act Slot) (d : Deed) (l' : List (Option_of Slot)) → get_elem? st.views id ≡ some v
+      → MayDo desk m d → with_lane m e s' ≡ after_deed desk m d
+      → set (words_at e (era_word m.era) (lane_words s) (lane_words (lane_to m (other e)))) i n ≡ words_at e (era_word m.era) (lane_words s') (lane_words (lane_to m (other e)))
+      → homes_after (homes_at e (lane_homes s (shelf_to r.shelves e)) (lane_homes (lane_to m (other e)) (shelf_to r.shelves (other e)))) cs a ≡ homes_at e (lane_homes s' l') (lane_homes (lane_to m (other e)) (shelf_to r.shelves (other e)))
+      → HoldsBuffers s' l' → IsCallOf (with_lane m e s') 0 o.pass.number call → ((j l : ℕ) (q : Pass) → PassAt st.views j l q → o.pass.number ≢ q.number → IsCallOf m 0 q.number q.call → IsCallOf (with_lane m e s') 0 q.number q.call)
+      → Path (RingSizes × ℕ) (s'.rings.sizes, s'.lane.lane.book) (s.rings.sizes, s.lane.lane.book) → s'.lane.lane.accepted ≡ s.lane.lane.accepted → s'.lane.lane.takers ≡ s.lane.lane.takers → s.lane.lane.returned ≤ s'.lane.lane.returned
+      → IsHistory (with_lane m e s') o.pass.number o.pass.first own → IsOfNow m.era.inc o.pass.number hands own
+      → HandsOf (with_lane m e s') (with_step o.pass call own hands) → ((q : Pass) → o.pass.number ≢ q.number → HandsOf m q → HandsOf (with_lane m e s') q) → AreKeepersApart (set st.views id (with_pass v o (with_step o.pass call own hands) (Some (copied cd (with_lane m e s')))))
+      → WordsRule cd desk z (stepped st i n id cs (with_pass v o (with_step o.pass call own hands) (Some (copied cd (with_lane m e s')))) a)
+  lane_moves_noting z st m r e s s' is i n id cs v o call own hands a d l' at may deed words homes shelved mine others sizes book handed back history latest hand others_hands keepers =
+      let books : s'.lane.lane.accepted ≡ (lane_to m e).lane.lane.accepted = book ∙ ap (λ (x : RingState (PlacedDesk kc kz)). x.lane.lane.accepted) (sym is) in
+      let takers : s'.lane.lane.takers ≡ (lane_to m e).lane.lane.takers = handed ∙ ap (λ (x : RingState (PlacedDesk kc kz)). x.lane.lane.takers) (sym is) in
+      lane_moves_with z st m r e s s' is i n id cs v o (with_step o.pass call own hands) a d l' at may deed words homes shelved mine others refl sizes history
+      (λ q apart has. history_kept m e s' books takers (subst (λ (x : RingState (PlacedDesk kc kz)). x.lane.lane.returned ≤ s'.lane.lane.returned) (sym is) back) q.number q.first q.own has) latest hand others_hands (λ n none. none_same m e s' books takers n) keepers
+
+  -- a history on a lane that is as it was, but that buffers may be back
+  history_stays : (m : LaneLink (RingState (PlacedDesk kc kz))) (e : End) (s s' : RingState (PlacedDesk kc kz)) → lane_to m e ≡ s → s'.lane.lane.accepted ≡ s.lane.lane.accepted → s'.lane.lane.takers ≡ s.lane.lane.takers → s.lane.lane.returned ≤ s'.lane.lane.returned
+      → (number first : ℕ) (own : List Event) → IsHistory m number first own → IsHistory (with_lane m e s') number first own
+  history_stays m e s s' is book handed back number first own has =
+      history_kept m e s' (book ∙ ap (λ (x : RingState (PlacedDesk kc kz)). x.lane.lane.accepted) (sym is)) (handed ∙ ap (λ (x : RingState (PlacedDesk kc kz)). x.lane.lane.takers) (sym is))
+      (subst (λ (x : RingState (PlacedDesk kc kz)). x.lane.lane.returned ≤ s'.lane.lane.returned) (sym is) back) number first own has
+
+  -- the same, where no step is of the own list
   pub lane_moves_by : (z : LinkSizes) (st : State Slot View) (m : LaneLink (RingState (PlacedDesk kc kz))) (r : Shows cd desk z st m 0) (e : End) (s s' : RingState (PlacedDesk kc kz)) → lane_to m e ≡ s
       → (i n id : ℕ) (cs : List (ℕ × Slot)) (v : View) (o : Mover v) (call : Call) (hands : List ℕ) (a : Act Slot) (d : Deed) (l' : List (Option_of Slot)) → get_elem? st.views id ≡ some v
       → MayDo desk m d → with_lane m e s' ≡ after_deed desk m d
       → set (words_at e (era_word m.era) (lane_words s) (lane_words (lane_to m (other e)))) i n ≡ words_at e (era_word m.era) (lane_words s') (lane_words (lane_to m (other e)))
       → homes_after (homes_at e (lane_homes s (shelf_to r.shelves e)) (lane_homes (lane_to m (other e)) (shelf_to r.shelves (other e)))) cs a ≡ homes_at e (lane_homes s' l') (lane_homes (lane_to m (other e)) (shelf_to r.shelves (other e)))
       → HoldsBuffers s' l' → IsCallOf (with_lane m e s') 0 o.pass.number call → ((j l : ℕ) (q : Pass) → PassAt st.views j l q → o.pass.number ≢ q.number → IsCallOf m 0 q.number q.call → IsCallOf (with_lane m e s') 0 q.number q.call)
-      → Path (RingSizes × ℕ) (s'.rings.sizes, s'.lane.lane.book) (s.rings.sizes, s.lane.lane.book) → s'.lane.lane.accepted ≡ s.lane.lane.accepted → s'.lane.lane.takers ≡ s.lane.lane.takers
+      → Path (RingSizes × ℕ) (s'.rings.sizes, s'.lane.lane.book) (s.rings.sizes, s.lane.lane.book) → s'.lane.lane.accepted ≡ s.lane.lane.accepted → s'.lane.lane.takers ≡ s.lane.lane.takers → s'.lane.lane.returned ≡ s.lane.lane.returned → IsOfNow m.era.inc o.pass.number hands o.pass.own
       → HandsOf (with_lane m e s') (with_call_and_hands o.pass call hands) → ((q : Pass) → o.pass.number ≢ q.number → HandsOf m q → HandsOf (with_lane m e s') q) → AreKeepersApart (set st.views id (with_pass v o (with_call_and_hands o.pass call hands) (Some (copied cd (with_lane m e s')))))
       → WordsRule cd desk z (stepped st i n id cs (with_pass v o (with_call_and_hands o.pass call hands) (Some (copied cd (with_lane m e s')))) a)
-  lane_moves_by z st m r e s s' is i n id cs v o call hands a d l' at may deed words homes shelved mine others sizes book handed hand others_hands keepers =
-      let books : s'.lane.lane.accepted ≡ (lane_to m e).lane.lane.accepted = book ∙ ap (λ (x : RingState (PlacedDesk kc kz)). x.lane.lane.accepted) (sym is) in
-      let takers : s'.lane.lane.takers ≡ (lane_to m e).lane.lane.takers = handed ∙ ap (λ (x : RingState (PlacedDesk kc kz)). x.lane.lane.takers) (sym is) in
-      lane_moves_with z st m r e s s' is i n id cs v o (with_call_and_hands o.pass call hands) a d l' at may deed words homes shelved mine others refl sizes
-      (history_kept desk m e s' books takers o.pass.number o.pass.first o.pass.own (r.histories.own id o.place o.pass (v, at, o.here)))
-      (λ q apart has. history_kept desk m e s' books takers q.number q.first q.own has) hand others_hands (λ n none. none_same m e s' books takers n) keepers
+  lane_moves_by z st m r e s s' is i n id cs v o call hands a d l' at may deed words homes shelved mine others sizes book handed back latest hand others_hands keepers =
+      let least : s.lane.lane.returned ≤ s'.lane.lane.returned = omega (arith, back) in
+      lane_moves_noting z st m r e s s' is i n id cs v o call o.pass.own hands a d l' at may deed words homes shelved mine others sizes book handed least
+      (history_stays m e s s' is book handed least o.pass.number o.pass.first o.pass.own (r.histories.own id o.place o.pass (v, at, o.here))) latest hand others_hands keepers
+
+  -- by numbers, where nothing is accepted, comes into a hand or leaves it, and the mover's list becomes this one
+  pub lane_looks : (z : LinkSizes) (st : State Slot View) (m : LaneLink (RingState (PlacedDesk kc kz))) (r : Shows cd desk z st m 0) (e : End) (s s' : RingState (PlacedDesk kc kz)) → lane_to m e ≡ s
+      → (i n id : ℕ) (cs : List (ℕ × Slot)) (v : View) (o : Mover v) (call : Call) (own : List Event) (a : Act Slot) (d : Deed) (l' : List (Option_of Slot)) → get_elem? st.views id ≡ some v
+      → MayDo desk m d → with_lane m e s' ≡ after_deed desk m d
+      → set (words_at e (era_word m.era) (lane_words s) (lane_words (lane_to m (other e)))) i n ≡ words_at e (era_word m.era) (lane_words s') (lane_words (lane_to m (other e)))
+      → homes_after (homes_at e (lane_homes s (shelf_to r.shelves e)) (lane_homes (lane_to m (other e)) (shelf_to r.shelves (other e)))) cs a ≡ homes_at e (lane_homes s' l') (lane_homes (lane_to m (other e)) (shelf_to r.shelves (other e)))
+      → HoldsBuffers s' l' → IsCallOf (with_lane m e s') 0 o.pass.number call → ((k : ℕ) → o.pass.number ≢ k → (c : Call) → IsCallOf m 0 k c → IsCallOf (with_lane m e s') 0 k c)
+      → Path (RingSizes × ℕ) (s'.rings.sizes, s'.lane.lane.book) (s.rings.sizes, s.lane.lane.book) → s'.lane.lane.accepted ≡ s.lane.lane.accepted → s'.lane.lane.takers ≡ s.lane.lane.takers → Path (List Holding × ℕ) (s'.lane.lane.held, s'.lane.lane.returned) (s.lane.lane.held, s.lane.lane.returned) → IsHistory (with_lane m e s') o.pass.number o.pass.first own → IsOfNow m.era.inc o.pass.number o.pass.hands own → ((i : End) → has_for_manager i call ≡ true → has_for_manager i o.pass.call ≡ true)
+      → WordsRule cd desk z (stepped st i n id cs (with_pass v o (with_step o.pass call own o.pass.hands) (Some (copied cd (with_lane m e s')))) a)
+  lane_looks z st m r e s s' is i n id cs v o call own a d l' at may deed words homes shelved mine others sizes book handed still history latest quiet =
+      let stays = λ (q : Pass) (has : HandsOf m q). hands_kept desk m e s' q (λ was. ap (hands_of q.number) (ap (λ (t : List Holding × ℕ). t.0) still ∙ ap (λ (x : RingState (PlacedDesk kc kz)). x.lane.lane.held) (sym is)) ∙ was) has in
+      let back = ap (λ (t : List Holding × ℕ). t.1) still in
+      lane_moves_noting z st m r e s s' is i n id cs v o call own o.pass.hands a d l' at may deed words homes shelved mine (λ j l q there apart has. others q.number apart q.call has) sizes book handed (omega (arith, back)) history latest
+      (stays o.pass (r.histories.hands id o.place o.pass (v, at, o.here))) (λ q apart. stays q)
+      (keepers_set st.views id v (with_pass v o (with_step o.pass call own o.pass.hands) (Some (copied cd (with_lane m e s')))) o (with_step o.pass call own o.pass.hands) at refl refl quiet r.turns.keepers)
 
   -- by numbers, where nothing is accepted, no step is of the own list and nothing comes into a hand or leaves it
   pub lane_moves : (z : LinkSizes) (st : State Slot View) (m : LaneLink (RingState (PlacedDesk kc kz))) (r : Shows cd desk z st m 0) (e : End) (s s' : RingState (PlacedDesk kc kz)) → lane_to m e ≡ s
@@ -281,10 +321,9 @@ module _ {B : Type 0} {kc : Coded B} {kz : DeskTables} (cd : Coded (PlacedDesk k
       → set (words_at e (era_word m.era) (lane_words s) (lane_words (lane_to m (other e)))) i n ≡ words_at e (era_word m.era) (lane_words s') (lane_words (lane_to m (other e)))
       → homes_after (homes_at e (lane_homes s (shelf_to r.shelves e)) (lane_homes (lane_to m (other e)) (shelf_to r.shelves (other e)))) cs a ≡ homes_at e (lane_homes s' l') (lane_homes (lane_to m (other e)) (shelf_to r.shelves (other e)))
       → HoldsBuffers s' l' → IsCallOf (with_lane m e s') 0 o.pass.number call → ((k : ℕ) → o.pass.number ≢ k → (c : Call) → IsCallOf m 0 k c → IsCallOf (with_lane m e s') 0 k c)
-      → Path (RingSizes × ℕ) (s'.rings.sizes, s'.lane.lane.book) (s.rings.sizes, s.lane.lane.book) → s'.lane.lane.accepted ≡ s.lane.lane.accepted → s'.lane.lane.takers ≡ s.lane.lane.takers → s'.lane.lane.held ≡ s.lane.lane.held → ((i : End) → has_for_manager i call ≡ true → has_for_manager i o.pass.call ≡ true)
+      → Path (RingSizes × ℕ) (s'.rings.sizes, s'.lane.lane.book) (s.rings.sizes, s.lane.lane.book) → s'.lane.lane.accepted ≡ s.lane.lane.accepted → s'.lane.lane.takers ≡ s.lane.lane.takers → Path (List Holding × ℕ) (s'.lane.lane.held, s'.lane.lane.returned) (s.lane.lane.held, s.lane.lane.returned) → ((i : End) → has_for_manager i call ≡ true → has_for_manager i o.pass.call ≡ true)
       → WordsRule cd desk z (stepped st i n id cs (with_pass v o (with_call o.pass call) (Some (copied cd (with_lane m e s')))) a)
-  lane_moves z st m r e s s' is i n id cs v o call a d l' at may deed words homes shelved mine others sizes book handed held quiet =
-      let stays = λ (q : Pass) (has : HandsOf m q). hands_kept desk m e s' q (λ was. ap (hands_of q.number) (held ∙ ap (λ (x : RingState (PlacedDesk kc kz)). x.lane.lane.held) (sym is)) ∙ was) has in
-      lane_moves_by z st m r e s s' is i n id cs v o call o.pass.hands a d l' at may deed words homes shelved mine (λ j l q there apart has. others q.number apart q.call has) sizes book handed
-      (stays o.pass (r.histories.hands id o.place o.pass (v, at, o.here))) (λ q apart. stays q)
-      (keepers_set st.views id v (with_pass v o (with_call o.pass call) (Some (copied cd (with_lane m e s')))) o (with_call o.pass call) at refl refl quiet r.turns.keepers)
+  lane_moves z st m r e s s' is i n id cs v o call a d l' at may deed words homes shelved mine others sizes book handed still quiet =
+      let back = ap (λ (t : List Holding × ℕ). t.1) still in
+      lane_looks z st m r e s s' is i n id cs v o call o.pass.own a d l' at may deed words homes shelved mine others sizes book handed still
+      (history_stays m e s s' is book handed (omega (arith, back)) o.pass.number o.pass.first o.pass.own (r.histories.own id o.place o.pass (v, at, o.here))) (r.histories.latest id o.place o.pass (v, at, o.here)) quiet

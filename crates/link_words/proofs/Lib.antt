@@ -1,4 +1,5 @@
 pub mod DeskSteps
+pub mod DesksOut
 pub mod Notes
 pub mod Users
 pub mod Froms
@@ -19,6 +20,7 @@ pub mod Opens
 pub mod Takes
 pub mod Fresh
 pub mod Weakens
+pub mod Seen
 pub mod Books
 pub mod Held
 pub mod Exact

@@ -1,7 +1,7 @@
 -- steps 3 and 5 of a send: the look for room, and the forward entry, on either lane.
 use Rattle.link_words.specs.declared.codes.DeskTables.{DeskTables}
 use Rattle.link_words.specs.PlacedDesks.{PlacedDesk}
-use Rattle.std.proofs.Common.{◌≡◌, ℕ, zero, suc, ◌+◌, ◌*◌, ◌%◌, ◌<◌, ◌≤◌, Bool, true, false, cond, eqb, List, [], ◌∷◌, ◌++◌, map, length, get_or, set, refl, sym, ap, ◌∙◌, subst, arith, length-set}
+use Rattle.std.proofs.Common.{◌≡◌, ℕ, zero, suc, ◌+◌, ◌*◌, ◌%◌, ◌<◌, ◌≤◌, Bool, true, false, cond, eqb, List, [], ◌∷◌, ◌++◌, map, length, get_or, set, refl, sym, ap, ◌∙◌, subst, inr, arith, le_refl, length-set}
 use Rattle.std.specs.Prelude.{Some, None}
 use mathlib.Core.Option.{none}
 use Rattle.std.proofs.lemmas.List.{map-set, length-map, get_or-set_same}
@@ -34,6 +34,8 @@ use Rattle.link_words.specs.declared.rule.SenderSide.{SenderSide}
 use Rattle.link_words.specs.declared.rule.LinkSizes.{LinkSizes}
 use Rattle.link_words.specs.declared.rule.Call.{Call}
 use Rattle.link_words.specs.declared.rule.Call.TheVariants.{Sends}
+use Rattle.link_words.specs.declared.rule.Counted.TheVariants.{Room}
+use Rattle.link_words.specs.declared.rule.Event.TheVariants.{Count}
 use Rattle.link_words.specs.declared.rule.View.{View}
 use Rattle.link_words.specs.Turns.{is_manager}
 use Rattle.link_words.specs.Words.{other, lane_to, with_lane, era_word, turn_word, entry_word, entry_words_before, LaneWords, lane_words, words_at, home_if, shelf_to, return_word, with_turn}
@@ -47,8 +49,10 @@ use Rattle.link_words.specs.Calls.{SeatState}
 use Rattle.link_words.proofs.Tells.{SendLooksBy, SendStoresEntryBy}
 use Rattle.link_words.specs.Steps.{look_turn}
 use Rattle.link_words.proofs.Kept.{send_deed, send_may}
-use Rattle.link_words.proofs.LaneSteps.{no_call, others_send, here_sends, lane_moves}
-use Rattle.link_words.proofs.Sends.{has_of, true-false, at_zero, turn_only}
+use Rattle.link_words.proofs.LaneSteps.{no_call, others_send, here_sends, lane_moves, with_step}
+use Rattle.link_words.proofs.Books.{history_counted}
+use Rattle.link_words.proofs.Seen.{seen_now}
+use Rattle.link_words.proofs.Sends.{has_of, true-false, at_zero, turn_noting}
 use Rattle.link_words.proofs.Buffers.{words_here, loaded, rings_to}
 use Rattle.link_words.proofs.Entries.{ahead, forward_found}
 use Rattle.link_words.proofs.Exact.{StepBy, write_by, ReadsAt, read_by, WritesAt}
@@ -150,7 +154,8 @@ module _ {B : Type 0} {kc : Coded B} {kz : DeskTables} (cd : Coded (PlacedDesk k
       let sound : IsSoundRings s = rings_to m e (rings_in r) in let sizes = sizes_is cd desk z st m r e in
       let full = eqb a (k + lane.capacity) in let over = eqb a lane.book in
       let t' : Turn Sending = after_send_look lane c sending in let w : Call = Sends e t' x b in
-      let has : has_call s.lane.sender o.pass.number ≡ true = has_of s.lane.sender o.pass.number (ap holder is ∙ h.1.1) (ap is_manager is) in
+      let has : has_call s.lane.sender o.pass.number ≡ true = has_of s.lane.sender o.pass.number (ap holder is ∙ h.1.1) (ap is_manager is) in let own = Count e f (Room x.accepted k) ∷ o.pass.own in let past = r.histories.own id o.place o.pass (me.0, at, o.here) in
+      let saw = seen_now m e o.pass.number o.pass.first f o.pass.own (h.2 refl) past in let saw_accepted = saw.0.accepted in
       let word : get_or st.words (return_word e) 0 ≡ s.rings.return_index = ap (λ (ws : List ℕ). get_or ws (return_word e) 0) (words_here cd desk z st m r e) ∙ return_seen e (era_word m.era) (lane_words s) (lane_words (lane_to m (other e))) in
       let leaves : (ring_form desk).sent_on s m.era ≡ with_turn s t' = λ i. (ring_form desk).sent_on (with_turn s (is i)) m.era in
       let side : x.accepted ≡ a = ap (λ (u : SenderSide). u.accepted) h.1.2 in let back = sound.counted.back in let behind = sound.counted.behind in let out = sound.counted.out in let cap : s.rings.sizes.capacity ≡ (sizes_at z e).capacity = ap (λ (u : RingSizes). u.capacity) sizes in
@@ -162,12 +167,13 @@ module _ {B : Type 0} {kc : Coded B} {kz : DeskTables} (cd : Coded (PlacedDesk k
         _,
         keeps,
         tt,
-        turn_only cd desk z st m r e t t' is (return_word e) (get_or st.words (return_word e) 0) id me.1 me.0 o w (Steps o.pass.number 0 None) at h.1.1
+        turn_noting cd desk z st m r e t t' is (return_word e) (get_or st.words (return_word e) 0) id me.1 me.0 o w own (Steps o.pass.number 0 None) at h.1.1
             may
             deed
             (loaded cd desk z st m r e (return_word e) s refl)
             (looked_word full over c a k sending) (looked_home full over c a k sending) (looked_out full over c a k sending)
             mine
+            (history_counted m e (with_turn s t') refl refl (le_refl k) o.pass.number o.pass.first f (Room x.accepted k) o.pass.own (h.2 refl) (record { accepted = omega (arith, side); handed = omega arith; returned = le_refl k }) past) (inr (inr (h.2 refl)))
             (λ i l. absurd (true-false (sym l))) (looked_holder full over c a k sending ∙ h.1.1),
         (
           (
@@ -175,9 +181,10 @@ module _ {B : Type 0} {kc : Coded B} {kz : DeskTables} (cd : Coded (PlacedDesk k
             word ∙ (sound.return_index ∙ ap (λ (u : RingSizes). return_count u k % 65536) sizes),
             omega (arith, side, back, behind),
             omega (arith, side, out, cap),
-            λ i. (with_pass me.0 o (with_call o.pass (Sends e (look_turn (sym side i) k (room i) (book_in r e i) c sending) x b)) (Some (copied cd m')), me.1),
+            record { not_below = (omega (arith, saw_accepted, side), saw.0.returned); none_later = saw.1 },
+            λ i. (with_pass me.0 o (with_step o.pass (Sends e (look_turn (sym side i) k (room i) (book_in r e i) c sending) x b) own o.pass.hands) (Some (copied cd m')), me.1),
           ),
-          read_by (return_word e) cd desk z st m r id me o (with_call o.pass w) (Steps o.pass.number 0 None) m' me.1 at may deed mine,
+          read_by (return_word e) cd desk z st m r id me o (with_step o.pass w own o.pass.hands) (Steps o.pass.number 0 None) m' me.1 at may deed mine,
         ),
       )
 

@@ -1,9 +1,10 @@
 -- Passes that go out and come back, are made and end.
 use Rattle.link_words.specs.declared.codes.DeskTables.{DeskTables}
 use Rattle.link_words.specs.PlacedDesks.{PlacedDesk}
-use Rattle.std.proofs.Common.{Bool, true, false, cond, eqb, eq-eqb}
+use Rattle.std.proofs.Common.{Bool, true, false, cond, eqb, eq-eqb, inl, inr}
 use Rattle.link_words.specs.Passes.{is_listed, first_incarnation, HasNumber}
 use Rattle.link_words.specs.Histories.{NoneOf, entries_by, takes_by}
+use Rattle.link_words.proofs.Seen.{nothing_within}
 use Rattle.link_words.proofs.Books.{none_with}
 use Rattle.std.proofs.Common.{◌≡◌, ◌≢◌, ◌⊎◌, ℕ, ◌+◌, ◌-◌, ◌<◌, ◌≤◌, true, false, List, [], ◌∷◌, ◌++◌, length, set, sym, ap, ◌∙◌, subst, ⊎_elim, inl, inr, arith, suc-ne-zero, length-set}
 use Rattle.std.specs.Prelude.{Option, Some, None, slice_set}
@@ -13,7 +14,7 @@ use lib.ListN.{get_elem?}
 use lib.Seq.{set-get_or}
 use Rattle.atomic_table.specs.Table.{State, keeps, Splits, Joins, Allows}
 use Rattle.atomic_table.proofs.Lists.{at_set, set_else}
-use Rattle.atomic_table.proofs.Lists.{set_here, at_longer}
+use Rattle.atomic_table.proofs.Lists.{at_longer}
 use Rattle.link_words.specs.declared.copies.LinkCopy.{LinkCopy}
 use Rattle.link_words.specs.Passes.{only_new}
 use Rattle.link_words.specs.Steps.{IsMakingOf}
@@ -35,7 +36,7 @@ use Rattle.link_words.specs.declared.rule.View.{View}
 use Rattle.link_words.specs.Words.{other, lane_to, shelf_to}
 use Rattle.link_words.specs.Passes.{PassAt, EachPass, Manages, last_pass_only, numbers_of, without_last, only_last, with_passes_from, spent_view, new_pass, with_caller_as, with_new_caller}
 use Rattle.link_words.specs.Deeds.{Deed, Enlists, after_deed, MayDo, IsStill, IsSoundState}
-use Rattle.link_words.specs.Rule.{HasCall, IsCallOf, HistoryOf, HandsOf, Shows, WordsRule}
+use Rattle.link_words.specs.Rule.{HasCall, IsCallOf, HistoryOf, HandsOf, Shows, WordsRule, LatestOf}
 use Rattle.link_words.specs.Parts.{has_for_manager, AreNumbersApart, AreKeepersApart, Knows, ManagerKnows, HoldsBuffers}
 use Rattle.link_words.specs.Calls.{SeatState}
 use Rattle.link_words.specs.Codes.{copied}
@@ -43,7 +44,7 @@ use Rattle.link_words.proofs.Frames.{some_copy}
 use Rattle.link_words.proofs.Kept.{deed_kept}
 use Rattle.link_words.proofs.Froms.{Spot, From, each_from, numbers_from, keepers_from, one_manager, one_goes, split_from, joined, join_from, last_at, at_new, stands_left, stands_right, numbers_at}
 use Rattle.link_words.proofs.Users.{free_is, end_here, end_else, call_with, history_with, hands_with, unused_turn, unused_hands, in_use}
-use Rattle.link_words.proofs.Parts.{state_in, sizes_in, told_in, buffers_in, put_together, one_more}
+use Rattle.link_words.proofs.Parts.{state_in, told_in, buffers_in, put_together, one_more}
 
 -- the same table with other views
 abbrev pub with_views : State Slot View → List View → State Slot View
@@ -86,6 +87,7 @@ module _ {B : Type 0} {kc : Coded B} {kz : DeskTables} (cd : Coded (PlacedDesk k
         (record {
           own = each_from st.views views went from (HistoryOf m) (HistoryOf m) r.histories.own (λ j l q at has. has);
           hands = each_from st.views views went from (HandsOf m) (HandsOf m) r.histories.hands (λ j l q at has. has);
+          latest = each_from st.views views went from (LatestOf m) (LatestOf m) r.histories.latest (λ j l q at has. has);
         })
         (record {
           places = numbers_from st.views views went from r.numbers.places;
@@ -149,9 +151,9 @@ module _ {B : Type 0} {kc : Coded B} {kz : DeskTables} (cd : Coded (PlacedDesk k
 
   -- the callers are others, and the parts over views hold of the new views
   pub recast : (st : State Slot View) (m : LaneLink (RingState (PlacedDesk kc kz))) (p : ℕ) (r : Shows cd desk z st m p) (cs : List (Option End)) (d : Deed) (views : List View) → MayDo desk m d → record m { callers = cs } ≡ after_deed desk m d → length cs ≡ 64
-      → EachPass (HasCall (record m { callers = cs }) p) views → EachPass (HistoryOf (record m { callers = cs })) views → EachPass (HandsOf (record m { callers = cs })) views → AreNumbersApart views → AreKeepersApart views → ManagerKnows cd (record m { callers = cs }) views
+      → EachPass (HasCall (record m { callers = cs }) p) views → EachPass (HistoryOf (record m { callers = cs })) views → EachPass (HandsOf (record m { callers = cs })) views → EachPass (LatestOf m) views → AreNumbersApart views → AreKeepersApart views → ManagerKnows cd (record m { callers = cs }) views
       → WordsRule cd desk z (with_views st views)
-  recast st m p r cs d views may deed many calls histories hands numbers keepers manager = (
+  recast st m p r cs d views may deed many calls histories hands latest numbers keepers manager = (
     record m { callers = cs },
     p,
     put_together r.words_are
@@ -165,6 +167,7 @@ module _ {B : Type 0} {kc : Coded B} {kz : DeskTables} (cd : Coded (PlacedDesk k
         (record {
           own = histories;
           hands = hands;
+          latest = latest;
         })
         (record {
           places = numbers;
@@ -183,10 +186,10 @@ module _ {B : Type 0} {kc : Coded B} {kz : DeskTables} (cd : Coded (PlacedDesk k
   rests_new m p k side.Remote n unused low = (end_here m.callers n (Some side.Remote) low, unused_turn m.callers side.Remote m.to_host.lane.sender n unused k.sound.to_host.sender, unused_turn m.callers side.Remote m.to_remote.lane.receiver n unused k.sound.to_remote.receiver)
 
   history_next : (m : LaneLink (RingState (PlacedDesk kc kz))) (cs : List (Option End)) (e : End) (n first : ℕ) → first ≡ m.era.inc + 1 → HistoryOf (record m { callers = cs }) (new_pass e n first)
-  history_next m cs e n first is = record { sent = λ i since. let s : first ≤ m.era.inc = since in absurd (omega (arith, s, is)); taken = λ i since. let s : first ≤ m.era.inc = since in absurd (omega (arith, s, is)); read = λ i. tt; none_later = tt }
+  history_next m cs e n first is = record { sent = λ i since. let s : first ≤ m.era.inc = since in absurd (omega (arith, s, is)); taken = λ i since. let s : first ≤ m.era.inc = since in absurd (omega (arith, s, is)); read = λ i. tt; none_later = tt; counts = λ i. nothing_within _ }
 
   history_now : (m : LaneLink (RingState (PlacedDesk kc kz))) (cs : List (Option End)) (e : End) (n first : ℕ) → NoneOf m n → HistoryOf (record m { callers = cs }) (new_pass e n first)
-  history_now m cs e n first none = record { sent = λ i since. sent i; taken = λ i since. taken i; read = λ i. tt; none_later = tt }
+  history_now m cs e n first none = record { sent = λ i since. sent i; taken = λ i since. taken i; read = λ i. tt; none_later = tt; counts = λ i. nothing_within _ }
     where
       sent : (i : End) → entries_by n 0 (lane_to (record m { callers = cs }) i).lane.lane.accepted ≡ []
       sent side.Host = (none side.Host).0
@@ -238,6 +241,7 @@ module _ {B : Type 0} {kc : Coded B} {kz : DeskTables} (cd : Coded (PlacedDesk k
       (each (HasCall m p) (HasCall m' p) r.turns.calls (λ q ne has. call_with m cs p q.number q.call (end_else m.callers n q.number (Some e) ne) has) (rests_new m p (state_in r) e n f.0 f.1))
       (each (HistoryOf m) (HistoryOf m') r.histories.own (λ q ne has. history_with m cs q has) (history_new m cs e n v known.inc (known.unused n f.0)))
       (each (HandsOf m) (HandsOf m') r.histories.hands (λ q ne has. hands_with m cs q (end_else m.callers n q.number (Some e) ne) has) (hands_new m cs (state_in r) e n first f.0))
+      (each (LatestOf m) (LatestOf m) r.histories.latest (λ q ne has. has) (inr (inl refl)))
       (λ i k j l a b ea eb same. ⊎_elim
       (λ (x : PassAt st.views i k a). ⊎_elim (λ (y : PassAt st.views j l b). r.numbers.places i k j l a b x y same)
       (λ (y : (j ≡ id) × (l ≡ length v.passes) × (new ≡ b)). absurd (apart i k a x (ap (λ (c : Pass). c.number) y.2 ∙ sym same))) (after j l b eb))

@@ -2,11 +2,10 @@
 use Rattle.link_words.specs.declared.codes.DeskTables.{DeskTables}
 use Rattle.link_words.specs.PlacedDesks.{PlacedDesk}
 use Rattle.std.proofs.Common.{◌≡◌, ◌⊎◌, ℕ, ◌<◌, zero, suc, List, [], ◌∷◌, length, set, refl, sym, ap, ◌∙◌, subst, inl, inr, ⊎_elim, arith, get_or}
-use Rattle.std.specs.Prelude.{None, Some}
-use mathlib.Core.Option.{some, some-injective, some-ne-none}
+use mathlib.Core.Option.{some, some-ne-none}
 use lib.ListN.{get_elem?}
 use base.Stored.{Coded}
-use Rattle.atomic_table.specs.Table.{State, Me, Act, Allows, carried_after, stepped}
+use Rattle.atomic_table.specs.Table.{State, Allows, stepped}
 use Rattle.atomic_table.proofs.Lists.{set_here, set_again}
 use Rattle.lane_model.specs.declared.lane_links.LaneLink.{LaneLink}
 use Rattle.lane_model.specs.Desks.{DeskMeaning}
@@ -20,7 +19,7 @@ use Rattle.link_words.specs.declared.rule.View.{View}
 use Rattle.link_words.specs.Calls.{SeatState, Becomes, Notes, with_pass_at, call_at, noted}
 use Rattle.link_words.specs.Deeds.{Deed, after_deed}
 use Rattle.link_words.specs.Passes.{Mover, with_pass}
-use Rattle.link_words.specs.Rule.{HasCall, HistoryOf, HandsOf, WordsRule, IsCallOf}
+use Rattle.link_words.specs.Rule.{HasCall, HistoryOf, HandsOf, LatestOf, WordsRule, IsCallOf}
 use Rattle.link_words.specs.Steps.{IsStepOf}
 use Rattle.link_words.proofs.Frames.{each_set, keepers_set, numbers_set, manager_stays}
 use Rattle.link_words.proofs.Parts.{state_in, told_in, buffers_in, put_together}
@@ -66,7 +65,7 @@ there_or_none made (suc k) (p ∷ ps) = ⊎_elim
 
 -- a history with the note says the same
 history_noted : {D : Type 0} (m : LaneLink (RingState D)) (made : Made) (q : Pass) → HistoryOf m q → HistoryOf m (noted made q)
-history_noted m made q has = record { sent = has.sent; taken = has.taken; read = has.read; none_later = has.none_later }
+history_noted m made q has = record { sent = has.sent; taken = has.taken; read = has.read; none_later = has.none_later; counts = has.counts }
 
 set_twice : {A : Type 0} (l : List A) (i : ℕ) (a b : A) → set (set l i a) i b ≡ set l i b
 set_twice [] i a b = refl
@@ -94,6 +93,7 @@ module _ {B : Type 0} {kc : Coded B} {kz : DeskTables} (cd : Coded (PlacedDesk k
             (record {
               own = each (HistoryOf m) (HistoryOf m) r.numbers.places r.histories.own (λ j l q there apart had. had) (history_noted m made o.pass (r.histories.own id o.place o.pass (v, at, o.here)));
               hands = each (HandsOf m) (HandsOf m) r.numbers.places r.histories.hands (λ j l q there apart had. had) (r.histories.hands id o.place o.pass (v, at, o.here));
+              latest = each (LatestOf m) (LatestOf m) r.numbers.places r.histories.latest (λ j l q there apart had. had) (r.histories.latest id o.place o.pass (v, at, o.here));
             })
             (record {
               places = numbers_set st.views id v u o w at refl refl r.numbers.places;

@@ -1,4 +1,5 @@
 -- A reopening: words reset one by one, which are no steps of the ring form, and then its one step.
+use Rattle.link_words.proofs.Users.{nothing_latest}
 use Rattle.link_words.specs.declared.codes.DeskTables.{DeskTables}
 use Rattle.link_words.specs.PlacedDesks.{PlacedDesk, right_to}
 use Rattle.std.proofs.Common.{◌≡◌, ◌≢◌, ℕ, zero, suc, ◌+◌, ◌<◌, Bool, true, false, List, [], ◌∷◌, ◌++◌, map, length, get_or, set, refl, sym, ap, ◌∙◌, subst, inl, inr, arith, length-append}
@@ -35,7 +36,7 @@ use Rattle.link_words.specs.Words.{lane_to, era_word, turn_word, entry_word, Lan
 use Rattle.link_words.specs.Fresh.{fresh_lane, fresh_of, opened_receiver}
 use Rattle.link_words.proofs.Books.{history_opened, none_opened}
 use Rattle.link_words.specs.Deeds.{Nothing, Opens, MayDo, AreManagers, HoldsNothing, IsSoundState, link_after_opening}
-use Rattle.link_words.specs.Rule.{IsCallOf, HasCall, HistoryOf, HandsOf, fresh_block, WordsRule}
+use Rattle.link_words.specs.Rule.{IsCallOf, HasCall, HistoryOf, HandsOf, fresh_block, WordsRule, LatestOf}
 use Rattle.link_words.specs.Parts.{has_for_manager, HoldsBuffers}
 use Rattle.link_words.specs.Histories.{hands_of}
 use Rattle.link_words.specs.declared.copies.LinkCopy.{LinkCopy}
@@ -206,6 +207,7 @@ module _ {B : Type 0} {kc : Coded B} {kz : DeskTables} (cd : Coded (PlacedDesk k
               (record {
                 own = each (HistoryOf m) (HistoryOf m) r.numbers.places r.histories.own (λ j l u there apart had. had) (r.histories.own id o.place o.pass (me.0, at, o.here));
                 hands = each (HandsOf m) (HandsOf m) r.numbers.places r.histories.hands (λ j l u there apart had. had) (r.histories.hands id o.place o.pass (me.0, at, o.here));
+                latest = each (LatestOf m) (LatestOf m) r.numbers.places r.histories.latest (λ j l u there apart had. had) (r.histories.latest id o.place o.pass (me.0, at, o.here));
               })
               (record {
                 places = numbers_set st.views id me.0 (with_pass me.0 o (with_call o.pass w) (Some (copied cd m))) o (with_call o.pass w) at refl refl r.numbers.places;
@@ -248,6 +250,7 @@ module _ {B : Type 0} {kc : Coded B} {kz : DeskTables} (cd : Coded (PlacedDesk k
               (record {
                 own = each (HistoryOf m) (HistoryOf m') r.numbers.places r.histories.own (λ j l u there apart had. history_opened desk m u.number u.first u.own had) (history_opened desk m o.pass.number o.pass.first o.pass.own (r.histories.own id o.place o.pass (me.0, at, o.here)));
                 hands = each (HandsOf m) (HandsOf m') r.numbers.places r.histories.hands (λ j l u there apart. opened_hands desk m u h.4) (opened_hands desk m o.pass h.4 (r.histories.hands id o.place o.pass (me.0, at, o.here)));
+                latest = each (LatestOf m) (LatestOf m') r.numbers.places r.histories.latest (λ j l u there apart had. nothing_latest m m' p u h.4 (r.turns.calls j l u there) (r.histories.hands j l u there)) (inl h.0);
               })
               (record {
                 places = numbers_set st.views id me.0 u o (with_call o.pass w) at refl refl r.numbers.places;

@@ -1,7 +1,7 @@
 -- step 6 of a send: the message is accepted and its buffer comes home, on either lane.
 use Rattle.link_words.specs.declared.codes.DeskTables.{DeskTables}
 use Rattle.link_words.specs.PlacedDesks.{PlacedDesk}
-use Rattle.std.proofs.Common.{◌≡◌, ℕ, zero, suc, ◌+◌, ◌%◌, ◌<◌, ◌≤◌, true, List, [], ◌∷◌, ◌++◌, length, set, refl, sym, ap, ◌∙◌, subst, arith, length-set, length-append}
+use Rattle.std.proofs.Common.{◌≡◌, ℕ, zero, suc, ◌+◌, ◌%◌, ◌<◌, ◌≤◌, true, List, [], ◌∷◌, ◌++◌, length, set, refl, sym, ap, ◌∙◌, subst, arith, length-set, length-append, inr}
 use Rattle.std.specs.Prelude.{None}
 use Rattle.std.specs.Prelude.{Some}
 use mathlib.Core.Option.{some}
@@ -140,8 +140,9 @@ module _ {B : Type 0} {kc : Coded B} {kz : DeskTables} (cd : Coded (PlacedDesk k
             (λ k old. message_before s.lane.lane.accepted entry k old)))
             mine
             (λ j l q there apart. others_send desk m e s' t o.pass.number h.1.0 h.1.1 refl refl refl (λ o. let tk = taking_is s sound o in message_before s.lane.lane.accepted entry (length s.lane.lane.takers) tk.1) (λ k apart. no_call desk t' o.pass.number k h.1.1 apart) q.number apart q.call) refl refl
-            (history_published m e s' entry refl o.pass.number o.pass.first f x.accepted o.pass.own (sym (ap (λ (u : RingState (PlacedDesk kc kz)). u.lane.lane.takers) is)) who (h.2 refl) side hist)
-            (λ u apart has. history_other m e s' entry (sym (ap (λ (y : RingState (PlacedDesk kc kz)). y.lane.lane.accepted ++ entry ∷ []) is)) u.number u.first u.own (sym (ap (λ (y : RingState (PlacedDesk kc kz)). y.lane.lane.takers) is)) (λ same. apart (sym who ∙ same)) has)
+            (history_published m e s' entry refl o.pass.number o.pass.first f x.accepted o.pass.own (sym (ap (λ (u : RingState (PlacedDesk kc kz)). u.lane.lane.takers) is)) refl who (h.2 refl) side hist)
+            (λ u apart has. history_other m e s' entry (sym (ap (λ (y : RingState (PlacedDesk kc kz)). y.lane.lane.accepted ++ entry ∷ []) is)) u.number u.first u.own (sym (ap (λ (y : RingState (PlacedDesk kc kz)). y.lane.lane.takers) is)) refl (λ same. apart (sym who ∙ same)) has)
+            (inr (inr (h.2 refl)))
             (hands_kept desk m e s' o.pass (λ was. ap (λ (u : RingState (PlacedDesk kc kz)). hands_of o.pass.number u.lane.lane.held) (sym is) ∙ was) (r.histories.hands id o.place o.pass (me.0, at, o.here)))
             (λ u apart. hands_kept desk m e s' u (λ was. ap (λ (y : RingState (PlacedDesk kc kz)). hands_of u.number y.lane.lane.held) (sym is) ∙ was))
             (λ n none. none_published m e s' entry (sym (ap (λ (y : RingState (PlacedDesk kc kz)). y.lane.lane.accepted ++ entry ∷ []) is)) (sym (ap (λ (y : RingState (PlacedDesk kc kz)). y.lane.lane.takers) is)) n (λ same. not_used m.callers o.pass.number n (other e) h.0 none (sym who ∙ same)))

@@ -1,13 +1,13 @@
 -- Each step of a send is one of the ring form, on either lane.
 use Rattle.link_words.specs.declared.codes.DeskTables.{DeskTables}
 use Rattle.link_words.specs.PlacedDesks.{PlacedDesk}
-use Rattle.std.proofs.Common.{◌≡◌, ℕ, suc, Bool, true, false, cond, eqb, ◌&&◌, List, get_or, set, refl, sym, ap, ◌∙◌, subst, ⊎_elim, eq-eqb}
+use Rattle.std.proofs.Common.{◌≡◌, ℕ, suc, Bool, true, false, cond, eqb, ◌&&◌, List, get_or, set, refl, sym, ap, ◌∙◌, subst, ⊎_elim, eq-eqb, le_refl}
 use Rattle.std.specs.Prelude.{Option, Some, None}
 use mathlib.Core.Option.{some, none}
 use mathlib.Core.Path.{Path}
 use Rattle.std.specs.Option.{unwrap_or}
 use Rattle.std.proofs.lemmas.Bool.{eqb-true}
-use Rattle.link_words.specs.Histories.{IsCurrent}
+use Rattle.link_words.specs.Histories.{IsCurrent, IsOfNow}
 use mathlib.Core.Option.{Option as Option_of}
 use lib.ListN.{get_elem?}
 use Rattle.atomic_table.specs.Table.{State, keeps, stepped, Allows}
@@ -34,11 +34,12 @@ use Rattle.link_words.specs.declared.rule.SenderSide.{SenderSide}
 use Rattle.link_words.specs.declared.rule.LinkSizes.{LinkSizes}
 use Rattle.link_words.specs.declared.rule.Call.{Call}
 use Rattle.link_words.specs.declared.rule.Call.TheVariants.{Sends}
+use Rattle.link_words.specs.declared.rule.Event.{Event}
 use Rattle.link_words.specs.declared.rule.View.{View}
 use Rattle.link_words.specs.Turns.{is_manager}
 use Rattle.link_words.specs.Words.{other, lane_to, with_lane, era_word, turn_word, LaneWords, lane_words, words_at, home_if, lane_homes, homes_at, shelf_to, sender_side, with_turn}
 use Rattle.link_words.specs.Deeds.{Deed, Steps, after_deed, MayDo, IsStill}
-use Rattle.link_words.specs.Rule.{IsCallOf, Shows, WordsRule}
+use Rattle.link_words.specs.Rule.{IsCallOf, IsHistory, Shows, WordsRule}
 use Rattle.link_words.specs.Parts.{has_for_manager, HoldsBuffers}
 use Rattle.link_words.specs.Codes.{copied}
 use Rattle.link_words.specs.Passes.{Mover, with_pass, with_call}
@@ -46,7 +47,8 @@ use Rattle.link_words.specs.Calls.{SeatState}
 use Rattle.link_words.proofs.Tells.{SendLoadsEraBy}
 use Rattle.link_words.proofs.Exact.{ReadsAt, StepBy, read_by}
 use Rattle.link_words.proofs.Kept.{send_deed, send_may}
-use Rattle.link_words.proofs.LaneSteps.{still_sender, no_call, others_send, here_sends, lane_moves}
+use Rattle.link_words.proofs.LaneSteps.{still_sender, no_call, others_send, here_sends, lane_looks, with_step}
+use Rattle.link_words.proofs.Books.{history_kept}
 use Rattle.link_words.proofs.Parts.{buffers_in}
 
 pub some_number : (a b : ℕ) → Path (Option ℕ) (Some a) (Some b) → a ≡ b
@@ -84,6 +86,23 @@ module _ {B : Type 0} {kc : Coded B} {kz : DeskTables} (cd : Coded (PlacedDesk k
   pub shelved_turn : (s : RingState (PlacedDesk kc kz)) (t' : Turn Sending) (l : List (Option_of Slot)) → sender_is_out t' ≡ sender_is_out s.lane.sender → HoldsBuffers s l → HoldsBuffers (with_turn s t') l
   shelved_turn s t' l out q = record { long = q.long; full = q.full; home = λ id low a b. q.home id low (λ o. a (out ∙ o)) b }
 
+  -- a load after which the sender's turn alone is another, with the same holder, whose list becomes this one
+  pub turn_noting : (st : State Slot View) (m : LaneLink (RingState (PlacedDesk kc kz))) (r : Shows cd desk z st m 0) (e : End) (t t' : Turn Sending) → (lane_to m e).lane.sender ≡ t
+      → (i n id : ℕ) (cs : List (ℕ × Slot)) (v : View) (o : Mover v) (call : Call) (own : List Event) (d : Deed) → get_elem? st.views id ≡ some v → holder t ≡ Some o.pass.number
+      → MayDo desk m d → with_lane m e (with_turn (lane_to m e) t') ≡ after_deed desk m d
+      → set (words_at e (era_word m.era) (lane_words (lane_to m e)) (lane_words (lane_to m (other e)))) i n ≡ words_at e (era_word m.era) (lane_words (lane_to m e)) (lane_words (lane_to m (other e)))
+      → turn_word t' ≡ turn_word t → ((y : Slot) → home_if t' y ≡ home_if t y) → sender_is_out t' ≡ sender_is_out t
+      → IsCallOf (with_lane m e (with_turn (lane_to m e) t')) 0 o.pass.number call → IsHistory (with_lane m e (with_turn (lane_to m e) t')) o.pass.number o.pass.first own → IsOfNow m.era.inc o.pass.number o.pass.hands own → ((i : End) → has_for_manager i call ≡ true → has_for_manager i o.pass.call ≡ true) → holder t' ≡ Some o.pass.number
+      → WordsRule cd desk z (stepped st i n id cs (with_pass v o (with_step o.pass call own o.pass.hands) (Some (copied cd (with_lane m e (with_turn (lane_to m e) t'))))) keeps)
+  turn_noting st m r e t t' is i n id cs v o call own d at mine may deed word turns home out has history latest quiet held =
+      let s = lane_to m e in
+      lane_looks cd desk z st m r e s (with_turn s t') refl i n id cs v o call own keeps d (shelf_to r.shelves e) at may deed
+      (word ∙ ap (λ (k : ℕ). words_at e (era_word m.era) (record (lane_words s) { sender = k }) (lane_words (lane_to m (other e)))) (ap turn_word is ∙ sym turns))
+      (ap (λ (h : Option_of Slot). homes_at e (record (lane_homes s (shelf_to r.shelves e)) { sender = h }) (lane_homes (lane_to m (other e)) (shelf_to r.shelves (other e))))
+      (ap (λ (u : Turn Sending). home_if u (Sender (sender_side s))) is ∙ sym (home (Sender (sender_side s)))))
+      (shelved_turn s t' (shelf_to r.shelves e) (out ∙ ap sender_is_out (sym is)) ((buffers_in r) e))
+      has (others_send desk m e (with_turn s t') t o.pass.number is mine refl refl refl (λ _. refl) (λ k apart. no_call desk t' o.pass.number k held apart)) refl refl refl refl history latest quiet
+
   -- a load after which the sender's turn alone is another, with the same holder
   pub turn_only : (st : State Slot View) (m : LaneLink (RingState (PlacedDesk kc kz))) (r : Shows cd desk z st m 0) (e : End) (t t' : Turn Sending) → (lane_to m e).lane.sender ≡ t
       → (i n id : ℕ) (cs : List (ℕ × Slot)) (v : View) (o : Mover v) (call : Call) (d : Deed) → get_elem? st.views id ≡ some v → holder t ≡ Some o.pass.number
@@ -93,13 +112,8 @@ module _ {B : Type 0} {kc : Coded B} {kz : DeskTables} (cd : Coded (PlacedDesk k
       → IsCallOf (with_lane m e (with_turn (lane_to m e) t')) 0 o.pass.number call → ((i : End) → has_for_manager i call ≡ true → has_for_manager i o.pass.call ≡ true) → holder t' ≡ Some o.pass.number
       → WordsRule cd desk z (stepped st i n id cs (with_pass v o (with_call o.pass call) (Some (copied cd (with_lane m e (with_turn (lane_to m e) t'))))) keeps)
   turn_only st m r e t t' is i n id cs v o call d at mine may deed word turns home out has quiet held =
-      let s = lane_to m e in
-      lane_moves cd desk z st m r e s (with_turn s t') refl i n id cs v o call keeps d (shelf_to r.shelves e) at may deed
-      (word ∙ ap (λ (k : ℕ). words_at e (era_word m.era) (record (lane_words s) { sender = k }) (lane_words (lane_to m (other e)))) (ap turn_word is ∙ sym turns))
-      (ap (λ (h : Option_of Slot). homes_at e (record (lane_homes s (shelf_to r.shelves e)) { sender = h }) (lane_homes (lane_to m (other e)) (shelf_to r.shelves (other e))))
-      (ap (λ (u : Turn Sending). home_if u (Sender (sender_side s))) is ∙ sym (home (Sender (sender_side s)))))
-      (shelved_turn s t' (shelf_to r.shelves e) (out ∙ ap sender_is_out (sym is)) ((buffers_in r) e))
-      has (others_send desk m e (with_turn s t') t o.pass.number is mine refl refl refl (λ _. refl) (λ k apart. no_call desk t' o.pass.number k held apart)) refl refl refl refl quiet
+      turn_noting st m r e t t' is i n id cs v o call o.pass.own d at mine may deed word turns home out has
+      (history_kept m e (with_turn (lane_to m e) t') refl refl (le_refl _) o.pass.number o.pass.first o.pass.own (r.histories.own id o.place o.pass (v, at, o.here))) (r.histories.latest id o.place o.pass (v, at, o.here)) quiet held
 
   -- what an era decides leaves the holder
   era_word_of : (b : Bool) (c : ℕ) (s : Sending) (era : Era) → turn_word (cond b (turn.Taken c (record s { stage = stage.Era })) (turn.Leaving c (end.Dead era))) ≡ suc c

@@ -1,7 +1,7 @@
 -- Step 1 of a send: one attempt to take the sender's turn, on either lane. It needs that the caller is in no call, which its view says.
 use Rattle.link_words.specs.declared.codes.DeskTables.{DeskTables}
 use Rattle.link_words.specs.PlacedDesks.{PlacedDesk}
-use Rattle.std.proofs.Common.{◌≡◌, ◌≢◌, ℕ, zero, suc, ◌<◌, ◌≤◌, arith, Bool, true, false, eqb, ◌||◌, List, [], ◌∷◌, length, get_or, refl, sym, ap, ◌∙◌, subst, ⊎_elim}
+use Rattle.std.proofs.Common.{◌≡◌, ◌≢◌, ℕ, suc, ◌≤◌, arith, Bool, true, false, eqb, ◌||◌, List, [], ◌∷◌, length, get_or, refl, sym, ap, ◌∙◌, subst, ⊎_elim}
 use Rattle.std.specs.Prelude.{Option, Some}
 use mathlib.Core.Option.{some, none}
 use mathlib.Core.Path.{Path}
@@ -38,6 +38,7 @@ use Rattle.link_words.specs.Rule.{IsCallOf, fresh_block, Shows, WordsRule}
 use Rattle.link_words.specs.Parts.{HoldsBuffers}
 use Rattle.link_words.specs.Passes.{Mover, with_pass, with_call}
 use Rattle.link_words.specs.Calls.{SeatState}
+use Rattle.link_words.proofs.Users.{in_range}
 use Rattle.link_words.proofs.Frames.{turn_set, side_found, side_set, same_lane}
 use Rattle.link_words.proofs.LaneSteps.{still_sender, no_call, here_sends, others_free_send, lane_moves}
 use Rattle.link_words.proofs.Sends.{true-false, shelved_turn}
@@ -89,12 +90,6 @@ module _ {B : Type 0} {kc : Coded B} {kz : DeskTables} (desk : DeskMeaning (Plac
 sender_of : {B : Type 0} {kc : Coded B} {kz : DeskTables} (m : LaneLink (RingState (PlacedDesk kc kz))) (e : End) → turn_word (lane_to m e).lane.sender ≡ get_or (words_of 0 [] m) (sender_word e) 0
 sender_of m side.Host = refl
 sender_of m side.Remote = refl
-
--- a number in use is one of those there are
-in_range : (callers : List (Option End)) (n : ℕ) (e : End) → end_of callers n ≡ Some e → n < length callers
-in_range [] n e is = absurd (cc)
-in_range (c ∷ cs) zero e is = omega arith
-in_range (c ∷ cs) (suc n) e is = let low = in_range cs n e is in omega (arith, low)
 
 turn_word_most : {C : Type 0} (callers : List (Option End)) (e : End) (t : Turn C) → length callers ≡ 64 → IsSoundTurn callers e t → turn_word t ≤ 65
 turn_word_most callers e turn.Free many is = omega arith

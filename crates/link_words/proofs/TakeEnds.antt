@@ -1,7 +1,7 @@
 -- A take's leave, and what a reclaim does to a caller that has the receiver's turn with no buffer out.
 use Rattle.link_words.specs.declared.codes.DeskTables.{DeskTables}
 use Rattle.link_words.specs.PlacedDesks.{PlacedDesk}
-use Rattle.std.proofs.Common.{◌≡◌, ℕ, Bool, true, false, cond, List, [], ◌∷◌, get_or, refl, sym, ap, ◌∙◌, subst}
+use Rattle.std.proofs.Common.{◌≡◌, ℕ, Bool, true, false, cond, List, [], ◌∷◌, get_or, refl, sym, ap, ◌∙◌, subst, inl, inr}
 use Rattle.std.specs.Prelude.{None}
 use Rattle.std.specs.Prelude.{Some}
 use mathlib.Core.Option.{some}
@@ -119,7 +119,7 @@ module _ {B : Type 0} {kc : Coded B} {kz : DeskTables} (cd : Coded (PlacedDesk k
             ∙ (receiver_side_set e (some (Receiver x')) ha hb ∙ ap (λ (u : ReceiverSide). homes_at e (record ha { receiver = some (Receiver u) }) hb) side))
             (shelved_receiver s₀ s' (shelf_to r.shelves e) (ap receiver_is_out h.1.0 ∙ inside) refl refl refl refl refl refl refl ((buffers_in r) e))
             (receive_rests cd desk z m e s' c h.0 refl sends) (λ j l u there apart. others_receive desk m e s' t c h.1.0 h.1.1 bare refl refl refl (λ k _. refl) u.number apart u.call)
-            refl refl refl (hands_here m e s' (with_call_and_hands o.pass (Rests e) []) h.0 (hands_none c s₀.lane.lane.held)) (λ u apart. hands_kept desk m e s' u (λ was. hands_others c u.number s₀.lane.lane.held apart ∙ was))
+            refl refl refl refl (inr (inl refl)) (hands_here m e s' (with_call_and_hands o.pass (Rests e) []) h.0 (hands_none c s₀.lane.lane.held)) (λ u apart. hands_kept desk m e s' u (λ was. hands_others c u.number s₀.lane.lane.held apart ∙ was))
             (keepers_set st.views id me.0 (with_pass me.0 o (with_call_and_hands o.pass (Rests e) []) (Some (copied cd (with_lane m e s')))) o (with_call_and_hands o.pass (Rests e) []) at refl refl (λ i k. absurd (true-false (sym k))) r.turns.keepers),
         refl,
       )

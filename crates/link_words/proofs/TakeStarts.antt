@@ -1,7 +1,7 @@
 -- The first three steps of a take: its turn, the era, and the look for a message.
 use Rattle.link_words.specs.declared.codes.DeskTables.{DeskTables}
 use Rattle.link_words.specs.PlacedDesks.{PlacedDesk}
-use Rattle.std.proofs.Common.{◌≡◌, ℕ, suc, ◌≤◌, Bool, true, false, cond, eqb, List, [], ◌∷◌, length, get_or, refl, sym, ap, ◌∙◌, subst, ⊎_elim, arith}
+use Rattle.std.proofs.Common.{◌≡◌, ℕ, suc, ◌≤◌, Bool, true, false, cond, eqb, List, [], ◌∷◌, length, get_or, refl, sym, ap, ◌∙◌, subst, inr, ⊎_elim, arith, le_refl}
 use Rattle.std.specs.Prelude.{Option, Some, None}
 use mathlib.Core.Option.{some, none}
 use mathlib.Core.Option.{Option as Option_of}
@@ -11,6 +11,7 @@ use prog.Atomic.{either}
 use Rattle.atomic_table.specs.Table.{State, Me, Act, keeps, takes, Valid, carried_after, stepped, Allows}
 use Rattle.atomic_table.proofs.Lists.{exchanged}
 use Rattle.rp_base.specs.declared.kinds.End.{End}
+use Rattle.rp_base.specs.declared.kinds.Era.{Era}
 use Rattle.rp_base.specs.declared.kinds.End.TheVariants as side
 use Rattle.lane_model.specs.declared.lane_links.LaneLink.{LaneLink}
 use Rattle.lane_model.specs.declared.stages.Turn.{Turn}
@@ -44,7 +45,11 @@ use Rattle.link_words.specs.declared.rule.View.{View}
 use Rattle.link_words.specs.Turns.{is_manager}
 use Rattle.link_words.specs.Words.{other, lane_to, with_lane, era_word, turn_word, LaneWords, lane_words, words_at, home_if, lane_homes, homes_at, shelf_to, receiver_side, receiver_slot, forward_word, words_of}
 use Rattle.link_words.specs.Deeds.{Steps, after_deed, MayDo, IsStill}
-use Rattle.link_words.specs.Rule.{IsCallOf, Shows, WordsRule}
+use Rattle.link_words.specs.Rule.{IsCallOf, IsHistory, Shows, WordsRule}
+use Rattle.link_words.specs.Histories.{is_past_take_era, IsCurrentTake, IsOfNow}
+use Rattle.link_words.specs.declared.rule.Counted.TheVariants.{Waiting}
+use Rattle.link_words.specs.declared.rule.Event.{Event}
+use Rattle.link_words.specs.declared.rule.Event.TheVariants.{Count}
 use Rattle.link_words.specs.Parts.{has_for_manager}
 use Rattle.link_words.specs.Codes.{copied}
 use Rattle.link_words.specs.Passes.{Mover, with_pass, with_call}
@@ -53,8 +58,10 @@ use Rattle.link_words.specs.Steps.{take_look_turn}
 use Rattle.link_words.proofs.Tells.{TakeBeginsBy, TakeLoadsEraBy, TakeLooksBy}
 use Rattle.link_words.proofs.Exact.{StepBy, busy_by, ReadsAt, read_by}
 use Rattle.link_words.proofs.Kept.{no_send, receive_deed, receive_may}
-use Rattle.link_words.proofs.LaneSteps.{no_call, lane_moves}
-use Rattle.link_words.proofs.Sends.{has_of, true-false}
+use Rattle.link_words.proofs.LaneSteps.{no_call, lane_moves, lane_looks, with_step}
+use Rattle.link_words.proofs.Books.{history_kept, history_counted}
+use Rattle.link_words.proofs.Seen.{seen_now}
+use Rattle.link_words.proofs.Sends.{has_of, live_now, true-false}
 use Rattle.link_words.proofs.Closes.{stays}
 use Rattle.link_words.proofs.Buffers.{homes_here, words_here, loaded, rings_to}
 use Rattle.link_words.proofs.Takes.{with_receiver, receiver_turn_set, receiver_side_set, still_receiver, others_beside, others_receive, here_receives, at_zero'}
@@ -90,6 +97,10 @@ et_out : (b : Bool) (c : ℕ) (q : Receiving) (ended : CallEnd) → receiver_is_
 et_out true c q ended inside = inside
 et_out false c q ended inside = refl
 
+et_current : (b : Bool) (c f : ℕ) (era : Era) → is_live_in era f ≡ b → IsCurrentTake (either_turn b c (record { follows = f; work = work.Take take_stage.Era }) (end.Dead era)) era.inc
+et_current true c f era live = λ _. live_now era f live
+et_current false c f era live = tt
+
 abbrev settled_turn : Bool → ℕ → Receiving → CallEnd → Turn Receiving
 settled_turn b c q ended = cond b (turn.Leaving c ended) (turn.Taken c q)
 
@@ -112,6 +123,10 @@ es_bare false c q ended = refl
 es_out : (b : Bool) (c : ℕ) (q : Receiving) (ended : CallEnd) → receiver_is_out (turn.Taken c q) ≡ false → receiver_is_out (settled_turn b c q ended) ≡ false
 es_out true c q ended inside = refl
 es_out false c q ended inside = inside
+
+es_current : (b : Bool) (c f inc : ℕ) (ended : CallEnd) → f ≡ inc → IsCurrentTake (settled_turn b c (record { follows = f; work = work.Take take_stage.Look }) ended) inc
+es_current true c f inc ended now = tt
+es_current false c f inc ended now = λ _. now
 
 -- the word of a receiver's turn
 receiver_of : {B : Type 0} {kc : Coded B} {kz : DeskTables} (m : LaneLink (RingState (PlacedDesk kc kz))) (e : End) → turn_word (lane_to m e).lane.receiver ≡ get_or (words_of 0 [] m) (receiver_word e) 0
@@ -143,7 +158,7 @@ module _ {B : Type 0} {kc : Coded B} {kz : DeskTables} (desk : DeskMeaning (Plac
       go side.Host free fit = (free, fit)
       go side.Remote free fit = (free, fit)
 
-  module _ (cd : Coded (PlacedDesk kc kz)) (z : LinkSizes) (id : ℕ) (me : SeatState) (o : Mover me.0) (e : End) (call : o.pass.call ≡ Rests e) (inside : work_is_out first ≡ false)
+  module _ (cd : Coded (PlacedDesk kc kz)) (z : LinkSizes) (id : ℕ) (me : SeatState) (o : Mover me.0) (e : End) (call : o.pass.call ≡ Rests e) (inside : work_is_out first ≡ false) (early : is_past_take_era first ≡ false)
       (fits : (st : State Slot View) (m : LaneLink (RingState (PlacedDesk kc kz))) (p : ℕ) → Shows cd desk z st m p → get_elem? st.views id ≡ some me.0 → IsFitWish wished (lane_to m e).lane.lane.held o.pass.number) where
     work_free : (st : State Slot View) (m : LaneLink (RingState (PlacedDesk kc kz))) (r : Shows cd desk z st m 0) → get_elem? st.views id ≡ some me.0 → (lane_to m e).lane.receiver ≡ turn.Free
         → (w : View) × (a : Act Slot) × Valid st.homes me.1 a × WordsRule cd desk z (stepped st (receiver_word e) (suc o.pass.number) id me.1 w a)
@@ -156,7 +171,7 @@ module _ {B : Type 0} {kc : Coded B} {kz : DeskTables} (desk : DeskMeaning (Plac
         let x = receiver_side s₀ in let w : Call = Receives e t' x 0 [] in let hb = lane_homes (lane_to m (other e)) (shelf_to r.shelves (other e)) in
         let may = work_may m 0 e c (fits st m 0 r at) rests in
         let deed : with_lane m e s' ≡ after_deed desk m (Steps c follows (Some wished)) = ap (λ (t : Turn Receiving). with_lane m e (with_receiver s₀ (taken_by t c (record { follows = follows; work = first })))) (sym free) ∙ work_deed m e c rests.0 in
-        let mine : IsCallOf (with_lane m e s') 0 c w = here_receives desk m e s' c t' x 0 [] rests.0 (refl, refl, refl, (λ out. absurd (true-false (sym out ∙ inside))), refl) in (
+        let mine : IsCallOf (with_lane m e s') 0 c w = here_receives desk m e s' c t' x 0 [] rests.0 (refl, refl, refl, (λ out. absurd (true-false (sym out ∙ inside))), refl) (λ past. absurd (true-false (sym past ∙ early))) in (
           _,
           takes (receiver_slot e) (Receiver x),
           ap (λ hs. get_elem? hs (receiver_slot e)) (homes_here cd desk z st m r e) ∙ (receiver_home e _ _ ∙ ap (λ (t : Turn Receiving). some (home_if t (Receiver x))) free),
@@ -204,29 +219,41 @@ module _ {B : Type 0} {kc : Coded B} {kz : DeskTables} (desk : DeskMeaning (Plac
         ))
 
 module _ {B : Type 0} {kc : Coded B} {kz : DeskTables} (cd : Coded (PlacedDesk kc kz)) (desk : DeskMeaning (PlacedDesk kc kz)) (z : LinkSizes) where
-  -- a load after which the receiver's turn alone is another, with the same holder
-  receiver_only : (st : State Slot View) (m : LaneLink (RingState (PlacedDesk kc kz))) (r : Shows cd desk z st m 0) (e : End) (t t' : Turn Receiving) → (lane_to m e).lane.receiver ≡ t
-      → (i id : ℕ) (me : SeatState) (o : Mover me.0) (call : Call) (f : ℕ) → get_elem? st.views id ≡ some me.0 → holder t ≡ Some o.pass.number → is_manager t ≡ false → receiver_is_out t ≡ false → end_of m.callers o.pass.number ≡ Some e
+  -- a load after which the receiver's turn alone is another, with the same holder, whose list becomes this one
+  receiver_noting : (st : State Slot View) (m : LaneLink (RingState (PlacedDesk kc kz))) (r : Shows cd desk z st m 0) (e : End) (t t' : Turn Receiving) → (lane_to m e).lane.receiver ≡ t
+      → (i id : ℕ) (me : SeatState) (o : Mover me.0) (call : Call) (own : List Event) → get_elem? st.views id ≡ some me.0 → holder t ≡ Some o.pass.number → is_manager t ≡ false → receiver_is_out t ≡ false → end_of m.callers o.pass.number ≡ Some e
       → (ring_form desk).received_on (with_receiver (lane_to m e) t) m.era ≡ with_receiver (lane_to m e) t'
       → turn_word t' ≡ turn_word t → ((y : Slot) → home_if t' y ≡ home_if t y) → receiver_is_out t' ≡ false
-      → IsCallOf (with_lane m e (with_receiver (lane_to m e) t')) 0 o.pass.number call → ((i : End) → has_for_manager i call ≡ true → has_for_manager i o.pass.call ≡ true) → holder t' ≡ Some o.pass.number
-      → WordsRule cd desk z (stepped st i (get_or st.words i 0) id me.1 (with_pass me.0 o (with_call o.pass call) (Some (copied cd (with_lane m e (with_receiver (lane_to m e) t'))))) keeps)
-      × StepBy cd desk (ReadsAt i (get_or st.words i 0)) me o (Steps o.pass.number 0 None) (with_pass me.0 o (with_call o.pass call) (Some (copied cd (with_lane m e (with_receiver (lane_to m e) t')))), me.1)
-  receiver_only st m r e t t' is i id me o call f at mine bare inside user does turns home out has quiet held =
+      → IsCallOf (with_lane m e (with_receiver (lane_to m e) t')) 0 o.pass.number call → IsHistory (with_lane m e (with_receiver (lane_to m e) t')) o.pass.number o.pass.first own → IsOfNow m.era.inc o.pass.number o.pass.hands own → ((i : End) → has_for_manager i call ≡ true → has_for_manager i o.pass.call ≡ true) → holder t' ≡ Some o.pass.number
+      → WordsRule cd desk z (stepped st i (get_or st.words i 0) id me.1 (with_pass me.0 o (with_step o.pass call own o.pass.hands) (Some (copied cd (with_lane m e (with_receiver (lane_to m e) t'))))) keeps)
+      × StepBy cd desk (ReadsAt i (get_or st.words i 0)) me o (Steps o.pass.number 0 None) (with_pass me.0 o (with_step o.pass call own o.pass.hands) (Some (copied cd (with_lane m e (with_receiver (lane_to m e) t')))), me.1)
+  receiver_noting st m r e t t' is i id me o call own at mine bare inside user does turns home out has history latest quiet held =
       let s = lane_to m e in let c = o.pass.number in
       let here : has_call s.lane.receiver c ≡ true = has_of s.lane.receiver c (ap holder is ∙ mine) (ap is_manager is ∙ bare) in
       let may = receive_may desk m e c 0 user here in
       let deed : with_lane m e (with_receiver s t') ≡ after_deed desk m (Steps c 0 None) = ap (with_lane m e) (sym (ap (λ (u : RingState (PlacedDesk kc kz)). (ring_form desk).received_on u m.era) (λ k. with_receiver s (is k)) ∙ does)) ∙ receive_deed desk m e c 0 user (no_send desk m e c r.sound here) in (
-        lane_moves cd desk z st m r e s (with_receiver s t') refl i (get_or st.words i 0) id me.1 me.0 o call keeps (Steps c 0 None) (shelf_to r.shelves e) at
+        lane_looks cd desk z st m r e s (with_receiver s t') refl i (get_or st.words i 0) id me.1 me.0 o call own keeps (Steps c 0 None) (shelf_to r.shelves e) at
             may
             deed
             (loaded cd desk z st m r e i s refl ∙ ap (λ (k : ℕ). words_at e (era_word m.era) (record (lane_words s) { receiver = k }) (lane_words (lane_to m (other e)))) (ap turn_word is ∙ sym turns))
             (ap (λ (h : Option_of Slot). homes_at e (record (lane_homes s (shelf_to r.shelves e)) { receiver = h }) (lane_homes (lane_to m (other e)) (shelf_to r.shelves (other e))))
             (ap (λ (u : Turn Receiving). home_if u (Receiver (receiver_side s))) is ∙ sym (home (Receiver (receiver_side s)))))
             (shelved_receiver s (with_receiver s t') (shelf_to r.shelves e) (ap receiver_is_out is ∙ inside) out refl refl refl refl refl refl ((buffers_in r) e))
-            has (others_receive desk m e (with_receiver s t') t c is mine bare refl refl refl (λ k apart. no_call desk t' c k held apart)) refl refl refl refl quiet,
-        read_by i cd desk z st m r id me o (with_call o.pass call) (Steps c 0 None) (with_lane m e (with_receiver s t')) me.1 at may deed has,
+            has (others_receive desk m e (with_receiver s t') t c is mine bare refl refl refl (λ k apart. no_call desk t' c k held apart)) refl refl refl refl history latest quiet,
+        read_by i cd desk z st m r id me o (with_step o.pass call own o.pass.hands) (Steps c 0 None) (with_lane m e (with_receiver s t')) me.1 at may deed has,
       )
+
+  -- a load after which the receiver's turn alone is another, with the same holder
+  receiver_only : (st : State Slot View) (m : LaneLink (RingState (PlacedDesk kc kz))) (r : Shows cd desk z st m 0) (e : End) (t t' : Turn Receiving) → (lane_to m e).lane.receiver ≡ t
+      → (i id : ℕ) (me : SeatState) (o : Mover me.0) (call : Call) → get_elem? st.views id ≡ some me.0 → holder t ≡ Some o.pass.number → is_manager t ≡ false → receiver_is_out t ≡ false → end_of m.callers o.pass.number ≡ Some e
+      → (ring_form desk).received_on (with_receiver (lane_to m e) t) m.era ≡ with_receiver (lane_to m e) t'
+      → turn_word t' ≡ turn_word t → ((y : Slot) → home_if t' y ≡ home_if t y) → receiver_is_out t' ≡ false
+      → IsCallOf (with_lane m e (with_receiver (lane_to m e) t')) 0 o.pass.number call → ((i : End) → has_for_manager i call ≡ true → has_for_manager i o.pass.call ≡ true) → holder t' ≡ Some o.pass.number
+      → WordsRule cd desk z (stepped st i (get_or st.words i 0) id me.1 (with_pass me.0 o (with_call o.pass call) (Some (copied cd (with_lane m e (with_receiver (lane_to m e) t'))))) keeps)
+      × StepBy cd desk (ReadsAt i (get_or st.words i 0)) me o (Steps o.pass.number 0 None) (with_pass me.0 o (with_call o.pass call) (Some (copied cd (with_lane m e (with_receiver (lane_to m e) t')))), me.1)
+  receiver_only st m r e t t' is i id me o call at mine bare inside user does turns home out has quiet held =
+      receiver_noting st m r e t t' is i id me o call o.pass.own at mine bare inside user does turns home out has
+      (history_kept m e (with_receiver (lane_to m e) t') refl refl (le_refl _) o.pass.number o.pass.first o.pass.own (r.histories.own id o.place o.pass (me.0, at, o.here))) (r.histories.latest id o.place o.pass (me.0, at, o.here)) quiet held
 
   -- step 2 of a take
   pub takes_era : (n id : ℕ) (me : SeatState) (o : Mover me.0) (e : End) (c f : ℕ) (x : ReceiverSide) (b : ℕ) (msg : List ℕ) → o.pass.call ≡ Receives e (turn.Taken c (record { follows = f; work = work.Take take_stage.Turn })) x b msg
@@ -237,9 +264,9 @@ module _ {B : Type 0} {kc : Coded B} {kz : DeskTables} (cd : Coded (PlacedDesk k
       let is = h.1.0 in let r = at_zero' cd desk z st m p e t is refl r₀ in let live = is_live_in m.era f in let q' : Receiving = record q { work = work.Take take_stage.Era } in let ended = end.Dead m.era in
       let t' : Turn Receiving = after_take_era m.era c q in let w : Call = Receives e t' x b msg in
       let word : get_or st.words 1 0 ≡ era_word m.era = ap (λ (ws : List ℕ). get_or ws 1 0) r.words_are in
-      let all = receiver_only st m r e t t' is 1 id me o w f at h.1.1 refl refl h.0 refl (et_word live c q' ended) (et_home live c q' ended) (et_out live c q' ended refl)
+      let all = receiver_only st m r e t t' is 1 id me o w at h.1.1 refl refl h.0 refl (et_word live c q' ended) (et_home live c q' ended) (et_out live c q' ended refl)
       (here_receives desk m e (with_receiver (lane_to m e) t') o.pass.number t' x b msg h.0
-      (refl, et_holder live c q' ended ∙ h.1.1, h.1.2, (λ out. absurd (true-false (sym out ∙ et_out live c q' ended refl))), et_bare live c q' ended))
+      (refl, et_holder live c q' ended ∙ h.1.1, h.1.2, (λ out. absurd (true-false (sym out ∙ et_out live c q' ended refl))), et_bare live c q' ended) (et_current live c f m.era refl))
       (λ i k. absurd (true-false (sym k))) (et_holder live c q' ended ∙ h.1.1) in (
         _,
         keeps,
@@ -262,10 +289,13 @@ module _ {B : Type 0} {kc : Coded B} {kz : DeskTables} (cd : Coded (PlacedDesk k
       let sound : IsSoundRings s = rings_to m e (rings_in r) in let side : x.handed ≡ hd = ap (λ (u : ReceiverSide). u.handed) h.1.2 in let sizes = sizes_is cd desk z st m r e in let cap : s.rings.sizes.capacity ≡ (sizes_at z e).capacity = ap (λ (u : RingSizes). u.capacity) sizes in
       let back = sound.counted.back in let behind = sound.counted.behind in let out = sound.counted.out in let q' : Receiving = record q { work = work.Take take_stage.Look } in let ended = end.Empty a in
       let t' : Turn Receiving = after_take_look lane c q in let w : Call = Receives e t' x b msg in
+      let own = Count e f (Waiting x.handed a) ∷ o.pass.own in let past = r.histories.own id o.place o.pass (me.0, at, o.here) in
+      let saw = seen_now m e o.pass.number o.pass.first f o.pass.own (h.2 refl) past in let saw_handed = saw.0.handed in
       let word : get_or st.words (forward_word e) 0 ≡ s.rings.forward_index = ap (λ (ws : List ℕ). get_or ws (forward_word e) 0) (words_here cd desk z st m r e) ∙ index_seen e (era_word m.era) (lane_words s) (lane_words (lane_to m (other e))) in
-      let all = receiver_only st m r e t t' is (forward_word e) id me o w f at h.1.1 refl refl h.0 refl (es_word (eqb hd a) c q' ended) (es_home (eqb hd a) c q' ended) (es_out (eqb hd a) c q' ended refl)
+      let all = receiver_noting st m r e t t' is (forward_word e) id me o w own at h.1.1 refl refl h.0 refl (es_word (eqb hd a) c q' ended) (es_home (eqb hd a) c q' ended) (es_out (eqb hd a) c q' ended refl)
       (here_receives desk m e (with_receiver s t') o.pass.number t' x b msg h.0
-      (refl, es_holder (eqb hd a) c q' ended ∙ h.1.1, h.1.2, (λ out. absurd (true-false (sym out ∙ es_out (eqb hd a) c q' ended refl))), es_bare (eqb hd a) c q' ended))
+      (refl, es_holder (eqb hd a) c q' ended ∙ h.1.1, h.1.2, (λ out. absurd (true-false (sym out ∙ es_out (eqb hd a) c q' ended refl))), es_bare (eqb hd a) c q' ended) (es_current (eqb hd a) c f m.era.inc ended (h.2 refl)))
+      (history_counted m e (with_receiver s t') refl refl (le_refl _) o.pass.number o.pass.first f (Waiting x.handed a) o.pass.own (h.2 refl) (record { accepted = le_refl a; handed = omega (arith, side); returned = omega arith }) past) (inr (inr (h.2 refl)))
       (λ i k. absurd (true-false (sym k))) (es_holder (eqb hd a) c q' ended ∙ h.1.1) in (
         _,
         keeps,
@@ -277,7 +307,8 @@ module _ {B : Type 0} {kc : Coded B} {kz : DeskTables} (cd : Coded (PlacedDesk k
             word ∙ sound.forward_index,
             omega (arith, side, behind),
             omega (arith, side, out, cap, back),
-            λ i. (with_pass me.0 o (with_call o.pass (Receives e (take_look_turn (sym side i) a c q) x b msg)) (Some (copied cd (with_lane m e (with_receiver s t')))), me.1),
+            record { not_below = (omega (arith, saw_handed, side), saw.0.accepted); none_later = saw.1 },
+            λ i. (with_pass me.0 o (with_step o.pass (Receives e (take_look_turn (sym side i) a c q) x b msg) own o.pass.hands) (Some (copied cd (with_lane m e (with_receiver s t')))), me.1),
           ),
           all.1,
         ),

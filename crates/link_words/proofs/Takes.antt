@@ -48,7 +48,7 @@ use Rattle.link_words.proofs.Frames.{keepers_set}
 use Rattle.link_words.specs.declared.rule.View.{View}
 use Rattle.link_words.specs.Words.{receiver_word, receiver_slot, other, lane_to, with_lane, era_word, lane_words, words_at, LaneWords, LaneHomes, lane_homes, homes_at, shelf_to, sender_side, receiver_side, buffer_slot}
 use Rattle.link_words.specs.Turns.{turns_of, is_manager}
-use Rattle.link_words.specs.Histories.{same_end}
+use Rattle.link_words.specs.Histories.{same_end, IsCurrentTake}
 use Rattle.link_words.specs.Deeds.{Steps, EndsCall, after_deed, AreManagers, IsStill}
 use Rattle.link_words.specs.Rule.{IsCallOf, Shows, WordsRule}
 use Rattle.link_words.specs.Parts.{ReceivesAt, HoldsBuffers}
@@ -214,10 +214,10 @@ module _ {B : Type 0} {kc : Coded B} {kz : DeskTables} (desk : DeskMeaning (Plac
       → (k : ℕ) → number ≢ k → (call : Call) → IsCallOf m 0 k call → IsCallOf (with_lane m e s) 0 k call
   others_receive m e s t number is mine bare sender beside sending after k apart call has = others_beside m e s sender beside sending k (after k apart) call (no_other_has m e t number is mine bare k apart call) has
 
-  pub here_receives : (m : LaneLink (RingState (PlacedDesk kc kz))) (e : End) (s : RingState (PlacedDesk kc kz)) (number : ℕ) (t : Turn Receiving) (x : ReceiverSide) (buffer : ℕ) (message : List ℕ) → end_of m.callers number ≡ Some e → ReceivesAt (turns_of s) number t x buffer message
+  pub here_receives : (m : LaneLink (RingState (PlacedDesk kc kz))) (e : End) (s : RingState (PlacedDesk kc kz)) (number : ℕ) (t : Turn Receiving) (x : ReceiverSide) (buffer : ℕ) (message : List ℕ) → end_of m.callers number ≡ Some e → ReceivesAt (turns_of s) number t x buffer message → IsCurrentTake t m.era.inc
       → IsCallOf (with_lane m e s) 0 number (Receives e t x buffer message)
-  here_receives m side.Host s number t x buffer message user at = (user, at)
-  here_receives m side.Remote s number t x buffer message user at = (user, at)
+  here_receives m side.Host s number t x buffer message user at now = (user, at, now)
+  here_receives m side.Remote s number t x buffer message user at now = (user, at, now)
 
 module _ {B : Type 0} {kc : Coded B} {kz : DeskTables} (cd : Coded (PlacedDesk kc kz)) (desk : DeskMeaning (PlacedDesk kc kz)) (z : LinkSizes) where
   pub at_zero' : (st : State Slot View) (m : LaneLink (RingState (PlacedDesk kc kz))) (p : ℕ) (e : End) (t : Turn Receiving) → (lane_to m e).lane.receiver ≡ t → is_manager t ≡ false → Shows cd desk z st m p → Shows cd desk z st m 0
@@ -250,7 +250,7 @@ module _ {B : Type 0} {kc : Coded B} {kz : DeskTables} (cd : Coded (PlacedDesk k
       let has : has_call s₀.lane.receiver o.pass.number ≡ true = has_of s₀.lane.receiver o.pass.number (ap holder h.1.0 ∙ h.1.1) (ap is_manager h.1.0) in
       let id_is : told (get_or st.words i 0) ≡ own = knows st m r h.1.2 (rings_to m e (rings_in r)) low in let may = receive_may desk m e o.pass.number 0 h.0 has in
       let deed : with_lane m e s' ≡ after_deed desk m (Steps o.pass.number 0 None) = ap (λ (u : RingState (PlacedDesk kc kz)). with_lane m e ((ring_form desk).received_on u m.era)) (sym is) ∙ receive_deed desk m e o.pass.number 0 h.0 (no_send desk m e o.pass.number r.sound has) in
-      let mine : IsCallOf (with_lane m e s') 0 o.pass.number w = here_receives desk m e s' o.pass.number t' x own message h.0 (refl, h.1.1, h.1.2, (λ _. (refl, refl)), refl) in (
+      let mine : IsCallOf (with_lane m e s') 0 o.pass.number w = here_receives desk m e s' o.pass.number t' x own message h.0 (refl, h.1.1, h.1.2, (λ _. (refl, refl)), refl) (λ _. h.2 refl) in (
         _,
         takes (buffer_slot first e own) (Buffer message),
         ap (λ hs. get_elem? hs (buffer_slot first e own)) (homes_here cd desk z st m r e) ∙ buffer_found e first own _ _ (some (Buffer message)) home first_here,
@@ -301,7 +301,7 @@ module _ {B : Type 0} {kc : Coded B} {kz : DeskTables} (cd : Coded (PlacedDesk k
       ∙ (λ i. record { handed = sym more i; returned = s.lane.lane.returned; hands = s.rings.hands ++ record { number = hd; caller = c; buffer = sym is_b i } ∷ []; desk = right_to (desk.delivered s.lane.desk (nth i) (out.1 i)) }) in
       let w : Call = Receives e t' x' b msg in let more_hands : List ℕ = o.pass.hands ++ x.handed ∷ [] in let pass : Pass = record o.pass { call = w; own = Take e f x.handed msg ∷ o.pass.own; hands = more_hands } in let new : Holding = record { number = hd; caller = c } in let who : c ≡ o.pass.number = some_number c o.pass.number h.1.1 in
       let held_now : hands_of o.pass.number s.lane.lane.held ≡ o.pass.hands = hands_at m e o.pass h.0 (r.histories.hands id o.place o.pass (me.0, at, o.here)) in
-      let mine : IsCallOf (with_lane m e s') 0 o.pass.number w = here_receives desk m e s' o.pass.number t' x' b msg h.0 ((λ i. turn.Leaving c (end.Took (sym nth i) (desk.verdict s.lane.desk (sym nth i) (sym out.1 i)))), h.1.1, side, (λ o. absurd (true-false (sym o))), refl) in (
+      let mine : IsCallOf (with_lane m e s') 0 o.pass.number w = here_receives desk m e s' o.pass.number t' x' b msg h.0 ((λ i. turn.Leaving c (end.Took (sym nth i) (desk.verdict s.lane.desk (sym nth i) (sym out.1 i)))), h.1.1, side, (λ o. absurd (true-false (sym o))), refl) tt in (
         _,
         gives,
         tt,
@@ -311,8 +311,9 @@ module _ {B : Type 0} {kc : Coded B} {kz : DeskTables} (cd : Coded (PlacedDesk k
             (subst (λ (v : ℕ × List ℕ). HoldsBuffers s' (set (shelf_to r.shelves e) v.0 (some (Buffer v.1)))) (λ i. (is_b i, sym out.1 i)) (shelved_back s s' (shelf_to r.shelves e) sound refl q refl refl refl refl refl (omega (arith, more))))
             mine
             (λ j l u there apart. others_receive desk m e s' t o.pass.number h.1.0 h.1.1 refl refl refl refl (λ k ne. no_call desk t' o.pass.number k h.1.1 ne) u.number apart u.call) refl refl
-            (history_took m e s' c refl refl o.pass.number o.pass.first f x.handed msg o.pass.own who (live_now era f is_live) nth (subst (λ (k : ℕ). k < length s.lane.lane.accepted) (sym nth) tk.1, out.1 ∙ ap (message_at s.lane.lane.accepted) (sym nth)) (r.histories.own id o.place o.pass (me.0, at, o.here)))
-            (λ u apart has. history_handed m e s' c refl refl u.number u.first u.own (λ same. apart (sym who ∙ same)) has)
+            (history_took m e s' c refl refl refl o.pass.number o.pass.first f x.handed msg o.pass.own who (live_now era f is_live) nth (subst (λ (k : ℕ). k < length s.lane.lane.accepted) (sym nth) tk.1, out.1 ∙ ap (message_at s.lane.lane.accepted) (sym nth)) (r.histories.own id o.place o.pass (me.0, at, o.here)))
+            (λ u apart has. history_handed m e s' c refl refl refl u.number u.first u.own (λ same. apart (sym who ∙ same)) has)
+            (inr (inr (live_now era f is_live)))
             (hands_here m e s' pass h.0 (hands_more o.pass.number s.lane.lane.held new who ∙ (λ i. held_now i ++ sym nth i ∷ [])))
             (λ u apart. hands_kept desk m e s' u (λ was. hands_same u.number s.lane.lane.held new (λ same. apart (sym who ∙ same)) ∙ (ap (λ (y : RingState (PlacedDesk kc kz)). hands_of u.number y.lane.lane.held) (sym is) ∙ was)))
             (λ n none. none_handed m e s' c refl refl n (λ same. not_used m.callers o.pass.number n e h.0 none (sym who ∙ same)))
@@ -345,7 +346,7 @@ module _ {B : Type 0} {kc : Coded B} {kz : DeskTables} (cd : Coded (PlacedDesk k
       ap (λ (y : Bool). with_lane m e (leaves y)) (sym is_live) ∙ (ap (λ (u : RingState (PlacedDesk kc kz)). with_lane m e ((ring_form desk).received_on u era)) (sym is) ∙ receive_deed desk m e o.pass.number 0 h.0 (no_send desk m e o.pass.number r.sound has)) in
       let hb = lane_homes (lane_to m (other e)) (shelf_to r.shelves (other e)) in let l' = set (shelf_to r.shelves e) b (some (Buffer msg)) in let s' = leaves false in
       let t' : Turn Receiving = turn.Leaving c (end.Dead era) in let x' : ReceiverSide = x in let w : Call = Receives e t' x' b msg in
-      let mine : IsCallOf (with_lane m e s') 0 o.pass.number w = here_receives desk m e s' o.pass.number t' x' b msg h.0 (refl, h.1.1, h.1.2, (λ o. absurd (true-false (sym o))), refl) in (
+      let mine : IsCallOf (with_lane m e s') 0 o.pass.number w = here_receives desk m e s' o.pass.number t' x' b msg h.0 (refl, h.1.1, h.1.2, (λ o. absurd (true-false (sym o))), refl) tt in (
         _,
         gives,
         tt,
@@ -404,7 +405,7 @@ module _ {B : Type 0} {kc : Coded B} {kz : DeskTables} (cd : Coded (PlacedDesk k
             ∙ ap (λ (u : ReceiverSide). homes_at e (record (lane_homes s₀ l') { receiver = some (Receiver u) }) hb) side)))
             (subst (λ (v : ℕ × List ℕ). HoldsBuffers s' (set (shelf_to r.shelves e) v.0 (some (Buffer v.1)))) (λ i. (taken i, sym is_b.1 i)) (shelved_back s₀ s' (shelf_to r.shelves e) sound out ((buffers_in r) e) refl refl refl refl refl (le_refl hd)))
             (receive_rests m e s' c h.0 refl (no_send desk m e c r.sound has)) (λ j l u there apart. others_receive desk m e s' t c h.1.0 h.1.1 bare refl refl refl (λ k _. refl) u.number apart u.call)
-            refl refl refl (hands_here m e s' (with_call_and_hands o.pass (Rests e) []) h.0 (hands_none c s₀.lane.lane.held)) (λ u apart. hands_kept desk m e s' u (λ was. hands_others c u.number s₀.lane.lane.held apart ∙ was))
+            refl refl refl refl (inr (inl refl)) (hands_here m e s' (with_call_and_hands o.pass (Rests e) []) h.0 (hands_none c s₀.lane.lane.held)) (λ u apart. hands_kept desk m e s' u (λ was. hands_others c u.number s₀.lane.lane.held apart ∙ was))
             (keepers_set st.views id me.0 (with_pass me.0 o (with_call_and_hands o.pass (Rests e) []) (Some (copied cd (with_lane m e s')))) o (with_call_and_hands o.pass (Rests e) []) at refl refl (λ i k. absurd (true-false (sym k))) r.turns.keepers),
         refl,
       )

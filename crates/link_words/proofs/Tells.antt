@@ -1,7 +1,7 @@
 -- What each step tells its seat: the view after, as a function of the one before and of what was found.
 use Rattle.lane_model.specs.declared.stages.Receiving.{Receiving}
 use Rattle.std.proofs.Common.{cond}
-use Rattle.std.specs.Prelude.{◌≢◌, ◌%◌, ◌≤◌, ◌<◌, length}
+use Rattle.std.specs.Prelude.{◌⊎◌, ◌≢◌, ◌%◌, ◌≤◌, ◌<◌, length}
 use Rattle.rp_base.specs.declared.limits.TheConstants.{BOOK_MOST, CAPACITY_MOST}
 use Rattle.ring_core.specs.declared.states.RingSizes.{RingSizes}
 use Rattle.ring_core.specs.Rings.{return_count}
@@ -9,7 +9,7 @@ use Rattle.lane_model.specs.Receives.{after_take_era}
 use Rattle.std.specs.Prelude.{◌≡◌, true, false, ℕ, ◌+◌, List, [], ◌∷◌, ◌++◌}
 use Rattle.atomic_table.specs.Table.{rest}
 use Rattle.link_words.specs.Calls.{SeatState}
-use Rattle.link_words.specs.Steps.{look_turn, take_look_turn}
+use Rattle.link_words.specs.Steps.{look_turn, take_look_turn, hands_but}
 use Rattle.rp_base.specs.declared.kinds.Era.{Era}
 use Rattle.rp_base.specs.declared.kinds.End.{End}
 use Rattle.lane_model.specs.declared.stages.Turn.{Turn}
@@ -32,7 +32,10 @@ use Rattle.link_words.specs.declared.rule.Slot.TheVariants.{Buffer, Receiver}
 use Rattle.link_words.specs.declared.rule.SenderSide.{SenderSide}
 use Rattle.link_words.specs.declared.rule.ReceiverSide.{ReceiverSide}
 use Rattle.link_words.specs.declared.rule.Call.TheVariants.{Sends, Rests, Receives, EndsSend, Reopens}
-use Rattle.link_words.specs.declared.rule.Event.TheVariants.{Publish, Take}
+use Rattle.link_words.specs.declared.rule.Counted.TheVariants.{Room, Waiting, Gave}
+use Rattle.link_words.specs.declared.rule.Event.TheVariants.{Count, Publish, Take}
+use Rattle.link_words.specs.Histories.{NeverBack, latest}
+use Rattle.ring_core.specs.RingSteps.{hands_without}
 use Rattle.link_words.specs.Passes.{Mover, with_call, with_pass}
 use Rattle.link_words.specs.Words.{receiver_slot, other, era_word, buffer_slot}
 
@@ -83,7 +86,8 @@ TakeHandsBy {kc = kc} {kz = kz} desk me o e c f x b message n me' = (era : Era) 
 -- step 3 of a send: the return index that was found tells how many buffers are back
 abbrev pub SendLooksBy : (me : SeatState) → Mover me.0 → RingSizes → ℕ → End → ℕ → Sending → SenderSide → ℕ → ℕ → SeatState → Type 0
 SendLooksBy me o sizes book e c s x b n me' = (returned : ℕ) × (n ≡ return_count sizes returned % 65536) × (returned ≤ x.accepted) × (x.accepted ≤ returned + sizes.capacity)
-    × (me' ≡ (with_pass me.0 o (with_call o.pass (Sends e (look_turn x.accepted returned sizes.capacity book c s) x b)) me'.0.copy, me.1))
+    × NeverBack e s.follows (Room x.accepted returned) o.pass.own
+    × (me' ≡ (with_pass me.0 o (record o.pass { call = Sends e (look_turn x.accepted returned sizes.capacity book c s) x b; own = Count e s.follows (Room x.accepted returned) ∷ o.pass.own }) me'.0.copy, me.1))
 
 -- step 5 of a send: the forward entry names the buffer
 abbrev pub SendStoresEntryBy : (me : SeatState) → Mover me.0 → End → ℕ → Sending → SenderSide → ℕ → SeatState → Type 0
@@ -96,7 +100,20 @@ TakeLoadsEraBy me o e c q x b message n me' = (era : Era) × (n ≡ era_word era
 -- step 3 of a take: the forward index that was found tells how many messages there are
 abbrev pub TakeLooksBy : (me : SeatState) → Mover me.0 → RingSizes → End → ℕ → Receiving → ReceiverSide → ℕ → List ℕ → ℕ → SeatState → Type 0
 TakeLooksBy me o sizes e c q x b message n me' = (accepted : ℕ) × (n ≡ accepted % 65536) × (x.handed ≤ accepted) × (accepted ≤ x.handed + sizes.capacity)
-    × (me' ≡ (with_pass me.0 o (with_call o.pass (Receives e (take_look_turn x.handed accepted c q) x b message)) me'.0.copy, me.1))
+    × NeverBack e q.follows (Waiting x.handed accepted) o.pass.own
+    × (me' ≡ (with_pass me.0 o (record o.pass { call = Receives e (take_look_turn x.handed accepted c q) x b message; own = Count e q.follows (Waiting x.handed accepted) ∷ o.pass.own }) me'.0.copy, me.1))
+
+-- step 3 of a give: the buffer of this number is back, in this incarnation
+abbrev pub GivesBackBy : (me : SeatState) → Mover me.0 → End → ℕ → ℕ → ReceiverSide → ℕ → List ℕ → SeatState → Type 0
+GivesBackBy me o e c number x b message me' = (inc : ℕ) × ((o.pass.hands ≡ []) ⊎ (latest o.pass.own ≡ inc)) × NeverBack e inc (Gave (x.returned + 1)) o.pass.own
+    × (me' ≡ (
+      with_pass me.0 o (record o.pass {
+        call = Receives e (turn.Leaving c (end.Gave number)) (record x { returned = x.returned + 1; hands = hands_without x.hands number }) b message;
+        own = Count e inc (Gave (x.returned + 1)) ∷ o.pass.own;
+        hands = hands_but o.pass.hands number;
+      }) me'.0.copy,
+      me.1,
+    ))
 
 -- step 1 of a call that needs the receiver's turn
 abbrev pub TakeBeginsBy : (me : SeatState) → Mover me.0 → End → ℕ → Work → ℕ → SeatState → Type 0

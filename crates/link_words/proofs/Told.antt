@@ -4,7 +4,7 @@ use Rattle.link_words.specs.PlacedDesks.{PlacedDesk, IsRightTo, right_to, table_
 use Rattle.link_words.specs.declared.codes.DeskRight.{DeskRight}
 use Rattle.rp_base.specs.declared.limits.TheConstants.{CAPACITY_MOST}
 use Rattle.ring_core.specs.declared.states.Hand.{Hand}
-use Rattle.std.proofs.Common.{◌≡◌, ℕ, ◌+◌, ◌-◌, ◌*◌, ◌%◌, ◌<◌, ◌≤◌, true, false, Bool, cond, List, [], ◌∷◌, ◌++◌, length, refl, sym, ap, ◌∙◌, subst, arith}
+use Rattle.std.proofs.Common.{◌≡◌, ℕ, ◌+◌, ◌-◌, ◌*◌, ◌%◌, ◌<◌, ◌≤◌, true, false, Bool, cond, List, [], ◌∷◌, ◌++◌, length, refl, sym, ap, ◌∙◌, subst, arith, ◌⊎◌}
 use Rattle.std.specs.Prelude.{None, if◌then◌else◌}
 use Rattle.atomic_table.specs.Table.{Allows, rest}
 use base.Stored.{Coded}
@@ -13,7 +13,10 @@ use Rattle.rp_base.specs.declared.kinds.End.TheVariants as side
 use Rattle.rp_base.specs.declared.kinds.Era.{Era}
 use Rattle.lane_model.specs.declared.calls.CallEnd.TheVariants as end
 use Rattle.lane_model.specs.Lanes.{is_live_in}
-use Rattle.link_words.specs.declared.rule.Event.TheVariants.{Publish, Take}
+use Rattle.link_words.specs.declared.rule.Counted.TheVariants.{Room, Waiting, Gave}
+use Rattle.link_words.specs.declared.rule.Event.{Event}
+use Rattle.link_words.specs.declared.rule.Event.TheVariants.{Count, Publish, Take}
+use Rattle.link_words.specs.Histories.{NeverBack, latest}
 use Rattle.link_words.specs.declared.rule.Ring.TheVariants as ring
 use Rattle.lane_model.specs.declared.stages.GiveStage.TheVariants as give_stage
 use Rattle.lane_model.specs.declared.stages.SendStage.TheVariants as stage
@@ -25,7 +28,7 @@ use Rattle.lane_model.specs.declared.stages.Receiving.{Receiving}
 use Rattle.lane_model.specs.declared.stages.Work.TheVariants as work
 use Rattle.lane_model.specs.Desks.{DeskMeaning}
 use Rattle.lane_model.specs.Sends.{after_send_era}
-use Rattle.lane_model.specs.Receives.{after_take_era, desk_end}
+use Rattle.lane_model.specs.Receives.{after_take_era}
 use Rattle.ring_core.specs.declared.states.RingSizes.{RingSizes}
 use Rattle.ring_core.specs.Rings.{return_count, entry_length}
 use Rattle.link_words.specs.declared.rule.Call.{Call}
@@ -44,14 +47,14 @@ use Rattle.link_words.proofs.Weakens.{weaken}
 use Rattle.link_words.specs.Deeds.{Steps}
 use Rattle.link_words.specs.Layouts.{place_in}
 use Rattle.link_words.specs.Parts.{AreNear}
-use Rattle.link_words.specs.Passes.{Mover, with_call, with_pass, with_call_and_hands}
+use Rattle.link_words.specs.Passes.{Mover, with_call, with_pass}
 use Rattle.link_words.specs.Rule.{WordsRule, PlacedRule, LinkRule}
-use Rattle.link_words.specs.Steps.{GoesOn, returned_by, desk_by, hands_by, handed_side, with_binding, desk_says, desk_after, GoesOnWith, SendLoadsEra, SendLooks, SendTakesBuffer, SendStoresEntry, SendPublishes, LeavesSender, TakeLoadsEra, TakeLooks, TakeTakesBuffer, TakeHands, LeavesReceiver, look_turn, take_look_turn, sizes_by, accepted_by, handed_by, with_publish, with_handing, GiveStoresEntry, GivePublishes, BindLoadsEra, with_entry, with_given, given_or, hands_but, StoresWord, HasWord}
-use Rattle.link_words.specs.Words.{other, sizes_at, entries_before, entry_number, sender_word, receiver_word, forward_word, return_word, buffer_slot, era_word}
+use Rattle.link_words.specs.Steps.{GoesOn, desk_by, hands_by, handed_side, with_binding, desk_says, desk_after, GoesOnWith, SendLoadsEra, SendLooks, SendTakesBuffer, SendStoresEntry, SendPublishes, LeavesSender, TakeLoadsEra, TakeLooks, TakeTakesBuffer, TakeHands, LeavesReceiver, look_turn, take_look_turn, sizes_by, accepted_by, handed_by, with_publish, with_handing, GiveStoresEntry, GivePublishes, with_room, with_waiting, BindLoadsEra, with_entry, with_given, given_or, hands_but, StoresWord, HasWord}
+use Rattle.link_words.specs.Words.{other, sizes_at, entries_before, entry_number, sender_word, receiver_word, forward_word, return_word, buffer_slot}
 use Rattle.link_words.proofs.Apart.{apart}
 use Rattle.link_words.proofs.Buffers.{pulls_own}
 use Rattle.link_words.proofs.Entries.{pulls_entry, forward_entry, sizes_known}
-use Rattle.link_words.proofs.Exact.{StepBy, call_is, becomes, step_told, ReadsAt, read_there, WritesAt, written_there}
+use Rattle.link_words.proofs.Exact.{StepBy, call_is, own_is, in_hand_is, becomes, step_told, ReadsAt, read_there, WritesAt, written_there}
 use Rattle.link_words.proofs.Looks.{sends_look, sends_entry}
 use Rattle.link_words.proofs.Publishes.{publishes}
 use Rattle.link_words.proofs.Reclaims.{leaves}
@@ -59,11 +62,10 @@ use Rattle.link_words.proofs.Sends.{sends_era}
 use Rattle.link_words.proofs.TakeEnds.{leaves_take}
 use Rattle.link_words.proofs.TakeStarts.{takes_era, takes_look}
 use Rattle.link_words.proofs.Takes.{draws, hands}
-use Rattle.link_words.proofs.Tells.{SendLoadsEraBy, SendLooksBy, SendTakesBufferBy, SendStoresEntryBy, SendPublishesBy, SendLeavesBy, TakeLoadsEraBy, TakeLooksBy, TakeTakesBufferBy, TakeHandsBy, BindLoadsEraBy}
+use Rattle.link_words.proofs.Tells.{SendLoadsEraBy, SendLooksBy, SendTakesBufferBy, SendStoresEntryBy, SendPublishesBy, SendLeavesBy, TakeLoadsEraBy, TakeLooksBy, TakeTakesBufferBy, TakeHandsBy, GivesBackBy, BindLoadsEraBy}
 use Rattle.link_words.proofs.Gives.{gives_entry, gives_back, binds}
 use Rattle.ring_core.specs.RingSteps.{held_buffer, hands_without}
 use Rattle.lane_model.specs.declared.stages.Work.{Work}
-use Rattle.lane_model.specs.declared.calls.CallEnd.{CallEnd}
 
 abbrev send_to : (SenderSide → ℕ → Sending → Turn Sending) → Pass → Call → Pass
 send_to next p k = with_call p (send_or k (λ e t x b. Sends e (under_way_or t (next x) t) x b) k)
@@ -85,14 +87,30 @@ with_binding_of coded meaning era desk p k = receive_or p (λ e t x b message. u
     then with_call p (Receives e (turn.Leaving caller (desk_says meaning desk x.handed r.work)) (record x { desk = record x.desk { code = coded.code (desk_after meaning desk x.handed r.work) } }) b message)
     else with_call p (Receives e (turn.Leaving caller (end.Dead era)) x b message)) t) k
 
-abbrev given_to : Pass → Call → Pass
-given_to p k = receive_or p (λ e t x b message. under_way_or p (λ caller r. given_or p (λ number. record p {
+abbrev room_to : ℕ → ℕ → ℕ → Pass → Call → Pass
+room_to returned capacity book p k = send_or p (λ e t x b. under_way_or p (λ caller s. record p {
+  call = Sends e (look_turn x.accepted returned capacity book caller s) x b;
+  own = Count e s.follows (Room x.accepted returned) ∷ p.own;
+}) t) k
+
+abbrev waiting_to : ℕ → Pass → Call → Pass
+waiting_to accepted p k = receive_or p (λ e t x b message. under_way_or p (λ caller r. record p {
+  call = Receives e (take_look_turn x.handed accepted caller r) x b message;
+  own = Count e r.follows (Waiting x.handed accepted) ∷ p.own;
+}) t) k
+
+abbrev given_to : ℕ → Pass → Call → Pass
+given_to inc p k = receive_or p (λ e t x b message. under_way_or p (λ caller r. given_or p (λ number. record p {
   call = Receives e (turn.Leaving caller (end.Gave number)) (record x { returned = x.returned + 1; hands = hands_without x.hands number }) b message;
+  own = Count e inc (Gave (x.returned + 1)) ∷ p.own;
   hands = hands_but p.hands number;
 }) r.work) t) k
 
 abbrev lane_in : Call → End
 lane_in k = send_or (receive_or side.Host (λ e t x b message. e) k) (λ e t x b. e) k
+
+abbrev follows_in : Call → ℕ
+follows_in k = send_or (receive_or 0 (λ e t x b message. under_way_or 0 (λ caller r. r.follows) t) k) (λ e t x b. under_way_or 0 (λ caller s. s.follows) t) k
 
 -- the view in which the mover is another pass, with the step noted
 becomes_with : (noting : Made) (me : SeatState) (o : Mover me.0) (k : ℕ) → o.place ≡ k → (f : Pass → Pass) (w : Pass) (slots : List (ℕ × Slot)) (me' : SeatState) → w ≡ f o.pass → me' ≡ (with_pass me.0 o w me'.0.copy, slots) → Notes noting f k slots me (noted_seat noting k me')
@@ -126,7 +144,15 @@ module _ {B : Type 0} {kc : Coded B} {kz : DeskTables} (cd : Coded (PlacedDesk k
       let a = apart cd desk z n id me i place (λ _. new) (λ y me'. T y me' × StepBy cd desk (WritesAt i new) me o (Steps o.pass.number 0 None) me') is allows s kept long at wide in
       (a.0, a.1, a.2, a.3, (follows _ _ a.4.0, written_there cd desk i place new is _ _ _ _ me _ (step_told me o (place_of me) here cd desk (WritesAt i new) (λ k. Steps k 0 None) _ a.4.1)))
 
-  -- the same, with the step noted
+  -- the same at a load
+  told_plain : (i place : ℕ) (f : ℕ → ℕ) (o : Mover me.0) → o.place ≡ place_of me → (T T' : ℕ → SeatState → Type 0) → place ≡ place_in i
+      → Allows (WordsRule cd desk z) n id me i f (λ y me'. T y me' × StepBy cd desk (ReadsAt i y) me o (Steps o.pass.number 0 None) me') → ((y : ℕ) (me' : SeatState) → T y me' → T' y me')
+      → Allows (PlacedRule cd desk z) n id me place f (λ y me'. T' y me' × GoesOnWith cd desk (HasWord place y) me me')
+  told_plain i place f o here T T' is allows follows s kept long at wide =
+      let a = apart cd desk z n id me i place f (λ y me'. T y me' × StepBy cd desk (ReadsAt i y) me o (Steps o.pass.number 0 None) me') is allows s kept long at wide in
+      (a.0, a.1, a.2, a.3, (follows _ _ a.4.0, read_there cd desk i place _ is _ _ _ _ me _ (step_told me o (place_of me) here cd desk (ReadsAt i _) (λ k. Steps k 0 None) _ a.4.1)))
+
+  -- at a store, with the step noted
   stored_by : (i place new : ℕ) (o : Mover me.0) → o.place ≡ place_of me → (T T' : ℕ → SeatState → Type 0) → place ≡ place_in i → (noting : Made)
       → Allows (WordsRule cd desk z) n id me i (λ _. new) (λ y me'. T y me' × StepBy cd desk (WritesAt i new) me o (Steps o.pass.number 0 None) me') → ((y : ℕ) (me' : SeatState) → T y me' → T' y (noted_seat noting (place_of me) me'))
       → Allows (PlacedRule cd desk z) n id me place (λ _. new) (λ y me'. T' y me' × GoesOnWith cd desk (StoresWord place new) me me')
@@ -154,12 +180,12 @@ module _ {B : Type 0} {kc : Coded B} {kz : DeskTables} (cd : Coded (PlacedDesk k
       (λ y me' t₀. (t₀.0, t₀.1, t₀.2, becomes_with (made.Era t₀.0) me s.mover (place_of me) s.here (with_send (λ x caller q. after_send_era t₀.0 caller q)) _ me.1 me' (ap (send_to (λ x caller q. after_send_era t₀.0 caller q) s.mover.pass) (sym s.call)) t₀.3))
 
   pub send_looks : (s : SendAt me e stage.Era) (place : ℕ) → place ≡ place_in (return_word e) → me.0.sizes ≡ z → Allows (PlacedRule cd desk z) n id me place (λ y. y) (λ y me'. SendLooks me y me' × GoesOnWith cd desk (HasWord place y) me me')
-  send_looks s place is sized = told_by (return_word e) place (λ y. y) s.mover s.here (SendLooksBy me s.mover (sizes_at z e) z.book e s.caller (record { follows = s.follows; message = s.message; stage = stage.Era }) s.side s.buffer) (λ y me'. SendLooks me y me') is (λ y me' t. made.Room (accepted_by me) t.0)
+  send_looks s place is sized = told_plain (return_word e) place (λ y. y) s.mover s.here (SendLooksBy me s.mover (sizes_at z e) z.book e s.caller (record { follows = s.follows; message = s.message; stage = stage.Era }) s.side s.buffer) (λ y me'. SendLooks me y me') is
       (sends_look cd desk z n id me s.mover e s.caller s.follows s.message s.side s.buffer s.call)
       (λ y me' t₀. let t = t₀ in
-      subst (λ (v : RingSizes × ℕ × ℕ). (returned : ℕ) × (y ≡ return_count v.0 returned % 65536) × AreNear v.0.capacity v.1 returned × Notes (made.Room (accepted_by me) returned) (with_send (λ x caller q. look_turn x.accepted returned v.0.capacity v.2 caller q)) (place_of me) me.1 me (noted_seat (made.Room (accepted_by me) t.0) (place_of me) me'))
-      (λ i. (sym (send_sizes z me e stage.Era s sized) i, sym (send_accepted me e stage.Era s) i, (sym sized i).book))
-      (t.0, t.1, (t.2, t.3), becomes_with (made.Room (accepted_by me) t.0) me s.mover (place_of me) s.here (with_send (λ x caller q. look_turn x.accepted t.0 (sizes_at z e).capacity z.book caller q)) _ me.1 me' (ap (send_to (λ x caller q. look_turn x.accepted t.0 (sizes_at z e).capacity z.book caller q) s.mover.pass) (sym s.call)) t.4))
+      subst (λ (v : RingSizes × ℕ × ℕ × End × ℕ × List Event). (returned : ℕ) × (y ≡ return_count v.0 returned % 65536) × AreNear v.0.capacity v.1 returned × NeverBack v.3 v.4 (Room v.1 returned) v.5 × Becomes (with_room returned v.0.capacity v.2) (place_of me) me.1 me me')
+      (λ i. (sym (send_sizes z me e stage.Era s sized) i, sym (send_accepted me e stage.Era s) i, (sym sized i).book, sym (ap lane_in (send_here me e stage.Era s)) i, sym (ap follows_in (send_here me e stage.Era s)) i, own_is me s.mover (place_of me) s.here i))
+      (t.0, t.1, (t.2, t.3), t.4, becomes me s.mover (place_of me) s.here (with_room t.0 (sizes_at z e).capacity z.book) _ me.1 me' (ap (room_to t.0 (sizes_at z e).capacity z.book s.mover.pass) (sym s.call)) t.5))
 
   -- a buffer goes out: the send's call, and its slot by the sizes that the view has
   buffer_told : (s : SendAt me e stage.Look) (buffer : ℕ) (me' : SeatState) → me.0.sizes ≡ z
@@ -234,12 +260,13 @@ module _ {B : Type 0} {kc : Coded B} {kz : DeskTables} (cd : Coded (PlacedDesk k
       (λ y me' t₀. (t₀.0, t₀.1, t₀.2, becomes_with (made.Era t₀.0) me s.mover (place_of me) s.here (with_receive (λ x caller q. after_take_era t₀.0 caller q)) _ me.1 me' (ap (receive_to (λ x caller q. after_take_era t₀.0 caller q) s.mover.pass) (sym s.call)) t₀.3))
 
   pub take_looks : (s : WorkAt me e (work.Take take_stage.Era)) (place : ℕ) → place ≡ place_in (forward_word e) → me.0.sizes ≡ z → Allows (PlacedRule cd desk z) n id me place (λ y. y) (λ y me'. TakeLooks me y me' × GoesOnWith cd desk (HasWord place y) me me')
-  take_looks s place is sized = told_by (forward_word e) place (λ y. y) s.mover s.here (TakeLooksBy me s.mover (sizes_at z e) e s.caller (record { follows = s.follows; work = work.Take take_stage.Era }) s.side s.buffer s.message) (λ y me'. TakeLooks me y me') is (λ y me' t. made.Waiting (handed_by me) t.0)
+  take_looks s place is sized = let w = work.Take take_stage.Era in
+      told_plain (forward_word e) place (λ y. y) s.mover s.here (TakeLooksBy me s.mover (sizes_at z e) e s.caller (record { follows = s.follows; work = w }) s.side s.buffer s.message) (λ y me'. TakeLooks me y me') is
       (takes_look cd desk z n id me s.mover e s.caller s.follows s.side s.buffer s.message s.call)
       (λ y me' t₀. let t = t₀ in
-      subst (λ (v : RingSizes × ℕ). (accepted : ℕ) × (y ≡ accepted % 65536) × (v.1 ≤ accepted) × (accepted ≤ v.1 + v.0.capacity) × Notes (made.Waiting (handed_by me) accepted) (with_receive (λ x caller q. take_look_turn x.handed accepted caller q)) (place_of me) me.1 me (noted_seat (made.Waiting (handed_by me) t.0) (place_of me) me'))
-      (λ i. (sym (work_sizes z me e (work.Take take_stage.Era) s sized) i, sym (work_handed me e (work.Take take_stage.Era) s) i))
-      (t.0, t.1, t.2, t.3, becomes_with (made.Waiting (handed_by me) t.0) me s.mover (place_of me) s.here (with_receive (λ x caller q. take_look_turn x.handed t.0 caller q)) _ me.1 me' (ap (receive_to (λ x caller q. take_look_turn x.handed t.0 caller q) s.mover.pass) (sym s.call)) t.4))
+      subst (λ (v : RingSizes × ℕ × End × ℕ × List Event). (accepted : ℕ) × (y ≡ accepted % 65536) × (v.1 ≤ accepted) × (accepted ≤ v.1 + v.0.capacity) × NeverBack v.2 v.3 (Waiting v.1 accepted) v.4 × Becomes (with_waiting accepted) (place_of me) me.1 me me')
+      (λ i. (sym (work_sizes z me e w s sized) i, sym (work_handed me e w s) i, sym (ap lane_in (work_here me e w s)) i, sym (ap follows_in (work_here me e w s)) i, own_is me s.mover (place_of me) s.here i))
+      (t.0, t.1, t.2, t.3, t.4, becomes me s.mover (place_of me) s.here (with_waiting t.0) _ me.1 me' (ap (waiting_to t.0 s.mover.pass) (sym s.call)) t.5))
 
   pub take_loads_entry : (s : WorkAt me e (work.Take take_stage.Look)) (count place : ℕ) → place ≡ place_in (entry_number z e ring.Forward count) → me.0.sizes ≡ z → handed_by me ≡ count
       → Allows (PlacedRule cd desk z) n id me place (λ y. y) (λ y me'. TakeTakesBuffer (y % 4294967296) me me' × GoesOnWith cd desk (HasWord place y) me me')
@@ -266,11 +293,14 @@ module _ {B : Type 0} {kc : Coded B} {kz : DeskTables} (cd : Coded (PlacedDesk k
   pub give_publishes : (k : ℕ) (s : WorkAt me e (work.Give k give_stage.Entry)) (count place new : ℕ) → place ≡ place_in (return_word e) → me.0.sizes ≡ z → return_count (sizes_by me) s.side.returned + 1 ≡ count → new ≡ count % 65536
       → Allows (PlacedRule cd desk z) n id me place (λ _. new) (λ _ me'. GivePublishes me me' × GoesOnWith cd desk (StoresWord place new) me me')
   give_publishes k s count place new is sized at new_is =
-      stored_by (return_word e) place new s.mover s.here
-      (λ _ me'. me' ≡ (with_pass me.0 s.mover (with_call_and_hands s.mover.pass (Receives e (turn.Leaving s.caller (end.Gave k)) (record s.side { returned = s.side.returned + 1; hands = hands_without s.side.hands k }) s.buffer s.message) (hands_but s.mover.pass.hands k)) me'.0.copy, me.1)) (λ _. GivePublishes me) is (made.Gave (returned_by me + 1))
+      let w = work.Give k give_stage.Entry in
+      stored_plain (return_word e) place new s.mover s.here (λ _. GivesBackBy me s.mover e s.caller k s.side s.buffer s.message) (λ _. GivePublishes me) is
       (gives_back cd desk z n id me s.mover e s.caller s.follows k s.side s.buffer new s.message s.call
-      (new_is ∙ (ap (λ (u : ℕ). u % 65536) (sym at) ∙ ap (λ (x : RingSizes). (return_count x s.side.returned + 1) % 65536) (work_sizes z me e (work.Give k give_stage.Entry) s sized))))
-      (λ y me' t₀. becomes_with (made.Gave (returned_by me + 1)) me s.mover (place_of me) s.here with_given _ me.1 me' (ap (given_to s.mover.pass) (sym s.call)) t₀)
+      (new_is ∙ (ap (λ (u : ℕ). u % 65536) (sym at) ∙ ap (λ (x : RingSizes). (return_count x s.side.returned + 1) % 65536) (work_sizes z me e w s sized))))
+      (λ y me' t₀. let t = t₀ in
+      subst (λ (v : ℕ × End × List Event × List ℕ). (inc : ℕ) × ((v.3 ≡ []) ⊎ (latest v.2 ≡ inc)) × NeverBack v.1 inc (Gave (v.0 + 1)) v.2 × Becomes (with_given inc) (place_of me) me.1 me me')
+      (λ i. (sym (ap (λ (c : Call). receive_or 0 (λ e t x b message. x.returned) c) (work_here me e w s)) i, sym (ap lane_in (work_here me e w s)) i, own_is me s.mover (place_of me) s.here i, in_hand_is me s.mover (place_of me) s.here i))
+      (t.0, t.1, t.2, becomes me s.mover (place_of me) s.here (with_given t.0) _ me.1 me' (ap (given_to t.0 s.mover.pass) (sym s.call)) t.3))
 
 -- the steps at which a desk is asked
 module _ {B : Type 0} (kc : Coded B) (kz : DeskTables) (cd : Coded (PlacedDesk kc kz)) (meaning : DeskMeaning B) (z : LinkSizes) (n id : ℕ) (me : SeatState) (e : End) where

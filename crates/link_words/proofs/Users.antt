@@ -2,7 +2,7 @@
 use Rattle.link_words.specs.declared.codes.DeskTables.{DeskTables}
 use Rattle.link_words.specs.PlacedDesks.{PlacedDesk}
 use base.Stored.{Coded}
-use Rattle.std.proofs.Common.{◌≡◌, ◌≢◌, ◌⊎◌, ℕ, zero, suc, ◌<◌, Bool, true, false, cond, List, [], ◌∷◌, length, refl, sym, ap, ◌∙◌, subst, inl, inr, arith, ne_eqb}
+use Rattle.std.proofs.Common.{◌≡◌, ◌≢◌, ◌⊎◌, ℕ, zero, suc, ◌<◌, Bool, true, false, cond, List, [], ◌∷◌, length, refl, sym, ap, ◌∙◌, subst, inl, inr, arith, ne_eqb, ⊎_elim}
 use Rattle.std.specs.Prelude.{Option, Some, None, is_none, slice_set, nat_lt}
 use Rattle.std.specs.List.{position_or_len}
 use Rattle.std.specs.Option.{unwrap_or}
@@ -21,11 +21,10 @@ use Rattle.link_words.specs.declared.rule.Call.{Call}
 use Rattle.link_words.specs.declared.rule.Call.TheVariants.{Idle, Sends, Rests, Reclaims, EndsHeld, Receives, EndsReceive, EndsSend, Reopens, HoldsAll}
 use Rattle.link_words.specs.declared.rule.Pass.{Pass}
 use Rattle.link_words.specs.Words.{lane_to}
-use Rattle.link_words.specs.Deeds.{AreManagers}
-use Rattle.link_words.specs.Histories.{ReadsIn}
+use Rattle.link_words.specs.Deeds.{AreManagers, HoldsNothing}
+use Rattle.link_words.specs.Histories.{ReadsIn, IsWithin, seen, books_of, counts_of, latest, hands_of}
 use Rattle.link_words.proofs.Parts.{SendsAgree, TakesAt}
-use Rattle.link_words.specs.Rule.{IsCallOf, HistoryOf, HandsOf}
-use Rattle.link_words.specs.Histories.{hands_of}
+use Rattle.link_words.specs.Rule.{IsCallOf, HistoryOf, HandsOf, LatestOf, HasCall}
 
 none_some : {A : Type 0} (x : A) → None ≡ Some x → ⊥
 none_some x e = absurd (cc)
@@ -76,8 +75,8 @@ call_with m cs p k (Sends side.Host t x b) same has = (same ∙ has.0, has.1, ha
 call_with m cs p k (Sends side.Remote t x b) same has = (same ∙ has.0, has.1, has.2)
 call_with m cs p k (EndsSend side.Host t x b) same has = (same ∙ has.0, has.1, has.2)
 call_with m cs p k (EndsSend side.Remote t x b) same has = (same ∙ has.0, has.1, has.2)
-call_with m cs p k (Receives side.Host t x b msg) same has = (same ∙ has.0, has.1)
-call_with m cs p k (Receives side.Remote t x b msg) same has = (same ∙ has.0, has.1)
+call_with m cs p k (Receives side.Host t x b msg) same has = (same ∙ has.0, has.1, has.2)
+call_with m cs p k (Receives side.Remote t x b msg) same has = (same ∙ has.0, has.1, has.2)
 call_with m cs p k (EndsReceive side.Host t x b msg) same has = (same ∙ has.0, has.1, has.2)
 call_with m cs p k (EndsReceive side.Remote t x b msg) same has = (same ∙ has.0, has.1, has.2)
 call_with m cs p k (Reclaims side.Host x) same has = (same ∙ has.0, has.1, has.2, has.3, has.4)
@@ -88,8 +87,12 @@ call_with m cs p k (Reopens q inc) same has = (has.0, has.1, (has.2.0, managers_
 call_with m cs p k (HoldsAll x y) same has = (has.0, has.1, managers_with m cs has.2, has.3, has.4)
 
 pub history_with : {B : Type 0} {kc : Coded B} {kz : DeskTables} (m : LaneLink (RingState (PlacedDesk kc kz))) (cs : List (Option End)) (q : Pass) → HistoryOf m q → HistoryOf (record m { callers = cs }) q
-history_with m cs q has = record { sent = λ i. go i; taken = λ i. took i; read = λ i. red i; none_later = has.none_later }
+history_with m cs q has = record { sent = λ i. go i; taken = λ i. took i; read = λ i. red i; none_later = has.none_later; counts = λ i. saw i }
   where
+    saw : (i : End) → IsWithin (seen i m.era.inc q.own) (counts_of (books_of (lane_to (record m { callers = cs }) i)))
+    saw side.Host = has.counts side.Host
+    saw side.Remote = has.counts side.Remote
+
     red : (i : End) → ReadsIn i m.era.inc (lane_to (record m { callers = cs }) i).lane.lane.accepted q.own
     red side.Host = has.read side.Host
     red side.Remote = has.read side.Remote
@@ -130,3 +133,21 @@ in_use m p k (Reclaims e x) has = inr (e, has.0)
 in_use m p k (EndsHeld e x) has = inr (e, has.0)
 in_use m p k (Reopens q inc) has = inl has.0
 in_use m p k (HoldsAll x y) has = inl has.0
+
+-- a number in use is one of those there are
+pub in_range : (callers : List (Option End)) (n : ℕ) (e : End) → end_of callers n ≡ Some e → n < length callers
+in_range [] n e is = absurd (cc)
+in_range (c ∷ cs) zero e is = omega arith
+in_range (c ∷ cs) (suc n) e is = let low = in_range cs n e is in omega (arith, low)
+
+-- what is said of who holds something, of a caller in use
+pub user_latest : {D : Type 0} (m : LaneLink (RingState D)) (q : Pass) (e : End) → end_of m.callers q.number ≡ Some e → length m.callers ≡ 64 → LatestOf m q → (q.hands ≡ []) ⊎ (latest q.own ≡ m.era.inc)
+user_latest m q e user many has = ⊎_elim (λ (own : q.number ≡ 64). let low = in_range m.callers q.number e user in absurd (omega (arith, low, own, many))) (λ (x : (q.hands ≡ []) ⊎ (latest q.own ≡ m.era.inc)). x) has
+
+-- where nothing is held, no caller holds anything
+pub nothing_latest : {B : Type 0} {kc : Coded B} {kz : DeskTables} (m m' : LaneLink (RingState (PlacedDesk kc kz))) (p : ℕ) (q : Pass) → HoldsNothing m → HasCall m p q → HandsOf m q → LatestOf m' q
+nothing_latest m m' p q none call has = ⊎_elim (λ (own : q.number ≡ 64). inl own) (λ (x : (e : End) × (end_of m.callers q.number ≡ Some e)). inr (inl (sym (has x.0 x.1) ∙ ap (hands_of q.number) (empty x.0)))) (in_use m p q.number q.call call)
+  where
+    empty : (e : End) → (lane_to m e).lane.lane.held ≡ []
+    empty side.Host = none.0
+    empty side.Remote = none.1

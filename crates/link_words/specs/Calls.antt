@@ -17,6 +17,7 @@ use Rattle.link_words.specs.declared.rule.Call.{Call}
 use Rattle.link_words.specs.declared.rule.Call.TheVariants.{Idle, Sends, Rests, Reclaims, EndsHeld, Receives, EndsReceive, EndsSend, Reopens, HoldsAll}
 use Rattle.link_words.specs.declared.rule.Pass.{Pass}
 use Rattle.link_words.specs.declared.rule.Made.{Made}
+use Rattle.link_words.specs.declared.rule.Event.{Event}
 use Rattle.link_words.specs.declared.rule.Event.TheVariants.{Step}
 use Rattle.link_words.specs.declared.rule.View.{View}
 use Rattle.link_words.specs.Passes.{Mover, with_call, place_of_number}
@@ -116,6 +117,16 @@ abbrev pub number_at : ℕ → List Pass → ℕ
 number_at k [] = 64
 number_at zero (p ∷ ps) = p.number
 number_at (suc k) (p ∷ ps) = number_at k ps
+
+abbrev pub own_at : ℕ → List Pass → List Event
+own_at k [] = []
+own_at zero (p ∷ ps) = p.own
+own_at (suc k) (p ∷ ps) = own_at k ps
+
+abbrev pub in_hand_at : ℕ → List Pass → List ℕ
+in_hand_at k [] = []
+in_hand_at zero (p ∷ ps) = p.hands
+in_hand_at (suc k) (p ∷ ps) = in_hand_at k ps
 
 -- the pass at this place becomes another, these slots are out with the seat, and of the view nothing else but the copy changes
 abbrev pub Becomes : (Pass → Pass) → ℕ → List (ℕ × Slot) → SeatState → SeatState → Type 0

@@ -31,7 +31,7 @@ use Rattle.link_words.specs.Codes.{copied}
 use Rattle.link_words.specs.Passes.{PassAt, EachPass, HasNumber, Manages}
 use Rattle.link_words.specs.Words.{other}
 use Rattle.link_words.specs.Turns.{is_manager, LaneTurns, LinkTurns, HasFourTurns}
-use Rattle.link_words.specs.Histories.{NoneOf, same_end, LaneBooks, HasHistory, HasHands, IsCurrent}
+use Rattle.link_words.specs.Histories.{NoneOf, same_end, LaneBooks, HasHistory, HasHands, IsOfNow, IsCurrent, IsCurrentTake}
 
 -- a send's turn is its lane's, with the side state and the buffer that are out with it
 abbrev pub SendsAt : LaneTurns → ℕ → Turn Sending → SenderSide → ℕ → Type 0
@@ -48,7 +48,7 @@ ReceivesAt lane number t x buffer message = (lane.receiver ≡ t) × (holder t �
 abbrev pub IsCallAt : LinkTurns → ℕ → ℕ → Call → Type 0
 IsCallAt t p number Idle = number ≡ 64
 IsCallAt t p number (Sends e u x buffer) = (end_of t.callers number ≡ Some (other e)) × SendsAt (t.lanes e) number u x buffer × IsCurrent u t.era.inc
-IsCallAt t p number (Receives e u x buffer message) = (end_of t.callers number ≡ Some e) × ReceivesAt (t.lanes e) number u x buffer message
+IsCallAt t p number (Receives e u x buffer message) = (end_of t.callers number ≡ Some e) × ReceivesAt (t.lanes e) number u x buffer message × IsCurrentTake u t.era.inc
 IsCallAt t p number (EndsReceive e u x buffer message) = (end_of t.callers number ≡ Some e) × ReceivesAt (t.lanes e) number u x buffer message × (t.era.is_live ≡ false)
 IsCallAt t p number (EndsSend e u x buffer) = (end_of t.callers number ≡ Some (other e)) × SendsAt (t.lanes e) number u x buffer × (t.era.is_live ≡ false)
 IsCallAt t p number (Rests e) = (end_of t.callers number ≡ Some e) × (has_call (t.lanes (other e)).sender number ≡ false) × (has_call (t.lanes e).receiver number ≡ false)
@@ -103,10 +103,11 @@ pub record LanePart {D : Type 0} (s : RingState D) (told : RingSizes) (told_book
   pub near : AreNear told.capacity (length s.lane.lane.accepted) s.lane.lane.returned
   pub buffers : HoldsBuffers s shelf
 
--- the part on histories: what the books of this incarnation say of a pass is what the pass did
+-- the part on histories: what the books of this incarnation say of a pass is what the pass did, and who holds something did so in it
 pub record HistoriesPart (inc : ℕ) (callers : List (Option End)) (books : End → LaneBooks) (views : List View) : Type 0 where
   pub own : EachPass (λ q. HasHistory inc books q.number q.first q.own) views
   pub hands : EachPass (λ q. HasHands callers books q.number q.hands) views
+  pub latest : EachPass (λ q. IsOfNow inc q.number q.hands q.own) views
 
 -- a number tells the one place of its pass
 abbrev pub AreNumbersApart : List View → Type 0

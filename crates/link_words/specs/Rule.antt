@@ -21,7 +21,7 @@ use Rattle.link_words.specs.declared.rule.Event.{Event}
 use Rattle.link_words.specs.Words.{lane_to, lane_words, reset_block, words_of, homes_of, Shelves}
 use Rattle.link_words.specs.Layouts.{layout}
 use Rattle.link_words.specs.Turns.{turns_in}
-use Rattle.link_words.specs.Histories.{HasHistory, HasHands, books_of}
+use Rattle.link_words.specs.Histories.{HasHistory, HasHands, IsOfNow, books_of}
 use Rattle.link_words.specs.Deeds.{Deed, after_deed, MayDo}
 use Rattle.link_words.specs.Parts.{IsCallAt, LanePart, TurnsPart, HistoriesPart, NumbersPart}
 
@@ -53,6 +53,9 @@ HistoryOf m q = IsHistory m q.number q.first q.own
 
 abbrev pub HandsOf : {D : Type 0} → LaneLink (RingState D) → Pass → Type 0
 HandsOf m q = HasHands m.callers (λ e. books_of (lane_to m e)) q.number q.hands
+
+abbrev pub LatestOf : {D : Type 0} → LaneLink (RingState D) → Pass → Type 0
+LatestOf m q = IsOfNow m.era.inc q.number q.hands q.own
 
 module _ {D : Type 0} (desk : DeskMeaning D) where
   -- the words of the next incarnation, of those that a reopening resets

@@ -42,7 +42,9 @@ use mathlib.Core.Option.{Option as Option_of}
 use Rattle.link_words.specs.declared.copies.LinkCopy.{LinkCopy}
 use Rattle.link_words.specs.declared.rule.Call.{Call}
 use Rattle.link_words.specs.declared.rule.Call.TheVariants.{Sends, Receives, Rests}
-use Rattle.link_words.specs.declared.rule.Event.TheVariants.{Publish, Take}
+use Rattle.link_words.specs.declared.rule.Counted.TheVariants.{Room, Waiting, Gave}
+use Rattle.link_words.specs.declared.rule.Event.{Event}
+use Rattle.link_words.specs.declared.rule.Event.TheVariants.{Count, Publish, Take}
 use Rattle.link_words.specs.declared.rule.Pass.{Pass}
 use Rattle.link_words.specs.declared.rule.Made.TheVariants as made
 use Rattle.link_words.specs.declared.rule.ReceiverSide.{ReceiverSide}
@@ -56,9 +58,10 @@ use Rattle.link_words.specs.declared.loads.EraUse.TheVariants as era
 use Rattle.link_words.specs.declared.rule.Ring.{Ring}
 use Rattle.link_words.specs.declared.rule.Ring.TheVariants as ring
 use Rattle.link_words.specs.Calls.{SendAt, WorkAt, SendEnds, ReceiveEnds}
-use Rattle.link_words.specs.Calls.{SeatState, send_or, receive_or, under_way_or, with_send, with_receive, place_of, call_at, number_at, Becomes, Notes}
+use Rattle.link_words.specs.Calls.{SeatState, send_or, receive_or, under_way_or, with_send, with_receive, place_of, call_at, number_at, own_at, in_hand_at, Becomes, Notes}
 use Rattle.link_words.specs.Codes.{copied}
-use Rattle.link_words.specs.Deeds.{Deed, Enlists, Steps, after_deed, MayDo, IsSoundState}
+use Rattle.link_words.specs.Histories.{NeverBack, latest}
+use Rattle.link_words.specs.Deeds.{Deed, Closes, Enlists, Steps, after_deed, MayDo, IsSoundState}
 use Rattle.link_words.specs.Parts.{AreNear}
 use Rattle.link_words.specs.Passes.{Manages, HasNumber, with_call, place_of_number}
 use Rattle.link_words.specs.Rule.{IsCallOf}
@@ -116,6 +119,18 @@ pub record IsMakingOf {B : Type 0} {kc : Coded B} {kz : DeskTables} (coded : Cod
 -- the same, with the desks in the tables that the seat knows
 abbrev pub MakesCaller : {D : Type 0} → Coded D → DeskMeaning D → End → SeatState → SeatState → Type 0
 MakesCaller coded meaning e me me' = IsMakingOf (placed_coded coded me.0.sizes.desks) (placed_meaning coded me.0.sizes.desks meaning) e me me'
+
+-- an attempt to close this incarnation, by a seat that found this word of the era: in some sound state of that era, the close of the ring form is
+-- made. Where the manager has a copy of the state, and none of its callers is out, that state is the copy's, and the copy follows
+pub record IsCloseOf {B : Type 0} {kc : Coded B} {kz : DeskTables} (coded : Coded (PlacedDesk kc kz)) (desk : DeskMeaning (PlacedDesk kc kz)) (inc n : ℕ) (me me' : SeatState) : Type 0 where
+  pub state : LaneLink (RingState (PlacedDesk kc kz))
+  pub sound : IsSoundState desk state
+  pub found : n ≡ era_word state.era
+  pub copy : (k : LinkCopy) → Manages me.0 → me.0.out ≡ [] → me.0.copy ≡ Some k → (k ≡ copied coded state) × (me'.0.copy ≡ Some (copied coded (after_deed desk state (Closes inc))))
+
+-- the same, with the desks in the tables that the seat knows
+abbrev pub ClosesLink : {D : Type 0} → Coded D → DeskMeaning D → ℕ → ℕ → SeatState → SeatState → Type 0
+ClosesLink coded meaning inc n me me' = IsCloseOf (placed_coded coded me.0.sizes.desks) (placed_meaning coded me.0.sizes.desks meaning) inc n me me'
 
 -- the work of a call that has done its first step
 abbrev pub first_work : Wish → Work
@@ -192,16 +207,35 @@ hands_by me = receive_or [] (λ e t x b message. x.hands) (call_at (place_of me)
 abbrev pub handed_by : SeatState → ℕ
 handed_by me = receive_or 0 (λ e t x b message. x.handed) (call_at (place_of me) me.0.passes)
 
+-- the incarnation that its call follows, and what the pass has done
+abbrev pub follows_by : SeatState → ℕ
+follows_by me = let call = call_at (place_of me) me.0.passes in
+    send_or (receive_or 0 (λ e t x b message. under_way_or 0 (λ caller r. r.follows) t) call) (λ e t x b. under_way_or 0 (λ caller s. s.follows) t) call
+
+abbrev pub own_by : SeatState → List Event
+own_by me = own_at (place_of me) me.0.passes
+
+-- and the numbers that it has in hand
+abbrev pub in_hand_by : SeatState → List ℕ
+in_hand_by me = in_hand_at (place_of me) me.0.passes
+
 -- what a look for room decides, by the counts, the capacity and the size of the book
 abbrev pub look_turn : ℕ → ℕ → ℕ → ℕ → ℕ → Sending → Turn Sending
 look_turn accepted returned capacity book caller s =
     if accepted == returned + capacity then turn.Leaving caller (end.NoBuffer accepted returned)
     else (if accepted == book then turn.Leaving caller (end.BookFull accepted) else turn.Taken caller (record s { stage = stage.Look }))
 
+-- a pass whose send has looked for room
+abbrev pub with_room : ℕ → ℕ → ℕ → Pass → Pass
+with_room returned capacity book p = send_or p (λ e t x b. under_way_or p (λ caller s. record p {
+  call = Sends e (look_turn x.accepted returned capacity book caller s) x b;
+  own = Count e s.follows (Room x.accepted returned) ∷ p.own;
+}) t) p.call
+
 -- step 3 of a send: the return index that was found is that of a count near the count of accepted messages, which decides
 abbrev pub SendLooks : SeatState → ℕ → SeatState → Type 0
 SendLooks me n me' = let sizes = sizes_by me in (returned : ℕ) × (n ≡ return_count sizes returned % 65536) × AreNear sizes.capacity (accepted_by me) returned
-    × Notes (made.Room (accepted_by me) returned) (with_send (λ x caller s. look_turn x.accepted returned sizes.capacity me.0.sizes.book caller s)) (place_of me) me.1 me me'
+    × NeverBack (lane_by me) (follows_by me) (Room (accepted_by me) returned) (own_by me) × Becomes (with_room returned sizes.capacity me.0.sizes.book) (place_of me) me.1 me me'
 
 -- step 4 of a send: this buffer is out
 abbrev pub SendTakesBuffer : ℕ → SeatState → SeatState → Type 0
@@ -235,10 +269,17 @@ TakeLoadsEra me n me' = (era : Era) × (n ≡ era_word era) × (era.inc < 429496
 abbrev pub take_look_turn : ℕ → ℕ → ℕ → Receiving → Turn Receiving
 take_look_turn handed accepted caller r = if handed == accepted then turn.Leaving caller (end.Empty accepted) else turn.Taken caller (record r { work = work.Take take_stage.Look })
 
+-- a pass whose take has looked for a message
+abbrev pub with_waiting : ℕ → Pass → Pass
+with_waiting accepted p = receive_or p (λ e t x b message. under_way_or p (λ caller r. record p {
+  call = Receives e (take_look_turn x.handed accepted caller r) x b message;
+  own = Count e r.follows (Waiting x.handed accepted) ∷ p.own;
+}) t) p.call
+
 -- step 3 of a take: the forward index that was found is that of a count, which is at most the capacity above the count of handed messages
 abbrev pub TakeLooks : SeatState → ℕ → SeatState → Type 0
 TakeLooks me n me' = let sizes = sizes_by me in (accepted : ℕ) × (n ≡ accepted % 65536) × (handed_by me ≤ accepted) × (accepted ≤ handed_by me + sizes.capacity)
-    × Notes (made.Waiting (handed_by me) accepted) (with_receive (λ x caller r. take_look_turn x.handed accepted caller r)) (place_of me) me.1 me me'
+    × NeverBack (lane_by me) (follows_by me) (Waiting (handed_by me) accepted) (own_by me) × Becomes (with_waiting accepted) (place_of me) me.1 me me'
 
 -- step 4 of a take: this buffer is out, with its message
 abbrev pub TakeTakesBuffer : ℕ → SeatState → SeatState → Type 0
@@ -296,16 +337,17 @@ given_or otherwise f (work.Give number stage) = f number
 given_or otherwise f (work.Bind address) = otherwise
 given_or otherwise f (work.Unbind address) = otherwise
 
--- a pass whose buffer is back: it is in hand no more
-abbrev pub with_given : Pass → Pass
-with_given p = receive_or p (λ e t x b message. under_way_or p (λ caller r. given_or p (λ number. record p {
+-- a pass whose buffer is back, in this incarnation: it is in hand no more
+abbrev pub with_given : ℕ → Pass → Pass
+with_given inc p = receive_or p (λ e t x b message. under_way_or p (λ caller r. given_or p (λ number. record p {
   call = Receives e (turn.Leaving caller (end.Gave number)) (record x { returned = x.returned + 1; hands = hands_without x.hands number }) b message;
+  own = Count e inc (Gave (x.returned + 1)) ∷ p.own;
   hands = hands_but p.hands number;
 }) r.work) t) p.call
 
--- step 3 of a give
+-- step 3 of a give, which reads no era: it is in the incarnation of the latest step of a caller that holds something
 abbrev pub GivePublishes : SeatState → SeatState → Type 0
-GivePublishes me me' = Notes (made.Gave (returned_by me + 1)) with_given (place_of me) me.1 me me'
+GivePublishes me me' = (inc : ℕ) × ((in_hand_by me ≡ []) ⊎ (latest (own_by me) ≡ inc)) × NeverBack (lane_by me) inc (Gave (returned_by me + 1)) (own_by me) × Becomes (with_given inc) (place_of me) me.1 me me'
 
 -- how a binding or an unbinding ends, by what the desk says
 abbrev pub desk_says : {D : Type 0} → DeskMeaning D → D → ℕ → Work → CallEnd

@@ -1,5 +1,5 @@
 //! Laws of the rule. Each is the contract of an empty function, and speaks of definitions alone.
-ghost use Rattle.std.specs.Prelude.{◌≡◌, ℕ, List, [], ◌∷◌, ◌++◌, ◌<◌, ◌^◌, map, length, true, false};
+ghost use Rattle.std.specs.Prelude.{◌≡◌, ℕ, List, [], ◌∷◌, ◌++◌, ◌<◌, ◌≤◌, ◌^◌, map, length, true, false};
 ghost use Rattle.atomic_table.specs.Table.{State, opening};
 ghost use Rattle.rp_base.specs.declared.kinds.End.{End};
 ghost use Rattle.rp_base.specs.Limits.{ring_capacity};
@@ -27,9 +27,14 @@ ghost use Rattle.std.specs.Prelude.{Some};
 ghost use Rattle.link_words.specs.declared.rule.Call.{Call};
 ghost use Rattle.link_words.specs.Calls.{SeatState};
 ghost use Rattle.link_words.specs.Codes.{copied};
-ghost use Rattle.link_words.specs.Deeds.{Deed, after_deed};
-ghost use Rattle.link_words.specs.Passes.{Manages};
-ghost use Rattle.link_words.specs.Steps.{IsStepOf, HasWord, StoresWord};
+ghost use Rattle.link_words.specs.Deeds.{Deed, Closes, after_deed};
+ghost use Rattle.link_words.specs.Passes.{EachPass, Manages};
+ghost use Rattle.link_words.specs.declared.rule.Counted.{Counted};
+ghost use Rattle.link_words.specs.declared.rule.Counted.TheVariants.{Room, Gave};
+ghost use Rattle.link_words.specs.declared.rule.Event.{Event};
+ghost use Rattle.link_words.specs.declared.rule.Event.TheVariants.{Count, Publish, Take};
+ghost use Rattle.link_words.specs.Histories.{seen, counts_told, counts_published, counts_taken, counts_of, books_of, IsWithin, IsNotBelow, NeverBack};
+ghost use Rattle.link_words.specs.Steps.{IsStepOf, IsCloseOf, HasWord, StoresWord};
 
 use lane_model::Desk;
 
@@ -49,9 +54,23 @@ pub fn shown_state<D: Desk>()
         → (e : End) (id : ℕ) → length (owner (lane_to m e) id) ≡ once_below id (lane_to m e).rings.sizes.capacity }
     ensures near { (z : LinkSizes) (s : State Slot View) (m : LaneLink (RingState (PlacedDesk D.row.coded z.desks))) (p : ℕ) → Shows (placed_coded D.row.coded z.desks) (placed_meaning D.row.coded z.desks D.meaning) z s m p
         → (e : End) → AreNear (sizes_at z e).capacity (length (lane_to m e).lane.lane.accepted) (lane_to m e).lane.lane.returned }
+    ensures seen { (z : LinkSizes) (s : State Slot View) (m : LaneLink (RingState (PlacedDesk D.row.coded z.desks))) (p : ℕ) → Shows (placed_coded D.row.coded z.desks) (placed_meaning D.row.coded z.desks D.meaning) z s m p
+        → EachPass (λ q. (e : End) → IsWithin (seen e m.era.inc q.own) (counts_of (books_of (lane_to m e)))) s.views }
 {}
 
-/// A manager that carries all its callers and knows the state by its copy knows the state after a step of one of them.
+/// The counts of a lane never go back for a caller. Where a look or a give comes behind a list and no count that it tells is below what
+/// was seen (`NeverBack`), it tells no count of that lane and incarnation that is below one that a step of the list told: a look or
+/// a give, the acceptance of a message, or a handing. So a caller reads its own give back: a look for room finds at least as many
+/// buffers back, and its next give makes more.
+pub fn never_back()
+    ensures counts { (lane : End) (inc : ℕ) (later earlier : Counted) (between before : List Event) → NeverBack lane inc later (between ++ Count lane inc earlier ∷ before) → IsNotBelow (counts_told earlier) later }
+    ensures published { (lane : End) (inc number : ℕ) (message : List ℕ) (later : Counted) (between before : List Event) → NeverBack lane inc later (between ++ Publish lane inc number message ∷ before) → IsNotBelow (counts_published number) later }
+    ensures taken { (lane : End) (inc number : ℕ) (message : List ℕ) (later : Counted) (between before : List Event) → NeverBack lane inc later (between ++ Take lane inc number message ∷ before) → IsNotBelow (counts_taken number) later }
+    ensures given { (lane : End) (inc returned again accepted : ℕ) (between before : List Event) → (NeverBack lane inc (Room accepted again) (between ++ Count lane inc (Gave returned) ∷ before) → returned ≤ again)
+        × (NeverBack lane inc (Gave again) (between ++ Count lane inc (Gave returned) ∷ before) → returned < again) }
+{}
+
+/// A manager that carries all its callers and knows the state by its copy knows the state after a step of one of them, and after a close.
 pub fn copy_follows<D: Desk>()
     ensures found { (desks : DeskTables) (place n : ℕ) (d : Deed) (number : ℕ) (call next : Call) (me me' : SeatState)
         → IsStepOf (placed_coded D.row.coded desks) (placed_meaning D.row.coded desks D.meaning) (HasWord place n) d number call next me me' → (known : LaneLink (RingState (PlacedDesk D.row.coded desks))) → Manages me.0 → me.0.out ≡ []
@@ -59,4 +78,6 @@ pub fn copy_follows<D: Desk>()
     ensures stored { (desks : DeskTables) (place n : ℕ) (d : Deed) (number : ℕ) (call next : Call) (me me' : SeatState)
         → IsStepOf (placed_coded D.row.coded desks) (placed_meaning D.row.coded desks D.meaning) (StoresWord place n) d number call next me me' → (known : LaneLink (RingState (PlacedDesk D.row.coded desks))) → Manages me.0 → me.0.out ≡ []
         → me.0.copy ≡ Some (copied (placed_coded D.row.coded desks) known) → me'.0.copy ≡ Some (copied (placed_coded D.row.coded desks) (after_deed (placed_meaning D.row.coded desks D.meaning) known d)) }
+    ensures closed { (desks : DeskTables) (inc n : ℕ) (me me' : SeatState) → IsCloseOf (placed_coded D.row.coded desks) (placed_meaning D.row.coded desks D.meaning) inc n me me' → (known : LaneLink (RingState (PlacedDesk D.row.coded desks))) → Manages me.0 → me.0.out ≡ []
+        → me.0.copy ≡ Some (copied (placed_coded D.row.coded desks) known) → me'.0.copy ≡ Some (copied (placed_coded D.row.coded desks) (after_deed (placed_meaning D.row.coded desks D.meaning) known (Closes inc))) }
 {}

@@ -21,8 +21,8 @@ pub use copies::LinkCopy;
 pub use desks::{DeskRule, DeskTable};
 pub use loads::{EraUse, IndexUse, load_entry, load_era, load_index};
 pub use rule::{
-    Call, CallStart, Event, LinkSeat, LinkSizes, LinkTable, LinkWords, Made, Pass, ReceiverSide,
-    Ring, SenderSide, Slot, View,
+    Call, CallStart, Counted, Event, LinkSeat, LinkSizes, LinkTable, LinkWords, Made, Pass,
+    ReceiverSide, Ring, SenderSide, Slot, View,
 };
 pub use seats::{
     close_era, end_carried, enlist_carried, join, learn_era, let_go, settle, split, take_in,

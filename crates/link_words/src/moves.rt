@@ -58,12 +58,16 @@ impl Play<Slot, View> for TellsSettles {
 }
 
 /// One attempt to close the era.
-pub struct TellsClosesEra;
+pub struct TellsClosesEra<D> {
+    marker: PhantomData<D>,
+}
 
-impl Play<Slot, View> for TellsClosesEra {
+impl<D: Desk> Play<Slot, View> for TellsClosesEra<D> {
+    ghost use Rattle.std.specs.Prelude.{◌≡◌, ℕ, ◌*◌};
     ghost use Rattle.link_words.specs.Seats.{ClosesEra};
+    ghost use Rattle.link_words.specs.Steps.{ClosesLink};
 
-    ghost then = { λ st m r m'. ClosesEra m r m' };
+    ghost then = { λ st m r m'. ClosesEra m r m' × ((inc : ℕ) → st.second ≡ inc * 2 → ClosesLink D.row.coded D.meaning inc r m m') };
 }
 
 /// The last pass goes to a new seat.

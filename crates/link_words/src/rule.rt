@@ -134,24 +134,30 @@ pub enum Made {
     /// The word of a turn: 0 where it was free and this caller has it, else the holder's number and 1.
     Turn(u64),
     Era(Era),
-    /// A look for room: how many messages were accepted, and how many buffers are back.
-    Room(u64, u64),
-    /// A look for a message: how many were handed over, and how many are accepted.
-    Waiting(u64, u64),
     /// This buffer is out.
     Buffer(u64),
     /// An entry is stored.
     Entry,
-    /// A buffer was given back: how many are back now.
-    Gave(u64),
     /// The turn is free.
     Left,
+}
+
+/// What a step read or made of the counts of a lane.
+pub enum Counted {
+    /// A look for room: how many messages were accepted, and how many buffers are back.
+    Room(u64, u64),
+    /// A look for a message: how many were handed over, and how many are accepted.
+    Waiting(u64, u64),
+    /// A buffer was given back: how many are back now.
+    Gave(u64),
 }
 
 /// A step of a seat, with what it read or made. The acceptance of a message has one entry, and so has each other step, but that a handing
 /// has two: the message, and the era that was read.
 pub enum Event {
     Step(Made),
+    /// Of the lane to this end, in this incarnation: its counts.
+    Count(End, Inc, Counted),
     /// Of the lane to this end, in this incarnation: the message of this number was accepted.
     Publish(End, Inc, u64, Message),
     /// Of the lane to this end, in this incarnation: the message of this number was handed to it.

@@ -8,7 +8,7 @@ ghost use Rattle.link_words.specs.declared.rule.Pass.{Pass};
 ghost use Rattle.link_words.specs.declared.rule.Call.TheVariants.{Rests};
 ghost use Rattle.link_words.specs.Passes.{HasNumber, numbers_of, Manages, Mover, without_last, only_last, with_passes_from, after_end_with, place_of_number, without_new, only_new};
 ghost use Rattle.link_words.specs.Seats.{Settles, EnlistsCaller, EndsCaller, LearnsEra, ClosesEra};
-ghost use Rattle.link_words.specs.Steps.{MakesCaller};
+ghost use Rattle.link_words.specs.Steps.{MakesCaller, ClosesLink};
 ghost use Rattle.link_words.specs.Words.{words_in};
 
 use crate::moves::{
@@ -109,10 +109,11 @@ pub fn settle<D: Desk>(table: &LinkTable<D>, manager: &mut LinkSeat)
 
 /// One attempt to close this incarnation. The answer is the word of the era that was found.
 pub fn close_era<D: Desk>(table: &LinkTable<D>, seat: &mut LinkSeat, inc: Inc) -> u64
-    requires table { (seat.old.table_id ≡ table.now.table_id) × (words_in table.now.key ≤ table.now.table_id.words) }
+    requires table { (seat.old.table_id ≡ table.now.table_id) × (words_in table.now.key ≤ table.now.table_id.words) × (seat.old.me.0.sizes ≡ table.now.key) }
     requires pass { Mover seat.old.me.0 }
     ensures same { (seat.new.table_id ≡ seat.old.table_id) × (seat.new.id ≡ seat.old.id) }
     ensures told { ClosesEra seat.old.me result seat.new.me }
+    ensures step { ClosesLink D.row.coded D.meaning inc result seat.old.me seat.new.me }
 {
-    table.compare_exchange::<TellsClosesEra>(seat, ERA_PLACE, inc as u64 * 2 + 1, inc as u64 * 2)
+    table.compare_exchange::<TellsClosesEra<D>>(seat, ERA_PLACE, inc as u64 * 2 + 1, inc as u64 * 2)
 }

@@ -8,7 +8,7 @@ use crate::desks::{DeskTable, open, shut};
 use atomic_table::Badge;
 use lane_model::Desk;
 use ring_core::Hand;
-use rp_base::{CAPACITY_MOST, CallerNo, End, Message, NoMemory, Verdict};
+use rp_base::{BindFault, CAPACITY_MOST, CallerNo, End, Endpoint, Message, NoMemory, Verdict};
 use std::alloc::Global;
 use std::marker::Model;
 use std::mem;
@@ -71,6 +71,43 @@ impl ReceiverState {
         shut(desks, &mut seat);
         self.desk = seat.into_badge();
         verdict
+    }
+
+    /// The desk binds an endpoint, when `since` messages were handed over.
+    pub fn bind<D: Desk>(
+        &mut self,
+        desks: &DeskTable<D>,
+        address: u32,
+        since: u64,
+    ) -> Result<Endpoint, BindFault>
+        requires { (self.old.desk.table ≡ desks.now.table_id) × (0 < desks.now.table_id.words) }
+        ensures { (d : D) → self.old.desk.code ≡ D.row.coded.code d → (result ≡ D.meaning.bind_answer d address since)
+            × (self.new ≡ record self.old { desk = record self.old.desk { code = D.row.coded.code (D.meaning.bound d address since) } }) }
+    {
+        let mut seat = mem::replace(&mut self.desk, Badge::blank()).into_seat();
+        open(desks, &mut seat);
+        let answer = seat.slot_mut(desks, 0).bind(address, since);
+        shut(desks, &mut seat);
+        self.desk = seat.into_badge();
+        answer
+    }
+
+    /// The desk unbinds the endpoint at this address.
+    pub fn unbind<D: Desk>(
+        &mut self,
+        desks: &DeskTable<D>,
+        address: u32,
+    ) -> Result<Endpoint, BindFault>
+        requires { (self.old.desk.table ≡ desks.now.table_id) × (0 < desks.now.table_id.words) }
+        ensures { (d : D) → self.old.desk.code ≡ D.row.coded.code d → (result ≡ D.meaning.unbind_answer d address)
+            × (self.new ≡ record self.old { desk = record self.old.desk { code = D.row.coded.code (D.meaning.unbound d address) } }) }
+    {
+        let mut seat = mem::replace(&mut self.desk, Badge::blank()).into_seat();
+        open(desks, &mut seat);
+        let answer = seat.slot_mut(desks, 0).unbind(address);
+        shut(desks, &mut seat);
+        self.desk = seat.into_badge();
+        answer
     }
 
     /// The end whose desk it has the right to.

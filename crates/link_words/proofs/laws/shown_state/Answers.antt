@@ -8,4 +8,5 @@ returns g c = record {
   sound = λ z s m p r. r.sound;
   owner = λ z s m p r e id. owner_once _ id (rings_to m e (rings_in r));
   near = λ z s m p r e. near_in r e;
+  seen = λ z s m p r j l q there e. (r.histories.own j l q there).counts e;
 }

@@ -1,4 +1,4 @@
-use Rattle.std.proofs.Common.{◌%◌, arith, ◌∙◌, subst, refl, sym, ap}
+use Rattle.std.proofs.Common.{◌%◌, arith, ◌∙◌, subst, refl, sym}
 use Rattle.link_words.specs.PlacedDesks.{placed_coded, placed_meaning}
 use Rattle.link_words.specs.declared.rule.Ring.TheVariants as ring
 use Rattle.link_words.specs.Layouts.{place_in}

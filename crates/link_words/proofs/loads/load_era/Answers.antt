@@ -1,4 +1,4 @@
-use Rattle.std.proofs.Common.{arith, subst, ⊎_elim, refl, sym, ◌∙◌, ap}
+use Rattle.std.proofs.Common.{arith, subst, ⊎_elim, refl}
 use Rattle.link_words.specs.PlacedDesks.{placed_coded, placed_meaning}
 use Rattle.lane_model.specs.declared.stages.Work.TheVariants as work
 use Rattle.link_words.specs.Calls.{WorkAt}

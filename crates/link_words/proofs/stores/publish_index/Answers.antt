@@ -1,4 +1,4 @@
-use Rattle.std.proofs.Common.{arith, refl, subst, sym, ◌∙◌, ap}
+use Rattle.std.proofs.Common.{arith, refl, subst}
 use Rattle.link_words.specs.PlacedDesks.{placed_coded, placed_meaning}
 use Rattle.link_words.specs.Steps.{MayPublish, GivePublishes, SendPublishes}
 use Rattle.link_words.proofs.Apart.{forward_low, return_low}

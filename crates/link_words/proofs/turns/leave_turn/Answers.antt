@@ -1,4 +1,4 @@
-use Rattle.std.proofs.Common.{arith, subst, refl, sym, ◌∙◌, ap}
+use Rattle.std.proofs.Common.{arith, subst}
 use Rattle.link_words.specs.PlacedDesks.{placed_coded, placed_meaning}
 use Rattle.link_words.specs.Steps.{EndsAt, LeavesReceiver, LeavesSender}
 use Rattle.link_words.proofs.Apart.{sender_low, receiver_low}

@@ -1,4 +1,4 @@
-use Rattle.std.proofs.Common.{◌≤◌, ◌+◌, eqb, arith, refl, sym, ◌∙◌, ap, subst}
+use Rattle.std.proofs.Common.{◌≤◌, ◌+◌, eqb, arith, refl}
 use prog.Atomic.{either}
 use Rattle.link_words.specs.PlacedDesks.{placed_coded, placed_meaning}
 use Rattle.link_words.specs.Steps.{TakesTurn, Begins, HasWord}
