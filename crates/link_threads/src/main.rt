@@ -1,10 +1,11 @@
 // Eight callers of one link, four on each end, each on a thread of its own: each sends and takes its messages, and each number that was
-// handed over is compared with the book of its lane.
+// handed over is compared with the book of its lane. Then two senders of another link take the steps of their calls in turns.
 #![tactic(auto)]
 
 ghost use Rattle.split_ring.specs.Callers.{IsCallerOf};
 
 mod books;
+mod turns;
 mod workers;
 
 use crate::books::Book;
@@ -19,16 +20,26 @@ use std::{io, thread};
 
 fn main(rt: HostRuntime) -> io::Result<()> {
     match run(&rt, rt.alloc()) {
-        Ok((to_host, to_remote)) => {
+        Ok((to_host, to_remote, changes)) => {
             println!(rt; "to the host: {}", to_host)?;
-            println!(rt; "to the remote: {}", to_remote)
+            println!(rt; "to the remote: {}", to_remote)?;
+            println!(rt; "endpoints bound and unbound: {}", changes)?;
+        }
+        Err(_) => println!(rt; "no memory")?,
+    }
+    match turns::run(&rt, rt.alloc()) {
+        Ok(lines) => {
+            for line in &lines {
+                println!(rt; "{line}")?;
+            }
+            Ok(())
         }
         Err(_) => println!(rt; "no memory"),
     }
 }
 
-/// Runs the callers, and enters what they did into the books of the two lanes.
-fn run<R: Threads + Sync>(rt: &R, alloc: Global) -> Result<(Book, Book), NoMemory> {
+/// Runs the callers, enters what they did into the books of the two lanes, and counts those whose endpoint was bound and unbound.
+fn run<R: Threads + Sync>(rt: &R, alloc: Global) -> Result<(Book, Book, usize), NoMemory> {
     let config = LinkConfig {
         num0: 64,
         num1: 64,
@@ -61,5 +72,9 @@ fn run<R: Threads + Sync>(rt: &R, alloc: Global) -> Result<(Book, Book), NoMemor
             End::Remote => to_remote.take(&log.taken),
         }
     }
-    Ok((to_host, to_remote))
+    let changes = logs
+        .iter()
+        .filter(|log| log.is_bound && log.is_unbound)
+        .count();
+    Ok((to_host, to_remote, changes))
 }

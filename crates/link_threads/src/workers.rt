@@ -3,8 +3,8 @@ ghost use Rattle.std.specs.Prelude.{All, IfOk};
 ghost use Rattle.split_ring.specs.Callers.{IsCallerOf, IsManagerOf};
 
 use channel_bus::Side;
-use rp_base::{End, Message, NoMemory};
-use split_ring::{Caller, Manager, SharedLink, Taken};
+use rp_base::{End, Endpoint, Message, NoMemory};
+use split_ring::{Caller, DeskFault, Manager, SharedLink, Taken};
 use std::alloc::Global;
 use std::thread::yield_now;
 
@@ -21,10 +21,19 @@ pub struct Entry {
     pub payload: u64,
 }
 
-/// What a caller did: what it sent, and what was handed to it.
+/// A change of a caller's endpoint.
+#[derive(Clone, Copy)]
+enum Change {
+    Bind,
+    Unbind,
+}
+
+/// What a caller did: what it sent, and what was handed to it, and whether its endpoint was bound and unbound.
 #[derive(Drop)]
 pub struct Log {
     pub end: End,
+    pub is_bound: bool,
+    pub is_unbound: bool,
     pub sent: Vec<Entry>,
     pub taken: Vec<Entry>,
 }
@@ -55,6 +64,8 @@ pub fn workers(
         if let Some(caller) = link.caller(manager, end) {
             let log = Log {
                 end,
+                is_bound: false,
+                is_unbound: false,
                 sent: Vec::with_capacity(alloc, MESSAGES as usize)?,
                 taken: Vec::with_capacity(alloc, MESSAGES as usize)?,
             };
@@ -64,7 +75,7 @@ pub fn workers(
     Ok(jobs)
 }
 
-/// Sends all messages of a worker, and is handed as many.
+/// Binds an endpoint, sends all messages of a worker, is handed as many, and unbinds it.
 pub fn run(link: &SharedLink<Side>, worker: Worker) -> Log
     requires { IsCallerOf link.now worker.caller }
 {
@@ -74,6 +85,8 @@ pub fn run(link: &SharedLink<Side>, worker: Worker) -> Log
     } = worker;
     let mut bytes = [0; 32];
     bytes[8] = caller.number();
+    let address = 1024 + u32::from(caller.number());
+    log.is_bound = make_change(link, &mut caller, address, Change::Bind);
     for _ in 0..TRIES {
         let sent = log.sent.len() as u64;
         if sent < u64::from(MESSAGES) {
@@ -86,7 +99,39 @@ pub fn run(link: &SharedLink<Side>, worker: Worker) -> Log
             break;
         }
     }
+    log.is_unbound = make_change(link, &mut caller, address, Change::Unbind);
     log
+}
+
+/// Binds or unbinds the endpoint at an address: whether it was that one.
+fn make_change(link: &SharedLink<Side>, caller: &mut Caller, address: u32, change: Change) -> bool
+    requires { IsCallerOf link.now caller.old }
+    ensures { IsCallerOf link.now caller.new }
+{
+    for _ in 0..TRIES {
+        match try_change(link, caller, address, change) {
+            Ok(endpoint) => return endpoint.address == address,
+            Err(DeskFault::Busy(_)) => yield_now(),
+            Err(_) => return false,
+        }
+    }
+    false
+}
+
+/// Tries once.
+fn try_change(
+    link: &SharedLink<Side>,
+    caller: &mut Caller,
+    address: u32,
+    change: Change,
+) -> Result<Endpoint, DeskFault>
+    requires { IsCallerOf link.now caller.old }
+    ensures { IsCallerOf link.now caller.new }
+{
+    match change {
+        Change::Bind => link.try_bind(caller, address),
+        Change::Unbind => link.try_unbind(caller, address),
+    }
 }
 
 /// What a message says, by its first nine bytes.

@@ -7,5 +7,8 @@ pub mod SendWalks
 pub mod TakeSteps
 pub mod TakeWalks
 pub mod GiveSteps
+pub mod BindSteps
+pub mod CallSteps
+pub mod CallEnds
 pub mod Makes
 pub mod Crosses

@@ -13,14 +13,16 @@ use Rattle.lane_model.specs.Desks.{DeskMeaning}
 use Rattle.link_words.specs.declared.rule.Call.{Call}
 use Rattle.link_words.specs.declared.rule.Call.TheVariants.{Sends, Receives}
 use Rattle.link_words.specs.declared.rule.Event.{Event}
-use Rattle.link_words.specs.declared.rule.Event.TheVariants.{Step, Publish, Take}
+use Rattle.link_words.specs.declared.rule.Event.TheVariants.{Step, Count, Publish, Take}
 use Rattle.link_words.specs.declared.rule.Made.{Made}
 use Rattle.link_words.specs.declared.rule.Pass.{Pass}
 use Rattle.link_words.specs.declared.rule.ReceiverSide.{ReceiverSide}
 use Rattle.link_words.specs.declared.rule.SenderSide.{SenderSide}
 use Rattle.link_words.specs.declared.rule.Slot.{Slot}
 use Rattle.link_words.specs.declared.rule.View.{View}
-use Rattle.link_words.specs.Calls.{SeatState, Becomes, with_pass_at, has_side, first_side, place_of, place_with, call_at}
+use Rattle.link_words.specs.Calls.{SeatState, Becomes, with_pass_at, has_side, first_side, place_of, place_with, call_at, own_at, in_hand_at}
+use Rattle.link_words.specs.declared.rule.Counted.{Counted}
+use Rattle.link_words.specs.Histories.{NeverBack}
 use Rattle.link_words.specs.Passes.{Mover, place_of_number}
 use Rattle.link_words.specs.Steps.{Begins, GoesOn, HasWord, StoresWord}
 use Rattle.link_words.specs.Words.{sender_slot, receiver_slot, buffer_slot}
@@ -50,6 +52,12 @@ first_place me call slots at is = (λ i. place_with (first_side (at.out i)) (at.
 
 pub call_here : (me : SeatState) (call : Call) (slots : List (ℕ × Slot)) (k : ℕ) → IsAt me call slots → k ≡ 0 → call_at k me.0.passes ≡ call
 call_here me call slots k at zero = (λ i. call_at (zero i) (at.one i)) ∙ at.in_call
+
+pub own_here : (me : SeatState) (k : ℕ) → me.0.passes ≡ pass_in me ∷ [] → k ≡ 0 → own_at k me.0.passes ≡ (pass_in me).own
+own_here me k one zero = λ i. own_at (zero i) (one i)
+
+pub in_hand_here : (me : SeatState) (k : ℕ) → me.0.passes ≡ pass_in me ∷ [] → k ≡ 0 → in_hand_at k me.0.passes ≡ (pass_in me).hands
+in_hand_here me k one zero = λ i. in_hand_at (zero i) (one i)
 
 abbrev pub mover_of : (me : SeatState) → me.0.passes ≡ pass_in me ∷ [] → Mover me.0
 mover_of me one = record { place = 0; pass = pass_in me; here = ap (λ (ps : List Pass). get_elem? ps 0) one }
@@ -106,6 +114,10 @@ module _ {D : Type 0} (coded : Coded D) (meaning : DeskMeaning D) where
   pub stepped_once : (made : Made) (me me' : SeatState) → IsRingStep coded meaning me me' → HasStepped coded meaning (Step made ∷ []) me me'
   stepped_once made me me' step = (me, me', refl, step, refl)
 
+  -- and one that tells of the counts of a lane
+  pub stepped_counted : (lane : End) (inc : ℕ) (counts : Counted) (me me' : SeatState) → IsRingStep coded meaning me me' → NeverBack lane inc counts (pass_in me).own → HasStepped coded meaning (Count lane inc counts ∷ []) me me'
+  stepped_counted lane inc counts me me' step never = (me, me', refl, step, refl, never)
+
   pub finds : (me me' : SeatState) (place n : ℕ) → GoesOn coded meaning me (HasWord place n) me' → IsRingStep coded meaning me me'
   finds me me' place n step = (place, n, inr (inl step))
 
@@ -132,15 +144,28 @@ module _ {D : Type 0} (coded : Coded D) (meaning : DeskMeaning D) where
     out = out;
   }
 
+  -- what is in the slots changes behind steps
+  stepped_still : (es : List Event) (a b c : SeatState) → c.0 ≡ b.0 → HasStepped coded meaning es a b → HasStepped coded meaning es a c
+  stepped_still [] a b c same was = same ∙ was
+  stepped_still (Step made ∷ es) a b c same was = (was.0, was.1, was.2, was.3, same ∙ was.4)
+  stepped_still (Count lane inc counts ∷ es) a b c same was = (was.0, was.1, was.2, was.3, same ∙ was.4, was.5)
+  stepped_still (Publish lane inc number message ∷ es) a b c same was = (was.0, was.1, was.2, was.3, same ∙ was.4)
+  stepped_still (Take lane inc number message ∷ es) a b c same was = stepped_still es a b c same was
+
   -- more steps
-  stepped_then : (events before : List Event) (a b c : SeatState) → HasStepped coded meaning before a b → HasStepped coded meaning events b c → HasStepped coded meaning (events ++ before) a c
-  stepped_then [] [] a b c first then = then ∙ first
-  stepped_then [] (Step made ∷ es) a b c first then = (first.0, first.1, first.2, first.3, then ∙ first.4)
-  stepped_then [] (Publish lane inc number message ∷ es) a b c first then = (first.0, first.1, first.2, first.3, then ∙ first.4)
-  stepped_then [] (Take lane inc number message ∷ es) a b c first then = stepped_then [] es a b c first then
-  stepped_then (Step made ∷ es) before a b c first then = (then.0, then.1, stepped_then es before a b then.0 first then.2, then.3, then.4)
-  stepped_then (Publish lane inc number message ∷ es) before a b c first then = (then.0, then.1, stepped_then es before a b then.0 first then.2, then.3, then.4)
-  stepped_then (Take lane inc number message ∷ es) before a b c first then = stepped_then es before a b c first then
+  stepped_then : (events before : List Event) (a b c : SeatState) → (pass_in b).own ≡ before ++ (pass_in a).own → HasStepped coded meaning before a b → HasStepped coded meaning events b c → HasStepped coded meaning (events ++ before) a c
+  stepped_then [] before a b c own first then = stepped_still before a b c then first
+  stepped_then (Step made ∷ es) before a b c own first then = (then.0, then.1, stepped_then es before a b then.0 own first then.2, then.3, then.4)
+  stepped_then (Count lane inc counts ∷ es) before a b c own first then = (
+    then.0,
+    then.1,
+    stepped_then es before a b then.0 own first then.2,
+    then.3,
+    then.4,
+    subst (NeverBack lane inc counts) (ap (λ (l : List Event). es ++ l) own ∙ sym (append_assoc es before (pass_in a).own)) then.5,
+  )
+  stepped_then (Publish lane inc number message ∷ es) before a b c own first then = (then.0, then.1, stepped_then es before a b then.0 own first then.2, then.3, then.4)
+  stepped_then (Take lane inc number message ∷ es) before a b c own first then = stepped_then es before a b c own first then
 
   pub done_then : (events before : List Event) (more less : List ℕ → List ℕ) (a b c : SeatState) → HasDone coded meaning before less a b → HasDone coded meaning events more b c
       → HasDone coded meaning (events ++ before) (λ hands. more (less hands)) a c
@@ -149,5 +174,5 @@ module _ {D : Type 0} (coded : Coded D) (meaning : DeskMeaning D) where
     number = then.number ∙ first.number;
     in_hand = then.in_hand ∙ ap more first.in_hand;
     sizes = then.sizes ∙ first.sizes;
-    stepped = stepped_then events before a b c first.stepped then.stepped;
+    stepped = stepped_then events before a b c first.own first.stepped then.stepped;
   }

@@ -21,7 +21,11 @@ use Rattle.ring_core.specs.Rings.{return_count, entry_length}
 use Rattle.vring_layout.specs.declared.words.UsedWord.{UsedWord}
 use Rattle.link_words.specs.declared.rule.Call.{Call}
 use Rattle.link_words.specs.declared.rule.Call.TheVariants.{Sends}
-use Rattle.link_words.specs.declared.rule.Event.TheVariants.{Step, Publish}
+use Rattle.link_words.specs.declared.rule.Counted.{Counted}
+use Rattle.link_words.specs.declared.rule.Counted.TheVariants.{Room}
+use Rattle.link_words.specs.declared.rule.Event.{Event}
+use Rattle.link_words.specs.declared.rule.Event.TheVariants.{Step, Count, Publish}
+use Rattle.link_words.specs.Histories.{NeverBack}
 use Rattle.link_words.specs.declared.rule.LinkSizes.{LinkSizes}
 use Rattle.link_words.specs.declared.rule.Made.{Made}
 use Rattle.link_words.specs.declared.rule.Made.TheVariants as made
@@ -32,16 +36,16 @@ use Rattle.link_words.specs.declared.rule.Slot.TheVariants.{Buffer, Sender}
 use Rattle.link_words.specs.Calls.{SeatState, SendAt, Notes, noted, send_or, receive_or, under_way_or, with_send, place_of}
 use Rattle.link_words.specs.Parts.{AreNear}
 use Rattle.link_words.specs.Passes.{with_call}
-use Rattle.link_words.specs.Steps.{SendLoadsEra, SendLooks, SendTakesBuffer, SendStoresEntry, SendStoresAt, SendPublishes, SendPublishesAt, accepted_by, sizes_by, slot_by, lane_by, look_turn, with_publish}
+use Rattle.link_words.specs.Steps.{SendLoadsEra, SendLooks, SendTakesBuffer, SendStoresEntry, SendStoresAt, SendPublishes, SendPublishesAt, accepted_by, sizes_by, slot_by, lane_by, follows_by, look_turn, with_room, with_publish}
 use Rattle.link_words.specs.Words.{other, sizes_at, buffer_slot, era_word}
 use Rattle.split_ring.specs.declared.sends.SendCall.{SendCall}
 use Rattle.split_ring.specs.declared.sends.SendFault.TheVariants as fault
 use Rattle.split_ring.specs.Seats.{pass_in, IsAt}
-use Rattle.split_ring.specs.Sends.{send_call, send_slots, send_buffer, live_era, IsSendAt, IsFilledAt, HasNoRoom}
+use Rattle.split_ring.specs.Sends.{send_call, send_slots, send_buffer, live_era, room_look, IsSendAt, IsFilledAt, HasNoRoom}
 use Rattle.split_ring.specs.Turns.{IsLeaving}
 use Rattle.split_ring.specs.Walks.{same_hands, IsRingStep, HasDone}
 use Rattle.split_ring.proofs.Eras.{live_is, dead_is}
-use Rattle.split_ring.proofs.Seats.{Moves, after_step, stepped_once, first_place, call_here, mover_of, side_sends, side_fills}
+use Rattle.split_ring.proofs.Seats.{Moves, after_step, stepped_once, stepped_counted, first_place, call_here, own_here, mover_of, side_sends, side_fills}
 
 -- the call of a send with this turn
 abbrev with_turn : SendCall → Turn Sending → Call
@@ -75,6 +79,10 @@ accepted_is me c q slots at zero = ap (λ (k : Call). send_or 0 (λ e t x b. x.a
 
 lane_is : (me : SeatState) (c : SendCall) (q : SendStage) (slots : List (ℕ × Slot)) → IsAt me (send_call c q) slots → place_of me ≡ 0 → lane_by me ≡ other c.who.end
 lane_is me c q slots at zero = ap (λ (k : Call). send_or {A = End} (receive_or {A = End} side.Host (λ e t x b message. e) k) (λ e t x b. e) k) (call_here me (send_call c q) slots (place_of me) at zero)
+
+follows_is : (me : SeatState) (c : SendCall) (q : SendStage) (slots : List (ℕ × Slot)) → IsAt me (send_call c q) slots → place_of me ≡ 0 → follows_by me ≡ c.who.follows
+follows_is me c q slots at zero =
+    ap (λ (k : Call). send_or (receive_or 0 (λ e t x b message. under_way_or 0 (λ caller r. r.follows) t) k) (λ e t x b. under_way_or 0 (λ caller s. s.follows) t) k) (call_here me (send_call c q) slots (place_of me) at zero)
 
 sizes_is : (z : LinkSizes) (me : SeatState) (c : SendCall) (q : SendStage) (slots : List (ℕ × Slot)) → me.0.sizes ≡ z → IsAt me (send_call c q) slots → place_of me ≡ 0 → sizes_by me ≡ sizes_at z (other c.who.end)
 sizes_is z me c q slots told at zero = λ i. sizes_at (told i) (lane_is me c q slots at zero i)
@@ -126,15 +134,26 @@ module _ {D : Type 0} (coded : Coded D) (meaning : DeskMeaning D) where
       (dead_is found c.who.follows dead, (c.who.number, end.Dead told.0, record { accepted = c.accepted }, c.buffer, all.0), subst (λ (x : Era). HasDone coded meaning (Step (made.Era x) ∷ []) same_hands me me') (sym same) all.1)
 
   -- step 3
+  room_pass : (c : SendCall) (returned capacity book : ℕ) (t : Turn Sending) (p : Pass) → p.call ≡ send_call c stage.Era → look_turn c.accepted returned capacity book c.who.number (sending c stage.Era) ≡ t
+      → Moves p (with_room returned capacity book p) (with_turn c t) (room_look c.who c.accepted returned ∷ []) same_hands
+  unfolding sending
+  room_pass c returned capacity book t p in_call turns =
+      let is : with_room returned capacity book p ≡ record p { call = with_turn c (look_turn c.accepted returned capacity book c.who.number (sending c stage.Era)); own = room_look c.who c.accepted returned ∷ p.own }
+      = ap (λ (k : Call). send_or p (λ e t x b. under_way_or p (λ caller s. record p { call = Sends e (look_turn x.accepted returned capacity book caller s) x b; own = Count e s.follows (Room x.accepted returned) ∷ p.own }) t) k) in_call in
+      record { in_call = ap (λ (r : Pass). r.call) is ∙ ap (with_turn c) turns; own = ap (λ (r : Pass). r.own) is; number = ap (λ (r : Pass). r.number) is; in_hand = ap (λ (r : Pass). r.hands) is }
+
   looks : (z : LinkSizes) (me me' : SeatState) (c : SendCall) (n : ℕ) (t : Turn Sending) → me.0.sizes ≡ z → IsAt me (send_call c stage.Era) (send_slots c c.accepted) → (told : SendLooks me n me') → IsRingStep coded meaning me me'
       → look_turn c.accepted told.0 (sizes_at z (other c.who.end)).capacity z.book c.who.number (sending c stage.Era) ≡ t
-      → IsAt me' (with_turn c t) (send_slots c c.accepted) × HasDone coded meaning (Step (made.Room c.accepted told.0) ∷ []) same_hands me me'
+      → IsAt me' (with_turn c t) (send_slots c c.accepted) × HasDone coded meaning (room_look c.who c.accepted told.0 ∷ []) same_hands me me'
   unfolding sending
   looks z me me' c n t sized at told step is =
       let zero = alone me c stage.Era at in let sizes = sizes_is z me c stage.Era (send_slots c c.accepted) sized at zero in
-      let all = turned (made.Room (accepted_by me) told.0) (λ x caller s. look_turn x.accepted told.0 (sizes_by me).capacity me.0.sizes.book caller s) me me' c stage.Era t at told.3
-      ((λ i. look_turn c.accepted told.0 (sizes i).capacity (sized i).book c.who.number (sending c stage.Era)) ∙ is) step in
-      (all.0, subst (λ (k : ℕ). HasDone coded meaning (Step (made.Room k told.0) ∷ []) same_hands me me') (accepted_is me c stage.Era (send_slots c c.accepted) at zero) all.1)
+      let slots = send_slots c c.accepted in let lane = other c.who.end in let room : Counted = Room c.accepted told.0 in
+      let never : NeverBack lane c.who.follows room (pass_in me).own = subst (λ (v : End × ℕ × ℕ × List Event). NeverBack v.0 v.1 (Room v.2 told.0) v.3)
+      (λ i. (lane_is me c stage.Era slots at zero i, follows_is me c stage.Era slots at zero i, accepted_is me c stage.Era slots at zero i, own_here me (place_of me) at.one zero i)) told.3 in
+      after_step coded meaning (with_room told.0 (sizes_by me).capacity me.0.sizes.book) me.1 slots me me' (place_of me) (with_turn c t) (room_look c.who c.accepted told.0 ∷ []) same_hands at.one zero told.4 at.out
+      (room_pass c told.0 (sizes_by me).capacity me.0.sizes.book t (pass_in me) at.in_call ((λ i. look_turn c.accepted told.0 (sizes i).capacity (sized i).book c.who.number (sending c stage.Era)) ∙ is))
+      (stepped_counted coded meaning lane c.who.follows room me me' step never)
 
   -- the count that was found
   found_count : (z : LinkSizes) (me me' : SeatState) (c : SendCall) (n free : ℕ) → me.0.sizes ≡ z → IsAt me (send_call c stage.Era) (send_slots c c.accepted) → (told : SendLooks me n me')
@@ -147,7 +166,7 @@ module _ {D : Type 0} (coded : Coded D) (meaning : DeskMeaning D) where
   pub finds_room : (z : LinkSizes) (me me' : SeatState) (c : SendCall) (n free : ℕ) → me.0.sizes ≡ z → IsSendAt c stage.Era me → SendLooks me n me' → IsRingStep coded meaning me me'
       → ((returned : ℕ) → n ≡ return_count (sizes_at z (other c.who.end)) returned % 65536 → AreNear (sizes_at z (other c.who.end)).capacity c.accepted returned → free + c.accepted ≡ returned + (sizes_at z (other c.who.end)).capacity)
       → free ≢ 0 → c.accepted ≢ z.book
-      → IsSendAt c stage.Look me' × ((returned : ℕ) × HasDone coded meaning (Step (made.Room c.accepted returned) ∷ []) same_hands me me')
+      → IsSendAt c stage.Look me' × ((returned : ℕ) × HasDone coded meaning (room_look c.who c.accepted returned ∷ []) same_hands me me')
   unfolding sending
   finds_room z me me' c n free sized at told step counts some book =
       let count = found_count z me me' c n free sized at.0 told counts in let capacity = (sizes_at z (other c.who.end)).capacity in
@@ -160,7 +179,7 @@ module _ {D : Type 0} (coded : Coded D) (meaning : DeskMeaning D) where
       → ((returned : ℕ) → n ≡ return_count (sizes_at z (other c.who.end)) returned % 65536 → AreNear (sizes_at z (other c.who.end)).capacity c.accepted returned → free + c.accepted ≡ returned + (sizes_at z (other c.who.end)).capacity)
       → free ≡ 0 → returned ≡ c.accepted - (sizes_at z (other c.who.end)).capacity
       → (back : ℕ) × (ended : CallEnd) × HasNoRoom z c back (fault.NoBuffer c.accepted returned) ended × IsLeaving lane_turn.Sender (other c.who.end) me'
-      × HasDone coded meaning (Step (made.Room c.accepted back) ∷ []) same_hands me me'
+      × HasDone coded meaning (room_look c.who c.accepted back ∷ []) same_hands me me'
   unfolding sending
   finds_none z me me' c n free returned sized at told step counts none is =
       let count = found_count z me me' c n free sized at.0 told counts in let capacity = (sizes_at z (other c.who.end)).capacity in
@@ -173,7 +192,7 @@ module _ {D : Type 0} (coded : Coded D) (meaning : DeskMeaning D) where
       → ((returned : ℕ) → n ≡ return_count (sizes_at z (other c.who.end)) returned % 65536 → AreNear (sizes_at z (other c.who.end)).capacity c.accepted returned → free + c.accepted ≡ returned + (sizes_at z (other c.who.end)).capacity)
       → free ≢ 0 → c.accepted ≡ z.book
       → (back : ℕ) × (ended : CallEnd) × HasNoRoom z c back (fault.BookFull c.accepted) ended × IsLeaving lane_turn.Sender (other c.who.end) me'
-      × HasDone coded meaning (Step (made.Room c.accepted back) ∷ []) same_hands me me'
+      × HasDone coded meaning (room_look c.who c.accepted back ∷ []) same_hands me me'
   unfolding sending
   finds_full z me me' c n free sized at told step counts some book =
       let count = found_count z me me' c n free sized at.0 told counts in let capacity = (sizes_at z (other c.who.end)).capacity in

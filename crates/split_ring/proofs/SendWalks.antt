@@ -16,9 +16,11 @@ use Rattle.split_ring.specs.declared.callers.CallerId.{CallerId}
 use Rattle.split_ring.specs.declared.sends.SendCall.{SendCall}
 use Rattle.split_ring.specs.declared.sends.SendFault.{SendFault}
 use Rattle.split_ring.specs.declared.sends.SendFault.TheVariants as fault
-use Rattle.split_ring.specs.Sends.{live_era, HasNoRoom, HasSettled, IsSend}
+use Rattle.split_ring.specs.Sends.{live_era, room_look, HasNoRoom, HasSettled, IsSend, IsSendNotBelow}
 use Rattle.split_ring.specs.Turns.{IsLeaving}
-use Rattle.split_ring.specs.Walks.{same_hands, HasDone}
+use Rattle.split_ring.specs.Walks.{same_hands, HasStepped, HasDone}
+use Rattle.split_ring.specs.Seats.{pass_in}
+use Rattle.link_words.specs.Histories.{seen}
 use Rattle.split_ring.proofs.Seats.{done_then}
 
 module _ {D : Type 0} (coded : Coded D) (meaning : DeskMeaning D) where
@@ -40,43 +42,43 @@ module _ {D : Type 0} (coded : Coded D) (meaning : DeskMeaning D) where
 
   -- up to the look
   looked : (c : SendCall) (returned : ℕ) (a b d e : SeatState) → HasDone coded meaning [] same_hands a b → HasDone coded meaning (Step (made.Era (live_era c.who.follows)) ∷ []) same_hands b d
-      → HasDone coded meaning (Step (made.Room c.accepted returned) ∷ []) same_hands d e
-      → HasDone coded meaning (Step (made.Room c.accepted returned) ∷ Step (made.Era (live_era c.who.follows)) ∷ []) same_hands a e
+      → HasDone coded meaning (room_look c.who c.accepted returned ∷ []) same_hands d e
+      → HasDone coded meaning (room_look c.who c.accepted returned ∷ Step (made.Era (live_era c.who.follows)) ∷ []) same_hands a e
   looked c returned a b d e begun live room =
-      done_then coded meaning (Step (made.Room c.accepted returned) ∷ []) (Step (made.Era (live_era c.who.follows)) ∷ []) same_hands same_hands a d e
+      done_then coded meaning (room_look c.who c.accepted returned ∷ []) (Step (made.Era (live_era c.who.follows)) ∷ []) same_hands same_hands a d e
       (done_then coded meaning (Step (made.Era (live_era c.who.follows)) ∷ []) [] same_hands same_hands a b d begun live) room
 
   pub settled_none : (z : LinkSizes) (c : SendCall) (found : SendFault) (returned : ℕ) (ended : CallEnd) (a e : SeatState) → HasNoRoom z c returned found ended → IsLeaving lane_turn.Sender (other c.who.end) e
-      → HasDone coded meaning (Step (made.Room c.accepted returned) ∷ Step (made.Era (live_era c.who.follows)) ∷ []) same_hands a e
+      → HasDone coded meaning (room_look c.who c.accepted returned ∷ Step (made.Era (live_era c.who.follows)) ∷ []) same_hands a e
       → HasSettled coded meaning z c.who c.message.value (Err found) a e
   settled_none z c (fault.Busy holder) returned ended a e none leaves done = absurd none
   settled_none z c (fault.Dead era) returned ended a e none leaves done = absurd none
   settled_none z c (fault.NoBuffer accepted back) returned ended a e none leaves done = record {
     leaves = leaves;
-    steps = Step (made.Room c.accepted returned) ∷ Step (made.Era (live_era c.who.follows)) ∷ [];
-    is = ((λ i. Step made.Left ∷ Step (made.Room (sym none.0 i) (sym none.1 i)) ∷ Step (made.Era (live_era c.who.follows)) ∷ Step (made.Turn 0) ∷ []), none.3);
+    steps = room_look c.who c.accepted returned ∷ Step (made.Era (live_era c.who.follows)) ∷ [];
+    is = ((λ i. Step made.Left ∷ room_look c.who (sym none.0 i) (sym none.1 i) ∷ Step (made.Era (live_era c.who.follows)) ∷ Step (made.Turn 0) ∷ []), none.3);
     done = done;
   }
   settled_none z c (fault.BookFull accepted) returned ended a e none leaves done = record {
     leaves = leaves;
-    steps = Step (made.Room c.accepted returned) ∷ Step (made.Era (live_era c.who.follows)) ∷ [];
-    is = (returned, (λ i. Step made.Left ∷ Step (made.Room (sym none.0 i) returned) ∷ Step (made.Era (live_era c.who.follows)) ∷ Step (made.Turn 0) ∷ []), none.2, none.3);
+    steps = room_look c.who c.accepted returned ∷ Step (made.Era (live_era c.who.follows)) ∷ [];
+    is = (returned, (λ i. Step made.Left ∷ room_look c.who (sym none.0 i) returned ∷ Step (made.Era (live_era c.who.follows)) ∷ Step (made.Turn 0) ∷ []), none.2, none.3);
     done = done;
   }
 
   pub settled_unmet : (z : LinkSizes) (c : SendCall) (found : SendFault) (a b d e : SeatState) → HasDone coded meaning [] same_hands a b → HasDone coded meaning (Step (made.Era (live_era c.who.follows)) ∷ []) same_hands b d
-      → (returned : ℕ) × (ended : CallEnd) × HasNoRoom z c returned found ended × IsLeaving lane_turn.Sender (other c.who.end) e × HasDone coded meaning (Step (made.Room c.accepted returned) ∷ []) same_hands d e
+      → (returned : ℕ) × (ended : CallEnd) × HasNoRoom z c returned found ended × IsLeaving lane_turn.Sender (other c.who.end) e × HasDone coded meaning (room_look c.who c.accepted returned ∷ []) same_hands d e
       → HasSettled coded meaning z c.who c.message.value (Err found) a e
   settled_unmet z c found a b d e begun live none = settled_none z c found none.0 none.1 a e none.2 none.3 (looked c none.0 a b d e begun live none.4)
 
   pub settled_sent : (z : LinkSizes) (c : SendCall) (buffer : ℕ) (a b d e f h k : SeatState) → HasDone coded meaning [] same_hands a b → HasDone coded meaning (Step (made.Era (live_era c.who.follows)) ∷ []) same_hands b d
-      → (returned : ℕ) × HasDone coded meaning (Step (made.Room c.accepted returned) ∷ []) same_hands d e → HasDone coded meaning (Step (made.Buffer buffer) ∷ []) same_hands e f
+      → (returned : ℕ) × HasDone coded meaning (room_look c.who c.accepted returned ∷ []) same_hands d e → HasDone coded meaning (Step (made.Buffer buffer) ∷ []) same_hands e f
       → HasDone coded meaning (Step made.Entry ∷ []) same_hands f h → IsLeaving lane_turn.Sender (other c.who.end) k
       → HasDone coded meaning (Publish (other c.who.end) c.who.follows c.accepted c.message.value ∷ []) same_hands h k
       → HasSettled coded meaning z c.who c.message.value (Ok c.accepted) a k
   settled_sent z c buffer a b d e f h k begun live room out entry leaves published =
       let look = looked c room.0 a b d e begun live room.1 in
-      let upto : List Event = Step (made.Room c.accepted room.0) ∷ Step (made.Era (live_era c.who.follows)) ∷ [] in
+      let upto : List Event = room_look c.who c.accepted room.0 ∷ Step (made.Era (live_era c.who.follows)) ∷ [] in
       record {
         leaves = leaves;
         steps = Publish (other c.who.end) c.who.follows c.accepted c.message.value ∷ Step made.Entry ∷ Step (made.Buffer buffer) ∷ upto;
@@ -95,3 +97,14 @@ module _ {D : Type 0} (coded : Coded D) (meaning : DeskMeaning D) where
     done = done_then coded meaning (Step made.Left ∷ []) (settled.steps ++ Step (made.Turn 0) ∷ []) same_hands same_hands a d e
         (done_then coded meaning settled.steps (Step (made.Turn 0) ∷ []) same_hands same_hands a b d entered settled.done) left;
   }
+
+  -- its answer tells no count that is below what the caller had seen
+  pub send_seen : (z : LinkSizes) (who : CallerId) (message : List ℕ) (answer : Result ℕ SendFault) (me me' : SeatState) → IsSend coded meaning z who message answer me me' → IsSendNotBelow (seen (other who.end) who.follows (pass_in me).own) answer
+  send_seen z who message (Err (fault.Busy holder)) me me' send = tt
+  send_seen z who message (Err (fault.Dead era)) me me' send = tt
+  send_seen z who message (Err (fault.NoBuffer accepted returned)) me me' send =
+      (subst (λ (walk : List Event). HasStepped coded meaning walk me me') send.is.0 send.done.stepped).2.5.not_below
+  send_seen z who message (Err (fault.BookFull accepted)) me me' send =
+      (subst (λ (walk : List Event). HasStepped coded meaning walk me me') send.is.1 send.done.stepped).2.5.not_below.0
+  send_seen z who message (Ok number) me me' send =
+      (subst (λ (walk : List Event). HasStepped coded meaning walk me me') send.is.2 send.done.stepped).2.2.2.2.5.not_below.0

@@ -22,7 +22,11 @@ use Rattle.ring_core.specs.declared.states.RingSizes.{RingSizes}
 use Rattle.link_words.specs.declared.codes.DeskRight.{DeskRight}
 use Rattle.link_words.specs.declared.rule.Call.{Call}
 use Rattle.link_words.specs.declared.rule.Call.TheVariants.{Receives}
-use Rattle.link_words.specs.declared.rule.Event.TheVariants.{Step, Take}
+use Rattle.link_words.specs.declared.rule.Event.TheVariants.{Step, Count, Take}
+use Rattle.link_words.specs.declared.rule.Event.{Event}
+use Rattle.link_words.specs.declared.rule.Counted.{Counted}
+use Rattle.link_words.specs.declared.rule.Counted.TheVariants.{Waiting}
+use Rattle.link_words.specs.Histories.{NeverBack}
 use Rattle.link_words.specs.declared.rule.LinkSizes.{LinkSizes}
 use Rattle.link_words.specs.declared.rule.Made.{Made}
 use Rattle.link_words.specs.declared.rule.Made.TheVariants as made
@@ -33,18 +37,18 @@ use Rattle.link_words.specs.declared.rule.Slot.TheVariants.{Buffer, Receiver}
 use Rattle.link_words.specs.Calls.{SeatState, WorkAt, Notes, noted, send_or, receive_or, under_way_or, with_receive, place_of, call_at}
 use Rattle.link_words.specs.Passes.{with_call}
 use Rattle.link_words.specs.PlacedDesks.{IsRightTo, no_right}
-use Rattle.link_words.specs.Steps.{HandsAt, TakeLoadsEra, TakeLooks, TakeTakesBuffer, TakeHands, handed_by, sizes_by, slot_by, lane_by, take_look_turn, with_handing, handed_side}
+use Rattle.link_words.specs.Steps.{HandsAt, TakeLoadsEra, TakeLooks, TakeTakesBuffer, TakeHands, handed_by, sizes_by, slot_by, lane_by, follows_by, take_look_turn, with_waiting, with_handing, handed_side}
 use Rattle.link_words.specs.Words.{sizes_at, buffer_slot, era_word}
 use Rattle.split_ring.specs.declared.callers.CallerId.{CallerId}
 use Rattle.split_ring.specs.declared.takes.TakeCall.{TakeCall}
 use Rattle.split_ring.specs.Openings.{IsOpenable}
-use Rattle.split_ring.specs.Receives.{IsTakeAt, HasBufferOut}
+use Rattle.split_ring.specs.Receives.{IsTakeAt, HasBufferOut, message_look}
 use Rattle.split_ring.specs.Seats.{pass_in, IsAt}
 use Rattle.split_ring.specs.Sends.{live_era}
 use Rattle.split_ring.specs.Turns.{IsLeaving, receive_call, receive_slots}
 use Rattle.split_ring.specs.Walks.{same_hands, one_more, IsRingStep, HasDone}
 use Rattle.split_ring.proofs.Eras.{live_is, dead_is}
-use Rattle.split_ring.proofs.Seats.{Moves, after_step, stepped_once, first_place, call_here, mover_of, side_receives, side_hands}
+use Rattle.split_ring.proofs.Seats.{Moves, after_step, stepped_once, stepped_counted, first_place, call_here, own_here, mover_of, side_receives, side_hands}
 
 -- the call of a caller with the receiver's turn in this state
 abbrev pub with_turn : CallerId → ReceiverSide → ℕ → List ℕ → Turn Receiving → Call
@@ -83,6 +87,10 @@ side_is otherwise read me who w x b m slots at zero = ap (λ (k : Call). receive
 
 pub lane_is : (me : SeatState) (who : CallerId) (w : Work) (x : ReceiverSide) (b : ℕ) (m : List ℕ) (slots : List (ℕ × Slot)) → IsAt me (receive_call who w x b m) slots → place_of me ≡ 0 → lane_by me ≡ who.end
 lane_is me who w x b m slots at zero = ap (λ (k : Call). send_or {A = End} (receive_or {A = End} side.Host (λ e t x b message. e) k) (λ e t x b. e) k) (call_here me (receive_call who w x b m) slots (place_of me) at zero)
+
+follows_is : (me : SeatState) (who : CallerId) (w : Work) (x : ReceiverSide) (b : ℕ) (m : List ℕ) (slots : List (ℕ × Slot)) → IsAt me (receive_call who w x b m) slots → place_of me ≡ 0 → follows_by me ≡ who.follows
+follows_is me who w x b m slots at zero =
+    ap (λ (k : Call). send_or (receive_or 0 (λ e t x b message. under_way_or 0 (λ caller r. r.follows) t) k) (λ e t x b. under_way_or 0 (λ caller s. s.follows) t) k) (call_here me (receive_call who w x b m) slots (place_of me) at zero)
 
 pub sizes_is : (z : LinkSizes) (me : SeatState) (who : CallerId) (w : Work) (x : ReceiverSide) (b : ℕ) (m : List ℕ) (slots : List (ℕ × Slot)) → me.0.sizes ≡ z → IsAt me (receive_call who w x b m) slots → place_of me ≡ 0 → sizes_by me ≡ sizes_at z who.end
 sizes_is z me who w x b m slots told at zero = λ i. sizes_at (told i) (lane_is me who w x b m slots at zero i)
@@ -123,14 +131,24 @@ module _ {D : Type 0} (coded : Coded D) (meaning : DeskMeaning D) where
       (dead_is found c.who.follows dead, (c.who.number, end.Dead told.0, at.side, 0, [], all.0), subst (λ (e : Era). HasDone coded meaning (Step (made.Era e) ∷ []) same_hands me me') (sym same) all.1)
 
   -- step 3
+  waiting_pass : (c : TakeCall) (x : ReceiverSide) (accepted : ℕ) (t : Turn Receiving) (p : Pass) → x.handed ≡ c.handed → p.call ≡ receive_call c.who (work.Take take_stage.Era) x 0 [] → take_look_turn x.handed accepted c.who.number (receiving c.who (work.Take take_stage.Era)) ≡ t
+      → Moves p (with_waiting accepted p) (with_turn c.who x 0 [] t) (message_look c.who c.handed accepted ∷ []) same_hands
+  waiting_pass c x accepted t p handed in_call turns =
+      let is : with_waiting accepted p ≡ record p { call = with_turn c.who x 0 [] (take_look_turn x.handed accepted c.who.number (receiving c.who (work.Take take_stage.Era))); own = message_look c.who x.handed accepted ∷ p.own }
+      = ap (λ (k : Call). receive_or p (λ e t y b message. under_way_or p (λ caller r. record p { call = Receives e (take_look_turn y.handed accepted caller r) y b message; own = Count e r.follows (Waiting y.handed accepted) ∷ p.own }) t) k) in_call in
+      record { in_call = ap (λ (r : Pass). r.call) is ∙ ap (with_turn c.who x 0 []) turns; own = ap (λ (r : Pass). r.own) is ∙ ap (λ (k : ℕ). message_look c.who k accepted ∷ p.own) handed; number = ap (λ (r : Pass). r.number) is; in_hand = ap (λ (r : Pass). r.hands) is }
+
   looks : (me me' : SeatState) (c : TakeCall) (n : ℕ) (t : Turn Receiving) (at : IsTakeAt c (work.Take take_stage.Era) me) → (told : TakeLooks me n me') → IsRingStep coded meaning me me'
       → take_look_turn at.side.handed told.0 c.who.number (receiving c.who (work.Take take_stage.Era)) ≡ t
-      → IsAt me' (with_turn c.who at.side 0 [] t) (receive_slots c.who at.side) × HasDone coded meaning (Step (made.Waiting c.handed told.0) ∷ []) same_hands me me'
+      → IsAt me' (with_turn c.who at.side 0 [] t) (receive_slots c.who at.side) × HasDone coded meaning (message_look c.who c.handed told.0 ∷ []) same_hands me me'
   looks me me' c n t at told step is =
       let zero = alone me c.who (work.Take take_stage.Era) at.side 0 [] at.at in
       let handed : handed_by me ≡ c.handed = side_is 0 (λ y. y.handed) me c.who (work.Take take_stage.Era) at.side 0 [] (receive_slots c.who at.side) at.at zero ∙ at.handed in
-      let all = turned (made.Waiting (handed_by me) told.0) (λ x caller r. take_look_turn x.handed told.0 caller r) me me' c.who (work.Take take_stage.Era) at.side t at.at told.4 is step in
-      (all.0, subst (λ (k : ℕ). HasDone coded meaning (Step (made.Waiting k told.0) ∷ []) same_hands me me') handed all.1)
+      let w = work.Take take_stage.Era in let x = at.side in let slots = receive_slots c.who x in let waiting : Counted = Waiting c.handed told.0 in
+      let never : NeverBack c.who.end c.who.follows waiting (pass_in me).own = subst (λ (v : End × ℕ × ℕ × List Event). NeverBack v.0 v.1 (Waiting v.2 told.0) v.3)
+      (λ i. (lane_is me c.who w x 0 [] slots at.at zero i, follows_is me c.who w x 0 [] slots at.at zero i, handed i, own_here me (place_of me) at.at.one zero i)) told.4 in
+      after_step coded meaning (with_waiting told.0) me.1 slots me me' (place_of me) (with_turn c.who x 0 [] t) (message_look c.who c.handed told.0 ∷ []) same_hands at.at.one zero told.5 at.at.out
+      (waiting_pass c x told.0 t (pass_in me) at.handed at.at.in_call is) (stepped_counted coded meaning c.who.end c.who.follows waiting me me' step never)
 
   -- the count that was found
   found_count : (z : LinkSizes) (me me' : SeatState) (c : TakeCall) (n waiting : ℕ) → me.0.sizes ≡ z → IsOpenable z → IsTakeAt c (work.Take take_stage.Era) me → (told : TakeLooks me n me')
@@ -145,7 +163,7 @@ module _ {D : Type 0} (coded : Coded D) (meaning : DeskMeaning D) where
 
   pub finds_message : (z : LinkSizes) (me me' : SeatState) (c : TakeCall) (n waiting : ℕ) → me.0.sizes ≡ z → IsOpenable z → IsTakeAt c (work.Take take_stage.Era) me → TakeLooks me n me' → IsRingStep coded meaning me me'
       → ((accepted : ℕ) → n ≡ accepted % 65536 → c.handed ≤ accepted → accepted ≤ c.handed + 256 → waiting + c.handed ≡ accepted) → waiting ≢ 0
-      → IsTakeAt c (work.Take take_stage.Look) me' × ((accepted : ℕ) × HasDone coded meaning (Step (made.Waiting c.handed accepted) ∷ []) same_hands me me')
+      → IsTakeAt c (work.Take take_stage.Look) me' × ((accepted : ℕ) × HasDone coded meaning (message_look c.who c.handed accepted ∷ []) same_hands me me')
   finds_message z me me' c n waiting sized opens at told step counts some =
       let count = found_count z me me' c n waiting sized opens at told counts in let handed = at.handed in
       let more : at.side.handed ≢ told.0 = λ same. some (omega (arith, count, same, handed)) in
@@ -155,13 +173,13 @@ module _ {D : Type 0} (coded : Coded D) (meaning : DeskMeaning D) where
 
   pub finds_empty : (z : LinkSizes) (me me' : SeatState) (c : TakeCall) (n waiting : ℕ) → me.0.sizes ≡ z → IsOpenable z → IsTakeAt c (work.Take take_stage.Era) me → TakeLooks me n me' → IsRingStep coded meaning me me'
       → ((accepted : ℕ) → n ≡ accepted % 65536 → c.handed ≤ accepted → accepted ≤ c.handed + 256 → waiting + c.handed ≡ accepted) → waiting ≡ 0
-      → IsLeaving lane_turn.Receiver c.who.end me' × HasDone coded meaning (Step (made.Waiting c.handed c.handed) ∷ []) same_hands me me'
+      → IsLeaving lane_turn.Receiver c.who.end me' × HasDone coded meaning (message_look c.who c.handed c.handed ∷ []) same_hands me me'
   finds_empty z me me' c n waiting sized opens at told step counts none =
       let count = found_count z me me' c n waiting sized opens at told counts in let handed = at.handed in
       let all_handed : at.side.handed ≡ told.0 = omega (arith, count, none, handed) in let found : told.0 ≡ c.handed = sym all_handed ∙ handed in
       let all = looks me me' c n (turn.Leaving c.who.number (end.Empty told.0)) at told step
       (ap (λ (b : Bool). cond b (turn.Leaving c.who.number (end.Empty told.0)) (turn.Taken c.who.number (receiving c.who (work.Take take_stage.Look)))) (eq-eqb at.side.handed told.0 all_handed)) in
-      ((c.who.number, end.Empty told.0, at.side, 0, [], all.0), subst (λ (k : ℕ). HasDone coded meaning (Step (made.Waiting c.handed k) ∷ []) same_hands me me') found all.1)
+      ((c.who.number, end.Empty told.0, at.side, 0, [], all.0), subst (λ (k : ℕ). HasDone coded meaning (message_look c.who c.handed k ∷ []) same_hands me me') found all.1)
 
   -- step 4
   pub entry_at : (me : SeatState) (c : TakeCall) → (at : IsTakeAt c (work.Take take_stage.Look) me) → WorkAt me c.who.end (work.Take take_stage.Look) × (handed_by me ≡ c.handed)

@@ -1,5 +1,5 @@
 -- The steps of a take, put together.
-use Rattle.std.proofs.Common.{◌≡◌, ◌≢◌, inl, inr, ℕ, ◌++◌, List, [], ◌∷◌, length, refl, sym, ap, ◌∙◌, subst}
+use Rattle.std.proofs.Common.{◌≡◌, ◌≢◌, ◌≤◌, inl, inr, ℕ, ◌++◌, List, [], ◌∷◌, length, refl, sym, ap, ◌∙◌, subst}
 use Rattle.std.specs.Prelude.{Result, Ok, Err, IfOk}
 use lib.ListN.{get_elem?}
 use mathlib.Core.Option.{some}
@@ -16,11 +16,12 @@ use Rattle.split_ring.specs.declared.takes.TakeCall.{TakeCall}
 use Rattle.split_ring.specs.declared.takes.Taken.{Taken}
 use Rattle.split_ring.specs.declared.takes.TakeFault.{TakeFault}
 use Rattle.split_ring.specs.declared.takes.TakeFault.TheVariants as fault
-use Rattle.split_ring.specs.Receives.{IsHandedTo, IsHeldBy, HasSettledTake, IsTake, hands_after}
+use Rattle.split_ring.specs.Receives.{message_look, IsTakeNotBelow, IsHandedTo, IsHeldBy, HasSettledTake, IsTake, hands_after}
 use Rattle.split_ring.specs.Seats.{pass_in}
 use Rattle.split_ring.specs.Sends.{live_era}
 use Rattle.split_ring.specs.Turns.{IsLeaving}
-use Rattle.split_ring.specs.Walks.{same_hands, one_more, HasDone}
+use Rattle.split_ring.specs.Walks.{same_hands, one_more, HasStepped, HasDone}
+use Rattle.link_words.specs.Histories.{seen}
 use Rattle.split_ring.proofs.Seats.{done_then}
 
 module _ {D : Type 0} (coded : Coded D) (meaning : DeskMeaning D) where
@@ -40,35 +41,35 @@ module _ {D : Type 0} (coded : Coded D) (meaning : DeskMeaning D) where
 
   -- up to the look
   looked : (c : TakeCall) (handed accepted : ℕ) (a b d e : SeatState) → HasDone coded meaning [] same_hands a b → HasDone coded meaning (Step (made.Era (live_era c.who.follows)) ∷ []) same_hands b d
-      → HasDone coded meaning (Step (made.Waiting handed accepted) ∷ []) same_hands d e
-      → HasDone coded meaning (Step (made.Waiting handed accepted) ∷ Step (made.Era (live_era c.who.follows)) ∷ []) same_hands a e
+      → HasDone coded meaning (message_look c.who handed accepted ∷ []) same_hands d e
+      → HasDone coded meaning (message_look c.who handed accepted ∷ Step (made.Era (live_era c.who.follows)) ∷ []) same_hands a e
   looked c handed accepted a b d e begun live look =
-      done_then coded meaning (Step (made.Waiting handed accepted) ∷ []) (Step (made.Era (live_era c.who.follows)) ∷ []) same_hands same_hands a d e
+      done_then coded meaning (message_look c.who handed accepted ∷ []) (Step (made.Era (live_era c.who.follows)) ∷ []) same_hands same_hands a d e
       (done_then coded meaning (Step (made.Era (live_era c.who.follows)) ∷ []) [] same_hands same_hands a b d begun live) look
 
   pub empty : (c : TakeCall) (accepted : ℕ) (a b d e : SeatState) → HasDone coded meaning [] same_hands a b → HasDone coded meaning (Step (made.Era (live_era c.who.follows)) ∷ []) same_hands b d
-      → (accepted ≡ c.handed) × IsLeaving lane_turn.Receiver c.who.end e × HasDone coded meaning (Step (made.Waiting accepted accepted) ∷ []) same_hands d e
+      → (accepted ≡ c.handed) × IsLeaving lane_turn.Receiver c.who.end e × HasDone coded meaning (message_look c.who accepted accepted ∷ []) same_hands d e
       → HasSettledTake coded meaning c.who (Err (fault.Empty accepted)) a e
   empty c accepted a b d e begun live none = record {
     leaves = none.1;
-    steps = Step (made.Waiting accepted accepted) ∷ Step (made.Era (live_era c.who.follows)) ∷ [];
+    steps = message_look c.who accepted accepted ∷ Step (made.Era (live_era c.who.follows)) ∷ [];
     is = refl;
     done = looked c accepted accepted a b d e begun live none.2;
   }
 
   -- up to the buffer
   filled : (c : TakeCall) (buffer accepted : ℕ) (a b d e f : SeatState) → HasDone coded meaning [] same_hands a b → HasDone coded meaning (Step (made.Era (live_era c.who.follows)) ∷ []) same_hands b d
-      → HasDone coded meaning (Step (made.Waiting c.handed accepted) ∷ []) same_hands d e → HasDone coded meaning (Step (made.Buffer buffer) ∷ []) same_hands e f
-      → HasDone coded meaning (Step (made.Buffer buffer) ∷ Step (made.Waiting c.handed accepted) ∷ Step (made.Era (live_era c.who.follows)) ∷ []) same_hands a f
+      → HasDone coded meaning (message_look c.who c.handed accepted ∷ []) same_hands d e → HasDone coded meaning (Step (made.Buffer buffer) ∷ []) same_hands e f
+      → HasDone coded meaning (Step (made.Buffer buffer) ∷ message_look c.who c.handed accepted ∷ Step (made.Era (live_era c.who.follows)) ∷ []) same_hands a f
   filled c buffer accepted a b d e f begun live look out =
-      done_then coded meaning (Step (made.Buffer buffer) ∷ []) (Step (made.Waiting c.handed accepted) ∷ Step (made.Era (live_era c.who.follows)) ∷ []) same_hands same_hands a e f (looked c c.handed accepted a b d e begun live look) out
+      done_then coded meaning (Step (made.Buffer buffer) ∷ []) (message_look c.who c.handed accepted ∷ Step (made.Era (live_era c.who.follows)) ∷ []) same_hands same_hands a e f (looked c c.handed accepted a b d e begun live look) out
 
   pub dead_late : (c : TakeCall) (buffer : ℕ) (era : Era) (a b d e f h : SeatState) → HasDone coded meaning [] same_hands a b → HasDone coded meaning (Step (made.Era (live_era c.who.follows)) ∷ []) same_hands b d
-      → (accepted : ℕ) × HasDone coded meaning (Step (made.Waiting c.handed accepted) ∷ []) same_hands d e → HasDone coded meaning (Step (made.Buffer buffer) ∷ []) same_hands e f
+      → (accepted : ℕ) × HasDone coded meaning (message_look c.who c.handed accepted ∷ []) same_hands d e → HasDone coded meaning (Step (made.Buffer buffer) ∷ []) same_hands e f
       → IsLeaving lane_turn.Receiver c.who.end h → (era ≢ live_era c.who.follows) × HasDone coded meaning (Step (made.Era era) ∷ []) same_hands f h
       → HasSettledTake coded meaning c.who (Err (fault.Dead era)) a h
   dead_late c buffer era a b d e f h begun live look out leaves dead =
-      let upto : List Event = Step (made.Buffer buffer) ∷ Step (made.Waiting c.handed look.0) ∷ Step (made.Era (live_era c.who.follows)) ∷ [] in record {
+      let upto : List Event = Step (made.Buffer buffer) ∷ message_look c.who c.handed look.0 ∷ Step (made.Era (live_era c.who.follows)) ∷ [] in record {
         leaves = leaves;
         steps = Step (made.Era era) ∷ upto;
         is = (inr (buffer, c.handed, look.0, refl), dead.0);
@@ -76,12 +77,12 @@ module _ {D : Type 0} (coded : Coded D) (meaning : DeskMeaning D) where
       }
 
   pub handed : (c : TakeCall) (buffer : ℕ) (taken : Taken) (a b d e f h : SeatState) → HasDone coded meaning [] same_hands a b → HasDone coded meaning (Step (made.Era (live_era c.who.follows)) ∷ []) same_hands b d
-      → (accepted : ℕ) × HasDone coded meaning (Step (made.Waiting c.handed accepted) ∷ []) same_hands d e → HasDone coded meaning (Step (made.Buffer buffer) ∷ []) same_hands e f
+      → (accepted : ℕ) × HasDone coded meaning (message_look c.who c.handed accepted ∷ []) same_hands d e → HasDone coded meaning (Step (made.Buffer buffer) ∷ []) same_hands e f
       → IsLeaving lane_turn.Receiver c.who.end h → (message : List ℕ) × IsHandedTo meaning c.who c.handed message taken
       × HasDone coded meaning (Step (made.Era (live_era c.who.follows)) ∷ Take c.who.end c.who.follows c.handed message ∷ []) (one_more c.handed) f h
       → HasSettledTake coded meaning c.who (Ok taken) a h
   handed c buffer taken a b d e f h begun live look out leaves took =
-      let upto : List Event = Step (made.Buffer buffer) ∷ Step (made.Waiting c.handed look.0) ∷ Step (made.Era (live_era c.who.follows)) ∷ [] in
+      let upto : List Event = Step (made.Buffer buffer) ∷ message_look c.who c.handed look.0 ∷ Step (made.Era (live_era c.who.follows)) ∷ [] in
       let last : List Event = Step (made.Era (live_era c.who.follows)) ∷ Take c.who.end c.who.follows c.handed took.0 ∷ [] in record {
         leaves = leaves;
         steps = last ++ upto;
@@ -99,6 +100,16 @@ module _ {D : Type 0} (coded : Coded D) (meaning : DeskMeaning D) where
     done = done_then coded meaning (Step made.Left ∷ []) (settled.steps ++ Step (made.Turn 0) ∷ []) same_hands (hands_after answer) a d e
         (done_then coded meaning settled.steps (Step (made.Turn 0) ∷ []) (hands_after answer) same_hands a b d entered settled.done) left;
   }
+
+-- its answer tells no count that is below what the caller had seen
+pub take_seen : {D : Type 0} (coded : Coded D) (meaning : DeskMeaning D) (who : CallerId) (answer : Result Taken TakeFault) (me me' : SeatState) → IsTake coded meaning who answer me me' → IsTakeNotBelow (seen who.end who.follows (pass_in me).own) answer
+take_seen coded meaning who (Err (fault.Busy holder)) me me' take = tt
+take_seen coded meaning who (Err (fault.Dead era)) me me' take = tt
+take_seen coded meaning who (Err (fault.Empty accepted)) me me' take =
+    (subst (λ (walk : List Event). HasStepped coded meaning walk me me') take.is take.done.stepped).2.5.not_below
+take_seen coded meaning who (Ok taken) me me' take =
+    let number = take.is.0 in let walked = subst (λ (walk : List Event). HasStepped coded meaning walk me me') take.is.5 take.done.stepped in
+    subst (λ (k : ℕ). (seen who.end who.follows (pass_in me).own).handed ≤ k) (sym take.is.4.numbered) walked.2.2.2.5.not_below.0
 
 last_of : (xs : List ℕ) (n : ℕ) → get_elem? (xs ++ n ∷ []) (length xs) ≡ some n
 last_of [] n = refl

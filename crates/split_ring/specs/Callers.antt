@@ -1,23 +1,57 @@
 -- What a call asks and tells of its caller, by the link (own).
-use Rattle.std.specs.Prelude.{◌≡◌, ℕ, List, Result}
+use Rattle.std.specs.Prelude.{◌≡◌, ◌<◌, ℕ, List, Result}
 use base.Stored.{Coded}
+use Rattle.link_words.specs.declared.rule.Event.{Event}
+use Rattle.link_words.specs.Histories.{LaneCounts, seen}
+use Rattle.link_words.specs.Words.{other}
+use Rattle.lane_model.specs.declared.calls.Progress.{Progress}
+use Rattle.lane_model.specs.declared.calls.Progress.TheVariants as progress
 use Rattle.lane_model.specs.Desks.{DeskMeaning}
 use Rattle.lane_model.specs.HeldBuffers.{HeldBuffer}
+use Rattle.rp_base.specs.declared.kinds.Endpoint.{Endpoint}
+use Rattle.split_ring.specs.declared.binds.DeskAsk.{DeskAsk}
+use Rattle.split_ring.specs.declared.binds.DeskAsk.TheVariants as asks
+use Rattle.split_ring.specs.declared.binds.DeskFault.{DeskFault}
 use Rattle.split_ring.specs.declared.callers.Caller.{Caller}
 use Rattle.split_ring.specs.declared.callers.Manager.{Manager}
+use Rattle.split_ring.specs.declared.calls.RingCall.{RingCall}
 use Rattle.split_ring.specs.declared.gives.GiveBusy.{GiveBusy}
 use Rattle.split_ring.specs.declared.links.SharedLink.{SharedLink}
 use Rattle.split_ring.specs.declared.sends.SendFault.{SendFault}
 use Rattle.split_ring.specs.declared.takes.Taken.{Taken}
 use Rattle.split_ring.specs.declared.takes.TakeFault.{TakeFault}
+use Rattle.split_ring.specs.Binds.{IsDeskCall}
+use Rattle.split_ring.specs.Calls.{IsInPhase, Advances}
 use Rattle.split_ring.specs.Links.{IsManager}
-use Rattle.split_ring.specs.Receives.{IsGive, IsHeldBy, IsTake}
-use Rattle.split_ring.specs.Seats.{IsCaller}
-use Rattle.split_ring.specs.Sends.{IsSend}
+use Rattle.split_ring.specs.Receives.{IsGive, IsGiveAbove, IsHeldBy, IsTake, IsTakeNotBelow}
+use Rattle.split_ring.specs.Seats.{IsCaller, IsSeatOf, pass_in}
+use Rattle.split_ring.specs.Sends.{IsSend, IsSendNotBelow}
 
 -- the buffer is in the hands of this caller
 abbrev pub Holds : Caller → HeldBuffer → Type 0
 Holds caller held = IsHeldBy caller.id held caller.seat.me
+
+-- what a caller has done, the newest first
+abbrev pub own_of : Caller → List Event
+own_of caller = (pass_in caller.seat.me).own
+
+-- what it has seen of the counts of the lane that it sends on, and of the one that it takes from, in the incarnation that it follows
+abbrev pub seen_sending : Caller → LaneCounts
+seen_sending caller = seen (other caller.id.end) caller.id.follows (own_of caller)
+
+abbrev pub seen_taking : Caller → LaneCounts
+seen_taking caller = seen caller.id.end caller.id.follows (own_of caller)
+
+-- the answer of a send, and of a take, tells no count that is below what the caller had seen
+abbrev pub SendNotBelow : Caller → Result ℕ SendFault → Type 0
+SendNotBelow before answer = IsSendNotBelow (seen_sending before) answer
+
+abbrev pub TakeNotBelow : Caller → Result Taken TakeFault → Type 0
+TakeNotBelow before answer = IsTakeNotBelow (seen_taking before) answer
+
+-- a give makes a count that is above what the caller had seen, and the caller has seen it then
+abbrev pub GiveAbove : Caller → Result ℕ GiveBusy → Caller → Type 0
+GiveAbove before answer after = IsGiveAbove before.id.end (own_of before) answer (own_of after)
 
 module _ {D : Type 0} where
   -- a caller of this link, in no call
@@ -32,6 +66,18 @@ module _ {D : Type 0} where
   abbrev pub IsAfterCall : SharedLink D → Caller → Caller → Type 0
   IsAfterCall link before after = (after.id ≡ before.id) × IsCallerOf link after
 
+  -- this is a call of this caller of the link, which has not ended
+  pub record MayAdvance (link : SharedLink D) (caller : Caller) (call : RingCall D) : Type 0 where
+    pub seat : IsSeatOf link.table.shared.table_id link.sizes caller.seat.table_id caller.seat.me
+    pub number : (pass_in caller.seat.me).number ≡ caller.id.number
+    pub low : caller.id.number < 64
+    pub stands : IsInPhase link.sizes caller.id call.phase caller.seat.me
+
+  -- the same behind a step that says this, or the caller is in no call again
+  abbrev pub IsAdvanced : SharedLink D → Caller → RingCall D → Progress → Type 0
+  IsAdvanced link caller call (progress.At number) = MayAdvance link caller call
+  IsAdvanced link caller call (progress.Done answer) = IsCallerOf link caller
+
 module _ {D : Type 0} (coded : Coded D) (meaning : DeskMeaning D) where
   -- the caller made one send of this message, with this answer
   abbrev pub MakesSend : SharedLink D → Caller → List ℕ → Result ℕ SendFault → Caller → Type 0
@@ -43,4 +89,20 @@ module _ {D : Type 0} (coded : Coded D) (meaning : DeskMeaning D) where
 
   -- the caller made one give of this buffer, with this answer
   abbrev pub MakesGive : Caller → HeldBuffer → Result ℕ GiveBusy → Caller → Type 0
-  MakesGive before held answer after = IsGive coded meaning held answer before.seat.me after.seat.me
+  MakesGive before held answer after = IsGive coded meaning before.id.end held answer before.seat.me after.seat.me
+
+  -- the caller asked this of the desk of its end once, with this answer
+  abbrev pub MakesDeskCall : SharedLink D → Caller → DeskAsk → Result Endpoint DeskFault → Caller → Type 0
+  MakesDeskCall link before asked answer after = IsDeskCall coded meaning link.sizes.desks before.id asked answer before.seat.me after.seat.me
+
+  -- the caller made one binding at this address, with this answer
+  abbrev pub MakesBind : SharedLink D → Caller → ℕ → Result Endpoint DeskFault → Caller → Type 0
+  MakesBind link before address answer after = MakesDeskCall link before (asks.Bind address) answer after
+
+  -- the caller made one unbinding at this address, with this answer
+  abbrev pub MakesUnbind : SharedLink D → Caller → ℕ → Result Endpoint DeskFault → Caller → Type 0
+  MakesUnbind link before address answer after = MakesDeskCall link before (asks.Unbind address) answer after
+
+  -- the caller took one step of this call, which said this
+  abbrev pub TakesStep : SharedLink D → Caller → RingCall D → Progress → Caller → RingCall D → Type 0
+  TakesStep link caller call said after next = Advances coded meaning link.sizes caller.id call.phase said next.phase caller.seat.me after.seat.me

@@ -5,4 +5,7 @@ pub mod Turns
 pub mod Walks
 pub mod Sends
 pub mod Receives
+pub mod Binds
+pub mod Calls
 pub mod Callers
+pub mod Forms

@@ -1,5 +1,5 @@
 -- A take, a give, a binding and an unbinding over the words: the call of the seat at each step, and the walk that it does (own).
-use Rattle.std.specs.Prelude.{◌≡◌, ◌≢◌, ◌⊎◌, ◌+◌, ◌≤◌, ℕ, List, [], ◌∷◌, ◌++◌, Result, Ok, Err}
+use Rattle.std.specs.Prelude.{◌≡◌, ◌≢◌, ◌⊎◌, ◌+◌, ◌<◌, ◌≤◌, ℕ, List, [], ◌∷◌, ◌++◌, Result, Ok, Err}
 use base.Stored.{Coded}
 use Rattle.rp_base.specs.declared.kinds.End.{End}
 use Rattle.rp_base.specs.declared.kinds.End.TheVariants as side
@@ -9,12 +9,14 @@ use Rattle.lane_model.specs.declared.stages.Work.{Work}
 use Rattle.lane_model.specs.Desks.{DeskMeaning}
 use Rattle.lane_model.specs.HeldBuffers.{HeldBuffer}
 use Rattle.link_words.specs.declared.rule.Event.{Event}
-use Rattle.link_words.specs.declared.rule.Event.TheVariants.{Step, Take}
+use Rattle.link_words.specs.declared.rule.Counted.TheVariants.{Waiting, Gave}
+use Rattle.link_words.specs.declared.rule.Event.TheVariants.{Step, Count, Take}
 use Rattle.link_words.specs.declared.rule.Made.TheVariants as made
 use Rattle.link_words.specs.declared.rule.LinkSizes.{LinkSizes}
 use Rattle.link_words.specs.declared.rule.ReceiverSide.{ReceiverSide}
 use Rattle.link_words.specs.declared.rule.Slot.TheVariants.{Buffer}
 use Rattle.link_words.specs.Calls.{SeatState}
+use Rattle.link_words.specs.Histories.{LaneCounts, NoneLater, latest, seen}
 use Rattle.link_words.specs.Passes.{HasNumber}
 use Rattle.link_words.specs.Steps.{hands_but}
 use Rattle.link_words.specs.Words.{buffer_slot}
@@ -57,19 +59,30 @@ pub record IsHandedTo {D : Type 0} (meaning : DeskMeaning D) (who : CallerId) (n
   pub desk : D
   pub judged : taken.verdict ≡ meaning.verdict desk number message
 
+-- the look for a message of a caller's take: how many were handed over, and how many are accepted
+abbrev pub message_look : CallerId → ℕ → ℕ → Event
+message_look who handed accepted = Count who.end who.follows (Waiting handed accepted)
+
 -- the steps of a whole take with its answer, the newest first
 abbrev pub IsTakeWalk : {D : Type 0} → DeskMeaning D → CallerId → Result Taken TakeFault → List Event → Type 0
 IsTakeWalk meaning who (Err (take_fault.Busy holder)) walk = walk ≡ Step (made.Turn (holder + 1)) ∷ []
 IsTakeWalk meaning who (Err (take_fault.Dead era)) walk =
     ((walk ≡ Step made.Left ∷ Step (made.Era era) ∷ Step (made.Turn 0) ∷ [])
-    ⊎ ((buffer : ℕ) × (handed accepted : ℕ) × (walk ≡ Step made.Left ∷ Step (made.Era era) ∷ Step (made.Buffer buffer) ∷ Step (made.Waiting handed accepted)
+    ⊎ ((buffer : ℕ) × (handed accepted : ℕ) × (walk ≡ Step made.Left ∷ Step (made.Era era) ∷ Step (made.Buffer buffer) ∷ message_look who handed accepted
     ∷ Step (made.Era (live_era who.follows)) ∷ Step (made.Turn 0) ∷ [])))
     × (era ≢ live_era who.follows)
 IsTakeWalk meaning who (Err (take_fault.Empty accepted)) walk =
-    walk ≡ Step made.Left ∷ Step (made.Waiting accepted accepted) ∷ Step (made.Era (live_era who.follows)) ∷ Step (made.Turn 0) ∷ []
+    walk ≡ Step made.Left ∷ message_look who accepted accepted ∷ Step (made.Era (live_era who.follows)) ∷ Step (made.Turn 0) ∷ []
 IsTakeWalk meaning who (Ok taken) walk = (number : ℕ) × (message : List ℕ) × (buffer accepted : ℕ) × IsHandedTo meaning who number message taken
     × (walk ≡ Step made.Left ∷ Step (made.Era (live_era who.follows)) ∷ Take who.end who.follows number message ∷ Step (made.Buffer buffer)
-    ∷ Step (made.Waiting number accepted) ∷ Step (made.Era (live_era who.follows)) ∷ Step (made.Turn 0) ∷ [])
+    ∷ message_look who number accepted ∷ Step (made.Era (live_era who.follows)) ∷ Step (made.Turn 0) ∷ [])
+
+-- what a take tells of the counts of its lane is not below what its caller had seen
+abbrev pub IsTakeNotBelow : LaneCounts → Result Taken TakeFault → Type 0
+IsTakeNotBelow had (Ok taken) = had.handed ≤ taken.held.number
+IsTakeNotBelow had (Err (take_fault.Busy holder)) = Unit {0}
+IsTakeNotBelow had (Err (take_fault.Dead era)) = Unit {0}
+IsTakeNotBelow had (Err (take_fault.Empty accepted)) = (had.handed ≤ accepted) × (had.accepted ≤ accepted)
 
 -- what is in hand after it
 abbrev pub hands_after : Result Taken TakeFault → List ℕ → List ℕ
@@ -102,10 +115,17 @@ pub record IsGiveAt (who : CallerId) (returned : ℕ) (work : Work) (me : SeatSt
   pub most : returned ≤ BOOK_MOST
   pub at : IsAt me (receive_call who work side 0 []) (receive_slots who side)
 
--- the steps of a whole give with its answer, the newest first; where the turn is another's the buffer comes back
-abbrev pub IsGiveWalk : HeldBuffer → Result ℕ GiveBusy → List Event → Type 0
-IsGiveWalk held (Err busy) walk = (walk ≡ Step (made.Turn (busy.holder + 1)) ∷ []) × (busy.held ≡ held)
-IsGiveWalk held (Ok number) walk = (number ≡ held.number) × ((returned : ℕ) × (walk ≡ Step made.Left ∷ Step (made.Gave (returned + 1)) ∷ Step made.Entry ∷ Step (made.Turn 0) ∷ []))
+-- the steps of a whole give in this incarnation with its answer, the newest first; where the turn is another's the buffer comes back
+abbrev pub IsGiveWalk : End → ℕ → HeldBuffer → Result ℕ GiveBusy → List Event → Type 0
+IsGiveWalk end inc held (Err busy) walk = (walk ≡ Step (made.Turn (busy.holder + 1)) ∷ []) × (busy.held ≡ held)
+IsGiveWalk end inc held (Ok number) walk = (number ≡ held.number)
+    × ((returned : ℕ) × (walk ≡ Step made.Left ∷ Count end inc (Gave (returned + 1)) ∷ Step made.Entry ∷ Step (made.Turn 0) ∷ []))
+
+-- a give reads no era: it is in the incarnation of its caller's latest step, which none is past. The count of buffers that are back which it
+-- made is above what the caller had seen, and the caller has seen it then
+abbrev pub IsGiveAbove : End → List Event → Result ℕ GiveBusy → List Event → Type 0
+IsGiveAbove end before (Err busy) after = Unit {0}
+IsGiveAbove end before (Ok number) after = let inc = latest before in NoneLater inc before × ((returned : ℕ) × ((seen end inc before).returned < returned) × ((seen end inc after).returned ≡ returned))
 
 -- what is in hand after it
 abbrev pub hands_left : Result ℕ GiveBusy → List ℕ → List ℕ
@@ -113,7 +133,7 @@ hands_left (Ok number) hands = hands_but hands number
 hands_left (Err busy) hands = hands
 
 -- a give did a whole walk
-pub record IsGive {D : Type 0} (coded : Coded D) (meaning : DeskMeaning D) (held : HeldBuffer) (answer : Result ℕ GiveBusy) (me me' : SeatState) : Type 0 where
+pub record IsGive {D : Type 0} (coded : Coded D) (meaning : DeskMeaning D) (end : End) (held : HeldBuffer) (answer : Result ℕ GiveBusy) (me me' : SeatState) : Type 0 where
   pub walk : List Event
-  pub is : IsGiveWalk held answer walk
+  pub is : IsGiveWalk end (latest (pass_in me).own) held answer walk
   pub done : HasDone coded meaning walk (hands_left answer) me me'

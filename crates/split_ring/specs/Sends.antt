@@ -12,13 +12,15 @@ use Rattle.lane_model.specs.Desks.{DeskMeaning}
 use Rattle.link_words.specs.declared.rule.Call.{Call}
 use Rattle.link_words.specs.declared.rule.Call.TheVariants.{Sends}
 use Rattle.link_words.specs.declared.rule.Event.{Event}
-use Rattle.link_words.specs.declared.rule.Event.TheVariants.{Step, Publish}
+use Rattle.link_words.specs.declared.rule.Counted.TheVariants.{Room}
+use Rattle.link_words.specs.declared.rule.Event.TheVariants.{Step, Count, Publish}
 use Rattle.link_words.specs.declared.rule.Made.TheVariants as made
 use Rattle.link_words.specs.declared.rule.LinkSizes.{LinkSizes}
 use Rattle.link_words.specs.declared.rule.Slot.{Slot}
 use Rattle.link_words.specs.declared.rule.Slot.TheVariants.{Sender}
 use Rattle.link_words.specs.Words.{other, sizes_at, sender_slot, buffer_slot}
 use Rattle.link_words.specs.Calls.{SeatState}
+use Rattle.link_words.specs.Histories.{LaneCounts}
 use Rattle.split_ring.specs.Seats.{IsAt}
 use Rattle.split_ring.specs.Turns.{IsLeaving}
 use Rattle.split_ring.specs.Walks.{HasDone, same_hands}
@@ -60,19 +62,31 @@ HasNoRoom z c returned (fault.NoBuffer accepted back) ended =
 HasNoRoom z c returned (fault.BookFull accepted) ended =
     (accepted ≡ c.accepted) × (ended ≡ end.BookFull accepted) × (accepted ≢ returned + (sizes_at z (other c.who.end)).capacity) × (accepted ≡ z.book)
 
+-- the look for room of a caller's send: how many messages were accepted, and how many buffers are back
+abbrev pub room_look : CallerId → ℕ → ℕ → Event
+room_look who accepted returned = Count (other who.end) who.follows (Room accepted returned)
+
 -- the steps of a whole send with its answer, the newest first
 abbrev pub IsSendWalk : LinkSizes → CallerId → List ℕ → Result ℕ SendFault → List Event → Type 0
 IsSendWalk z who message (Err (fault.Busy holder)) walk = walk ≡ Step (made.Turn (holder + 1)) ∷ []
 IsSendWalk z who message (Err (fault.Dead era)) walk = (walk ≡ Step made.Left ∷ Step (made.Era era) ∷ Step (made.Turn 0) ∷ []) × (era ≢ live_era who.follows)
 IsSendWalk z who message (Err (fault.NoBuffer accepted returned)) walk =
-    (walk ≡ Step made.Left ∷ Step (made.Room accepted returned) ∷ Step (made.Era (live_era who.follows)) ∷ Step (made.Turn 0) ∷ [])
+    (walk ≡ Step made.Left ∷ room_look who accepted returned ∷ Step (made.Era (live_era who.follows)) ∷ Step (made.Turn 0) ∷ [])
     × (accepted ≡ returned + (sizes_at z (other who.end)).capacity)
 IsSendWalk z who message (Err (fault.BookFull accepted)) walk = (returned : ℕ)
-    × (walk ≡ Step made.Left ∷ Step (made.Room accepted returned) ∷ Step (made.Era (live_era who.follows)) ∷ Step (made.Turn 0) ∷ [])
+    × (walk ≡ Step made.Left ∷ room_look who accepted returned ∷ Step (made.Era (live_era who.follows)) ∷ Step (made.Turn 0) ∷ [])
     × (accepted ≢ returned + (sizes_at z (other who.end)).capacity) × (accepted ≡ z.book)
 IsSendWalk z who message (Ok number) walk = (returned : ℕ) × (buffer : ℕ)
     × (walk ≡ Step made.Left ∷ Publish (other who.end) who.follows number message ∷ Step made.Entry ∷ Step (made.Buffer buffer)
-    ∷ Step (made.Room number returned) ∷ Step (made.Era (live_era who.follows)) ∷ Step (made.Turn 0) ∷ [])
+    ∷ room_look who number returned ∷ Step (made.Era (live_era who.follows)) ∷ Step (made.Turn 0) ∷ [])
+
+-- what a send tells of the counts of its lane is not below what its caller had seen
+abbrev pub IsSendNotBelow : LaneCounts → Result ℕ SendFault → Type 0
+IsSendNotBelow had (Ok number) = had.accepted ≤ number
+IsSendNotBelow had (Err (fault.Busy holder)) = Unit {0}
+IsSendNotBelow had (Err (fault.Dead era)) = Unit {0}
+IsSendNotBelow had (Err (fault.NoBuffer accepted returned)) = (had.accepted ≤ accepted) × (had.returned ≤ returned)
+IsSendNotBelow had (Err (fault.BookFull accepted)) = had.accepted ≤ accepted
 
 -- a send did a whole walk, and what is in hand is as before
 pub record IsSend {D : Type 0} (coded : Coded D) (meaning : DeskMeaning D) (z : LinkSizes) (who : CallerId) (message : List ℕ) (answer : Result ℕ SendFault) (me me' : SeatState) : Type 0 where

@@ -4,8 +4,9 @@ use base.Stored.{Coded}
 use Rattle.lane_model.specs.declared.calls.Wish.{Wish}
 use Rattle.lane_model.specs.Desks.{DeskMeaning}
 use Rattle.link_words.specs.declared.rule.Event.{Event}
-use Rattle.link_words.specs.declared.rule.Event.TheVariants.{Step, Publish, Take}
+use Rattle.link_words.specs.declared.rule.Event.TheVariants.{Step, Count, Publish, Take}
 use Rattle.link_words.specs.Calls.{SeatState}
+use Rattle.link_words.specs.Histories.{NeverBack}
 use Rattle.link_words.specs.Steps.{Begins, GoesOn, HasWord, StoresWord}
 use Rattle.split_ring.specs.Seats.{pass_in}
 
@@ -24,11 +25,14 @@ module _ {D : Type 0} (coded : Coded D) (meaning : DeskMeaning D) where
       ⊎ (GoesOn coded meaning me (HasWord place n) me' ⊎ GoesOn coded meaning me (StoresWord place n) me'))
 
   -- the seat made the steps of these entries, the newest first, and no other: what it knows changed by them alone, and between them what is in
-  -- its slots changed as plain memory does. A handing has an entry of its own, behind that of the era that it read
+  -- its slots changed as plain memory does. A handing has an entry of its own, behind that of the era that it read. No count that was read or made
+  -- is below what the seat had seen
   abbrev pub HasStepped : List Event → SeatState → SeatState → Type 0
   HasStepped [] me me' = me'.0 ≡ me.0
   HasStepped (Take lane inc number message ∷ es) me me' = HasStepped es me me'
   HasStepped (Step made ∷ es) me me' = (before after : SeatState) × HasStepped es me before × IsRingStep before after × (me'.0 ≡ after.0)
+  HasStepped (Count lane inc counts ∷ es) me me' = (before after : SeatState) × HasStepped es me before × IsRingStep before after × (me'.0 ≡ after.0)
+      × NeverBack lane inc counts (es ++ (pass_in me).own)
   HasStepped (Publish lane inc number message ∷ es) me me' = (before after : SeatState) × HasStepped es me before × IsRingStep before after × (me'.0 ≡ after.0)
 
   -- the pass is that of the same caller, has done these steps more, the newest first, and what it has in hand has changed so

@@ -1,14 +1,16 @@
 //! A give: a function for each step, and the whole walk.
-ghost use Rattle.std.specs.Prelude.{◌≡◌, ◌+◌, ◌≤◌, ℕ, ◌∷◌, [], IfErr};
+ghost use Rattle.std.specs.Prelude.{◌≡◌, ◌⊎◌, ◌+◌, ◌≤◌, ℕ, ◌∷◌, [], IfErr};
 ghost use Rattle.lane_model.specs.declared.recoveries.LaneTurn.TheVariants as lane_turn;
 ghost use Rattle.lane_model.specs.declared.stages.GiveStage.TheVariants as give_stage;
 ghost use Rattle.lane_model.specs.declared.stages.Work.TheVariants as work;
-ghost use Rattle.link_words.specs.declared.rule.Event.TheVariants.{Step};
+ghost use Rattle.link_words.specs.declared.rule.Counted.TheVariants.{Gave};
+ghost use Rattle.link_words.specs.declared.rule.Event.TheVariants.{Step, Count};
 ghost use Rattle.link_words.specs.declared.rule.Made.TheVariants as made;
+ghost use Rattle.link_words.specs.Histories.{latest};
 ghost use Rattle.link_words.specs.Steps.{hands_but};
-ghost use Rattle.split_ring.specs.Callers.{Holds, IsCallerOf, IsAfterCall, MakesGive};
+ghost use Rattle.split_ring.specs.Callers.{Holds, IsCallerOf, IsAfterCall, MakesGive, GiveAbove};
 ghost use Rattle.split_ring.specs.Receives.{IsGiveAt};
-ghost use Rattle.split_ring.specs.Seats.{IsSeatOf};
+ghost use Rattle.split_ring.specs.Seats.{pass_in, IsSeatOf};
 ghost use Rattle.split_ring.specs.Turns.{HasReceiver, IsLeaving};
 ghost use Rattle.split_ring.specs.Walks.{HasDone, same_hands};
 
@@ -38,6 +40,7 @@ impl<D: Desk> SharedLink<D> {
         requires held { Holds caller.old held }
         ensures caller { IsAfterCall self.now caller.old caller.new }
         ensures walk { MakesGive D.row.coded D.meaning caller.old held result caller.new }
+        ensures seen { GiveAbove caller.old result caller.new }
         ensures held { IfErr result (λ busy. Holds caller.new busy.held) }
     {
         let who = caller.id;
@@ -52,7 +55,7 @@ impl<D: Desk> SharedLink<D> {
     }
 
     /// Step 2 of a give: the return entry names the buffer. The answer is how many buffers are back.
-    fn store_given(&self, seat: &mut LinkSeat, who: CallerId, number: u64) -> u64
+    pub(crate) fn store_given(&self, seat: &mut LinkSeat, who: CallerId, number: u64) -> u64
         requires seat { IsSeatOf self.now.table.shared.table_id self.now.sizes seat.old.table_id seat.old.me }
         requires turn { HasReceiver who (work.Give number give_stage.Turn) seat.old.me }
         ensures seat { IsSeatOf self.now.table.shared.table_id self.now.sizes seat.new.table_id seat.new.me }
@@ -70,12 +73,18 @@ impl<D: Desk> SharedLink<D> {
     }
 
     /// Step 3 of a give: the buffer is back.
-    fn publish_given(&self, seat: &mut LinkSeat, who: CallerId, number: u64, returned: u64)
+    pub(crate) fn publish_given(
+        &self,
+        seat: &mut LinkSeat,
+        who: CallerId,
+        number: u64,
+        returned: u64,
+    )
         requires seat { IsSeatOf self.now.table.shared.table_id self.now.sizes seat.old.table_id seat.old.me }
         requires call { IsGiveAt who returned (work.Give number give_stage.Entry) seat.old.me }
         ensures seat { IsSeatOf self.now.table.shared.table_id self.now.sizes seat.new.table_id seat.new.me }
         ensures given { IsLeaving lane_turn.Receiver who.end seat.new.me }
-        ensures done { HasDone D.row.coded D.meaning (Step (made.Gave (returned + 1)) ∷ []) (λ hands. hands_but hands number) seat.old.me seat.new.me }
+        ensures done { (inc : ℕ) × (((pass_in seat.old.me).hands ≡ []) ⊎ (latest (pass_in seat.old.me).own ≡ inc)) × HasDone D.row.coded D.meaning (Count who.end inc (Gave (returned + 1)) ∷ []) (λ hands. hands_but hands number) seat.old.me seat.new.me }
     {
         let table = &self.table.shared;
         let lane = who.end;

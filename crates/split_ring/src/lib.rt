@@ -1,7 +1,10 @@
 // A link that threads share: its words and slots as one table, the callers and the manager, and their calls over the steps of link_words.
 #![tactic(auto)]
 
+mod binds;
 mod callers;
+mod calls;
+mod forms;
 mod gives;
 mod layouts;
 mod links;
@@ -11,7 +14,9 @@ mod takes;
 mod threads;
 mod turns;
 
+pub use binds::DeskFault;
 pub use callers::{Caller, CallerId, Manager};
+pub use calls::RingCall;
 pub use gives::GiveBusy;
 pub use links::SharedLink;
 pub use sends::SendFault;

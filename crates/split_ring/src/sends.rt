@@ -11,9 +11,9 @@ ghost use Rattle.link_words.specs.declared.rule.Slot.{Slot};
 ghost use Rattle.link_words.specs.declared.rule.Slot.TheVariants.{Buffer};
 ghost use Rattle.link_words.specs.Parts.{AreNear};
 ghost use Rattle.link_words.specs.Words.{other, sender_slot};
-ghost use Rattle.split_ring.specs.Callers.{IsCallerOf, IsAfterCall, MakesSend};
+ghost use Rattle.split_ring.specs.Callers.{IsCallerOf, IsAfterCall, MakesSend, SendNotBelow};
 ghost use Rattle.split_ring.specs.Seats.{IsSeatOf};
-ghost use Rattle.split_ring.specs.Sends.{live_era, IsSendAt, IsFilledAt, HasNoRoom, HasSettled};
+ghost use Rattle.split_ring.specs.Sends.{live_era, room_look, IsSendAt, IsFilledAt, HasNoRoom, HasSettled};
 ghost use Rattle.split_ring.specs.Turns.{HasSender, IsLeaving};
 ghost use Rattle.split_ring.specs.Walks.{HasDone, same_hands};
 
@@ -83,6 +83,7 @@ impl<D: Desk> SharedLink<D> {
         requires { IsCallerOf self.now caller.old }
         ensures caller { IsAfterCall self.now caller.old caller.new }
         ensures walk { MakesSend D.row.coded D.meaning self.now caller.old message.now result caller.new }
+        ensures seen { SendNotBelow caller.old result }
     {
         let who = caller.id;
         let wish = Wish::Send(message.copy());
@@ -120,7 +121,12 @@ impl<D: Desk> SharedLink<D> {
     }
 
     /// A send that has its turn, by its side state.
-    fn send_begun(&self, seat: &mut LinkSeat, who: CallerId, message: &Message) -> SendCall
+    pub(crate) fn send_begun(
+        &self,
+        seat: &mut LinkSeat,
+        who: CallerId,
+        message: &Message,
+    ) -> SendCall
         requires seat { IsSeatOf self.now.table.shared.table_id self.now.sizes seat.old.table_id seat.old.me }
         requires turn { HasSender who message.now seat.old.me }
         ensures seat { IsSeatOf self.now.table.shared.table_id self.now.sizes seat.new.table_id seat.new.me }
@@ -139,7 +145,7 @@ impl<D: Desk> SharedLink<D> {
     /// Step 2 of a send: it goes on in its incarnation, live.
     ///
     /// Errors: the era that was found, exactly where it is another or a closed one.
-    fn find_send_era(&self, seat: &mut LinkSeat, call: &SendCall) -> Result<(), Era>
+    pub(crate) fn find_send_era(&self, seat: &mut LinkSeat, call: &SendCall) -> Result<(), Era>
         requires seat { IsSeatOf self.now.table.shared.table_id self.now.sizes seat.old.table_id seat.old.me }
         requires call { IsSendAt call.now stage.Turn seat.old.me }
         ensures seat { IsSeatOf self.now.table.shared.table_id self.now.sizes seat.new.table_id seat.new.me }
@@ -159,15 +165,19 @@ impl<D: Desk> SharedLink<D> {
     /// Step 3 of a send: it looks for room by the return index.
     ///
     /// Errors: that each buffer is out, else that the book is full.
-    fn look_for_room(&self, seat: &mut LinkSeat, call: &SendCall) -> Result<(), SendFault>
+    pub(crate) fn look_for_room(
+        &self,
+        seat: &mut LinkSeat,
+        call: &SendCall,
+    ) -> Result<(), SendFault>
         requires seat { IsSeatOf self.now.table.shared.table_id self.now.sizes seat.old.table_id seat.old.me }
         requires call { IsSendAt call.now stage.Era seat.old.me }
         ensures seat { IsSeatOf self.now.table.shared.table_id self.now.sizes seat.new.table_id seat.new.me }
         ensures room { IfOk result (λ _. IsSendAt call.now stage.Look seat.new.me
-            × ((returned : ℕ) × HasDone D.row.coded D.meaning (Step (made.Room call.now.accepted returned) ∷ []) same_hands seat.old.me seat.new.me)) }
+            × ((returned : ℕ) × HasDone D.row.coded D.meaning (room_look call.now.who call.now.accepted returned ∷ []) same_hands seat.old.me seat.new.me)) }
         ensures none { IfErr result (λ found. (returned : ℕ) × (ended : CallEnd) × HasNoRoom self.now.sizes call.now returned found ended
             × IsLeaving lane_turn.Sender (other call.now.who.end) seat.new.me
-            × HasDone D.row.coded D.meaning (Step (made.Room call.now.accepted returned) ∷ []) same_hands seat.old.me seat.new.me) }
+            × HasDone D.row.coded D.meaning (room_look call.now.who call.now.accepted returned ∷ []) same_hands seat.old.me seat.new.me) }
     {
         let lane = other(call.who.end);
         let index = load_index(&self.table.shared, seat, lane, IndexUse::Room);
@@ -184,7 +194,7 @@ impl<D: Desk> SharedLink<D> {
     }
 
     /// Step 4 of a send: a buffer is out, of the sender's own list or of the return ring.
-    fn take_free(&self, seat: &mut LinkSeat, call: &SendCall) -> u32
+    pub(crate) fn take_free(&self, seat: &mut LinkSeat, call: &SendCall) -> u32
         requires seat { IsSeatOf self.now.table.shared.table_id self.now.sizes seat.old.table_id seat.old.me }
         requires call { IsSendAt call.now stage.Look seat.old.me }
         ensures seat { IsSeatOf self.now.table.shared.table_id self.now.sizes seat.new.table_id seat.new.me }
@@ -204,7 +214,7 @@ impl<D: Desk> SharedLink<D> {
     }
 
     /// Step 5 of a send: the message is in the buffer, and the forward entry names it.
-    fn store_message(&self, seat: &mut LinkSeat, call: &SendCall, message: &Message)
+    pub(crate) fn store_message(&self, seat: &mut LinkSeat, call: &SendCall, message: &Message)
         requires seat { IsSeatOf self.now.table.shared.table_id self.now.sizes seat.old.table_id seat.old.me }
         requires call { (y : Slot) × IsFilledAt self.now.sizes call.now stage.Buffer y seat.old.me }
         requires message { call.now.message.value ≡ message.now }
@@ -232,7 +242,7 @@ impl<D: Desk> SharedLink<D> {
     }
 
     /// Step 6 of a send: the message is accepted, and the buffer at home.
-    fn publish_message(&self, seat: &mut LinkSeat, call: &SendCall)
+    pub(crate) fn publish_message(&self, seat: &mut LinkSeat, call: &SendCall)
         requires seat { IsSeatOf self.now.table.shared.table_id self.now.sizes seat.old.table_id seat.old.me }
         requires call { IsFilledAt self.now.sizes call.now stage.Entry (Buffer call.now.message.value) seat.old.me }
         ensures seat { IsSeatOf self.now.table.shared.table_id self.now.sizes seat.new.table_id seat.new.me }

@@ -11,8 +11,8 @@ ghost use Rattle.link_words.specs.declared.rule.Slot.TheVariants.{Receiver};
 ghost use Rattle.link_words.specs.PlacedDesks.{table_at, IsRightTo};
 ghost use Rattle.link_words.specs.Steps.{handed_side};
 ghost use Rattle.link_words.specs.Words.{receiver_slot};
-ghost use Rattle.split_ring.specs.Callers.{Holds, IsCallerOf, IsAfterCall, MakesTake};
-ghost use Rattle.split_ring.specs.Receives.{lane_number, IsTakeAt, HasBufferOut, IsHandedTo, HasSettledTake};
+ghost use Rattle.split_ring.specs.Callers.{Holds, IsCallerOf, IsAfterCall, MakesTake, TakeNotBelow};
+ghost use Rattle.split_ring.specs.Receives.{lane_number, message_look, IsTakeAt, HasBufferOut, IsHandedTo, HasSettledTake};
 ghost use Rattle.split_ring.specs.Seats.{IsSeatOf};
 ghost use Rattle.split_ring.specs.Sends.{live_era};
 ghost use Rattle.split_ring.specs.Turns.{HasReceiver, IsLeaving, receive_slots};
@@ -91,6 +91,7 @@ impl<D: Desk> SharedLink<D> {
         requires { IsCallerOf self.now caller.old }
         ensures caller { IsAfterCall self.now caller.old caller.new }
         ensures walk { MakesTake D.row.coded D.meaning caller.old result caller.new }
+        ensures seen { TakeNotBelow caller.old result }
         ensures held { IfOk result (λ taken. Holds caller.new taken.held) }
     {
         let who = caller.id;
@@ -124,7 +125,7 @@ impl<D: Desk> SharedLink<D> {
     }
 
     /// A take that has its turn, by its side state.
-    fn take_begun(&self, seat: &mut LinkSeat, who: CallerId) -> TakeCall
+    pub(crate) fn take_begun(&self, seat: &mut LinkSeat, who: CallerId) -> TakeCall
         requires seat { IsSeatOf self.now.table.shared.table_id self.now.sizes seat.old.table_id seat.old.me }
         requires turn { HasReceiver who (work.Take take_stage.Turn) seat.old.me }
         ensures seat { IsSeatOf self.now.table.shared.table_id self.now.sizes seat.new.table_id seat.new.me }
@@ -141,7 +142,7 @@ impl<D: Desk> SharedLink<D> {
     /// Step 2 of a take: it goes on in its incarnation, live.
     ///
     /// Errors: the era that was found, exactly where it is another or a closed one.
-    fn find_take_era(&self, seat: &mut LinkSeat, call: &TakeCall) -> Result<(), Era>
+    pub(crate) fn find_take_era(&self, seat: &mut LinkSeat, call: &TakeCall) -> Result<(), Era>
         requires seat { IsSeatOf self.now.table.shared.table_id self.now.sizes seat.old.table_id seat.old.me }
         requires call { IsTakeAt call.now (work.Take take_stage.Turn) seat.old.me }
         ensures seat { IsSeatOf self.now.table.shared.table_id self.now.sizes seat.new.table_id seat.new.me }
@@ -161,14 +162,14 @@ impl<D: Desk> SharedLink<D> {
     /// Step 3 of a take: it looks for a message by the forward index.
     ///
     /// Errors: how many messages were accepted, exactly where each was handed over.
-    fn look_for_message(&self, seat: &mut LinkSeat, call: &TakeCall) -> Result<(), u64>
+    pub(crate) fn look_for_message(&self, seat: &mut LinkSeat, call: &TakeCall) -> Result<(), u64>
         requires seat { IsSeatOf self.now.table.shared.table_id self.now.sizes seat.old.table_id seat.old.me }
         requires call { IsTakeAt call.now (work.Take take_stage.Era) seat.old.me }
         ensures seat { IsSeatOf self.now.table.shared.table_id self.now.sizes seat.new.table_id seat.new.me }
         ensures message { IfOk result (λ _. IsTakeAt call.now (work.Take take_stage.Look) seat.new.me
-            × ((accepted : ℕ) × HasDone D.row.coded D.meaning (Step (made.Waiting call.now.handed accepted) ∷ []) same_hands seat.old.me seat.new.me)) }
+            × ((accepted : ℕ) × HasDone D.row.coded D.meaning (message_look call.now.who call.now.handed accepted ∷ []) same_hands seat.old.me seat.new.me)) }
         ensures empty { IfErr result (λ accepted. (accepted ≡ call.now.handed) × IsLeaving lane_turn.Receiver call.now.who.end seat.new.me
-            × HasDone D.row.coded D.meaning (Step (made.Waiting accepted accepted) ∷ []) same_hands seat.old.me seat.new.me) }
+            × HasDone D.row.coded D.meaning (message_look call.now.who accepted accepted ∷ []) same_hands seat.old.me seat.new.me) }
     {
         let index = load_index(&self.table.shared, seat, call.who.end, IndexUse::Message);
         if waiting_messages(index, call.handed) == 0 {
@@ -179,7 +180,7 @@ impl<D: Desk> SharedLink<D> {
     }
 
     /// Step 4 of a take: the buffer of the next message is out.
-    fn take_filled(&self, seat: &mut LinkSeat, call: &TakeCall) -> u32
+    pub(crate) fn take_filled(&self, seat: &mut LinkSeat, call: &TakeCall) -> u32
         requires seat { IsSeatOf self.now.table.shared.table_id self.now.sizes seat.old.table_id seat.old.me }
         requires call { IsTakeAt call.now (work.Take take_stage.Look) seat.old.me }
         ensures seat { IsSeatOf self.now.table.shared.table_id self.now.sizes seat.new.table_id seat.new.me }
@@ -202,7 +203,12 @@ impl<D: Desk> SharedLink<D> {
     /// judges it.
     ///
     /// Errors: the era that was found, exactly where it is another or a closed one.
-    fn hand_over(&self, seat: &mut LinkSeat, call: &TakeCall, buffer: u32) -> Result<Taken, Era>
+    pub(crate) fn hand_over(
+        &self,
+        seat: &mut LinkSeat,
+        call: &TakeCall,
+        buffer: u32,
+    ) -> Result<Taken, Era>
         requires seat { IsSeatOf self.now.table.shared.table_id self.now.sizes seat.old.table_id seat.old.me }
         requires call { (message : List ℕ) × HasBufferOut self.now.sizes call.now (work.Take take_stage.Buffer) buffer message seat.old.me }
         ensures seat { IsSeatOf self.now.table.shared.table_id self.now.sizes seat.new.table_id seat.new.me }

@@ -4,8 +4,8 @@ use Rattle.lane_model.specs.declared.calls.CallEnd.TheVariants as end
 use Rattle.lane_model.specs.declared.stages.Turn.TheVariants as turn
 use Rattle.link_words.specs.declared.rule.Call.{Call}
 use Rattle.link_words.specs.declared.rule.Call.TheVariants.{Receives}
-use Rattle.link_words.specs.declared.rule.Event.TheVariants.{Step}
-use Rattle.link_words.specs.declared.rule.Made.TheVariants as made
+use Rattle.link_words.specs.declared.rule.Counted.TheVariants.{Gave}
+use Rattle.link_words.specs.declared.rule.Event.TheVariants.{Count}
 use Rattle.link_words.specs.declared.rule.Ring.TheVariants as ring
 use Rattle.link_words.specs.declared.rule.Slot.{Slot}
 use Rattle.link_words.specs.declared.rule.Slot.TheVariants.{Receiver}
@@ -52,4 +52,4 @@ returns-clause-done g c =
     let all = gives_back coded meaning me me' who c.args.returned number q c.publish_index.ensures.told (stores coded meaning me me' (place_in (ring_index ring.Return who.end)) ((c.return_count-count.result + 1) % 65536) c.publish_index.ensures.step) in
     let after : Call = Receives who.end (turn.Leaving who.number (end.Gave number)) (side_given x number) 0 [] in
     let me'' : SeatState = (me'.0, (c.receiver_slot.result, c.give_back_in.new.slot) ∷ rest me'.1) in
-    done_then coded meaning [] (Step (made.Gave (c.args.returned + 1)) ∷ []) same_hands (λ hands. hands_but hands number) me me' me'' all.1 (still coded meaning me' me'' refl)
+    (all.1.0, all.1.1, done_then coded meaning [] (Count who.end all.1.0 (Gave (c.args.returned + 1)) ∷ []) same_hands (λ hands. hands_but hands number) me me' me'' all.1.2 (still coded meaning me' me'' refl))

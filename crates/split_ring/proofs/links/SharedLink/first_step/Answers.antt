@@ -1,0 +1,46 @@
+use Rattle.std.proofs.Common.{sym, subst}
+use Rattle.lane_model.specs.declared.calls.Answer.{Answer}
+use Rattle.lane_model.specs.declared.calls.Progress.TheVariants as progress
+use Rattle.lane_model.specs.declared.calls.Wish.{Wish}
+use Rattle.split_ring.specs.declared.calls.Phase.TheVariants as phase
+use Rattle.split_ring.specs.Calls.{Advances}
+use Rattle.split_ring.specs.Turns.{HasBegun}
+use Rattle.split_ring.proofs.CallEnds.{ask_fit, ask_still, call_begun, call_refused}
+use Rattle.split_ring.proofs.links.SharedLink.first_step.Goals as goal
+
+pub enter-requires-clause-caller : goal.enter-requires-clause-caller
+enter-requires-clause-caller g c =
+    record { seat = c.requires.seat; rests = c.requires.stands.0; number = c.requires.number.0; low = c.requires.number.1 }
+
+pub enter-requires-clause-fit : goal.enter-requires-clause-fit
+enter-requires-clause-fit g c =
+    ask_fit c.args.who c.args.ask c.wish_of.result c.args.seat.now.me c.wish_of.ensures.wish c.wish_of.ensures.short c.requires.stands.1
+
+pub begun_call-requires-clause-seat : goal.begun_call-requires-clause-seat
+begun_call-requires-clause-seat g c =
+    c.enter.ensures.seat
+
+pub begun_call-requires-clause-turn : goal.begun_call-requires-clause-turn
+begun_call-requires-clause-turn g c =
+    let coded = g.row.D.coded in let meaning = g.D.Desk.meaning in let z = c.args.self.now.sizes in let me = c.args.seat.now.me in let who = c.args.who in let a = c.args.ask in let me1 = c.enter.new.seat.me in subst (λ (w : Wish). HasBegun who w me1) c.wish_of.ensures.wish c.in-Ok.ensures.entered.0
+
+pub begun_call-requires-clause-own : goal.begun_call-requires-clause-own
+begun_call-requires-clause-own g c =
+    ask_still c.args.who c.args.ask c.args.seat.now.me c.enter.new.seat.me c.in-Ok.ensures.entered.1.in_hand c.requires.stands.1
+
+pub returns-in-Ok-clause-seat : goal.returns-in-Ok-clause-seat
+returns-in-Ok-clause-seat g c =
+    c.begun_call.ensures.seat
+
+pub returns-in-Ok-clause-step : goal.returns-in-Ok-clause-step
+returns-in-Ok-clause-step g c =
+    let coded = g.row.D.coded in let meaning = g.D.Desk.meaning in let z = c.args.self.now.sizes in let me = c.args.seat.now.me in let who = c.args.who in let a = c.args.ask in let me1 = c.enter.new.seat.me in call_begun coded meaning z who a c.begun_call.result me me1 c.begun_call.new.seat.me c.in-Ok.ensures.entered.1 c.begun_call.ensures.still c.begun_call.ensures.hands c.begun_call.ensures.stands c.begun_call.ensures.path
+
+pub returns-in-Err-clause-seat : goal.returns-in-Err-clause-seat
+returns-in-Err-clause-seat g c =
+    c.enter.ensures.seat
+
+pub returns-in-Err-clause-step : goal.returns-in-Err-clause-step
+returns-in-Err-clause-step g c =
+    let coded = g.row.D.coded in let meaning = g.D.Desk.meaning in let z = c.args.self.now.sizes in let me = c.args.seat.now.me in let who = c.args.who in let a = c.args.ask in let me1 = c.enter.new.seat.me in
+    subst (λ (x : Answer). Advances coded meaning z who (phase.Asked a) (progress.Done x) phase.Ended me me1) (sym c.busy_answer.ensures) (call_refused coded meaning z who a c.in-Err.holder me me1 c.in-Err.ensures.busy)

@@ -1,0 +1,138 @@
+use Rattle.std.proofs.Common.{◌∷◌, [], sym, subst}
+use Rattle.rp_base.specs.declared.kinds.End.{End}
+use Rattle.lane_model.specs.declared.calls.Progress.TheVariants as progress
+use Rattle.lane_model.specs.declared.recoveries.LaneTurn.TheVariants as lane_turn
+use Rattle.link_words.specs.declared.rule.Call.TheVariants.{Rests}
+use Rattle.link_words.specs.declared.rule.Event.TheVariants.{Step}
+use Rattle.link_words.specs.declared.rule.Made.TheVariants as made
+use Rattle.link_words.specs.Words.{other}
+use Rattle.split_ring.specs.declared.calls.Phase.{Phase}
+use Rattle.split_ring.specs.declared.calls.Phase.TheVariants as phase
+use Rattle.split_ring.specs.Calls.{IsInPhase, Advances}
+use Rattle.split_ring.specs.Seats.{IsAt}
+use Rattle.split_ring.specs.Turns.{IsLeaving}
+use Rattle.split_ring.specs.Walks.{same_hands, HasDone}
+use Rattle.split_ring.proofs.CallEnds.{left_sender, left_receiver}
+use Rattle.split_ring.proofs.links.SharedLink.step_on.Goals as goal
+
+pub first_step-requires-clause-number : goal.first_step-requires-clause-number
+first_step-requires-clause-number g c =
+    c.requires.number
+
+pub first_step-requires-clause-seat : goal.first_step-requires-clause-seat
+first_step-requires-clause-seat g c =
+    c.requires.seat
+
+pub first_step-requires-clause-stands : goal.first_step-requires-clause-stands
+first_step-requires-clause-stands g c =
+    let coded = g.row.D.coded in let meaning = g.D.Desk.meaning in let z = c.args.self.now.sizes in let me = c.args.seat.now.me in let who = c.args.who in let p = c.args.phase in subst (λ (x : Phase). IsInPhase z who x me) c.in-Asked.is c.requires.stands
+
+pub returns-in-Asked-clause-seat : goal.returns-in-Asked-clause-seat
+returns-in-Asked-clause-seat g c =
+    c.first_step.ensures.seat
+
+pub returns-in-Asked-clause-step : goal.returns-in-Asked-clause-step
+returns-in-Asked-clause-step g c =
+    let coded = g.row.D.coded in let meaning = g.D.Desk.meaning in let z = c.args.self.now.sizes in let me = c.args.seat.now.me in let who = c.args.who in let p = c.args.phase in subst (λ (x : Phase). Advances coded meaning z who x c.first_step.result.1 c.first_step.result.0 me c.first_step.new.seat.me) (sym c.in-Asked.is) c.first_step.ensures.step
+
+pub send_step-requires-clause-seat : goal.send_step-requires-clause-seat
+send_step-requires-clause-seat g c =
+    c.requires.seat
+
+pub send_step-requires-clause-stands : goal.send_step-requires-clause-stands
+send_step-requires-clause-stands g c =
+    let coded = g.row.D.coded in let meaning = g.D.Desk.meaning in let z = c.args.self.now.sizes in let me = c.args.seat.now.me in let who = c.args.who in let p = c.args.phase in subst (λ (x : Phase). IsInPhase z who x me) c.in-Sends.is c.requires.stands
+
+pub returns-in-Sends-clause-seat : goal.returns-in-Sends-clause-seat
+returns-in-Sends-clause-seat g c =
+    c.send_step.ensures.seat
+
+pub returns-in-Sends-clause-step : goal.returns-in-Sends-clause-step
+returns-in-Sends-clause-step g c =
+    let coded = g.row.D.coded in let meaning = g.D.Desk.meaning in let z = c.args.self.now.sizes in let me = c.args.seat.now.me in let who = c.args.who in let p = c.args.phase in subst (λ (x : Phase). Advances coded meaning z who x c.send_step.result.1 c.send_step.result.0 me c.send_step.new.seat.me) (sym c.in-Sends.is) c.send_step.ensures.step
+
+pub take_step-requires-clause-seat : goal.take_step-requires-clause-seat
+take_step-requires-clause-seat g c =
+    c.requires.seat
+
+pub take_step-requires-clause-stands : goal.take_step-requires-clause-stands
+take_step-requires-clause-stands g c =
+    let coded = g.row.D.coded in let meaning = g.D.Desk.meaning in let z = c.args.self.now.sizes in let me = c.args.seat.now.me in let who = c.args.who in let p = c.args.phase in subst (λ (x : Phase). IsInPhase z who x me) c.in-Takes.is c.requires.stands
+
+pub returns-in-Takes-clause-seat : goal.returns-in-Takes-clause-seat
+returns-in-Takes-clause-seat g c =
+    c.take_step.ensures.seat
+
+pub returns-in-Takes-clause-step : goal.returns-in-Takes-clause-step
+returns-in-Takes-clause-step g c =
+    let coded = g.row.D.coded in let meaning = g.D.Desk.meaning in let z = c.args.self.now.sizes in let me = c.args.seat.now.me in let who = c.args.who in let p = c.args.phase in subst (λ (x : Phase). Advances coded meaning z who x c.take_step.result.1 c.take_step.result.0 me c.take_step.new.seat.me) (sym c.in-Takes.is) c.take_step.ensures.step
+
+pub give_step-requires-clause-seat : goal.give_step-requires-clause-seat
+give_step-requires-clause-seat g c =
+    c.requires.seat
+
+pub give_step-requires-clause-stands : goal.give_step-requires-clause-stands
+give_step-requires-clause-stands g c =
+    let coded = g.row.D.coded in let meaning = g.D.Desk.meaning in let z = c.args.self.now.sizes in let me = c.args.seat.now.me in let who = c.args.who in let p = c.args.phase in subst (λ (x : Phase). IsInPhase z who x me) c.in-Gives.is c.requires.stands
+
+pub returns-in-Gives-clause-seat : goal.returns-in-Gives-clause-seat
+returns-in-Gives-clause-seat g c =
+    c.give_step.ensures.seat
+
+pub returns-in-Gives-clause-step : goal.returns-in-Gives-clause-step
+returns-in-Gives-clause-step g c =
+    let coded = g.row.D.coded in let meaning = g.D.Desk.meaning in let z = c.args.self.now.sizes in let me = c.args.seat.now.me in let who = c.args.who in let p = c.args.phase in subst (λ (x : Phase). Advances coded meaning z who x c.give_step.result.1 c.give_step.result.0 me c.give_step.new.seat.me) (sym c.in-Gives.is) c.give_step.ensures.step
+
+pub desk_step-requires-clause-seat : goal.desk_step-requires-clause-seat
+desk_step-requires-clause-seat g c =
+    c.requires.seat
+
+pub desk_step-requires-clause-stands : goal.desk_step-requires-clause-stands
+desk_step-requires-clause-stands g c =
+    let coded = g.row.D.coded in let meaning = g.D.Desk.meaning in let z = c.args.self.now.sizes in let me = c.args.seat.now.me in let who = c.args.who in let p = c.args.phase in subst (λ (x : Phase). IsInPhase z who x me) c.in-Asks.is c.requires.stands
+
+pub returns-in-Asks-clause-seat : goal.returns-in-Asks-clause-seat
+returns-in-Asks-clause-seat g c =
+    c.desk_step.ensures.seat
+
+pub returns-in-Asks-clause-step : goal.returns-in-Asks-clause-step
+returns-in-Asks-clause-step g c =
+    let coded = g.row.D.coded in let meaning = g.D.Desk.meaning in let z = c.args.self.now.sizes in let me = c.args.seat.now.me in let who = c.args.who in let p = c.args.phase in subst (λ (x : Phase). Advances coded meaning z who x c.desk_step.result.1 c.desk_step.result.0 me c.desk_step.new.seat.me) (sym c.in-Asks.is) c.desk_step.ensures.step
+
+pub leave-requires-clause-seat : goal.leave-requires-clause-seat
+leave-requires-clause-seat g c =
+    c.requires.seat
+
+pub leave-requires-in-LeavesReceiver-clause-seat : goal.leave-requires-in-LeavesReceiver-clause-seat
+leave-requires-in-LeavesReceiver-clause-seat g c =
+    c.requires.seat
+
+pub leave-requires-clause-call : goal.leave-requires-clause-call
+leave-requires-clause-call g c =
+    let coded = g.row.D.coded in let meaning = g.D.Desk.meaning in let z = c.args.self.now.sizes in let me = c.args.seat.now.me in let who = c.args.who in let p = c.args.phase in subst (λ (e : End). IsLeaving lane_turn.Sender e me) (sym c.other.ensures) (subst (λ (x : Phase). IsInPhase z who x me) c.in-LeavesSender.is c.requires.stands)
+
+pub leave-requires-in-LeavesReceiver-clause-call : goal.leave-requires-in-LeavesReceiver-clause-call
+leave-requires-in-LeavesReceiver-clause-call g c =
+    let coded = g.row.D.coded in let meaning = g.D.Desk.meaning in let z = c.args.self.now.sizes in let me = c.args.seat.now.me in let who = c.args.who in let p = c.args.phase in subst (λ (x : Phase). IsInPhase z who x me) c.in-LeavesReceiver.is c.requires.stands
+
+pub returns-in-LeavesSender-clause-seat : goal.returns-in-LeavesSender-clause-seat
+returns-in-LeavesSender-clause-seat g c =
+    c.leave.ensures.seat
+
+pub returns-in-LeavesReceiver-clause-seat : goal.returns-in-LeavesReceiver-clause-seat
+returns-in-LeavesReceiver-clause-seat g c =
+    c.leave-in-LeavesReceiver.ensures.seat
+
+pub returns-in-LeavesSender-clause-step : goal.returns-in-LeavesSender-clause-step
+returns-in-LeavesSender-clause-step g c =
+    let coded = g.row.D.coded in let meaning = g.D.Desk.meaning in let z = c.args.self.now.sizes in let me = c.args.seat.now.me in let who = c.args.who in let p = c.args.phase in let me' = c.leave.new.seat.me in let said = c.in-LeavesSender.answer in
+    subst (λ (x : Phase). Advances coded meaning z who x (progress.Done said) phase.Ended me me') (sym c.in-LeavesSender.is)
+    (left_sender coded meaning z who said me me' (subst (λ (e : End). IsAt me' (Rests (other e)) [] × HasDone coded meaning (Step made.Left ∷ []) same_hands me me') c.other.ensures c.leave.ensures.left))
+
+pub returns-in-LeavesReceiver-clause-step : goal.returns-in-LeavesReceiver-clause-step
+returns-in-LeavesReceiver-clause-step g c =
+    let coded = g.row.D.coded in let meaning = g.D.Desk.meaning in let z = c.args.self.now.sizes in let me = c.args.seat.now.me in let who = c.args.who in let p = c.args.phase in let me' = c.leave-in-LeavesReceiver.new.seat.me in let said = c.in-LeavesReceiver.answer in
+    subst (λ (x : Phase). Advances coded meaning z who x (progress.Done said) phase.Ended me me') (sym c.in-LeavesReceiver.is) (left_receiver coded meaning z who said me me' c.leave-in-LeavesReceiver.ensures.left)
+
+pub unreachable-requires : goal.unreachable-requires
+unreachable-requires g c = subst (λ (x : Phase). IsInPhase c.args.self.now.sizes c.args.who x c.args.seat.now.me) c.in-Ended.is c.requires.stands
