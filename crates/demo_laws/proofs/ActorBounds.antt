@@ -19,7 +19,7 @@ use Rattle.lane_model.specs.Links.{Lanes, LinkState, lanes_of, lanes_step, with_
 use Rattle.lane_model.specs.Soundness.{SoundLink}
 use Rattle.channel_bus.specs.Sides.{EndState, side_meaning}
 use Rattle.host_driver.specs.Drivers.{DriversState}
-use Rattle.crash_recover.specs.Drives.{first_or_take, is_empty}
+use Rattle.core_actors.specs.ActorSteps.{first_or_take, is_empty}
 use Rattle.demo_laws.proofs.ActorCalls.{Begun, CallGoes, HasWay, IsAt, IsNoUnbind, StepsOwn, TurnsOf, first_goes, later_goes, left_behind, left_on, other_stays, steps_own, swapped}
 use Rattle.demo_laws.proofs.OwnCalls.{handed_by, returned_by, sent_by, sent_so_far}
 use Rattle.demo_laws.proofs.CallCosts.{AreHostCalls, AreWorkerCalls, HostEnded, HostFits, WorkerEnded, WorkerFits, call_cost, calls_cost, gives_in, host_after, host_cost, host_ends, one_give, one_send, one_take, sends_in, takes_in, taking_cost, worker_after, worker_cost, worker_ends}

@@ -4,7 +4,7 @@ use Rattle.rp_base.specs.Limits.{ring_capacity}
 use Rattle.fw_load.specs.declared.rings.RingPair.{RingPair}
 use Rattle.proc_state.specs.Lives.{CoreLife, is_up}
 use Rattle.remote_core.specs.Workers.{WorkerState, new_worker}
-use Rattle.crash_recover.specs.Actors.{ActorsState, fresh_actors}
+use Rattle.core_actors.specs.Actors.{ActorsState, fresh_actors}
 use Rattle.crash_recover.specs.CoreBoots.{core_bench, started_core, with_load}
 use Rattle.crash_recover.specs.Cores.{CoreState, LoadState}
 use Rattle.crash_recover.specs.Drives.{placed_map}

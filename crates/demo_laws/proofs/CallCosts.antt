@@ -5,7 +5,7 @@ use Rattle.lane_model.specs.declared.calls.CallEnd.TheVariants as end
 use Rattle.lane_model.specs.declared.calls.Wish.{Wish}
 use Rattle.lane_model.specs.declared.calls.Wish.TheVariants as wish
 use Rattle.host_driver.specs.Drivers.{DriversState}
-use Rattle.crash_recover.specs.Drives.{end_answer, gives_of, left_of, number_taken, sends_of}
+use Rattle.core_actors.specs.ActorEnds.{end_answer, gives_of, left_of, number_taken, sends_of}
 use Rattle.demo_laws.proofs.ActorCalls.{IsNoUnbind}
 use Rattle.demo_laws.proofs.OwnCalls.{IsEndOf, handed_by, returned_by, sent_by}
 

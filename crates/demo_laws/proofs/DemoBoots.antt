@@ -1,8 +1,14 @@
 -- The images of a demo's workers, where they load, have a program of few records, and rings with room; so a demo ends.
-use Rattle.std.proofs.Common.{◌≡◌, ◌∙◌, ◌<◌, ◌≤◌, ℕ, List, [], length, None, IfSome, refl, ap, arith}
+use Rattle.std.proofs.Common.{◌≡◌, ◌∙◌, ◌<◌, ◌≤◌, ℕ, List, [], length, None, IfSome, Result, Ok, refl, ap, sym, arith}
+use Rattle.std.specs.Option.{unwrap_or}
+use Rattle.std.specs.Result.{result_ok}
 use Rattle.rp_base.specs.declared.limits.TheConstants.{IMAGE_MOST}
 use Rattle.memory_pool.specs.declared.blocks.Block.{Block}
+use Rattle.memory_pool.specs.Placements.{placement}
 use Rattle.memory_pool.specs.Regions.{standard_regions}
+use Rattle.memory_pool.specs.declared.faults.PlaceFault.{PlaceFault}
+use Rattle.fw_load.specs.Loading.{Loads}
+use Rattle.load_laws.proofs.LoadParts.{parts_fit}
 use Rattle.fw_load.specs.Tables.{entries_in, table_of}
 use Rattle.image_maker.specs.Demo.{demo_commands, worker_lines}
 use Rattle.image_maker.specs.Images.{image_of}
@@ -29,8 +35,9 @@ record Boots (reply : ℕ) (load : LoadState) : Type 0 where
   pub fits : IsAtRecord (new_worker load.entry)
   pub rings : IfSome load.rings AreRoomy
 
-boots_at : (reply : ℕ) → reply < 497 → length (image_of (worker_lines reply)) ≤ IMAGE_MOST → (placed : List Block) → Boots reply (loaded_at (image_of (worker_lines reply)) standard_regions placed)
-boots_at reply small short placed =
+boots_at : (reply : ℕ) → reply < 497 → length (image_of (worker_lines reply)) ≤ IMAGE_MOST → (placed : List Block) → Loads (image_of (worker_lines reply)) standard_regions
+    → placement standard_regions (entries_in (table_of (image_of (worker_lines reply)))) ≡ Ok placed → Boots reply (loaded_at (image_of (worker_lines reply)) standard_regions placed)
+boots_at reply small short placed loads is =
     let image = image_of (worker_lines reply) in
     let back = recipe_read (worker_lines reply) (loadable reply small short) in
     let load = loaded_at image standard_regions placed in
@@ -38,14 +45,17 @@ boots_at reply small short placed =
     record {
       program = demo_program load.memory (placed_map standard_regions load) reply (records_stand reply small load.memory load front);
       fits = record { entry = back.entry; place = omega arith; turns = omega arith };
-      rings = rings_roomy placed (entries_in (table_of image)) (table_entries reply image back.section (back.table refl) ∙ one_device reply);
+      rings = rings_roomy image placed loads is (table_entries reply image back.section (back.table refl) ∙ one_device reply);
     }
 
 bootable : AreBootable IsAtRecord records_left credit_of
 unfolding loaded_from
 bootable = record {
   loads = λ reply small short loads.
-      let boots = boots_at reply small short _ in (boots.program, boots.fits, boots.rings, omega arith, omega arith);
+      let image = image_of (worker_lines reply) in
+      let fits = parts_fit image standard_regions loads in
+      let found : Result (List Block) PlaceFault → List Block = (λ found. unwrap_or (result_ok found) []) in
+      let boots = boots_at reply small short (found (placement standard_regions (entries_in (table_of image)))) loads (fits.placed ∙ ap Ok (sym (ap found fits.placed))) in (boots.program, boots.fits, boots.rings, omega arith, omega arith);
 }
 
 -- the run of a demo goes to its end

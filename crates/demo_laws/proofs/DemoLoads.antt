@@ -1,8 +1,9 @@
 -- The code of a worker of a demo stands in the memory into which its image was loaded.
-use Rattle.std.proofs.Common.{◌≡◌, ◌<◌, ◌≤◌, ℕ, zero, suc, ◌+◌, ◌-◌, cond, List, [], ◌∷◌, ◌++◌, length, take, drop, map, replicate, Option, Some, None, IfSome, option_map, refl, sym, ap, subst, ◌∙◌, arith}
+use Rattle.std.proofs.Common.{◌≡◌, ◌<◌, ◌≤◌, ℕ, zero, suc, ◌+◌, ◌-◌, cond, List, [], ◌∷◌, ◌++◌, length, take, drop, map, replicate, Option, Some, None, IfSome, option_map, refl, sym, ap, subst, ◌∙◌, arith, eqb}
 use Rattle.std.specs.List.{find, slice_range}
 use Rattle.std.specs.Option.{option_and_then}
 use Rattle.std.proofs.lemmas.Bool.{cond_both}
+use Rattle.std.proofs.lemmas.List.Elements.{All-nil}
 use Rattle.std.proofs.lemmas.List.{length-append, length-take, take-append-le, take-take, take_all}
 use Rattle.memory_pool.specs.declared.blocks.Block.{Block}
 use Rattle.memory_pool.specs.declared.blocks.Use.{Use}
@@ -22,7 +23,15 @@ use Rattle.resource_table.specs.declared.entries.Entry.{Entry}
 use Rattle.resource_table.specs.declared.entries.Entry.TheVariants as entry
 use Rattle.resource_table.specs.declared.entries.Ring.{Ring}
 use Rattle.resource_table.specs.declared.entries.Vdev.{Vdev}
-use Rattle.fw_load.specs.Rings.{is_ring, pair_from, pair_of, ring_at}
+use Rattle.resource_table.specs.PatchedEntries.{fixed_entry, patched_entries, set_up}
+use Rattle.memory_pool.specs.Placements.{placement}
+use Rattle.memory_pool.specs.Soundness.{IsRange, SoundRegions}
+use Rattle.memory_pool.proofs.RegionsSound.{added_sound}
+use Rattle.fw_load.specs.Loading.{Loads}
+use Rattle.fw_load.specs.Rings.{pair_from, pair_of}
+use Rattle.fw_load.proofs.Buffers.{HasSizes, fixed_keeps, set_keeps}
+use Rattle.load_laws.proofs.LoadParts.{parts_fit, placed_is_sound, table_good}
+use Rattle.load_laws.proofs.PatchParts.{placed_reads}
 use Rattle.fw_load.specs.Tables.{bytes_in, entries_in}
 use Rattle.image_maker.specs.Images.{data_end}
 use Rattle.image_maker.specs.ReadBack.{table_section}
@@ -35,7 +44,7 @@ use Rattle.elf_image.specs.Sections.{section_of}
 use Rattle.elf_image.specs.Segments.{SegmentAt, segments_of as segments_read}
 use Rattle.elf_image.specs.declared.sections.Section.{Section}
 use Rattle.fw_load.specs.Memory.{memory_of, with_segments, with_table}
-use Rattle.fw_load.specs.Tables.{patched_in, table_of}
+use Rattle.fw_load.specs.Tables.{fixes_of, patched_in, table_of}
 use Rattle.remote_code.specs.declared.faults.WorkerFault.{WorkerFault}
 use Rattle.remote_code.specs.declared.records.Record.{Record}
 use Rattle.remote_core.specs.Records.{record_at}
@@ -215,26 +224,46 @@ module _ (reply : ℕ) (small : reply < 497) where
 abbrev pub ring : Ring
 ring = record { da = 4294967295; align = 4096; num = 16; notify = 0; pa = 0 }
 
+abbrev pub device : Vdev
+device = record { id = 7; features = 1; guest = 0; status = 0; count = 2; first = ring; second = ring }
+
 -- the table of a demo has one device, with rings of 16 entries
-pub one_device : (reply : ℕ) → entries_of (table_bytes (worker_lines reply)) ≡ entry.Device (record { id = 7; features = 1; guest = 0; status = 0; count = 2; first = ring; second = ring }) ∷ []
+pub one_device : (reply : ℕ) → entries_of (table_bytes (worker_lines reply)) ≡ entry.Device device ∷ []
 unfolding device_at vring_at
 one_device reply = refl
 
-kept_num : (found : Option Block) (notify : ℕ) (one : Ring) → (ring_at found notify one).num ≡ one.num
-kept_num None notify one = refl
-kept_num (Some block) notify one = refl
+-- and so has the table as it is patched
+roomy : (placed : List Block) (one : Entry) → HasSizes device one → IfSome (pair_from placed 0 (one ∷ [])) AreRoomy
+roomy placed (entry.Carveout da pa len name) has = absurd has
+roomy placed (entry.Devmem da pa len name) has = absurd has
+roomy placed (entry.Trace da len name) has = absurd has
+roomy placed (entry.Device e) has =
+    let room : (n : ℕ) → n ≡ 16 → 3 ≤ ring_capacity n = (λ n is. subst (λ (n : ℕ). 3 ≤ ring_capacity n) (sym is) (omega arith)) in
+    cond_both (eqb e.id 7) (Some (pair_of placed 0 e)) None (λ found. IfSome found AreRoomy) (λ _. (room e.first.num has.1, room e.second.num has.2)) (λ _. tt)
+roomy placed (entry.Skipped type) has = absurd has
 
-roomy : (placed : List Block) (index before : ℕ) (device : Vdev) → device.first.num ≡ 16 → device.second.num ≡ 16 → AreRoomy (pair_of placed index before device)
-roomy placed index before device first second = (
-  subst (λ (n : ℕ). 3 ≤ ring_capacity n) (sym (kept_num (find (λ (block : Block). is_ring index 0 block.what) placed) before device.first ∙ first)) (omega arith),
-  subst (λ (n : ℕ). 3 ≤ ring_capacity n) (sym (kept_num (find (λ (block : Block). is_ring index 1 block.what) placed) (before + 1) device.second ∙ second)) (omega arith),
-)
+no_regions : SoundRegions []
+no_regions = record { few = omega arith; small = omega arith; ranges = All-nil (λ (region : Region). IsRange region.da region.pa region.len); apart = λ i j d less among. absurd (omega (arith, less, among)) }
 
-pub rings_roomy : (placed : List Block) (entries : List Entry) → entries ≡ entry.Device (record { id = 7; features = 1; guest = 0; status = 0; count = 2; first = ring; second = ring }) ∷ []
-    → IfSome (pair_from entries placed 0 entries) AreRoomy
-rings_roomy placed entries is =
-    subst (λ (all : List Entry). IfSome (pair_from all placed 0 all) AreRoomy) (sym is)
-    (roomy placed 0 _ (record { id = 7; features = 1; guest = 0; status = 0; count = 2; first = ring; second = ring }) refl refl)
+-- the standard regions are sound
+regions_sound : SoundRegions standard_regions
+regions_sound = added_sound (tcm ∷ []) pool (added_sound [] tcm no_regions refl) refl
+
+module _ (image : List ℕ) (placed : List Block) (loads : Loads image standard_regions) (is : placement standard_regions (entries_in (table_of image)) ≡ Ok placed) where
+  roomy_by : (found : Option (List ℕ)) → table_of image ≡ found → entries_in found ≡ entry.Device device ∷ [] → IfSome (pair_from placed 0 (entries_of (patched_in found placed))) AreRoomy
+  roomy_by None has one = tt
+  roomy_by (Some table) has one =
+      let good = table_good image standard_regions table loads has in
+      let there : placement standard_regions (entries_of table) ≡ Ok placed = sym (ap (λ (found : Option (List ℕ)). placement standard_regions (entries_in found)) has) ∙ is in
+      let held = placed_is_sound image standard_regions placed regions_sound (parts_fit image standard_regions loads).table is in
+      let fixes = fixes_of (entries_of table) placed in
+      let patched = set_up (fixed_entry fixes 0 (entry.Device device)) in
+      let read : entries_of (patched_in (Some table) placed) ≡ patched ∷ [] = placed_reads table good standard_regions placed there held ∙ ap (patched_entries fixes) one in
+      subst (λ (entries : List Entry). IfSome (pair_from placed 0 entries) AreRoomy) (sym read)
+      (roomy placed patched (set_keeps device (fixed_entry fixes 0 (entry.Device device)) (fixed_keeps fixes 0 device (entry.Device device) (refl, refl, refl))))
+
+  pub rings_roomy : entries_in (table_of image) ≡ entry.Device device ∷ [] → IfSome (pair_from placed 0 (entries_of (patched_in (table_of image) placed))) AreRoomy
+  rings_roomy one = roomy_by (table_of image) refl one
 
 -- the entries of the table that is read
 pub table_entries : (reply : ℕ) (image : List ℕ) → section_of image (codes ".resource_table") ≡ Some (table_section (worker_lines reply) 768)

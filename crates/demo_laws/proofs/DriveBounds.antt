@@ -28,11 +28,13 @@ use Rattle.lane_model.specs.Links.{Lanes, LinkState, caller_step, end_of, lanes_
 use Rattle.channel_bus.specs.Sides.{EndState, side_meaning}
 use Rattle.link_bench.specs.declared.benches.BegunCall.{BegunCall}
 use Rattle.link_bench.specs.declared.benches.Reach.TheVariants as reach
-use Rattle.crash_recover.specs.Actors.{ActorsState}
+use Rattle.core_actors.specs.Actors.{ActorsState}
 use Rattle.core_laws.specs.BenchMoves.{IsReachedBench}
 use Rattle.link_bench.specs.Benches.{BenchState, BenchWalk, RingsState, Walk, advance_walk, begin_fault, begun_of, bench_walk, call_rings, call_steps, is_in_call, later_rings, later_steps, start_walk}
 use Rattle.crash_recover.specs.Cores.{CoreState, LoadState}
-use Rattle.crash_recover.specs.Drives.{first_or_take, host_begun_as, host_is_idle, host_reached, host_step, is_drained, is_empty, message_of, number_taken, placed_map, worker_after_end, worker_reached, begins_with_take}
+use Rattle.core_actors.specs.ActorEnds.{message_of, number_taken, worker_after_end}
+use Rattle.core_actors.specs.ActorSteps.{first_or_take, host_begun_as, host_is_idle, host_reached, is_drained, is_empty, worker_reached, begins_with_take}
+use Rattle.crash_recover.specs.Drives.{host_step, placed_map}
 use Rattle.core_laws.specs.KeptCores.{AreOwnUsed}
 use Rattle.core_laws.specs.PendingCalls.{HasNoneBegun}
 use Rattle.demo_laws.proofs.ActorBounds.{HasMessageNow, HostLeft, LinkWithin, WorkerLeft, host_first_step, host_later, more_link, paid, worker_asks, worker_first_step, worker_later}
@@ -45,13 +47,14 @@ use Rattle.core_laws.proofs.PendingSteps.{one_call, one_later, reach_by}
 use Rattle.std.proofs.Common.{◌≢◌, ⊎_elim}
 use Rattle.std.proofs.lemmas.Bool.{cases_lt}
 use Rattle.memory_pool.specs.declared.regions.Region.{Region}
-use Rattle.crash_recover.specs.declared.actors.Actor.{Actor}
-use Rattle.crash_recover.specs.declared.actors.Actor.TheVariants as actor
-use Rattle.crash_recover.specs.declared.core_drives.Driven.TheVariants as driven
+use Rattle.core_actors.specs.declared.actors.Actor.{Actor}
+use Rattle.core_actors.specs.declared.actors.Actor.TheVariants as actor
+use Rattle.core_actors.specs.declared.progress.Driven.TheVariants as driven
 use Rattle.core_laws.specs.BenchMoves.{IsReachedCore}
 use Rattle.crash_recover.specs.CoreCrashes.{after_report, first_report, report_as, report_of}
-use Rattle.crash_recover.specs.Actors.{other_actor}
-use Rattle.crash_recover.specs.Drives.{DriveStep, acting, actor_step, asked_by, drive_step, driven_by_work, has_calls, is_idle, is_idle_actor, record_run, record_step, reported, reported_by, with_turn_after, worker_call, worker_is_idle, worker_step}
+use Rattle.core_actors.specs.Actors.{other_actor}
+use Rattle.core_actors.specs.ActorSteps.{asked_by, driven_by_work, has_calls, worker_is_idle}
+use Rattle.crash_recover.specs.Drives.{DriveStep, acting, actor_step, drive_step, is_idle, is_idle_actor, record_run, record_step, reported, reported_by, with_turn_after, worker_call, worker_step}
 use Rattle.core_laws.specs.KeptCores.{IsKeptBench, IsKeptCore}
 use Rattle.core_laws.specs.PendingCalls.{IsReadyBench, IsReadyCore}
 use Rattle.core_laws.proofs.CoreMoves.{core_driven as core_moved}

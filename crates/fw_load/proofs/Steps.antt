@@ -1,6 +1,6 @@
 -- One step over segments, entries or blocks.
 use Rattle.std.proofs.Common.{◌≡◌, ℕ, ◌+◌, ◌<◌, length, take, get_or, arith, true, List, [], ◌∷◌, ◌++◌, Option, Some, None, inl, inr, refl, ap, sym, ◌∙◌, append_assoc}
-use Rattle.std.specs.List.{filter_map, find, sum_by}
+use Rattle.std.specs.List.{filter_map, sum_by}
 use Rattle.std.specs.Prelude.{slice_get, slice_index}
 use Rattle.std.proofs.Math.Seq.{get_or-append_seam}
 use Rattle.std.proofs.lemmas.List.{get_or_append_left, take_more}
@@ -11,14 +11,13 @@ use Rattle.std.proofs.lemmas.Bool.{cases_eq, eq-eqb, ne_eqb}
 use Rattle.elf_image.specs.Segments.{SegmentAt}
 use Rattle.resource_table.specs.declared.entries.Entry.{Entry}
 use Rattle.resource_table.specs.declared.entries.Entry.TheVariants as entry
-use Rattle.resource_table.specs.declared.entries.Ring.{Ring}
 use Rattle.resource_table.specs.declared.entries.Vdev.{Vdev}
-use Rattle.resource_table.specs.Tables.{IsSoundDevice, IsSoundRing}
+use Rattle.resource_table.specs.Tables.{IsSoundDevice}
 use Rattle.memory_pool.specs.declared.blocks.Block.{Block}
 use Rattle.memory_pool.proofs.Sound.{option_cases}
 use Rattle.fw_load.specs.Loading.{segments_unmapped}
 use Rattle.fw_load.specs.Memory.{segment_bytes, with_at, with_segments}
-use Rattle.fw_load.specs.Rings.{IsSoundPair, is_ring, pair_from, pair_of, ring_at}
+use Rattle.fw_load.specs.Rings.{IsSoundPair, pair_from, pair_of}
 use Rattle.memory_pool.specs.declared.blocks.Use.{Use}
 use Rattle.memory_pool.specs.declared.blocks.Use.TheVariants as usage
 use Rattle.fw_load.specs.Tables.{fix_for, rings_before, rings_of}
@@ -54,23 +53,20 @@ left_more h ys all rest x is none =
     ap (λ more. ys ++ more) (sym e)
 
 -- the rings of a device for RPMsg
-pub pair_here : (entries : List Entry) (placed : List Block) (index : ℕ) (device : Vdev) (more : List Entry) → device.id ≡ 7
-    → pair_from entries placed index (entry.Device device ∷ more) ≡ Some (pair_of placed index (rings_before entries index) device)
-pair_here entries placed index device more is = let e = eq-eqb device.id 7 is in rw e refl
+pub pair_here : (placed : List Block) (index : ℕ) (device : Vdev) (more : List Entry) → device.id ≡ 7 → pair_from placed index (entry.Device device ∷ more) ≡ Some (pair_of placed index device)
+pair_here placed index device more is = let e = eq-eqb device.id 7 is in rw e refl
 
 -- a device that is not for RPMsg
-pub pair_later : (entries : List Entry) (placed : List Block) (index : ℕ) (device : Vdev) (more : List Entry) → (device.id ≡ 7 → ⊥)
-    → pair_from entries placed index (entry.Device device ∷ more) ≡ pair_from entries placed (index + 1) more
-pair_later entries placed index device more other = let e = ne_eqb device.id 7 other in rw e refl
+pub pair_later : (placed : List Block) (index : ℕ) (device : Vdev) (more : List Entry) → (device.id ≡ 7 → ⊥) → pair_from placed index (entry.Device device ∷ more) ≡ pair_from placed (index + 1) more
+pair_later placed index device more other = let e = ne_eqb device.id 7 other in rw e refl
 
 -- an entry that is no device
-pub pair_skip : (entries : List Entry) (placed : List Block) (index : ℕ) (one : Entry) (more : List Entry) → ((device : Vdev) → one ≡ entry.Device device → ⊥)
-    → pair_from entries placed index (one ∷ more) ≡ pair_from entries placed (index + 1) more
-pair_skip entries placed index (entry.Carveout da pa len name) more other = refl
-pair_skip entries placed index (entry.Devmem da pa len name) more other = refl
-pair_skip entries placed index (entry.Trace da len name) more other = refl
-pair_skip entries placed index (entry.Device device) more other = absurd (other device refl)
-pair_skip entries placed index (entry.Skipped type) more other = refl
+pub pair_skip : (placed : List Block) (index : ℕ) (one : Entry) (more : List Entry) → ((device : Vdev) → one ≡ entry.Device device → ⊥) → pair_from placed index (one ∷ more) ≡ pair_from placed (index + 1) more
+pair_skip placed index (entry.Carveout da pa len name) more other = refl
+pair_skip placed index (entry.Devmem da pa len name) more other = refl
+pair_skip placed index (entry.Trace da len name) more other = refl
+pair_skip placed index (entry.Device device) more other = absurd (other device refl)
+pair_skip placed index (entry.Skipped type) more other = refl
 
 -- one number more
 pub numbers_more : (numbers new : List ℕ) (next index : ℕ) (f : ℕ → ℕ) → new ≡ numbers ++ next ∷ [] → length numbers ≡ index
@@ -110,14 +106,6 @@ fix_same entries numbers (usage.Buffers index) da pa numbered meant = refl
 fix_same entries numbers (usage.Ring index number) da pa numbered meant =
     let e = numbered.each index (has_ring_within entries index number meant) in rw e refl
 
-ring_sound : (block : Option Block) (notify : ℕ) (ring : Ring) → IsSoundRing ring → IsSoundRing (ring_at block notify ring)
-ring_sound None notify ring sound = record { size = sound.size; align = sound.align }
-ring_sound (Some block) notify ring sound = record { size = sound.size; align = sound.align }
-
 -- the rings of a sound device for RPMsg are sound
-pub pair_sound : (placed : List Block) (index before : ℕ) (device : Vdev) → IsSoundDevice device → device.id ≡ 7 → IsSoundPair (pair_of placed index before device)
-pair_sound placed index before device sound is =
-    let two = sound.rpmsg is in (
-      ring_sound (find (λ block. is_ring index 0 block.what) placed) before device.first (sound.first (omega arith)),
-      ring_sound (find (λ block. is_ring index 1 block.what) placed) (before + 1) device.second (sound.second (omega arith)),
-    )
+pub pair_sound : (placed : List Block) (index : ℕ) (device : Vdev) → IsSoundDevice device → device.id ≡ 7 → IsSoundPair (pair_of placed index device)
+pair_sound placed index device sound is = let two = sound.rpmsg is in (sound.first (omega arith), sound.second (omega arith))

@@ -11,6 +11,7 @@ use Rattle.addr_translate.specs.Maps.{IsMapOf}
 use Rattle.fw_load.specs.Faults.{fault_if, first_fault}
 use Rattle.fw_load.specs.Memory.{memory_at, memory_of}
 use Rattle.fw_load.specs.Rings.{HasBuffers, IsSoundPair, IsTraceIn, pair_from, traces_of}
+use Rattle.resource_table.specs.Entries.{entries_of}
 use Rattle.fw_load.specs.Tables.{entries_in, patched_in, section_fault, table_of, table_section}
 use Rattle.fw_load.specs.declared.faults.LoadFault.{LoadFault}
 use Rattle.fw_load.specs.declared.faults.LoadFault.TheVariants as fault
@@ -51,17 +52,17 @@ load_fault image regions = first_fault
 abbrev pub Loads : List ℕ → List Region → Type 0
 Loads image regions = load_fault image regions ≡ None
 
--- what a load gives (own)
+-- what a load gives; its rings and its traces are those that the patched table has (own)
 pub record IsLoaded (image : List ℕ) (regions : List Region) (loaded : Loaded) : Type 0 where
   pub placed : placement regions (entries_in (table_of image)) ≡ Ok loaded.placed.blocks.items
   pub held : SoundPlacement regions loaded.placed.blocks.items
   pub map : IsMapOf regions loaded.placed.blocks.items loaded.map
   pub memory : loaded.memory ≡ memory_of image regions loaded.placed.blocks.items
   pub length : length loaded.memory ≡ loaded.map.memory_len
-  pub table : loaded.table.items ≡ patched_in (table_of image) loaded.placed.blocks.items
+  pub table : loaded.table ≡ patched_in (table_of image) loaded.placed.blocks.items
   pub entry : loaded.entry ≡ entry_of image
-  pub rings : loaded.rings ≡ pair_from (entries_in (table_of image)) loaded.placed.blocks.items 0 (entries_in (table_of image))
-  pub traces : loaded.traces.items ≡ traces_of (memory_at regions loaded.placed.blocks.items) (entries_in (table_of image))
+  pub rings : loaded.rings ≡ pair_from loaded.placed.blocks.items 0 (entries_of loaded.table)
+  pub traces : loaded.traces.items ≡ traces_of (memory_at regions loaded.placed.blocks.items) (entries_of loaded.table)
   pub sound : IfSome loaded.rings IsSoundPair
   pub buffers : IfSome loaded.rings HasBuffers
   pub inside : All (IsTraceIn loaded.map.memory_len) loaded.traces.items

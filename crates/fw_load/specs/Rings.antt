@@ -1,24 +1,17 @@
--- The rings of the device for RPMsg, and the traces of a table, where they were placed (own).
-use Rattle.std.specs.Prelude.{ℕ, ◌+◌, ◌*◌, ◌^◌, ◌≤◌, IfSome, ◌==◌, Bool, false, ◌&&◌, List, [], ◌∷◌, find, Option, Some, None, option_map, unwrap_or, if◌then◌else◌}
+-- The rings of the device for RPMsg, and the traces, that a patched table has (own).
+use Rattle.std.specs.Prelude.{ℕ, ◌+◌, ◌*◌, ◌^◌, ◌≤◌, IfSome, ◌==◌, Bool, false, List, [], ◌∷◌, find, Option, Some, None, option_map, unwrap_or, if◌then◌else◌}
 use Rattle.std.specs.Int.RustNames.{bit_and}
 use Rattle.std.specs.List.{filter_map}
 use Rattle.rp_base.specs.Limits.{ring_capacity}
 use Rattle.resource_table.specs.declared.entries.Entry.{Entry}
 use Rattle.resource_table.specs.declared.entries.Entry.TheVariants as entry
-use Rattle.resource_table.specs.declared.entries.Ring.{Ring}
 use Rattle.resource_table.specs.declared.entries.Vdev.{Vdev}
 use Rattle.resource_table.specs.Tables.{IsSoundRing}
 use Rattle.memory_pool.specs.declared.blocks.Block.{Block}
 use Rattle.memory_pool.specs.declared.blocks.Use.{Use}
 use Rattle.memory_pool.specs.declared.blocks.Use.TheVariants as usage
-use Rattle.fw_load.specs.Tables.{rings_before}
 use Rattle.fw_load.specs.declared.rings.RingPair.{RingPair}
 use Rattle.fw_load.specs.declared.traces.TraceAt.{TraceAt}
-
--- whether a block is for the ring of a number of an entry (own)
-abbrev pub is_ring : ℕ → ℕ → Use → Bool
-is_ring index number (usage.Ring entry ring) = (entry == index) && (ring == number)
-is_ring index number _ = false
 
 -- whether a block is for the buffers of an entry (own)
 abbrev pub is_buffers : ℕ → Use → Bool
@@ -30,21 +23,11 @@ abbrev pub buffers_at : ℕ → List Block → ℕ
 buffers_at index placed =
     unwrap_or (option_map (λ (block : Block). block.da) (find (λ block. is_buffers index block.what) placed)) 0
 
--- a ring with its number among all rings, and its place where a block is for it (own)
-abbrev pub ring_at : Option Block → ℕ → Ring → Ring
-ring_at None notify ring = record ring { notify = notify }
-ring_at (Some block) notify ring = record ring { da = block.da; notify = notify; pa = block.pa }
-
--- the ring of a number of an entry, as the patched table has it (own)
-abbrev pub patched_ring : List Block → ℕ → ℕ → ℕ → Ring → Ring
-patched_ring placed index number notify ring =
-    ring_at (find (λ block. is_ring index number block.what) placed) notify ring
-
--- the rings of a device that has so many rings before it, with the device address of its buffers, and whether it has the name service, VIRTIO_RPMSG_F_NS, bit 0 (virtio_rpmsg_bus.c)
-abbrev pub pair_of : List Block → ℕ → ℕ → Vdev → RingPair
-pair_of placed index before device = record {
-  to_host = patched_ring placed index 0 before device.first;
-  to_remote = patched_ring placed index 1 (before + 1) device.second;
+-- the rings of a device, with the device address of its buffers, and whether it has the name service, VIRTIO_RPMSG_F_NS, bit 0 (virtio_rpmsg_bus.c)
+abbrev pub pair_of : List Block → ℕ → Vdev → RingPair
+pair_of placed index device = record {
+  to_host = device.first;
+  to_remote = device.second;
   base = buffers_at index placed;
   service = bit_and device.features 1 == 1;
 }
@@ -57,12 +40,12 @@ IsSoundPair rings = IsSoundRing rings.to_host × IsSoundRing rings.to_remote
 abbrev pub HasBuffers : RingPair → Type 0
 HasBuffers rings = rings.base + 512 * (ring_capacity rings.to_host.num + ring_capacity rings.to_remote.num) ≤ 2 ^ 32
 
--- the rings of the first device for RPMsg, VIRTIO_ID_RPMSG 7, among entries of which the first has a number (own)
-abbrev pub pair_from : List Entry → List Block → ℕ → List Entry → Option RingPair
-pair_from entries placed index [] = None
-pair_from entries placed index (entry.Device device ∷ more) =
-    if device.id == 7 then Some (pair_of placed index (rings_before entries index) device) else pair_from entries placed (index + 1) more
-pair_from entries placed index (other ∷ more) = pair_from entries placed (index + 1) more
+-- the rings of the first device for RPMsg, VIRTIO_ID_RPMSG 7, among entries of a patched table of which the first has a number (own)
+abbrev pub pair_from : List Block → ℕ → List Entry → Option RingPair
+pair_from placed index [] = None
+pair_from placed index (entry.Device device ∷ more) =
+    if device.id == 7 then Some (pair_of placed index device) else pair_from placed (index + 1) more
+pair_from placed index (other ∷ more) = pair_from placed (index + 1) more
 
 -- the trace of an entry, and where its bytes stand in the core's memory: it has some, and one block of memory holds them (struct fw_rsc_trace)
 abbrev pub trace_of : (ℕ → ℕ → Option ℕ) → Entry → Option TraceAt

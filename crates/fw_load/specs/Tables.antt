@@ -1,5 +1,5 @@
 -- The resource table of an image, and what is written into it where it was placed (Linux include/linux/remoteproc.h).
-use Rattle.std.specs.Prelude.{ℕ, ◌+◌, nat_lt, true, false, List, [], take, drop, length, codes, Option, Some, None, option_map, if◌then◌else◌}
+use Rattle.std.specs.Prelude.{◌≡◌, ℕ, ◌+◌, nat_lt, true, false, List, [], ◌∷◌, take, drop, length, codes, Option, Some, None, option_map, if◌then◌else◌}
 use Rattle.std.specs.List.{filter_map, sum_by}
 use Rattle.elf_image.specs.Sections.{section_of}
 use Rattle.elf_image.specs.declared.sections.Section.{Section}
@@ -59,6 +59,15 @@ fix_for before (usage.Buffers index) da pa = None
 -- what is written for blocks (own)
 abbrev pub fixes_of : List Entry → List Block → List Fix
 fixes_of entries blocks = filter_map (λ block. fix_for (rings_before entries) block.what block.da block.pa) blocks
+
+-- the test of a patched table, which has no bytes where an image has no table (own)
+abbrev pub patched_fault : List ℕ → Option TableFault
+patched_fault [] = None
+patched_fault (byte ∷ more) = table_fault (byte ∷ more)
+
+-- the bytes of a patched table: a good one, or none where an image has no table (own)
+abbrev pub IsPatched : List ℕ → Type 0
+IsPatched bytes = patched_fault bytes ≡ None
 
 -- a table with the places of blocks, and nothing where there is no table (own)
 abbrev pub patched_in : Option (List ℕ) → List Block → List ℕ

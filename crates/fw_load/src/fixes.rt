@@ -1,8 +1,10 @@
 ghost use Rattle.std.specs.Prelude.{◌≡◌, ◌<◌, ◌≤◌, IfOk, IfSome, All, length, slice_index};
 ghost use Rattle.resource_table.specs.Entries.{entries_of};
+ghost use Rattle.resource_table.specs.PatchedEntries.{patched_entries};
 ghost use Rattle.fw_load.specs.Tables.{entries_in, fix_for, fixes_of, patched_in, rings_before, rings_of};
 ghost use Rattle.fw_load.specs.Uses.{IsNumbersOf, IsUseOf, IsUseWithin};
 
+use crate::patched::PatchedTable;
 use memory_pool::{Block, Use};
 use resource_table::{Entry, Fix, Table};
 use rp_base::NoMemory;
@@ -13,17 +15,18 @@ pub(crate) fn patched_table(
     alloc: Global,
     table: &Option<Table<'_>>,
     blocks: &[Block],
-) -> Result<Vec<u8>, NoMemory>
+) -> Result<PatchedTable, NoMemory>
     requires { All (λ block. IsUseOf (entries_in table.now) block.what) blocks.now }
-    ensures patched { IfOk result (λ patched. patched.items ≡ patched_in table.now blocks.now) }
-    ensures length { IfOk result (λ patched. IfSome table.now (λ table. length patched.items ≡ length table)) }
+    ensures patched { IfOk result (λ patched. patched ≡ patched_in table.now blocks.now) }
+    ensures entries { IfOk result (λ patched. entries_of patched ≡ patched_entries (fixes_of (entries_in table.now) blocks.now) (entries_in table.now)) }
+    ensures length { IfOk result (λ patched. IfSome table.now (λ table. length patched ≡ length table)) }
 {
     match table {
         Some(table) => {
             let fixes = fixes_of(alloc, table, blocks)?;
-            table.patched(alloc, &fixes)
+            Ok(PatchedTable::of(table.patched(alloc, &fixes)?))
         }
-        None => Ok(Vec::new(alloc)),
+        None => Ok(PatchedTable::none(alloc)),
     }
 }
 
@@ -70,7 +73,7 @@ fn fix_for(numbers: &[u32], block: &Block) -> Option<Fix>
 }
 
 /// How many rings the entries of a table have before each.
-pub(crate) fn ring_numbers(alloc: Global, table: &Table<'_>) -> Result<Vec<u32>, NoMemory>
+fn ring_numbers(alloc: Global, table: &Table<'_>) -> Result<Vec<u32>, NoMemory>
     ensures numbers { IfOk result (λ numbers. IsNumbersOf (entries_of table.now) numbers.items) }
     ensures small { IfOk result (λ numbers. All (λ number. number ≤ 65536) numbers.items) }
 {

@@ -1,5 +1,6 @@
 ghost use Rattle.std.specs.Prelude.{◌≡◌, ◌≢◌, None, Some, Ok, All, IfOk, IfErr, IfSome, OnOk};
 ghost use Rattle.elf_image.specs.Images.{GoodImage};
+ghost use Rattle.resource_table.specs.Entries.{entries_of};
 ghost use Rattle.memory_pool.specs.Placements.{placement};
 ghost use Rattle.memory_pool.specs.Soundness.{SoundPlacement};
 ghost use Rattle.addr_translate.specs.Maps.{IsMapOf};
@@ -10,8 +11,9 @@ ghost use Rattle.fw_load.specs.Loading.{IsLoaded, Loads, load_fault};
 ghost use Rattle.fw_load.specs.declared.faults.LoadFault.TheVariants as fault;
 
 use crate::faults::LoadFault;
-use crate::fixes::{patched_table, ring_numbers};
+use crate::fixes::patched_table;
 use crate::mapped::{copy_segments, copy_table, test_entry, test_segments};
+use crate::patched::PatchedTable;
 use crate::rings::{RingPair, ring_pair};
 use crate::tables::{place_entries, read_table};
 use crate::traces::{TraceAt, traces_of};
@@ -31,11 +33,11 @@ pub struct Loaded {
     pub map: Map,
     /// Where the resource table's entries are placed.
     pub placed: Placed,
-    /// The patched table, and nothing where the image has none.
-    pub table: Vec<u8>,
+    /// The patched table, with nothing in it where the image has none.
+    pub table: PatchedTable,
     /// The address of the first record.
     pub entry: Da,
-    /// The rings of the device for RPMsg, where the table has one.
+    /// The rings of the device for RPMsg, where the patched table has one.
     pub rings: Option<RingPair>,
     /// The traces of the table, in order.
     pub traces: Vec<TraceAt>,
@@ -101,8 +103,8 @@ fn filled(
     let patched = patched_table(alloc, table, &placed.blocks)?;
     let mut memory = CoreMemory::new(alloc, regions)?;
     copy_segments(&mut memory, &map, image);
-    copy_table(&mut memory, &map, section, &patched);
-    let (rings, traces) = devices(alloc, table, &placed, &map)?;
+    copy_table(&mut memory, &map, section, patched.bytes());
+    let (rings, traces) = devices(alloc, &patched, &placed, &map)?;
     Ok(Loaded {
         memory,
         map,
@@ -114,23 +116,22 @@ fn filled(
     })
 }
 
-/// The rings of the device for RPMsg, and the traces, of a table.
+/// The rings of the device for RPMsg, and the traces, of a patched table.
 fn devices(
     alloc: Global,
-    table: &Option<Table<'_>>,
+    table: &PatchedTable,
     placed: &Placed,
     map: &Map,
 ) -> Result<(Option<RingPair>, Vec<TraceAt>), NoMemory>
-    ensures rings { IfOk result (λ devices. devices.0 ≡ pair_from (entries_in table.now) placed.now.blocks.items 0 (entries_in table.now)) }
+    ensures rings { IfOk result (λ devices. devices.0 ≡ pair_from placed.now.blocks.items 0 (entries_of table.now)) }
     ensures sound { IfOk result (λ devices. IfSome devices.0 IsSoundPair) }
     ensures inside { IfOk result (λ devices. All (IsTraceIn map.now.memory_len) devices.1.items) }
-    ensures traces { IfOk result (λ devices. devices.1.items ≡ traces_of (place_at map.now) (entries_in table.now)) }
+    ensures traces { IfOk result (λ devices. devices.1.items ≡ traces_of (place_at map.now) (entries_of table.now)) }
 {
-    match table {
+    match table.table() {
         Some(table) => {
-            let numbers = ring_numbers(alloc, table)?;
-            let rings = ring_pair(table, &numbers, &placed.blocks);
-            Ok((rings, traces_of(alloc, table, map)?))
+            let rings = ring_pair(&table, &placed.blocks);
+            Ok((rings, traces_of(alloc, &table, map)?))
         }
         None => Ok((None, Vec::new(alloc))),
     }

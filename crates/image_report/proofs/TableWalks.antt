@@ -20,7 +20,7 @@ front [] index entry is = absurd (false≢true (ap is_some is))
 front (first ∷ more) zero entry is = ap (λ (e : Entry). e ∷ more) (some_same is)
 front (first ∷ more) (suc index) entry is = front more index entry is
 
-rows_none : (index : ℕ) (traces : List TraceAt) → rows_from index [] traces ≡ []
+pub rows_none : (index : ℕ) (traces : List TraceAt) → rows_from index [] traces ≡ []
 unfolding rows_from
 rows_none index traces = refl
 

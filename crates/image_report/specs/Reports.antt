@@ -12,6 +12,7 @@ use Rattle.fw_load.specs.Faults.{load_fault_number, load_fault_index}
 use Rattle.fw_load.specs.Loading.{load_fault}
 use Rattle.fw_load.specs.Memory.{memory_at}
 use Rattle.fw_load.specs.Rings.{traces_of}
+use Rattle.resource_table.specs.Entries.{entries_of}
 use Rattle.fw_load.specs.Tables.{table_of, entries_in, patched_in}
 use Rattle.journal.specs.declared.tables.TableLine.{TableLine}
 use Rattle.journal.specs.declared.notices.Notice.{Notice}
@@ -49,7 +50,8 @@ blocks_of image = blocks_in (placement standard_regions (entries_in (table_of im
 -- the lines of an image's table, as it is patched
 abbrev pub rows_of_image : List ℕ → List TableLine
 rows_of_image image =
-    table_rows (patched_in (table_of image) (blocks_of image)) (traces_of (memory_at standard_regions (blocks_of image)) (entries_in (table_of image)))
+    let table = patched_in (table_of image) (blocks_of image) in
+    table_rows table (traces_of (memory_at standard_regions (blocks_of image)) (entries_of table))
 
 -- the line of a fault
 abbrev pub fault_notice : LoadFault → Notice

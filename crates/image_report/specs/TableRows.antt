@@ -4,9 +4,7 @@ use Rattle.resource_table.specs.declared.entries.Entry.{Entry}
 use Rattle.resource_table.specs.declared.entries.Entry.TheVariants as entry
 use Rattle.resource_table.specs.declared.entries.Ring.{Ring}
 use Rattle.resource_table.specs.declared.entries.Vdev.{Vdev}
-use Rattle.resource_table.specs.declared.faults.TableFault.{TableFault}
 use Rattle.resource_table.specs.Entries.{entries_of}
-use Rattle.resource_table.specs.Tables.{table_fault}
 use Rattle.fw_load.specs.declared.traces.TraceAt.{TraceAt}
 use Rattle.journal.specs.declared.tables.TableLine.{TableLine}
 use Rattle.journal.specs.declared.tables.TableLine.TheVariants as row
@@ -42,21 +40,13 @@ entry_rows index (entry.Skipped kind) available = row.Skipped index kind ∷ []
 -- the traces behind those of an entry
 abbrev pub traces_behind : Entry → List TraceAt → List TraceAt
 traces_behind (entry.Trace da len name) traces = drop 1 traces
-traces_behind (entry.Carveout da pa len name) traces = traces
-traces_behind (entry.Devmem da pa len name) traces = traces
-traces_behind (entry.Device device) traces = traces
-traces_behind (entry.Skipped kind) traces = traces
+traces_behind _ traces = traces
 
 -- the lines of entries, the first of which has this number, whose traces are these in order
 unfoldable pub rows_from : ℕ → List Entry → List TraceAt → List TableLine
 rows_from index [] traces = []
 rows_from index (first ∷ more) traces = entry_rows index first (is_available (slice_get traces 0)) ++ rows_from (index + 1) more (traces_behind first traces)
 
--- the lines of a table that reads, and none of bytes that are no table
-abbrev pub rows_of : Option TableFault → List ℕ → List TraceAt → List TableLine
-rows_of None table traces = rows_from 0 (entries_of table) traces
-rows_of (Some why) table traces = []
-
--- the lines of a table, none where there is no table
+-- the lines of a table, by its entries, of which there are none where there is no table
 abbrev pub table_rows : List ℕ → List TraceAt → List TableLine
-table_rows table traces = rows_of (table_fault table) table traces
+table_rows table traces = rows_from 0 (entries_of table) traces

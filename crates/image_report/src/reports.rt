@@ -67,7 +67,7 @@ fn refuse_load(alloc: Global, fault: LoadFault) -> Result<ImageReport, NoMemory>
 /// The report of an image that loads: its entry, its loaded segments, and the lines of its table.
 fn report_loaded(alloc: Global, image: &Image<'_>, loaded: &Loaded) -> Result<ImageReport, NoMemory>
     ensures { IfOk result (λ report. IsImageReport report
-        (loads_report (entry_of image.now) (segments_of image.now) (table_rows loaded.now.table.items loaded.now.traces.items))) }
+        (loads_report (entry_of image.now) (segments_of image.now) (table_rows loaded.now.table loaded.now.traces.items))) }
 {
     let mut notices = vec![in alloc; Notice::Start(image.entry())]?;
     let rows = table_rows(alloc, &loaded.table, &loaded.traces)?;

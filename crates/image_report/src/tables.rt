@@ -1,25 +1,24 @@
 ghost use Rattle.std.specs.Prelude.{◌≡◌, ◌++◌, slice_get, IfOk, OnOk};
 ghost use Rattle.image_report.specs.TableRows.{device_rows, entry_rows, is_available, ring_row, table_rows, trace_row, traces_behind};
 
-use fw_load::TraceAt;
+use fw_load::{PatchedTable, TraceAt};
 use journal::TableLine;
-use resource_table::{Entry, Ring, Table, Vdev};
+use resource_table::{Entry, Ring, Vdev};
 use rp_base::{Da, Name, NoMemory};
 use std::alloc::Global;
 
-/// The lines about a patched resource table, whose traces are these in order. There are none where
-/// there is no table.
+/// The lines about the entries of a patched resource table, whose traces are these in order.
 ///
 /// Errors: only for want of memory.
 pub fn table_rows(
     alloc: Global,
-    table: &[u8],
+    table: &PatchedTable,
     traces: &[TraceAt],
 ) -> Result<Vec<TableLine>, NoMemory>
     ensures { IfOk result (λ rows. rows.items ≡ table_rows table.now traces.now) }
 {
     let mut rows = Vec::new(alloc);
-    let Ok(table) = Table::read(table) else {
+    let Some(table) = table.table() else {
         return Ok(rows);
     };
     let mut left = traces;

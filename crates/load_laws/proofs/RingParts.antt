@@ -1,14 +1,14 @@
--- The rings of a load are those that its patched table has, and they and the buffers have blocks.
+-- The rings of a load and their buffers have blocks.
 use Rattle.std.proofs.Common.{◌≡◌, ℕ, ◌+◌, ◌≤◌, ◌&&◌, Bool, true, false, cond, List, [], ◌∷◌, drop, length, Option, Some, None, IfSome, Ok, inl, inr, refl, ap, sym, subst, ◌∙◌, arith, add-one, eqb}
 use Rattle.std.specs.Prelude.{slice_get}
 use Rattle.std.specs.List.{All, Any, find}
 use Rattle.std.specs.Int.RustNames.{bit_and}
 use Rattle.std.specs.Option.{option_map, unwrap_or}
-use Rattle.std.proofs.lemmas.Bool.{and_parts, cases_Bool, cond_both, eqb-true, ne_eqb}
+use Rattle.std.proofs.lemmas.Bool.{and_parts, cases_Bool, eqb-true, ne_eqb}
 use Rattle.std.proofs.lemmas.List.Elements.{All-head, All-tail}
 use Rattle.std.proofs.lemmas.List.Sums.{sum_by-cons}
 use Rattle.resource_table.specs.Entries.{entries_of}
-use Rattle.resource_table.specs.Tables.{GoodTable, IsSoundEntry}
+use Rattle.resource_table.specs.Tables.{IsSoundEntry}
 use Rattle.resource_table.specs.PatchedEntries.{fixed_entry, patched_from, placed_ring, ring_with, set_up, with_fix}
 use Rattle.resource_table.specs.declared.entries.Entry.{Entry}
 use Rattle.resource_table.specs.declared.entries.Entry.TheVariants as entry
@@ -23,17 +23,18 @@ use Rattle.memory_pool.specs.declared.blocks.Use.TheVariants as usage
 use Rattle.memory_pool.specs.declared.regions.Region.{Region}
 use Rattle.memory_pool.proofs.Find.{find_is}
 use Rattle.memory_pool.proofs.Meant.{get_of_drop}
-use Rattle.fw_load.specs.Rings.{is_buffers, is_ring, pair_from, pair_of, patched_ring, ring_at}
+use Rattle.fw_load.specs.Rings.{is_buffers, pair_from, pair_of}
 use Rattle.fw_load.specs.Loading.{IsLoaded, Loads}
 use Rattle.fw_load.specs.Tables.{entries_in, fixes_of, patched_in, rings_before, table_of}
 use Rattle.fw_load.specs.declared.loading.Loaded.{Loaded}
 use Rattle.fw_load.specs.Uses.{IsCarveout, IsUseOf}
+use Rattle.fw_load.proofs.Buffers.{NoDevice, fixed_none, no_pair}
 use Rattle.fw_load.proofs.Meant.{placement_meant}
-use Rattle.load_laws.specs.RingPlaces.{HasBlocks, Rings, StandsAt, rings_of_entries, rings_of_pair}
+use Rattle.load_laws.specs.RingPlaces.{HasBlocks, StandsAt}
 use Rattle.load_laws.proofs.LoadParts.{entries_sound, table_good}
 use Rattle.load_laws.proofs.PatchParts.{few_entries, placed_reads, there_sound}
 use Rattle.memory_pool.proofs.UseCounts.{blocks_for, one_if}
-use Rattle.load_laws.proofs.UseParts.{one_buffers, one_first, one_second}
+use Rattle.load_laws.proofs.UseParts.{is_ring, one_buffers, one_first, one_second}
 
 found_next : (p : Block → Bool) (first : Block) (more : List Block) (block : Block) → p first ≡ false → find p more ≡ Some block → find p (first ∷ more) ≡ Some block
 found_next p first more block none is = rw none is
@@ -153,42 +154,16 @@ module _ (entries : List Entry) (at : ℕ) (device : Vdev) (there : slice_get en
 
 -- ---- all entries
 
-abbrev NoDevice : Entry → Type 0
-NoDevice (entry.Device device) = ⊥
-NoDevice _ = Unit {0}
-
-with_none : (fix : Fix) (one : Entry) → NoDevice one → NoDevice (with_fix fix one)
-with_none fix (entry.Carveout da pa len name) none = tt
-with_none fix (entry.Devmem da pa len name) none = tt
-with_none fix (entry.Trace da len name) none = tt
-with_none fix (entry.Device device) none = absurd none
-with_none fix (entry.Skipped kind) none = tt
-
-fixed_none : (fixes : List Fix) (index : ℕ) (one : Entry) → NoDevice one → NoDevice (fixed_entry fixes index one)
-fixed_none [] index one none = none
-fixed_none (fix ∷ more) index one none =
-    fixed_none more index (cond (eqb fix.entry index) (with_fix fix one) one) (cond_both (eqb fix.entry index) (with_fix fix one) one NoDevice (λ _. with_none fix one none) (λ _. none))
-
-rings_skip : (one : Entry) (rest : List Entry) → NoDevice one → rings_of_entries (set_up one ∷ rest) ≡ rings_of_entries rest
-rings_skip (entry.Carveout da pa len name) rest none = refl
-rings_skip (entry.Devmem da pa len name) rest none = refl
-rings_skip (entry.Trace da len name) rest none = refl
-rings_skip (entry.Device device) rest none = absurd none
-rings_skip (entry.Skipped kind) rest none = refl
-
-abbrev two_rings : Ring → Ring → Rings
-two_rings first second = record { to_host = first; to_remote = second }
-
 abbrev ready : Vdev → Vdev
 ready d = record d { guest = bit_and d.features 1; status = 7 }
 
-ready_rings : (d : Vdev) (rest : List Entry) → eqb d.id 7 ≡ true → rings_of_entries (set_up (entry.Device d) ∷ rest) ≡ Some (two_rings d.first d.second)
-ready_rings d rest seven =
-    ap (λ b. rings_of_entries (entry.Device (cond b (ready d) d) ∷ rest)) seven ∙ ap (λ b. cond b (Some (two_rings d.first d.second)) (rings_of_entries rest)) seven
+ready_pair : (placed : List Block) (index : ℕ) (d : Vdev) (rest : List Entry) → eqb d.id 7 ≡ true → pair_from placed index (set_up (entry.Device d) ∷ rest) ≡ Some (pair_of placed index (ready d))
+ready_pair placed index d rest seven =
+    ap (λ b. pair_from placed index (entry.Device (cond b (ready d) d) ∷ rest)) seven ∙ ap (λ b. cond b (Some (pair_of placed index (ready d))) (pair_from placed (index + 1) rest)) seven
 
-other_rings : (d : Vdev) (rest : List Entry) → eqb d.id 7 ≡ false → rings_of_entries (set_up (entry.Device d) ∷ rest) ≡ rings_of_entries rest
-other_rings d rest other =
-    ap (λ b. rings_of_entries (entry.Device (cond b (ready d) d) ∷ rest)) other ∙ ap (λ b. cond b (Some (two_rings d.first d.second)) (rings_of_entries rest)) other
+other_pair : (placed : List Block) (index : ℕ) (d : Vdev) (rest : List Entry) → eqb d.id 7 ≡ false → pair_from placed index (set_up (entry.Device d) ∷ rest) ≡ pair_from placed (index + 1) rest
+other_pair placed index d rest other =
+    ap (λ b. pair_from placed index (entry.Device (cond b (ready d) d) ∷ rest)) other ∙ ap (λ b. cond b (Some (pair_of placed index d)) (pair_from placed (index + 1) rest)) other
 
 ring_what : (index number : ℕ) (what : Use) → is_ring index number what ≡ true → what ≡ usage.Ring index number
 ring_what index number (usage.Carveout other) is = absurd (cc)
@@ -241,25 +216,17 @@ module _ (regions : List Region) (entries : List Entry) (placed : List Block) (i
     second_turn : IsTurned entries index d there 1 placed d.second
     second_turn = one_turn entries index d there 1 placed d.second (one_second regions entries placed is index d there seven (two_there index d there seven))
 
-    to_host_is : patched_ring placed index 0 (rings_before entries index) d.first ≡ last_ring entries index d there 0 placed d.first
-    to_host_is =
-        let block = first_turn.block in
-        let none : rings_before entries index ≡ rings_before entries index + 0 = omega arith in
-        ap (λ found. ring_at found (rings_before entries index) d.first) first_turn.found
-        ∙ ap (λ k. let made : Ring = record (d.first) { da = block.da; notify = k; pa = block.pa } in made) none ∙ sym first_turn.last
+    -- the device with its rings placed
+    abbrev device_after : Vdev
+    device_after = with_rings entries index d there d (last_ring entries index d there 0 placed d.first) (last_ring entries index d there 1 placed d.second)
 
-    to_remote_is : patched_ring placed index 1 (rings_before entries index + 1) d.second ≡ last_ring entries index d there 1 placed d.second
-    to_remote_is = ap (λ found. ring_at found (rings_before entries index + 1) d.second) second_turn.found ∙ sym second_turn.last
-
-    blocks_there : HasBlocks placed (pair_of placed index (rings_before entries index) d)
+    blocks_there : HasBlocks placed (pair_of placed index (ready device_after))
     blocks_there =
         let buffers = counted_found (is_buffers index) placed (one_buffers regions entries placed is index d there seven (two_there index d there seven)) in
         record {
           index = index;
-          to_host = stands_at (is_ring index 0) (usage.Ring index 0) placed first_turn.block _ (ring_what index 0) first_turn.found
-              (sym (ap (λ found. (ring_at found (rings_before entries index) d.first).da) first_turn.found));
-          to_remote = stands_at (is_ring index 1) (usage.Ring index 1) placed second_turn.block _ (ring_what index 1) second_turn.found
-              (sym (ap (λ found. (ring_at found (rings_before entries index + 1) d.second).da) second_turn.found));
+          to_host = stands_at (is_ring index 0) (usage.Ring index 0) placed first_turn.block _ (ring_what index 0) first_turn.found (sym (ap (λ (ring : Ring). ring.da) first_turn.last));
+          to_remote = stands_at (is_ring index 1) (usage.Ring index 1) placed second_turn.block _ (ring_what index 1) second_turn.found (sym (ap (λ (ring : Ring). ring.da) second_turn.last));
           buffers = stands_at (is_buffers index) (usage.Buffers index) placed buffers.0 _ (buffers_what index) buffers.1
               (sym (ap (λ found. unwrap_or (option_map (λ (block : Block). block.da) found) 0) buffers.1));
         }
@@ -267,54 +234,33 @@ module _ (regions : List Region) (entries : List Entry) (placed : List Block) (i
   next_drop : (index : ℕ) (one : Entry) (more : List Entry) → drop index entries ≡ one ∷ more → drop (index + 1) entries ≡ more
   next_drop index one more left = ap (λ i. drop i entries) (add-one index) ∙ (get_of_drop entries index one more left).1
 
-  -- the rings of the pair are those of the patched entries
-  pub rings_kept : (index : ℕ) (left : List Entry) → drop index entries ≡ left → option_map rings_of_pair (pair_from entries placed index left) ≡ rings_of_entries (patched_from fixes index left)
-  rings_kept index [] left = refl
-  rings_kept index (entry.Device d ∷ more) left =
-      let there = (get_of_drop entries index (entry.Device d) more left).0 in
-      let rest = patched_from fixes (index + 1) more in
-      let fixed = all_blocks entries index d there placed d meant in
-      let after = with_rings entries index d there d (last_ring entries index d there 0 placed d.first) (last_ring entries index d there 1 placed d.second) in
-      let pair = pair_of placed index (rings_before entries index) d in
-      let later = pair_from entries placed (index + 1) more in
-      elim (cases_Bool (eqb d.id 7)) [
-        | inl here ↦
-            let seven = eqb-true d.id 7 here in
-            ap (λ b. option_map rings_of_pair (cond b (Some pair) later)) here
-            ∙ ap (λ ring. Some (two_rings ring pair.to_remote)) (to_host_is index d there seven)
-            ∙ ap (λ ring. Some (two_rings (last_ring entries index d there 0 placed d.first) ring)) (to_remote_is index d there seven)
-            ∙ sym (ready_rings after rest here) ∙ sym (ap (λ one. rings_of_entries (set_up one ∷ rest)) fixed)
-        | inr other ↦
-            ap (λ b. option_map rings_of_pair (cond b (Some pair) later)) other
-            ∙ rings_kept (index + 1) more (next_drop index (entry.Device d) more left)
-            ∙ sym (other_rings after rest other) ∙ sym (ap (λ one. rings_of_entries (set_up one ∷ rest)) fixed)
-      ]
-  rings_kept index (entry.Carveout da pa len name ∷ more) left =
-      let one = entry.Carveout da pa len name in
-      rings_kept (index + 1) more (next_drop index one more left) ∙ sym (rings_skip (fixed_entry fixes index one) (patched_from fixes (index + 1) more) (fixed_none fixes index one tt))
-  rings_kept index (entry.Devmem da pa len name ∷ more) left =
-      let one = entry.Devmem da pa len name in
-      rings_kept (index + 1) more (next_drop index one more left) ∙ sym (rings_skip (fixed_entry fixes index one) (patched_from fixes (index + 1) more) (fixed_none fixes index one tt))
-  rings_kept index (entry.Trace da len name ∷ more) left =
-      let one = entry.Trace da len name in
-      rings_kept (index + 1) more (next_drop index one more left) ∙ sym (rings_skip (fixed_entry fixes index one) (patched_from fixes (index + 1) more) (fixed_none fixes index one tt))
-  rings_kept index (entry.Skipped kind ∷ more) left =
-      let one = entry.Skipped kind in
-      rings_kept (index + 1) more (next_drop index one more left) ∙ sym (rings_skip (fixed_entry fixes index one) (patched_from fixes (index + 1) more) (fixed_none fixes index one tt))
+  abbrev Stand : ℕ → List Entry → Type 0
+  Stand index left = IfSome (pair_from placed index (patched_from fixes index left)) (HasBlocks placed)
 
-  -- and have blocks, as the buffers have
-  pub pair_blocks : (index : ℕ) (left : List Entry) → drop index entries ≡ left → IfSome (pair_from entries placed index left) (HasBlocks placed)
+  skipped : (index : ℕ) (one : Entry) (more : List Entry) → NoDevice one → Stand (index + 1) more → Stand index (one ∷ more)
+  skipped index one more none later =
+      subst (λ found. IfSome found (HasBlocks placed)) (sym (no_pair placed index (fixed_entry fixes index one) (patched_from fixes (index + 1) more) (fixed_none fixes index one none))) later
+
+  -- the rings of the patched entries have blocks, as the buffers have
+  pub pair_blocks : (index : ℕ) (left : List Entry) → drop index entries ≡ left → Stand index left
   pair_blocks index [] left = tt
   pair_blocks index (entry.Device d ∷ more) left =
       let there = (get_of_drop entries index (entry.Device d) more left).0 in
-      elim (cases_Bool (eqb d.id 7)) [
-        | inl here ↦ rw here (blocks_there index d there (eqb-true d.id 7 here))
-        | inr other ↦ rw other (pair_blocks (index + 1) more (next_drop index (entry.Device d) more left))
-      ]
-  pair_blocks index (entry.Carveout da pa len name ∷ more) left = pair_blocks (index + 1) more (next_drop index (entry.Carveout da pa len name) more left)
-  pair_blocks index (entry.Devmem da pa len name ∷ more) left = pair_blocks (index + 1) more (next_drop index (entry.Devmem da pa len name) more left)
-  pair_blocks index (entry.Trace da len name ∷ more) left = pair_blocks (index + 1) more (next_drop index (entry.Trace da len name) more left)
-  pair_blocks index (entry.Skipped kind ∷ more) left = pair_blocks (index + 1) more (next_drop index (entry.Skipped kind) more left)
+      let rest = patched_from fixes (index + 1) more in
+      let after = with_rings entries index d there d (last_ring entries index d there 0 placed d.first) (last_ring entries index d there 1 placed d.second) in
+      subst (λ one. IfSome (pair_from placed index (set_up one ∷ rest)) (HasBlocks placed)) (sym (all_blocks entries index d there placed d meant))
+      (elim (cases_Bool (eqb d.id 7)) [
+        | inl here ↦ subst (λ found. IfSome found (HasBlocks placed)) (sym (ready_pair placed index after rest here)) (blocks_there index d there (eqb-true d.id 7 here))
+        | inr other ↦ subst (λ found. IfSome found (HasBlocks placed)) (sym (other_pair placed index after rest other)) (pair_blocks (index + 1) more (next_drop index (entry.Device d) more left))
+      ])
+  pair_blocks index (entry.Carveout da pa len name ∷ more) left =
+      skipped index (entry.Carveout da pa len name) more tt (pair_blocks (index + 1) more (next_drop index (entry.Carveout da pa len name) more left))
+  pair_blocks index (entry.Devmem da pa len name ∷ more) left =
+      skipped index (entry.Devmem da pa len name) more tt (pair_blocks (index + 1) more (next_drop index (entry.Devmem da pa len name) more left))
+  pair_blocks index (entry.Trace da len name ∷ more) left =
+      skipped index (entry.Trace da len name) more tt (pair_blocks (index + 1) more (next_drop index (entry.Trace da len name) more left))
+  pair_blocks index (entry.Skipped kind ∷ more) left =
+      skipped index (entry.Skipped kind) more tt (pair_blocks (index + 1) more (next_drop index (entry.Skipped kind) more left))
 
 -- ---- the rings of a load
 
@@ -322,34 +268,17 @@ module _ (image : List ℕ) (regions : List Region) (loaded : Loaded) (regular :
   abbrev blocks : List Block
   blocks = loaded.placed.blocks.items
 
-  module _ (table : List ℕ) (has : table_of image ≡ Some table) where
-    there : placement regions (entries_of table) ≡ Ok blocks
-    there = sym (ap (λ found. placement regions (entries_in found)) has) ∙ is.placed
+  blocks_of_table : (table : List ℕ) → table_of image ≡ Some table → IfSome (pair_from blocks 0 (entries_of (patched_in (Some table) blocks))) (HasBlocks blocks)
+  blocks_of_table table has =
+      let there : placement regions (entries_of table) ≡ Ok blocks = sym (ap (λ found. placement regions (entries_in found)) has) ∙ is.placed in
+      let good = table_good image regions table loads has in
+      subst (λ read. IfSome (pair_from blocks 0 read) (HasBlocks blocks)) (sym (placed_reads table good regions blocks there is.held))
+      (pair_blocks regions (entries_of table) blocks there (entries_sound table good) (few_entries table good regions blocks there is.held) 0 (entries_of table) refl)
 
-    good : GoodTable table
-    good = table_good image regions table loads has
-
-    few_there : length (entries_of table) ≤ 256
-    few_there = few_entries table good regions blocks there is.held
-
-    read_of_table : option_map rings_of_pair (pair_from (entries_of table) blocks 0 (entries_of table)) ≡ rings_of_entries (entries_of (patched_in (Some table) blocks))
-    read_of_table =
-        rings_kept regions (entries_of table) blocks there (entries_sound table good) few_there 0 (entries_of table) refl
-        ∙ ap rings_of_entries (sym (placed_reads table good regions blocks there is.held))
-
-    blocks_of_table : IfSome (pair_from (entries_of table) blocks 0 (entries_of table)) (HasBlocks blocks)
-    blocks_of_table = pair_blocks regions (entries_of table) blocks there (entries_sound table good) few_there 0 (entries_of table) refl
-
-  read_by : (found : Option (List ℕ)) → table_of image ≡ found → option_map rings_of_pair (pair_from (entries_in found) blocks 0 (entries_in found)) ≡ rings_of_entries (entries_of (patched_in found blocks))
-  read_by None has = refl
-  read_by (Some table) has = read_of_table table has
-
-  blocks_by : (found : Option (List ℕ)) → table_of image ≡ found → IfSome (pair_from (entries_in found) blocks 0 (entries_in found)) (HasBlocks blocks)
+  blocks_by : (found : Option (List ℕ)) → table_of image ≡ found → IfSome (pair_from blocks 0 (entries_of (patched_in found blocks))) (HasBlocks blocks)
   blocks_by None has = tt
   blocks_by (Some table) has = blocks_of_table table has
 
-  pub loaded_read : option_map rings_of_pair loaded.rings ≡ rings_of_entries (entries_of loaded.table.items)
-  loaded_read = ap (option_map rings_of_pair) is.rings ∙ read_by (table_of image) refl ∙ ap (λ bytes. rings_of_entries (entries_of bytes)) (sym is.table)
-
   pub loaded_blocks : IfSome loaded.rings (HasBlocks blocks)
-  loaded_blocks = subst (λ found. IfSome found (HasBlocks blocks)) (sym is.rings) (blocks_by (table_of image) refl)
+  loaded_blocks =
+      subst (λ found. IfSome found (HasBlocks blocks)) (sym (is.rings ∙ ap (λ table. pair_from blocks 0 (entries_of table)) is.table)) (blocks_by (table_of image) refl)

@@ -1,5 +1,5 @@
 -- Each ring of a device for RPMsg, and its buffers, have one block of a placement.
-use Rattle.std.proofs.Common.{◌≡◌, ℕ, ◌+◌, true, false, List, Some, Ok, refl, ◌∙◌, arith, eqb, ltb}
+use Rattle.std.proofs.Common.{◌≡◌, ℕ, ◌+◌, ◌&&◌, Bool, true, false, List, Some, Ok, refl, ◌∙◌, arith, eqb, ltb}
 use Rattle.std.specs.Prelude.{slice_get}
 use Rattle.std.proofs.lemmas.Bool.{cond_both, eq-eqb, lt-ltb, ne_eqb}
 use Rattle.resource_table.specs.declared.entries.Entry.{Entry}
@@ -7,10 +7,16 @@ use Rattle.resource_table.specs.declared.entries.Entry.TheVariants as entry
 use Rattle.resource_table.specs.declared.entries.Vdev.{Vdev}
 use Rattle.memory_pool.specs.Placements.{placement}
 use Rattle.memory_pool.specs.declared.blocks.Block.{Block}
+use Rattle.memory_pool.specs.declared.blocks.Use.{Use}
 use Rattle.memory_pool.specs.declared.blocks.Use.TheVariants as usage
 use Rattle.memory_pool.specs.declared.regions.Region.{Region}
 use Rattle.memory_pool.proofs.UseCounts.{Misses, blocks_for, device_uses}
-use Rattle.fw_load.specs.Rings.{is_buffers, is_ring}
+use Rattle.fw_load.specs.Rings.{is_buffers}
+
+-- whether a block is for the ring of a number of an entry
+abbrev pub is_ring : ℕ → ℕ → Use → Bool
+is_ring index number (usage.Ring entry ring) = (eqb entry index) && (eqb ring number)
+is_ring index number _ = false
 
 -- ---- the uses of a device for RPMsg
 

