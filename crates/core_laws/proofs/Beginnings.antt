@@ -14,7 +14,7 @@ use Rattle.crash_recover.specs.declared.core_answers.Start.{Start}
 use Rattle.crash_recover.specs.declared.core_answers.Start.TheVariants as start
 use Rattle.crash_recover.specs.declared.core_faults.CoreFault.{CoreFault}
 use Rattle.crash_recover.specs.declared.core_faults.CoreFault.TheVariants as fault
-use Rattle.crash_recover.specs.Actors.{driver_names}
+use Rattle.core_actors.specs.Actors.{driver_names}
 use Rattle.crash_recover.specs.Cores.{CoreOutcome, CoreState, loaded_rings, refuse_or}
 use Rattle.crash_recover.specs.CoreBoots.{Found, boot_as, boot_of, core_bench, first_boot, image_fault, loaded_in, started_core, with_load}
 use Rattle.crash_recover.specs.CoreRecoveries.{readied_core, recovery_fault, recovery_of, reload_fault, reopen_fault}

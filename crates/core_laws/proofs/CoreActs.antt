@@ -17,10 +17,10 @@ use Rattle.link_bench.specs.Acts.{IsFitAct, link_act}
 use Rattle.link_bench.specs.BenchCrashes.{left_by_reclaim}
 use Rattle.link_bench.specs.Benches.{BenchState, BenchWalk, IsSendable, advance_steps, bench_walk, begun_of, call_rings, call_steps, with_begun}
 use Rattle.link_bench.specs.Watchers.{Seeing}
-use Rattle.crash_recover.specs.Actors.{ActorsState}
+use Rattle.core_actors.specs.Actors.{ActorsState}
 use Rattle.crash_recover.specs.CoreActs.{core_act, core_act_on}
 use Rattle.crash_recover.specs.Cores.{CoreState}
-use Rattle.crash_recover.specs.Drives.{actors_after_end, message_of}
+use Rattle.core_actors.specs.ActorEnds.{actors_after_end, message_of}
 use Rattle.core_laws.specs.BenchMoves.{AreSendable, IsReachedBench, IsReachedCore}
 use Rattle.core_laws.specs.KeptCores.{IsKeptBench, IsKeptCore}
 use Rattle.core_laws.specs.PendingCalls.{HasNoneBegun, IsReadyBench, IsReadyCore}

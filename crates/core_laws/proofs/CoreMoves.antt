@@ -15,12 +15,12 @@ use Rattle.lane_model.specs.Links.{LinkState, end_of}
 use Rattle.lane_model.specs.Recoveries.{link_after_close, unopened_by, unreclaimed_by, without_caller}
 use Rattle.channel_bus.specs.Sides.{EndState, side_meaning}
 use Rattle.fw_load.specs.declared.rings.RingPair.{RingPair}
-use Rattle.crash_recover.specs.declared.actors.Actor.{Actor}
-use Rattle.crash_recover.specs.declared.actors.Actor.TheVariants as actor
+use Rattle.core_actors.specs.declared.actors.Actor.{Actor}
+use Rattle.core_actors.specs.declared.actors.Actor.TheVariants as actor
 use Rattle.link_bench.specs.declared.benches.BenchFault.{BenchFault}
 use Rattle.link_bench.specs.declared.benches.Reach.TheVariants as reach
-use Rattle.crash_recover.specs.declared.core_drives.Driven.{Driven}
-use Rattle.crash_recover.specs.declared.core_drives.Driven.TheVariants as driven
+use Rattle.core_actors.specs.declared.progress.Driven.{Driven}
+use Rattle.core_actors.specs.declared.progress.Driven.TheVariants as driven
 use Rattle.crash_recover.specs.declared.core_faults.CoreFault.{CoreFault}
 use Rattle.crash_recover.specs.declared.core_faults.CoreFault.TheVariants as fault
 use Rattle.link_bench.specs.declared.benches.Reach.{Reach}
@@ -29,7 +29,7 @@ use Rattle.rp_base.specs.declared.limits.TheConstants.{MESSAGE_MOST}
 use Rattle.remote_core.specs.Works.{work_of}
 use Rattle.memory_pool.specs.declared.regions.Region.{Region}
 use Rattle.host_driver.specs.Drivers.{Declared}
-use Rattle.crash_recover.specs.Actors.{ActorsState, driver_names}
+use Rattle.core_actors.specs.Actors.{ActorsState, driver_names}
 use Rattle.link_bench.specs.Benches.{BenchState, BenchWalk, IsSendable, advance_walk, begin_fault, is_in_call, start_walk}
 use Rattle.link_bench.specs.BenchCrashes.{after_close, after_reclaim, after_reopen}
 use Rattle.crash_recover.specs.CoreBoots.{config_of, core_bench, fresh_end}
@@ -37,7 +37,9 @@ use Rattle.link_bench.specs.BenchEnds.{crashed_bench, is_first, is_remote, with_
 use Rattle.crash_recover.specs.CoreCrashes.{after_report}
 use Rattle.crash_recover.specs.CoreRecoveries.{after_recovery, fault_with, link_fault, readied_core, reopen_fault, reopened_core, spent_fault}
 use Rattle.crash_recover.specs.Cores.{CoreState, LoadState, loaded_rings, new_core}
-use Rattle.crash_recover.specs.Drives.{DriveStep, acting, actor_step, actors_at_end, asked_by, drive_step, driven_on, end_answer, first_or_take, gives_of, has_calls, host_begun, host_begun_as, host_ended, host_reached, host_step, is_idle, left_of, link_step, message_of, number_taken, placed_map, record_run, record_step, reported_by, sends_of, with_turn_after, worker_call, worker_reached, worker_step}
+use Rattle.core_actors.specs.ActorEnds.{actors_at_end, driven_on, end_answer, gives_of, host_ended, left_of, message_of, number_taken, sends_of}
+use Rattle.core_actors.specs.ActorSteps.{asked_by, first_or_take, has_calls, host_begun, host_begun_as, host_reached, link_step, worker_reached}
+use Rattle.crash_recover.specs.Drives.{DriveStep, acting, actor_step, drive_step, host_step, is_idle, placed_map, record_run, record_step, reported_by, with_turn_after, worker_call, worker_step}
 use Rattle.core_laws.proofs.Outcomes.{Stays, report_stays}
 use Rattle.core_laws.specs.BenchMoves.{AreSendable, IsReachedBench, IsReachedCore, IsShortLink}
 use Rattle.core_laws.proofs.Sendable.{end_short, gives_sendable, left_sendable, message_short, none_sendable, sends_sendable, work_sendable}

@@ -14,13 +14,13 @@ use Rattle.lane_model.specs.declared.recoveries.ReclaimRefusal.{ReclaimRefusal}
 use Rattle.lane_model.specs.Links.{end_of, free_number}
 use Rattle.lane_model.specs.Recoveries.{unreclaimed_by}
 use Rattle.lane_model.proofs.Others.{stays_in_use}
-use Rattle.crash_recover.specs.declared.actors.Actor.{Actor}
-use Rattle.crash_recover.specs.declared.actors.Actor.TheVariants as actor
+use Rattle.core_actors.specs.declared.actors.Actor.{Actor}
+use Rattle.core_actors.specs.declared.actors.Actor.TheVariants as actor
 use Rattle.link_bench.specs.declared.benches.Reach.TheVariants as reach
-use Rattle.crash_recover.specs.declared.core_drives.Driven.{Driven}
-use Rattle.crash_recover.specs.declared.core_drives.Driven.TheVariants as driven
+use Rattle.core_actors.specs.declared.progress.Driven.{Driven}
+use Rattle.core_actors.specs.declared.progress.Driven.TheVariants as driven
 use Rattle.crash_recover.specs.declared.core_faults.CoreFault.{CoreFault}
-use Rattle.crash_recover.specs.Actors.{driver_names}
+use Rattle.core_actors.specs.Actors.{driver_names}
 use Rattle.link_bench.specs.BenchCrashes.{after_reopen, left_by_reclaim, reclaim_leaves}
 use Rattle.link_bench.specs.Benches.{BenchState, BenchWalk, advance_walk, begin_fault, is_in_call, start_walk, with_new_caller}
 use Rattle.crash_recover.specs.CoreBoots.{core_bench}
@@ -28,7 +28,8 @@ use Rattle.link_bench.specs.BenchEnds.{crashed_bench, readied_bench, renewed_unl
 use Rattle.crash_recover.specs.CoreCrashes.{after_report}
 use Rattle.crash_recover.specs.CoreRecoveries.{after_recovery, fault_with, readied_core, recovery_fault, reopen_fault, reopened_core, spent_fault, unrecovered_to}
 use Rattle.crash_recover.specs.Cores.{CoreState, LoadState, loaded_rings}
-use Rattle.crash_recover.specs.Drives.{DriveStep, acting, actor_step, drive_step, first_or_take, has_calls, host_step, is_idle, link_step, record_run, record_step, reported_by, with_turn_after, worker_call, worker_step}
+use Rattle.core_actors.specs.ActorSteps.{first_or_take, has_calls, link_step}
+use Rattle.crash_recover.specs.Drives.{DriveStep, acting, actor_step, drive_step, host_step, is_idle, record_run, record_step, reported_by, with_turn_after, worker_call, worker_step}
 use Rattle.core_laws.specs.KeptCores.{IsKeptBench, IsKeptCore, next_life, with_next_life}
 use Rattle.core_laws.proofs.Outcomes.{IsSame, Stays, report_stays}
 use Rattle.core_laws.proofs.KeptCrashes.{crash_kept, gone_kept, host_renewed}

@@ -16,7 +16,8 @@ use Rattle.link_bench.specs.declared.benches.BenchFault.{BenchFault}
 use Rattle.link_bench.specs.declared.benches.BenchFault.TheVariants as fault
 use Rattle.link_bench.specs.declared.benches.Reach.TheVariants as reach
 use Rattle.link_bench.specs.Benches.{BenchState, BenchWalk, advance_steps, advance_walk, begin_fault, begun_of, bench_walk, caller_fault, calling_fault, first_fault, is_in_call, later_rings, later_steps, start_walk, wish_fault}
-use Rattle.crash_recover.specs.Drives.{first_or_take, gives_of, left_of, number_taken, sends_of}
+use Rattle.core_actors.specs.ActorEnds.{gives_of, left_of, number_taken, sends_of}
+use Rattle.core_actors.specs.ActorSteps.{first_or_take}
 use Rattle.core_laws.specs.PendingCalls.{AreFitLanes, AreGivable, IsNamedEnd, given_after, given_by, is_among}
 use Rattle.core_laws.proofs.PendingSteps.{IsNext}
 

@@ -29,7 +29,7 @@ use Rattle.lane_model.proofs.Steps.{no_other}
 use Rattle.channel_bus.specs.Sides.{EndState, side_meaning}
 use Rattle.link_bench.specs.declared.benches.BegunCall.{BegunCall}
 use Rattle.link_bench.specs.declared.benches.Reach.TheVariants as reach
-use Rattle.crash_recover.specs.Actors.{ActorsState, driver_names}
+use Rattle.core_actors.specs.Actors.{ActorsState, driver_names}
 use Rattle.link_bench.specs.BenchCrashes.{after_reopen, left_by_reclaim, reclaim_leaves}
 use Rattle.core_laws.specs.BenchMoves.{IsReachedBench}
 use Rattle.link_bench.specs.Benches.{BenchState, BenchWalk, IsSendable, advance_steps, advance_walk, begin_fault, begun_of, bench_walk, call_rings, call_steps, call_walk, is_in_call, start_walk, with_begun, with_new_caller}
@@ -37,7 +37,7 @@ use Rattle.crash_recover.specs.CoreBoots.{core_bench, started_core}
 use Rattle.link_bench.specs.BenchEnds.{readied_bench, renewed_unless}
 use Rattle.crash_recover.specs.CoreRecoveries.{after_recovery, readied_core, recovery_fault, unrecovered_to}
 use Rattle.crash_recover.specs.Cores.{CoreState, LoadState, loaded_rings}
-use Rattle.crash_recover.specs.Drives.{actors_at_end, end_answer, sends_of}
+use Rattle.core_actors.specs.ActorEnds.{actors_at_end, end_answer, sends_of}
 use Rattle.core_laws.specs.PendingCalls.{AreFitLanes, AreGivable, HasNoneBegun, IsNamed, IsOwnTurn, IsReadyBench, IsReadyCore, IsSendsTurn, given_after, given_by}
 use Rattle.core_laws.proofs.BenchMoves.{begun_at, begun_or, calling_may}
 use Rattle.link_bench.proofs.Begun.{begin_may}

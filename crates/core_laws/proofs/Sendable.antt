@@ -37,7 +37,8 @@ use Rattle.lane_model.specs.Links.{end_of, LinkState}
 use Rattle.channel_bus.specs.Sides.{EndState}
 use Rattle.link_bench.specs.Benches.{BenchState, IsSendable, taken_on}
 use Rattle.core_laws.specs.BenchMoves.{IsShortLink}
-use Rattle.crash_recover.specs.Drives.{asked_by, channel_answer, end_answer, endpoint_answer, gives_of, is_tried_again, left_of, message_numbered, message_of, number_taken, sends_of, verdict_answer}
+use Rattle.core_actors.specs.ActorEnds.{channel_answer, end_answer, endpoint_answer, gives_of, is_tried_again, left_of, message_numbered, message_of, number_taken, sends_of, verdict_answer}
+use Rattle.core_actors.specs.ActorSteps.{asked_by}
 
 -- ---- lists of calls
 

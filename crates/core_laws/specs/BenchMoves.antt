@@ -10,7 +10,7 @@ use Rattle.lane_model.specs.Desks.{DeskMeaning, IsBound}
 use Rattle.lane_model.specs.Links.{LinkState}
 use Rattle.lane_laws.specs.Moves.{Move, MayMoves, Recorded, no_handings, after_moves, lane_to, IsNewLink}
 use Rattle.channel_bus.specs.Sides.{EndState, side_meaning}
-use Rattle.crash_recover.specs.Actors.{ActorsState}
+use Rattle.core_actors.specs.Actors.{ActorsState}
 use Rattle.link_bench.specs.Benches.{BenchState, AreFitCalls, IsSendable}
 use Rattle.crash_recover.specs.Cores.{CoreState}
 

@@ -18,7 +18,7 @@ use Rattle.lane_model.specs.declared.states.LaneState.{LaneState}
 use Rattle.lane_model.specs.Lanes.{has_call, holds}
 use Rattle.lane_model.specs.Links.{Lanes, lanes_of}
 use Rattle.channel_bus.specs.Sides.{EndState}
-use Rattle.crash_recover.specs.Actors.{ActorsState}
+use Rattle.core_actors.specs.Actors.{ActorsState}
 use Rattle.link_bench.specs.Benches.{BenchState, begun_of}
 use Rattle.crash_recover.specs.Cores.{CoreState}
 

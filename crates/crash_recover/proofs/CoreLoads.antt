@@ -16,7 +16,8 @@ use Rattle.addr_translate.proofs.Found.{found_permuted}
 use Rattle.addr_translate.proofs.Sound.{mapped_sound, permuted_sound}
 use Rattle.fw_load.specs.Loading.{IsLoaded}
 use Rattle.fw_load.specs.Memory.{memory_at, memory_of, place_at}
-use Rattle.fw_load.specs.Rings.{pair_from}
+use Rattle.resource_table.specs.Entries.{entries_of}
+use Rattle.fw_load.specs.Rings.{pair_from, traces_of}
 use Rattle.fw_load.specs.Tables.{entries_in, patched_in, table_of}
 use Rattle.fw_load.specs.declared.loading.Loaded.{Loaded}
 use Rattle.fw_load.specs.declared.rings.RingPair.{RingPair}
@@ -40,12 +41,12 @@ load_is image regions loaded is =
     let blocks = loaded.placed.blocks.items in
     let memory = memory_of image regions blocks in
     let table = patched_in (table_of image) blocks in
-    let rings = pair_from (entries_in (table_of image)) blocks 0 (entries_in (table_of image)) in
-    ap (λ m. given blocks m loaded.table.items loaded.entry loaded.rings loaded.traces.items) is.memory
+    let rings = pair_from blocks 0 (entries_of table) in
+    ap (λ m. given blocks m loaded.table loaded.entry loaded.rings loaded.traces.items) is.memory
     ∙ ap (λ t. given blocks memory t loaded.entry loaded.rings loaded.traces.items) is.table
     ∙ ap (λ e. given blocks memory table e loaded.rings loaded.traces.items) is.entry
-    ∙ ap (λ r. given blocks memory table (entry_of image) r loaded.traces.items) is.rings
-    ∙ ap (given blocks memory table (entry_of image) rings) is.traces
+    ∙ ap (λ r. given blocks memory table (entry_of image) r loaded.traces.items) (is.rings ∙ ap (λ t. pair_from blocks 0 (entries_of t)) is.table)
+    ∙ ap (given blocks memory table (entry_of image) rings) (is.traces ∙ ap (λ t. traces_of (memory_at regions blocks) (entries_of t)) is.table)
     ∙ sym (blocks_are image regions blocks is.placed)
 
 -- a range stands by the map of a load where it stands by the regions and what was placed

@@ -1,7 +1,7 @@
 -- The blocks of memory of a core that is loaded: each has its bytes, and together they are what a dump asks for.
-use Rattle.std.proofs.Common.{◌≡◌, ℕ, ◌+◌, ◌-◌, ◌≤◌, ◌^◌, Bool, true, false, not, inl, inr, List, [], ◌∷◌, ◌++◌, length, get_or, map, Option, Some, None, IfSome, refl, ap, sym, subst, ◌∙◌, arith, length-append}
+use Rattle.std.proofs.Common.{◌≡◌, ℕ, ◌+◌, ◌-◌, ◌≤◌, ◌^◌, true, false, not, inl, inr, List, [], ◌∷◌, ◌++◌, length, get_or, map, Option, Some, None, IfSome, refl, ap, sym, subst, ◌∙◌, arith, length-append}
 use Rattle.std.specs.Prelude.{slice_get, slice_range, nat_le, ◌&&◌}
-use Rattle.std.specs.List.{All, Any, Contains, filter, filter_map, find, sum_by}
+use Rattle.std.specs.List.{All, Contains, filter, filter_map, find, sum_by}
 use Rattle.std.specs.Option.{is_some, option_and_then, option_map}
 use Rattle.std.proofs.lemmas.Bool.{cases_Bool, cases_eq, false≢true, not-true}
 use Rattle.std.proofs.lemmas.List.{length-map, map-append}
@@ -11,7 +11,7 @@ use Rattle.std.proofs.lemmas.List.Sums.{count_by-le-length, length-filter, sum_b
 use Rattle.memory_pool.specs.Ranges.{lies_in, ranges_meet}
 use Rattle.memory_pool.specs.Regions.{is_pool, memory_len}
 use Rattle.memory_pool.specs.Places.{is_window, is_window_use, memory_of}
-use Rattle.memory_pool.specs.Soundness.{IsHeld, IsHeldBy, IsRange, SoundPlacement, SoundRegions}
+use Rattle.memory_pool.specs.Soundness.{IsHeld, IsRange, SoundPlacement, SoundRegions}
 use Rattle.memory_pool.specs.declared.blocks.Block.{Block}
 use Rattle.memory_pool.specs.declared.blocks.Use.{Use}
 use Rattle.memory_pool.specs.declared.blocks.Use.TheVariants as usage

@@ -1,14 +1,15 @@
 -- Who makes a step of a drive.
 use Rattle.std.proofs.Common.{◌≡◌, Bool, false, cond, sym, ap, refl, ◌∙◌}
 use Rattle.std.proofs.lemmas.Bool.{and_right}
-use Rattle.crash_recover.specs.declared.actors.Actor.{Actor}
-use Rattle.crash_recover.specs.declared.actors.Actor.TheVariants as actor
-use Rattle.crash_recover.specs.declared.core_drives.Driven.TheVariants as driven
-use Rattle.crash_recover.specs.declared.core_drives.DriveProgress.{DriveProgress}
-use Rattle.crash_recover.specs.declared.core_drives.DriveProgress.TheVariants as progress
-use Rattle.crash_recover.specs.Actors.{other_actor}
+use Rattle.core_actors.specs.declared.actors.Actor.{Actor}
+use Rattle.core_actors.specs.declared.actors.Actor.TheVariants as actor
+use Rattle.core_actors.specs.declared.progress.Driven.TheVariants as driven
+use Rattle.core_actors.specs.declared.progress.DriveProgress.{DriveProgress}
+use Rattle.core_actors.specs.declared.progress.DriveProgress.TheVariants as progress
+use Rattle.core_actors.specs.Actors.{other_actor}
 use Rattle.crash_recover.specs.Cores.{CoreState}
-use Rattle.crash_recover.specs.Drives.{DriveStep, actor_step, drive_step, host_is_idle, is_idle, is_idle_actor, is_rest, tried_step, with_turn_after, worker_is_idle}
+use Rattle.core_actors.specs.ActorSteps.{host_is_idle, is_rest, worker_is_idle}
+use Rattle.crash_recover.specs.Drives.{DriveStep, actor_step, drive_step, is_idle, is_idle_actor, tried_step, with_turn_after}
 
 -- a step that found something to do
 pub does_something : (step : DriveProgress) → (step ≡ progress.Rest → ⊥) → is_rest step ≡ false

@@ -1,5 +1,5 @@
 -- What a load leaves: a sound placement, and rings over which a link may be made.
-use Rattle.std.proofs.Common.{◌≡◌, ℕ, ◌≤◌, List, Option, None, Some, IfSome, arith, ap, leb, subst, ◌∙◌}
+use Rattle.std.proofs.Common.{◌≡◌, ℕ, ◌≤◌, List, Option, None, Some, IfSome, arith, ap, leb, ◌∙◌}
 use Rattle.std.specs.Option.{is_some}
 use Rattle.std.specs.Int.{is_power_of_two}
 use Rattle.std.proofs.lemmas.Bool.{leb-true}

@@ -16,7 +16,8 @@ use Rattle.remote_core.specs.Workers.{WorkerState}
 use Rattle.remote_core.specs.declared.workers.Work.{Work}
 use Rattle.remote_core.specs.declared.workers.Work.TheVariants as work
 use Rattle.crash_recover.specs.Cores.{CoreState, LoadState}
-use Rattle.crash_recover.specs.Drives.{DriveStep, asked_by, driven_by_work, placed_map, record_run, run_by}
+use Rattle.core_actors.specs.ActorSteps.{asked_by, driven_by_work}
+use Rattle.crash_recover.specs.Drives.{DriveStep, placed_map, record_run, run_by}
 
 -- maps that place the same ranges at the same places in memory
 abbrev pub PlacesAlike : Mapping → Mapping → Type 0

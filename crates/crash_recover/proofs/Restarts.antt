@@ -1,5 +1,5 @@
 -- A recovery that nothing refuses starts the core again.
-use Rattle.std.proofs.Common.{◌≡◌, ◌≢◌, ◌==◌, ℕ, Bool, true, false, cond, Option, Some, None, Ok, Err, is_some, refl, sym, ap, subst, ◌∙◌}
+use Rattle.std.proofs.Common.{◌≡◌, ◌≢◌, ◌==◌, Bool, true, false, cond, Option, Some, None, Ok, Err, is_some, refl, sym, ap, ◌∙◌}
 use Rattle.std.specs.Option.{option_or, unwrap_or}
 use Rattle.std.proofs.lemmas.Bool.{cond_both, true≢false}
 use Rattle.rp_base.specs.declared.kinds.LifeState.{LifeState}

@@ -4,9 +4,9 @@ use Rattle.link_bench.specs.declared.acts.ActAnswer.{ActAnswer}
 use Rattle.link_bench.specs.declared.acts.LinkAct.{LinkAct}
 use Rattle.link_bench.specs.Benches.{BenchState}
 use Rattle.link_bench.specs.Acts.{Acted, link_act}
-use Rattle.crash_recover.specs.Actors.{ActorsState}
+use Rattle.core_actors.specs.Actors.{ActorsState}
 use Rattle.crash_recover.specs.Cores.{CoreState}
-use Rattle.crash_recover.specs.Drives.{actors_after_end}
+use Rattle.core_actors.specs.ActorEnds.{actors_after_end}
 
 -- what an act leaves of a core, the steps of the run until then, and what comes of it, or nothing where the core has no link
 pub record CoreActed : Type 0 where

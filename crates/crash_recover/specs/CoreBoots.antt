@@ -1,8 +1,7 @@
 -- What a boot and a handover of a core answer and leave (`rproc_boot`, `rproc_fw_boot` and `rproc_attach` of Linux remoteproc_core.c; the handover, the faults and their order are own).
-use Rattle.std.specs.Prelude.{◌≡◌, ◌≢◌, ℕ, ◌==◌, Bool, true, false, not, ◌&&◌, List, [], Option, Some, None, option_map, unwrap_or, Result, Ok, Err, if◌then◌else◌}
-use Rattle.std.specs.Result.{result_err, result_map_both, result_ok}
+use Rattle.std.specs.Prelude.{◌≡◌, ℕ, ◌==◌, Bool, false, not, ◌&&◌, List, [], Option, Some, None, option_map, unwrap_or, Result, Ok, Err, if◌then◌else◌}
+use Rattle.std.specs.Result.{result_map_both, result_ok}
 use Rattle.rp_base.specs.declared.kinds.End.TheVariants as side
-use Rattle.rp_base.specs.declared.kinds.LifeState.{LifeState}
 use Rattle.rp_io.specs.Images.{fetch_answer}
 use Rattle.rp_io.specs.declared.faults.FetchFault.{FetchFault}
 use Rattle.rp_io.specs.declared.faults.FetchFault.TheVariants as fetch
@@ -13,11 +12,12 @@ use Rattle.memory_pool.specs.declared.regions.Region.{Region}
 use Rattle.fw_load.specs.Loading.{load_fault}
 use Rattle.fw_load.specs.Memory.{memory_at, memory_of}
 use Rattle.fw_load.specs.Rings.{pair_from, traces_of}
+use Rattle.resource_table.specs.Entries.{entries_of}
 use Rattle.fw_load.specs.Tables.{entries_in, patched_in, table_of}
 use Rattle.fw_load.specs.declared.faults.LoadFault.{LoadFault}
 use Rattle.fw_load.specs.declared.faults.LoadFault.TheVariants as load
 use Rattle.fw_load.specs.declared.rings.RingPair.{RingPair}
-use Rattle.proc_state.specs.Lives.{CoreLife, Outcome, is_offline, life_after_boot, life_after_handover, most}
+use Rattle.proc_state.specs.Lives.{CoreLife, is_offline, life_after_boot, life_after_handover, most}
 use Rattle.proc_state.specs.declared.answers.LifeFault.{LifeFault}
 use Rattle.proc_state.specs.declared.answers.Power.{Power}
 use Rattle.proc_state.specs.declared.answers.Power.TheVariants as power
@@ -29,7 +29,7 @@ use Rattle.crash_recover.specs.declared.core_answers.Start.TheVariants as start
 use Rattle.crash_recover.specs.declared.core_faults.CoreFault.{CoreFault}
 use Rattle.crash_recover.specs.declared.core_faults.CoreFault.TheVariants as fault
 use Rattle.link_bench.specs.Benches.{BenchState, new_bench_of, with_new_caller}
-use Rattle.crash_recover.specs.Actors.{driver_names, fresh_actors}
+use Rattle.core_actors.specs.Actors.{driver_names, fresh_actors}
 use Rattle.crash_recover.specs.Cores.{CoreOutcome, CoreState, LoadState, loaded_rings, refuse_or}
 
 -- the refusal of a load, where want of memory stands alone
@@ -50,14 +50,16 @@ core_fault_of_fetch fetch.NoMemory = fault.NoMemory
 
 -- what an image becomes, by where its table's entries are placed
 abbrev pub loaded_at : List ℕ → List Region → List Block → LoadState
-loaded_at image regions placed = record {
-  memory = memory_of image regions placed;
-  placed = placed;
-  table = patched_in (table_of image) placed;
-  entry = entry_of image;
-  rings = pair_from (entries_in (table_of image)) placed 0 (entries_in (table_of image));
-  traces = traces_of (memory_at regions placed) (entries_in (table_of image));
-}
+loaded_at image regions placed =
+    let table = patched_in (table_of image) placed in
+    record {
+      memory = memory_of image regions placed;
+      placed = placed;
+      table = table;
+      entry = entry_of image;
+      rings = pair_from placed 0 (entries_of table);
+      traces = traces_of (memory_at regions placed) (entries_of table);
+    }
 
 -- what an image that may be loaded becomes
 unfoldable pub loaded_from : List ℕ → List Region → LoadState

@@ -21,7 +21,7 @@ use Rattle.link_bench.specs.Watchers.{watched}
 use Rattle.link_bench.specs.BenchCrashes.{reclaim_answer, reclaim_leaves}
 use Rattle.link_bench.specs.BenchRings.{bench_snapshot, snapshot_at, turn_holder}
 use Rattle.crash_recover.specs.Cores.{CoreState, loaded_rings}
-use Rattle.crash_recover.specs.Drives.{actors_after_end}
+use Rattle.core_actors.specs.ActorEnds.{actors_after_end}
 
 -- the callers 0 and 1 are those of the core's own actors
 abbrev pub is_own : ℕ → Bool

@@ -1,5 +1,5 @@
 -- What a crash report of a core answers and leaves (`rproc_report_crash` of Linux remoteproc_core.c; what becomes of the callers is own).
-use Rattle.std.specs.Prelude.{ℕ, Bool, true, Option, Some, None, option_map, Result, Ok, Err, if◌then◌else◌}
+use Rattle.std.specs.Prelude.{Bool, true, Option, Some, None, option_map, Result, Ok, Err, if◌then◌else◌}
 use Rattle.proc_state.specs.Lives.{CoreLife, life_after_crash}
 use Rattle.proc_state.specs.declared.answers.LifeFault.{LifeFault}
 use Rattle.proc_state.specs.declared.answers.Report.{Report}

@@ -1,5 +1,5 @@
 -- The blocks of memory of a core that is loaded, with their bytes (own).
-use Rattle.std.specs.Prelude.{◌≡◌, ℕ, List, [], ◌++◌, length, map, filter, All, not, Option, Some, None, option_map}
+use Rattle.std.specs.Prelude.{◌≡◌, ℕ, List, [], ◌++◌, map, filter, All, not, Option, Some, None, option_map}
 use Rattle.std.specs.List.{filter_map}
 use Rattle.memory_pool.specs.Places.{memory_of}
 use Rattle.memory_pool.specs.Regions.{is_pool}

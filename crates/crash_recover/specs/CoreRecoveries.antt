@@ -1,5 +1,5 @@
 -- What a recovery of a core answers and leaves (`rproc_trigger_recovery` of Linux remoteproc_core.c; the faults and their order, and what becomes of the callers, are own).
-use Rattle.std.specs.Prelude.{◌≡◌, ℕ, ◌==◌, Bool, true, false, not, ◌&&◌, List, [], Option, Some, None, Ok, Err, option_map, option_and_then, if◌then◌else◌}
+use Rattle.std.specs.Prelude.{◌≡◌, ℕ, ◌==◌, Bool, true, false, not, ◌&&◌, List, Option, Some, None, Ok, Err, option_map, option_and_then, if◌then◌else◌}
 use Rattle.std.specs.Option.{option_or}
 use Rattle.std.specs.Str.{is_utf8}
 use Rattle.rp_base.specs.declared.kinds.LifeState.{LifeState}
@@ -13,7 +13,7 @@ use Rattle.crash_recover.specs.declared.core_answers.Start.{Start}
 use Rattle.crash_recover.specs.declared.core_answers.Start.TheVariants as start
 use Rattle.crash_recover.specs.declared.core_faults.CoreFault.{CoreFault}
 use Rattle.crash_recover.specs.declared.core_faults.CoreFault.TheVariants as fault
-use Rattle.crash_recover.specs.Actors.{fresh_actors}
+use Rattle.core_actors.specs.Actors.{fresh_actors}
 use Rattle.link_bench.specs.Benches.{BenchState}
 use Rattle.link_bench.specs.BenchCrashes.{after_reopen}
 use Rattle.link_bench.specs.BenchEnds.{readied_bench, reopen_refusal_of}

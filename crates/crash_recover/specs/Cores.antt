@@ -1,5 +1,5 @@
 -- A remote core: its regions, its life, and what a boot gave it (the calls and states of the Linux remoteproc documentation; the rest is own).
-use Rattle.std.specs.Prelude.{◌≡◌, ℕ, ◌+◌, ◌≤◌, Bool, true, false, not, is_some, List, [], ◌∷◌, ◌++◌, length, All, slice_get, slice_range, Option, Some, None, IfSome, option_map, option_and_then, Result, Err, if◌then◌else◌}
+use Rattle.std.specs.Prelude.{◌≡◌, ℕ, ◌+◌, ◌≤◌, true, not, is_some, List, length, All, slice_get, slice_range, Option, Some, None, IfSome, option_map, option_and_then, Result, Err, if◌then◌else◌}
 use Rattle.rp_base.specs.declared.limits.TheConstants.{BOOK_MOST}
 use Rattle.memory_pool.specs.Regions.{region_fault}
 use Rattle.memory_pool.specs.Soundness.{SoundPlacement}
@@ -17,7 +17,8 @@ use Rattle.proc_state.specs.Lives.{CoreLife, is_offline, new_life}
 use Rattle.host_driver.specs.Drivers.{Declared, driver_fault}
 use Rattle.host_driver.specs.declared.drivers.DriverFault.{DriverFault}
 use Rattle.host_driver.specs.declared.drivers.DriverFault.TheVariants as driver
-use Rattle.crash_recover.specs.Actors.{ActorsState, new_actors}
+use Rattle.core_actors.specs.Actors.{ActorsState, new_actors}
+use Rattle.core_actors.specs.Actors.{with_driver as actors_with_driver}
 use Rattle.link_bench.specs.Benches.{BenchState}
 use Rattle.crash_recover.specs.declared.core_faults.AddFault.{AddFault}
 use Rattle.crash_recover.specs.declared.core_faults.AddFault.TheVariants as add
@@ -36,7 +37,7 @@ abbrev pub load_view : Loaded → LoadState
 load_view loaded = record {
   memory = loaded.memory;
   placed = loaded.placed.blocks.items;
-  table = loaded.table.items;
+  table = loaded.table;
   entry = loaded.entry;
   rings = loaded.rings;
   traces = loaded.traces.items;
@@ -94,9 +95,7 @@ driver_add_fault core name =
 
 -- the core with one driver more
 abbrev pub with_driver : CoreState → Declared → CoreState
-with_driver core declared = record core {
-  actors = record core.actors { drivers = record core.actors.drivers { kinds = core.actors.drivers.kinds ++ declared ∷ [] } };
-}
+with_driver core declared = record core { actors = actors_with_driver core.actors declared }
 
 -- so many bytes of a memory at a place, if there is one
 abbrev pub bytes_at : List ℕ → ℕ → Option ℕ → Option (List ℕ)

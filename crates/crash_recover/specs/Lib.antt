@@ -5,7 +5,6 @@ pub mod CoreLeaves
 pub mod CoreRecoveries
 pub mod CoreRings
 pub mod CoreParts
-pub mod Actors
 pub mod Drives
 pub mod CoreCallers
 pub mod CoreActs

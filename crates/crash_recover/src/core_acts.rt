@@ -3,30 +3,13 @@ ghost use Rattle.rp_base.specs.declared.limits.TheConstants.{STEPS_MOST};
 ghost use Rattle.link_bench.specs.Acts.{IsFitAct, bare_act};
 ghost use Rattle.crash_recover.specs.CoreActs.{HasCoreActed, core_act};
 
-use crate::actors::Actors;
 use crate::cores::Core;
-use lane_model::CallEnd;
-use link_bench::{ActAnswer, Bench, LinkAct, Watcher};
+use link_bench::{ActAnswer, LinkAct};
 use rp_base::{CallerNo, NoMemory};
 use std::alloc::Global;
 
 /// How many callers of its link are a core's own: 0, that of its drivers, and 1, that of its worker.
 const OWN_CALLERS: CallerNo = 2;
-
-impl Watcher for Actors {
-    ghost use Rattle.crash_recover.specs.Actors.{ActorsState, actors_view};
-    ghost use Rattle.crash_recover.specs.Drives.{actors_after_end};
-
-    ghost State = { ActorsState };
-
-    ghost state = { actors_view };
-
-    ghost sees = { actors_after_end };
-
-    fn see(&mut self, bench: &Bench, caller: CallerNo, end: &CallEnd) -> Result<(), NoMemory> {
-        self.hear_end(bench, caller, end)
-    }
-}
 
 impl Core {
     /// Does an act on the core's link, as on any link, but its own callers are not there. Its drivers

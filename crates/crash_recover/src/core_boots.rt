@@ -8,7 +8,7 @@ ghost use Rattle.rp_io.specs.declared.faults.FetchFault.TheVariants as fetch;
 ghost use Rattle.lane_model.specs.Conditions.{IsConfig};
 ghost use Rattle.proc_state.specs.Lives.{is_offline, life_after_boot};
 ghost use Rattle.proc_state.specs.declared.answers.Power.TheVariants as power;
-ghost use Rattle.crash_recover.specs.Actors.{driver_names};
+ghost use Rattle.core_actors.specs.Actors.{driver_names};
 ghost use Rattle.crash_recover.specs.Cores.{IsSoundLoad, load_view, loaded_rings};
 ghost use Rattle.fw_load.specs.Loading.{load_fault};
 ghost use Rattle.crash_recover.specs.CoreBoots.{DidWith, Found, IsFoundIn, boot_of, config_of, core_bench, done, handover_of, in_short, loaded_entry, loaded_from, needs_image, power_of, started_core, with_load};
@@ -243,7 +243,7 @@ impl Core {
         requires { IfSome rings.now (λ rings. IsConfig (config_of rings self.now.book inc)) }
         ensures { IfOk result (λ bench. bench ≡ option_map (core_bench (driver_names self.now.actors) self.now.book inc) rings.now) }
     {
-        let names = self.actors.drivers.names(alloc)?;
+        let names = self.actors.driver_names(alloc)?;
         let bench = bench_of(alloc, rings, names, self.book, inc)?;
         Ok(bench)
     }

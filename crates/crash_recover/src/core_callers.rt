@@ -1,17 +1,11 @@
 ghost use Rattle.std.specs.Prelude.{◌≡◌, ◌<◌, true, None, Some, IfErr, IfOk, OnErr, OnOk, is_some};
-ghost use Rattle.std.specs.VecDeque.{deque_len, deque_capacity};
-ghost use Rattle.crash_recover.specs.Actors.{actors_view};
-ghost use Rattle.link_bench.specs.Benches.{advance_walk, reach_of_done, step_fault};
-ghost use Rattle.link_bench.specs.Watchers.{watched};
-ghost use Rattle.crash_recover.specs.Drives.{actors_after_end};
+ghost use Rattle.link_bench.specs.Benches.{reach_of_done};
 ghost use Rattle.link_bench.specs.BenchRings.{IsSnapshotFault};
 ghost use Rattle.crash_recover.specs.CoreCallers.{IsStepFault, after_core_reclaim, core_begin_fault, core_channels, core_receiver, core_reclaim_answer, core_snapshot, core_step, core_step_fault, core_turn_holder, is_own, new_caller, with_core_call, with_core_caller};
 
-use crate::actor_steps::make_room;
-use crate::actors::Actors;
 use crate::cores::Core;
 use lane_model::Wish;
-use link_bench::{Bench, BenchFault, Done, Reclaim};
+use link_bench::{BenchFault, Done, Reclaim};
 use name_service::Channel;
 use rp_base::{CallerNo, End, NoMemory, ring_capacity};
 use std::alloc::Global;
@@ -105,8 +99,7 @@ impl Core {
         if let Some(fault) = bench.step_fault(caller) {
             return Err(StepFault::Bench(fault));
         }
-        make_room(&mut self.actors.host_calls, 1)?;
-        Ok(step_on(bench, &mut self.actors, caller))
+        Ok(self.actors.step_of(bench, caller)?)
     }
 
     /// Reclaims a caller of the core's link: its call is gone, a begun one too, its turn is free, what
@@ -180,21 +173,4 @@ fn is_own(caller: CallerNo) -> bool
     ensures { result ≡ is_own caller }
 {
     caller < 2
-}
-
-/// One step of the call that a caller of a core's link is in, of which the drivers see the end.
-fn step_on(bench: &mut Bench, actors: &mut Actors, caller: CallerNo) -> Done
-    requires caller { caller < 64 }
-    requires may { step_fault bench.old caller ≡ None }
-    requires room { deque_len actors.old.host_calls < deque_capacity actors.old.host_calls }
-    ensures bench { bench.new ≡ (advance_walk bench.old 0 0 caller).bench }
-    ensures actors { let walk = advance_walk bench.old 0 0 caller in
-        actors_view actors.new ≡ watched actors_after_end walk.bench caller walk.reach (actors_view actors.old) }
-    ensures done { reach_of_done result ≡ (advance_walk bench.old 0 0 caller).reach }
-{
-    let done = bench.next_step(caller);
-    if let Done::Ended(end) = &done {
-        actors.see_call(bench, caller, end);
-    }
-    done
 }

@@ -1,73 +1,15 @@
 ghost use Rattle.std.specs.Prelude.{◌≡◌, ◌<◌, false, OnErr, OnOk, IfOk};
 ghost use Rattle.lane_model.specs.declared.calls.CallEnd.{CallEnd};
-ghost use Rattle.crash_recover.specs.declared.actors.Actor.TheVariants as actor;
-ghost use Rattle.crash_recover.specs.Actors.{actors_view};
-ghost use Rattle.crash_recover.specs.Drives.{drive_step, driven_of, host_is_idle, is_idle, is_rest, record_run, record_step, reported_by, tried_step, waits, with_turn_after, worker_is_idle};
+ghost use Rattle.core_actors.specs.declared.actors.Actor.TheVariants as actor;
+ghost use Rattle.core_actors.specs.Actors.{actors_view};
+ghost use Rattle.core_actors.specs.ActorSteps.{driven_of, host_is_idle, is_rest, waits, worker_is_idle};
+ghost use Rattle.crash_recover.specs.Drives.{drive_step, is_idle, record_run, record_step, reported_by, tried_step, with_turn_after};
 
-use crate::actor_steps::{
-    begins_with_take, host_step, is_drained, make_room, run_record, worker_step,
-};
-use crate::actors::{Actor, Actors};
 use crate::cores::Core;
+use core_actors::{Actor, DriveProgress, Driven};
 use lane_model::CallEnd;
-use link_bench::Bench;
-use remote_code::WorkerFault;
-use rp_base::{CallerNo, CrashKind, NoMemory};
+use rp_base::{CrashKind, NoMemory};
 use std::alloc::Global;
-
-/// What a step of a core's actors was.
-#[derive(Clone, Copy)]
-pub enum Driven {
-    /// None: both have nothing to do.
-    Idle,
-    /// A step of a call that goes on, or a record that asks for nothing else.
-    Stepped,
-    /// The last step of a call of this caller.
-    Ended(CallerNo, CallEnd),
-    /// A record that can't run, which crashed the core.
-    Worker(WorkerFault),
-    /// A record that reported a crash of the core.
-    Crashed(CrashKind),
-}
-
-/// What a step of a core's actors answers, which writes the end of a call beside it.
-#[derive(Clone, Copy)]
-pub enum DriveProgress {
-    /// Neither actor has anything to do.
-    Rest,
-    /// The turn was that of a worker that has no memory.
-    Nothing,
-    /// A step of a call that goes on, or a record that asks for nothing else.
-    Stepped,
-    /// The last step of a call of this caller.
-    Ended(CallerNo),
-    /// A record that can't run, which crashed the core.
-    Worker(WorkerFault),
-    /// A record that reported a crash of the core.
-    Crashed(CrashKind),
-}
-
-impl DriveProgress {
-    /// Whether neither actor had anything to do.
-    pub fn is_rest(self) -> bool
-        ensures { result ≡ is_rest self }
-    {
-        matches!(self, DriveProgress::Rest)
-    }
-
-    /// What the step was, by the end of the call that it wrote.
-    pub fn driven(self, end: CallEnd) -> Driven
-        ensures { result ≡ driven_of self end }
-    {
-        match self {
-            DriveProgress::Rest | DriveProgress::Nothing => Driven::Idle,
-            DriveProgress::Stepped => Driven::Stepped,
-            DriveProgress::Ended(caller) => Driven::Ended(caller, end),
-            DriveProgress::Worker(fault) => Driven::Worker(fault),
-            DriveProgress::Crashed(kind) => Driven::Crashed(kind),
-        }
-    }
-}
 
 impl Core {
     /// Whether neither actor of the core has anything to do: the host actor is in no call, has none to
@@ -76,7 +18,7 @@ impl Core {
     pub fn is_idle(&self) -> bool
         ensures { result ≡ is_idle self.now }
     {
-        host_is_idle(&self.bench, &self.actors) && worker_is_idle(&self.bench, &self.actors)
+        self.actors.is_host_idle(&self.bench) && self.actors.is_worker_idle(&self.bench)
     }
 
     /// One step of the actors of a core that is running. The one whose turn is next makes it, unless
@@ -106,7 +48,7 @@ impl Core {
         ensures left { OnOk result (self.new ≡ (drive_step self.old).core) }
         ensures unchanged { OnErr result (self.new ≡ self.old) }
     {
-        match self.actors.next {
+        match self.actors.next() {
             Actor::Host => match self.host_step(end)? {
                 DriveProgress::Rest => self.worker_step(end),
                 progress => Ok(progress),
@@ -130,12 +72,10 @@ impl Core {
             return Ok(DriveProgress::Rest);
         };
         let goes_on = bench.is_caller_busy(0);
-        if !goes_on && self.actors.host_calls.is_empty() && is_drained(bench, 0) {
+        if !goes_on && self.actors.rests_between(bench) {
             return Ok(DriveProgress::Rest);
         }
-        make_room(&mut self.actors.host_calls, 2)?;
-        self.actors.next = Actor::Worker;
-        Ok(host_step(bench, &mut self.actors, goes_on, end))
+        self.actors.host_step(bench, goes_on, end)
     }
 
     /// A step of the worker, unless it has nothing to do. The next turn is the host actor's then.
@@ -147,23 +87,21 @@ impl Core {
         ensures unchanged { OnErr result (self.new ≡ self.old) }
     {
         let Some(bench) = &mut self.bench else {
-            if self.actors.worker.is_halted() {
+            if self.actors.is_halted() {
                 return Ok(DriveProgress::Rest);
             }
             return self.record_step();
         };
         let goes_on = bench.is_caller_busy(1);
         if !goes_on {
-            if waits(bench, &self.actors) {
+            if self.actors.waits(bench) {
                 return Ok(DriveProgress::Rest);
             }
-            if self.actors.worker_calls.is_empty() {
+            if !self.actors.has_worker_calls() {
                 return self.record_step();
             }
         }
-        make_room(&mut self.actors.worker_calls, 1)?;
-        self.actors.next = Actor::Host;
-        Ok(worker_step(bench, &mut self.actors, goes_on, end))
+        self.actors.worker_step(bench, goes_on, end)
     }
 
     /// The worker runs one record. A crash is reported.
@@ -189,12 +127,12 @@ impl Core {
     {
         let _ = self.regions.as_slice();
         let linked = self.bench.is_some();
-        make_room(&mut self.actors.worker_calls, 1)?;
-        self.actors.next = Actor::Host;
         let Some(loaded) = &mut self.loaded else {
+            self.actors.pass_turn(Actor::Host);
             return Ok(DriveProgress::Nothing);
         };
-        Ok(run_record(loaded, &mut self.actors, linked))
+        let progress = self.actors.run_record(loaded, linked)?;
+        Ok(progress)
     }
 
     /// Reports the crash that a step of the worker was, if it was one.
@@ -214,33 +152,4 @@ impl Core {
             | DriveProgress::Ended(_) => {}
         }
     }
-}
-
-/// Whether the host actor has nothing to do.
-fn host_is_idle(bench: &Option<Bench>, actors: &Actors) -> bool
-    ensures { result ≡ host_is_idle bench.now (actors_view actors.now) }
-{
-    match bench {
-        Some(bench) => {
-            !bench.is_caller_busy(0) && actors.host_calls.is_empty() && is_drained(bench, 0)
-        }
-        None => true,
-    }
-}
-
-/// Whether the worker has nothing to do.
-fn worker_is_idle(bench: &Option<Bench>, actors: &Actors) -> bool
-    ensures { result ≡ worker_is_idle bench.now (actors_view actors.now) }
-{
-    match bench {
-        Some(bench) => !bench.is_caller_busy(1) && waits(bench, actors),
-        None => actors.worker.is_halted(),
-    }
-}
-
-/// Whether the worker has ended, or its first call is a take of which there is no message.
-fn waits(bench: &Bench, actors: &Actors) -> bool
-    ensures { result ≡ waits bench.now (actors_view actors.now) }
-{
-    actors.worker.is_halted() || begins_with_take(&actors.worker_calls) && is_drained(bench, 1)
 }

@@ -7,7 +7,7 @@ ghost use Rattle.rp_io.specs.declared.faults.FetchFault.TheVariants as fetch;
 ghost use Rattle.proc_state.specs.Lives.{life_after_recovery};
 ghost use Rattle.crash_recover.specs.declared.core_answers.Start.TheVariants as start;
 ghost use Rattle.crash_recover.specs.declared.core_faults.CoreFault.TheVariants as fault;
-ghost use Rattle.crash_recover.specs.Actors.{fresh_actors};
+ghost use Rattle.core_actors.specs.Actors.{fresh_actors};
 ghost use Rattle.crash_recover.specs.Cores.{IsSoundLoad, load_view, loaded_rings};
 ghost use Rattle.crash_recover.specs.CoreBoots.{DidWith, Found, done, in_short, loaded_in};
 ghost use Rattle.link_bench.specs.BenchCrashes.{after_reopen};

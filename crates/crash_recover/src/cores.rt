@@ -6,9 +6,9 @@ ghost use Rattle.crash_recover.specs.Cores.{add_fault, core_memory, core_trace, 
 ghost use Rattle.proc_state.specs.Lives.{is_offline};
 ghost use Rattle.crash_recover.specs.declared.core_faults.AddFault.TheVariants as add;
 
-use crate::actors::Actors;
 use crate::core_faults::AddFault;
 use addr_translate::Map;
+use core_actors::Actors;
 use fw_load::Loaded;
 use link_bench::Bench;
 use memory_pool::{Region, Regions};
@@ -33,7 +33,7 @@ pub struct Core {
 
 impl Model for Core {
     ghost use Rattle.std.specs.Prelude.{option_map};
-    ghost use Rattle.crash_recover.specs.Actors.{actors_view};
+    ghost use Rattle.core_actors.specs.Actors.{actors_view};
     ghost use Rattle.crash_recover.specs.Cores.{CoreState, SoundCore, load_view};
 
     ghost Value = { CoreState };
@@ -118,7 +118,7 @@ impl Core {
         if self.life.state() != LifeState::Offline {
             return Err(AddFault::NotOffline);
         }
-        Ok(self.actors.drivers.add(alloc, name, kind)?)
+        Ok(self.actors.add_driver(alloc, name, kind)?)
     }
 
     /// The life of the core.

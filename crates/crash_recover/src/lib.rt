@@ -1,9 +1,6 @@
 // A remote core with its life, its memory, its link, its drivers and the actors on it; the bench of a link is had from here too.
 #![tactic(auto)]
 
-mod actor_ends;
-mod actor_steps;
-mod actors;
 mod core_acts;
 mod core_answers;
 mod core_boots;
@@ -17,10 +14,9 @@ mod core_recoveries;
 mod core_rings;
 mod cores;
 
-pub use actors::{Actor, Actors};
+pub use core_actors::{Actor, Actors, DriveProgress, Driven};
 pub use core_answers::{Crash, Leave, Start};
 pub use core_callers::StepFault;
-pub use core_drives::{DriveProgress, Driven};
 pub use core_faults::{AddFault, CALLER_OUT, CoreFault, RINGS_CHANGED};
 pub use cores::Core;
 pub use link_bench::{

@@ -4,7 +4,7 @@ use Rattle.std.proofs.lemmas.List.{append-nil}
 use Rattle.lane_model.specs.declared.calls.Wish.{Wish}
 use Rattle.lane_model.specs.declared.calls.CallEnd.{CallEnd}
 use Rattle.lane_model.specs.declared.calls.CallEnd.TheVariants as ended
-use Rattle.crash_recover.specs.Drives.{gives_of, is_tried_again, left_of, number_taken}
+use Rattle.core_actors.specs.ActorEnds.{gives_of, is_tried_again, left_of, number_taken}
 use Rattle.drive_laws.specs.Queues.{IsQueued, IsServed, Queued, Took}
 
 -- all stay, and new ones stand behind them

@@ -9,10 +9,11 @@ use Rattle.remote_core.specs.Records.{admitted, has_large_operand, names_memory,
 use Rattle.remote_core.specs.Workers.{WorkerState}
 use Rattle.remote_core.specs.Works.{after_next, after_record, after_work}
 use Rattle.link_bench.specs.Benches.{BenchState}
-use Rattle.crash_recover.specs.declared.actors.Actor.TheVariants as actor
-use Rattle.crash_recover.specs.Actors.{ActorsState}
+use Rattle.core_actors.specs.declared.actors.Actor.TheVariants as actor
+use Rattle.core_actors.specs.Actors.{ActorsState}
 use Rattle.crash_recover.specs.Cores.{CoreState, LoadState}
-use Rattle.crash_recover.specs.Drives.{has_calls, placed_map, record_run, record_step, reported, with_turn_after, worker_call}
+use Rattle.core_actors.specs.ActorSteps.{has_calls}
+use Rattle.crash_recover.specs.Drives.{placed_map, record_run, record_step, reported, with_turn_after, worker_call}
 use Rattle.drive_laws.specs.Places.{StaysAt, GoesOn}
 use Rattle.drive_laws.specs.Steps.{step_by}
 use Rattle.drive_laws.proofs.StepFacts.{host_steps, record_actors, worker_stays}

@@ -8,13 +8,15 @@ use Rattle.remote_core.specs.Works.{work_of}
 use Rattle.link_bench.specs.declared.benches.Reach.{Reach}
 use Rattle.link_bench.specs.declared.benches.Reach.TheVariants as reach
 use Rattle.link_bench.specs.Benches.{BenchState, is_in_call}
-use Rattle.crash_recover.specs.declared.core_drives.Driven.{Driven}
-use Rattle.crash_recover.specs.declared.core_drives.Driven.TheVariants as driven
-use Rattle.crash_recover.specs.Actors.{ActorsState}
+use Rattle.core_actors.specs.declared.progress.Driven.{Driven}
+use Rattle.core_actors.specs.declared.progress.Driven.TheVariants as driven
+use Rattle.core_actors.specs.Actors.{ActorsState}
 use Rattle.crash_recover.specs.CoreCrashes.{after_report, report_of}
 use Rattle.crash_recover.specs.Cores.{CoreState, LoadState}
 use Rattle.rpmsg_header.specs.Headers.{is_whole, source_of}
-use Rattle.crash_recover.specs.Drives.{after_record, asked_by, driven_by_work, end_answer, first_or_take, gives_of, has_calls, host_begun_as, host_reached, host_step, is_empty, is_tried_again, link_step, message_of, number_taken, placed_map, record_run, record_step, reported, reported_by, run_by, sends_of, worker_after_end, worker_call, worker_reached, worker_step}
+use Rattle.core_actors.specs.ActorEnds.{end_answer, gives_of, is_tried_again, message_of, number_taken, sends_of, worker_after_end}
+use Rattle.core_actors.specs.ActorSteps.{asked_by, driven_by_work, first_or_take, has_calls, host_begun_as, host_reached, is_empty, link_step, worker_reached}
+use Rattle.crash_recover.specs.Drives.{after_record, host_step, placed_map, record_run, record_step, reported, reported_by, run_by, worker_call, worker_step}
 use Rattle.drive_laws.specs.Places.{StaysAt}
 use Rattle.drive_laws.specs.Queues.{IsQueued, IsServed, Queued}
 use Rattle.drive_laws.proofs.QueueFacts.{more_behind, all_stay, host_queue, worker_queue}

@@ -13,13 +13,15 @@ use Rattle.link_bench.specs.Benches.{BenchState, advance_walk, begin_fault, is_i
 use Rattle.remote_core.specs.Works.{work_of}
 use Rattle.remote_core.specs.declared.workers.Work.{Work}
 use Rattle.remote_core.specs.declared.workers.Work.TheVariants as work
-use Rattle.crash_recover.specs.declared.actors.Actor.{Actor}
-use Rattle.crash_recover.specs.declared.actors.Actor.TheVariants as actor
-use Rattle.crash_recover.specs.declared.core_drives.Driven.{Driven}
-use Rattle.crash_recover.specs.declared.core_drives.Driven.TheVariants as driven
-use Rattle.crash_recover.specs.Actors.{ActorsState, other_actor}
+use Rattle.core_actors.specs.declared.actors.Actor.{Actor}
+use Rattle.core_actors.specs.declared.actors.Actor.TheVariants as actor
+use Rattle.core_actors.specs.declared.progress.Driven.{Driven}
+use Rattle.core_actors.specs.declared.progress.Driven.TheVariants as driven
+use Rattle.core_actors.specs.Actors.{ActorsState, other_actor}
 use Rattle.crash_recover.specs.Cores.{CoreState, LoadState}
-use Rattle.crash_recover.specs.Drives.{DriveStep, acting, actors_after_end, actors_at_end, begun_step, drive_step, driven_by, driven_by_work, end_answer, first_or_take, has_calls, host_is_idle, host_step, is_empty, is_idle, is_idle_actor, link_step, message_of, placed_map, record_run, record_step, sends_of, with_turn_after, worker_call, worker_is_idle, worker_step}
+use Rattle.core_actors.specs.ActorEnds.{actors_after_end, actors_at_end, end_answer, message_of, sends_of}
+use Rattle.core_actors.specs.ActorSteps.{begun_step, driven_by, driven_by_work, first_or_take, has_calls, host_is_idle, is_empty, link_step, worker_is_idle}
+use Rattle.crash_recover.specs.Drives.{DriveStep, acting, drive_step, host_step, is_idle, is_idle_actor, placed_map, record_run, record_step, with_turn_after, worker_call, worker_step}
 use Rattle.drive_laws.specs.Queues.{IsQueued}
 use Rattle.drive_laws.specs.Steps.{step_by, after_steps}
 use Rattle.drive_laws.proofs.QueueFacts.{all_stay, more_behind, queues_on}

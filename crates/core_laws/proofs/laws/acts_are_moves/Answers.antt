@@ -1,5 +1,5 @@
 use Rattle.link_bench.specs.Watchers.{nobody_sees}
-use Rattle.crash_recover.specs.Drives.{actors_after_end}
+use Rattle.core_actors.specs.ActorEnds.{actors_after_end}
 use Rattle.core_laws.proofs.ActMoves.{act_closed, acts_come}
 use Rattle.core_laws.proofs.laws.acts_are_moves.Goals as goal
 

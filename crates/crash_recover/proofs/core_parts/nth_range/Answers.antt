@@ -1,4 +1,4 @@
-use Rattle.std.proofs.Common.{◌≡◌, not, Option, None, Some, refl, sym, ◌∙◌, rules, tests}
+use Rattle.std.proofs.Common.{◌≡◌, not, Option, None, Some, refl, ◌∙◌, rules, tests}
 use Rattle.std.specs.Option.{option_map}
 use Rattle.std.proofs.lemmas.Iterator.{YieldsList-from_map, YieldsList-from_slice}
 use Rattle.std.proofs.lemmas.Iterator.Consumers.{YieldsList-at, YieldsList-from_chain, YieldsList-from_filter, nth_from_yields_List}

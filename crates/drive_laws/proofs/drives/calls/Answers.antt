@@ -1,6 +1,6 @@
 use Rattle.std.proofs.Common.{ap}
 use Rattle.lane_model.specs.declared.calls.Wish.TheVariants as wish
-use Rattle.crash_recover.specs.Drives.{first_or_take}
+use Rattle.core_actors.specs.ActorSteps.{first_or_take}
 use Rattle.drive_laws.proofs.TurnFacts.{host_goes_on, host_begins, worker_goes_on, worker_begins}
 use Rattle.drive_laws.proofs.drives.calls.Goals as goal
 

@@ -1,4 +1,4 @@
-use Rattle.crash_recover.specs.declared.actors.Actor.TheVariants as actor
+use Rattle.core_actors.specs.declared.actors.Actor.TheVariants as actor
 use Rattle.crash_recover.specs.Drives.{with_turn_after}
 use Rattle.drive_laws.proofs.StepFacts.{host_steps, worker_steps}
 use Rattle.drive_laws.proofs.TurnFacts.{heard, host_queued, steps_queued}

@@ -1,5 +1,4 @@
 use Rattle.std.proofs.Common.{IfSome}
-use Rattle.crash_recover.specs.Cores.{CoreState}
 use Rattle.crash_recover.proofs.CoreParts.{IsWhole, given_whole, nth_block, ranges_some}
 use Rattle.crash_recover.proofs.cores.Core.range_at.Goals as goal
 

@@ -1,5 +1,4 @@
 use Rattle.std.proofs.Common.{IfSome}
-use Rattle.crash_recover.specs.Cores.{CoreState}
 use Rattle.crash_recover.proofs.CoreParts.{IsWhole, blocks_are, blocks_fit, given_whole, ranges_some}
 use Rattle.crash_recover.proofs.cores.Core.ranges.Goals as goal
 

@@ -1,7 +1,7 @@
 use Rattle.std.proofs.Common.{ap, ◌∙◌}
 use Rattle.lane_model.specs.declared.calls.CallEnd.TheVariants as ended
-use Rattle.crash_recover.specs.declared.actors.Actor.TheVariants as actor
-use Rattle.crash_recover.specs.declared.core_drives.Driven.{Driven}
+use Rattle.core_actors.specs.declared.actors.Actor.TheVariants as actor
+use Rattle.core_actors.specs.declared.progress.Driven.{Driven}
 use Rattle.crash_recover.specs.Cores.{CoreState}
 use Rattle.crash_recover.specs.Drives.{record_run, reported_by, with_turn_after}
 use Rattle.crash_recover.proofs.cores.Core.record_step.Goals as goal

@@ -1,4 +1,4 @@
-use Rattle.std.proofs.Common.{◌≡◌, ◌≢◌, None, Some, Err, sym, ap, ◌∙◌}
+use Rattle.std.proofs.Common.{◌≢◌, Err, sym, ap, ◌∙◌}
 use Rattle.std.specs.Result.{result_map_both}
 use Rattle.std.proofs.lemmas.Result.{err_from_is_err_and}
 use Rattle.crash_recover.specs.declared.core_answers.Start.{Start}

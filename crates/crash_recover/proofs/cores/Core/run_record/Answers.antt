@@ -1,12 +1,12 @@
-use Rattle.std.proofs.Common.{Bool, List, Some, IfSome, ap, ◌∙◌, subst}
+use Rattle.std.proofs.Common.{Bool, Some, IfSome, ap, ◌∙◌, subst}
 use Rattle.std.specs.Option.{option_map}
-use Rattle.lane_model.specs.declared.calls.Wish.{Wish}
 use Rattle.fw_load.specs.declared.loading.Loaded.{Loaded}
 use Rattle.remote_core.specs.Works.{memory_after, work_of}
-use Rattle.crash_recover.specs.declared.actors.Actor.TheVariants as actor
-use Rattle.crash_recover.specs.Actors.{ActorsState, actors_view}
+use Rattle.core_actors.specs.declared.actors.Actor.TheVariants as actor
+use Rattle.core_actors.specs.Actors.{ActorsState, actors_view}
 use Rattle.crash_recover.specs.Cores.{CoreState, IsSoundLoad, LoadState, load_view}
-use Rattle.crash_recover.specs.Drives.{DriveStep, actors_after_record, driven_by_work, with_turn_after}
+use Rattle.core_actors.specs.ActorSteps.{actors_after_record, driven_by_work, with_next_after}
+use Rattle.crash_recover.specs.Drives.{DriveStep, with_turn_after}
 use Rattle.crash_recover.specs.contracts.cores.Core.{the_view}
 use Rattle.crash_recover.proofs.CoreLoads.{place_is}
 use Rattle.crash_recover.proofs.RecordRuns.{record_ran}
@@ -19,7 +19,7 @@ returns-clause-driven c =
     let core = with_turn_after actor.Worker (the_view inside) in
     let sound = subst (λ found. IfSome found (IsSoundLoad inside.regions)) c.in-Some.is c.self.invariant.loaded in
     let ran = record_ran core (load_view loaded) loaded.map (λ da len some. place_is inside.regions loaded da len c.as_slice.ensures.sound sound some) (ap (option_map load_view) c.in-Some.is) in
-    rw (← c.self.view_is) (λ end. c.run_record.ensures.driven end
+    rw (← c.self.view_is) (λ end. c.in_ok-progress.ensures.driven end
     ∙ ap (λ (linked : Bool). driven_by_work (work_of loaded.memory loaded.map linked inside.actors.worker)) c.is_some-linked.ensures
     ∙ ap (λ (step : DriveStep). step.driven) ran)
 
@@ -33,10 +33,9 @@ returns-clause-left c =
     let ran = record_ran core (load_view loaded) loaded.map (λ da len some. place_is inside.regions loaded da len c.as_slice.ensures.sound sound some) (ap (option_map load_view) c.in-Some.is) in
     let put : LoadState → ActorsState → CoreState = λ load actors. record (the_view inside) { loaded = Some load; actors = actors } in
     let left : Bool → Loaded = λ linked. record loaded { memory = memory_after loaded.memory loaded.map linked worker } in
-    let acted : List Wish → Bool → ActorsState = λ calls linked. actors_after_record (record (actors_view inside.actors) { worker_calls = calls; next = actor.Host }) loaded.memory loaded.map linked in
+    let acted : Bool → ActorsState = λ linked. actors_after_record (with_next_after actor.Worker (actors_view inside.actors)) loaded.memory loaded.map linked in
     rw (← c.self.view_is)
-    (ap (λ (after : Loaded). put (load_view after) (actors_view c.run_record.new.actors)) c.run_record.ensures.loaded
-    ∙ ap (put (load_view (left c.is_some-linked.result))) c.run_record.ensures.actors
-    ∙ ap (λ (calls : List Wish). put (load_view (left c.is_some-linked.result)) (acted calls c.is_some-linked.result)) c.in_ok-make_room.ensures.items
-    ∙ ap (λ (linked : Bool). put (load_view (left linked)) (acted inside.actors.worker_calls.items linked)) c.is_some-linked.ensures
+    (ap (λ (after : Loaded). put (load_view after) (actors_view c.run_record.new.self)) c.in_ok-progress.ensures.loaded
+    ∙ ap (put (load_view (left c.is_some-linked.result))) c.in_ok-progress.ensures.actors
+    ∙ ap (λ (linked : Bool). put (load_view (left linked)) (acted linked)) c.is_some-linked.ensures
     ∙ ap (λ (step : DriveStep). step.core) ran)

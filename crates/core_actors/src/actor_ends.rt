@@ -1,15 +1,31 @@
 ghost use Rattle.std.specs.Prelude.{◌≡◌, ◌<◌, ◌≤◌, ◌+◌, length, OnErr, OnOk};
 ghost use Rattle.std.specs.VecDeque.{deque_len, deque_capacity};
 ghost use Rattle.rp_base.specs.declared.limits.TheConstants.{MESSAGE_MOST};
-ghost use Rattle.crash_recover.specs.Actors.{actors_view};
+ghost use Rattle.core_actors.specs.Actors.{actors_view};
 ghost use Rattle.link_bench.specs.Benches.{reach_of};
-ghost use Rattle.crash_recover.specs.Drives.{actors_after_end, after_endpoint, after_verdict, driven_by_verdict, driven_on, endpoint_answer, host_begun_as, host_ended, host_reached, is_tried_again, message_of, number_taken, verdict_answer, worker_ended, worker_reached};
+ghost use Rattle.core_actors.specs.ActorEnds.{actors_after_end, after_endpoint, after_verdict, driven_by_verdict, driven_on, endpoint_answer, host_ended, is_tried_again, message_of, number_taken, verdict_answer, worker_ended};
+ghost use Rattle.core_actors.specs.ActorSteps.{host_begun_as, host_reached, worker_reached};
 
 use crate::actors::Actors;
 use host_driver::Drivers;
 use lane_model::{CallEnd, Wish};
-use link_bench::{Bench, Progress};
+use link_bench::{Bench, Progress, Watcher};
 use rp_base::{CallerNo, End, Endpoint, Message, Name, NoMemory, NsKind, Verdict};
+
+impl Watcher for Actors {
+    ghost use Rattle.core_actors.specs.Actors.{ActorsState, actors_view};
+    ghost use Rattle.core_actors.specs.ActorEnds.{actors_after_end};
+
+    ghost State = { ActorsState };
+
+    ghost state = { actors_view };
+
+    ghost sees = { actors_after_end };
+
+    fn see(&mut self, bench: &Bench, caller: CallerNo, end: &CallEnd) -> Result<(), NoMemory> {
+        self.hear_end(bench, caller, end)
+    }
+}
 
 impl Actors {
     /// Has the host actor begin a take where it is in no call and has none to make.
@@ -65,12 +81,7 @@ impl Actors {
     /// Has the drivers see the end of a call of a caller of this link, where it is one of the host.
     ///
     /// Errors: only for want of memory. The actors are as they were then.
-    pub(crate) fn hear_end(
-        &mut self,
-        bench: &Bench,
-        caller: CallerNo,
-        end: &CallEnd,
-    ) -> Result<(), NoMemory>
+    fn hear_end(&mut self, bench: &Bench, caller: CallerNo, end: &CallEnd) -> Result<(), NoMemory>
         ensures heard { OnOk result (actors_view self.new ≡ actors_after_end bench.now caller end.now (actors_view self.old)) }
         ensures unchanged { OnErr result (actors_view self.new ≡ actors_view self.old) }
     {
@@ -97,7 +108,7 @@ impl Actors {
 
     /// Has the drivers see the end of a call of a host caller, which was handed this message. What a
     /// driver sends is the last of the host actor's calls.
-    pub(crate) fn see_end(&mut self, message: &[u8], end: &CallEnd)
+    fn see_end(&mut self, message: &[u8], end: &CallEnd)
         requires short { length message.now ≤ MESSAGE_MOST }
         requires room { deque_len self.old.host_calls < deque_capacity self.old.host_calls }
         ensures { actors_view self.new ≡ driven_on (actors_view self.old) message.now end.now }
@@ -153,7 +164,7 @@ impl Actors {
 }
 
 /// The message that a caller of a bench was handed by a call that ended so, or no byte.
-pub(crate) fn message_of<'a>(bench: &'a Bench, caller: CallerNo, end: &CallEnd) -> &'a [u8]
+fn message_of<'a>(bench: &'a Bench, caller: CallerNo, end: &CallEnd) -> &'a [u8]
     ensures message { result.now ≡ message_of bench.now caller end.now }
     ensures short { length result.now ≤ MESSAGE_MOST }
 {

@@ -1,11 +1,11 @@
 -- The actors of a core: the drivers of its host and the worker of its remote (`struct rpmsg_driver` of Linux include/linux/rpmsg.h for the drivers; the rest is own).
-use Rattle.std.specs.Prelude.{ℕ, Bool, false, List, [], map}
+use Rattle.std.specs.Prelude.{ℕ, Bool, false, List, [], ◌∷◌, ◌++◌, map}
 use Rattle.lane_model.specs.declared.calls.Wish.{Wish}
 use Rattle.host_driver.specs.Drivers.{Declared, DriversState, after_reset}
 use Rattle.remote_core.specs.Workers.{WorkerState, new_worker}
-use Rattle.crash_recover.specs.declared.actors.Actor.{Actor}
-use Rattle.crash_recover.specs.declared.actors.Actor.TheVariants as actor
-use Rattle.crash_recover.specs.declared.actors.Actors.{Actors}
+use Rattle.core_actors.specs.declared.actors.Actor.{Actor}
+use Rattle.core_actors.specs.declared.actors.Actor.TheVariants as actor
+use Rattle.core_actors.specs.declared.actors.Actors.{Actors}
 
 -- the actors of a core: its drivers, its worker, the calls that each of them is yet to make, whether the host actor is in a take that is not among them, and whose turn is next
 pub record ActorsState : Type 0 where
@@ -48,6 +48,10 @@ fresh_actors actors entry = record {
   is_taking = false;
   next = actor.Host;
 }
+
+-- the actors with one driver more
+abbrev pub with_driver : ActorsState → Declared → ActorsState
+with_driver actors declared = record actors { drivers = record actors.drivers { kinds = actors.drivers.kinds ++ declared ∷ [] } }
 
 -- the names of the declared drivers
 abbrev pub driver_names : ActorsState → List (List ℕ)

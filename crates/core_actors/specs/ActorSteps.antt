@@ -1,0 +1,145 @@
+-- What the actors of a core do on its link, step by step, and when they have nothing to do (own).
+use Rattle.std.specs.Prelude.{ℕ, ◌==◌, Bool, true, false, not, ◌&&◌, ◌||◌, List, [], ◌∷◌, ◌++◌, length, drop, Option, Some, None, is_some, if◌then◌else◌}
+use Rattle.addr_translate.specs.Maps.{Mapping}
+use Rattle.lane_model.specs.declared.calls.Wish.{Wish}
+use Rattle.lane_model.specs.declared.calls.Wish.TheVariants as wish
+use Rattle.lane_model.specs.declared.calls.CallEnd.{CallEnd}
+use Rattle.remote_core.specs.Works.{work_of, after_work}
+use Rattle.remote_core.specs.declared.workers.Work.{Work}
+use Rattle.remote_core.specs.declared.workers.Work.TheVariants as work
+use Rattle.link_bench.specs.declared.benches.Reach.{Reach}
+use Rattle.link_bench.specs.declared.benches.Reach.TheVariants as reach
+use Rattle.link_bench.specs.Benches.{BenchState, BenchWalk, is_in_call, begin_fault, advance_walk, counts_of, start_walk}
+use Rattle.core_actors.specs.declared.actors.Actor.{Actor}
+use Rattle.core_actors.specs.declared.actors.Actor.TheVariants as actor
+use Rattle.core_actors.specs.declared.progress.Driven.{Driven}
+use Rattle.core_actors.specs.declared.progress.Driven.TheVariants as driven
+use Rattle.core_actors.specs.declared.progress.DriveProgress.{DriveProgress}
+use Rattle.core_actors.specs.declared.progress.DriveProgress.TheVariants as progress
+use Rattle.core_actors.specs.Actors.{ActorsState, other_actor}
+use Rattle.core_actors.specs.ActorEnds.{driven_on, host_ended, message_of, worker_ended}
+
+-- what a step was, by what it answers and by the end of a call beside it
+abbrev pub driven_of : DriveProgress → CallEnd → Driven
+driven_of progress.Rest end = driven.Idle
+driven_of progress.Nothing end = driven.Idle
+driven_of progress.Stepped end = driven.Stepped
+driven_of (progress.Ended caller) end = driven.Ended caller end
+driven_of (progress.Worker fault) end = driven.Worker fault
+driven_of (progress.Crashed kind) end = driven.Crashed kind
+
+-- whether a step found that there was nothing to do
+abbrev pub is_rest : DriveProgress → Bool
+is_rest progress.Rest = true
+is_rest progress.Nothing = false
+is_rest progress.Stepped = false
+is_rest (progress.Ended caller) = false
+is_rest (progress.Worker fault) = false
+is_rest (progress.Crashed kind) = false
+
+-- the first step of a call. One that can't begin does nothing; no run gets there
+abbrev pub begun_step : BenchState → ℕ → Wish → BenchWalk
+begun_step bench caller wanted =
+    if is_some (begin_fault bench caller wanted) then record { bench = bench; steps = 0; reach = reach.Limit }
+    else start_walk bench 0 caller wanted
+
+-- what a step does on the link: a call under way goes on by one step, else one begins and does its first
+abbrev pub link_step : BenchState → ℕ → Wish → BenchWalk
+link_step bench caller wanted = if is_in_call bench caller then advance_walk bench 0 0 caller else begun_step bench caller wanted
+
+-- the first call, or a take where there is none
+abbrev pub first_or_take : List Wish → Wish
+first_or_take [] = wish.Take
+first_or_take (first ∷ later) = first
+
+abbrev pub is_empty : List Wish → Bool
+is_empty calls = length calls == 0
+
+-- the host actor as it makes its step: without a call it begins a take
+abbrev pub host_begun_as : Bool → ActorsState → ActorsState
+host_begun_as in_call actors = if in_call then actors else record actors { is_taking = is_empty actors.host_calls }
+
+abbrev pub host_begun : BenchState → ActorsState → ActorsState
+host_begun bench actors = host_begun_as (is_in_call bench 0) actors
+
+-- the host actor, by how far its call came
+abbrev pub host_reached : ActorsState → BenchState → Reach → ActorsState
+host_reached actors bench (reach.At step) = actors
+host_reached actors bench (reach.Ended end) = driven_on (host_ended actors end) (message_of bench 0 end) end
+host_reached actors bench reach.Limit = record actors { host_calls = drop 1 actors.host_calls; is_taking = false }
+
+-- what a step on the link was
+abbrev pub driven_by : ℕ → Reach → Driven
+driven_by caller (reach.At step) = driven.Stepped
+driven_by caller (reach.Ended end) = driven.Ended caller end
+driven_by caller reach.Limit = driven.Stepped
+
+-- the worker, by how far its call came
+abbrev pub worker_reached : ActorsState → BenchState → Reach → ActorsState
+worker_reached actors bench (reach.At step) = actors
+worker_reached actors bench (reach.Ended end) = worker_ended actors (message_of bench 1 end) end
+worker_reached actors bench reach.Limit = record actors { worker_calls = drop 1 actors.worker_calls }
+
+-- the call that a record asks for, if it asks for one
+abbrev pub asked_by : Work → List Wish
+asked_by (work.Ask wanted) = wanted ∷ []
+asked_by work.Nothing = []
+asked_by work.Halted = []
+asked_by (work.Crash kind) = []
+asked_by (work.Fault fault) = []
+
+-- what the step of a record was
+abbrev pub driven_by_work : Work → Driven
+driven_by_work work.Nothing = driven.Stepped
+driven_by_work (work.Ask wanted) = driven.Stepped
+driven_by_work work.Halted = driven.Stepped
+driven_by_work (work.Crash kind) = driven.Crashed kind
+driven_by_work (work.Fault fault) = driven.Worker fault
+
+-- the actors once the worker ran a record of this memory
+abbrev pub actors_after_record : ActorsState → List ℕ → Mapping → Bool → ActorsState
+actors_after_record actors memory map linked = record actors {
+  worker = after_work memory map linked actors.worker;
+  worker_calls = actors.worker_calls ++ asked_by (work_of memory map linked actors.worker);
+}
+
+-- whether the worker makes a call: one is under way, or is yet to be made
+abbrev pub has_calls : Option BenchState → ActorsState → Bool
+has_calls None actors = false
+has_calls (Some bench) actors = is_in_call bench 1 || not (is_empty actors.worker_calls)
+
+-- whether each message of a lane was handed over
+abbrev pub is_drained : BenchState → ℕ → Bool
+is_drained bench lane = let counts = counts_of bench lane in counts.0 == counts.1
+
+-- whether the host actor has nothing to do: it is in no call and has none to make, and no message waits
+abbrev pub host_is_idle : Option BenchState → ActorsState → Bool
+host_is_idle None actors = true
+host_is_idle (Some bench) actors = not (is_in_call bench 0) && is_empty actors.host_calls && is_drained bench 0
+
+-- whether a call is a take
+abbrev pub is_take : Wish → Bool
+is_take wish.Take = true
+is_take (wish.Send message) = false
+is_take (wish.Give number) = false
+is_take (wish.Bind address) = false
+is_take (wish.Unbind address) = false
+
+-- whether the first call is a take
+abbrev pub begins_with_take : List Wish → Bool
+begins_with_take [] = false
+begins_with_take (first ∷ later) = is_take first
+
+-- whether the worker has ended, or its first call is a take of which there is no message
+abbrev pub waits : BenchState → ActorsState → Bool
+waits bench actors = actors.worker.is_halted || (begins_with_take actors.worker_calls && is_drained bench 1)
+
+-- whether the worker has nothing to do: it is in no call, and it has ended or waits for a message
+abbrev pub worker_is_idle : Option BenchState → ActorsState → Bool
+worker_is_idle None actors = actors.worker.is_halted
+worker_is_idle (Some bench) actors =
+    not (is_in_call bench 1) && waits bench actors
+
+-- the actors where the turn behind this one's step is the other's
+abbrev pub with_next_after : Actor → ActorsState → ActorsState
+with_next_after actor actors = record actors { next = other_actor actor }

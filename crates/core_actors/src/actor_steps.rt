@@ -1,0 +1,200 @@
+ghost use Rattle.std.specs.Prelude.{◌≡◌, ◌<◌, length, false, is_some, None, IfOk, OnErr, OnOk};
+ghost use Rattle.lane_model.specs.declared.calls.CallEnd.{CallEnd};
+ghost use Rattle.remote_core.specs.Works.{memory_after, work_of};
+ghost use Rattle.core_actors.specs.Actors.{actors_view};
+ghost use Rattle.core_actors.specs.declared.actors.Actor.TheVariants as actor;
+ghost use Rattle.link_bench.specs.Benches.{advance_walk, begin_fault, is_in_call, reach_of, reach_of_done, step_fault};
+ghost use Rattle.link_bench.specs.Watchers.{watched};
+ghost use Rattle.core_actors.specs.ActorEnds.{actors_after_end};
+ghost use Rattle.core_actors.specs.ActorSteps.{actors_after_record, begun_step, driven_by, driven_by_work, driven_of, first_or_take, host_begun, host_reached, is_rest, link_step, with_next_after, worker_reached};
+
+use crate::actors::{Actor, Actors};
+use crate::progress::DriveProgress;
+use fw_load::Loaded;
+use lane_model::{CallEnd, Wish};
+use link_bench::{Bench, Done, Progress};
+use remote_core::Task;
+use rp_base::{CallerNo, NoMemory};
+use std::collections::VecDeque;
+
+/// The caller of the host actor.
+const HOST_CALLER: CallerNo = 0;
+
+/// The caller of the worker.
+const WORKER_CALLER: CallerNo = 1;
+
+/// What a step of an actor does: a call under way goes on by one step, else the first of these calls
+/// begins, or a take where there is none, and does its first. Where the call ends, `end` says how.
+/// One that can't begin does nothing.
+#[inline(always)]
+fn link_step(
+    bench: &mut Bench,
+    caller: CallerNo,
+    goes_on: bool,
+    calls: &VecDeque<Wish>,
+    end: &mut CallEnd,
+) -> Progress
+    requires caller { caller < 64 }
+    requires calling { goes_on ≡ is_in_call bench.old caller }
+    ensures bench { bench.new ≡ (link_step bench.old caller (first_or_take calls.now.items)).bench }
+    ensures reach { reach_of result end.new ≡ (link_step bench.old caller (first_or_take calls.now.items)).reach }
+{
+    if goes_on {
+        return bench.advance(caller, 0, &mut 0, end);
+    }
+    match calls.front() {
+        Some(first) => begin_step(bench, caller, first, end),
+        None => begin_step(bench, caller, &Wish::Take, end),
+    }
+}
+
+/// Begins a call of a caller that is in none, and does its first step. One that can't begin does
+/// nothing.
+#[inline(never)]
+fn begin_step(bench: &mut Bench, caller: CallerNo, wished: &Wish, end: &mut CallEnd) -> Progress
+    requires caller { caller < 64 }
+    requires calling { is_in_call bench.old caller ≡ false }
+    ensures bench { bench.new ≡ (begun_step bench.old caller wished.now).bench }
+    ensures reach { reach_of result end.new ≡ (begun_step bench.old caller wished.now).reach }
+{
+    if is_refused(bench, caller, wished) {
+        return Progress::Limit;
+    }
+    bench.start(caller, wished, &mut 0, end)
+}
+
+/// Whether a caller that is in no call can't begin this one.
+fn is_refused(bench: &Bench, caller: CallerNo, wished: &Wish) -> bool
+    requires caller { caller < 64 }
+    requires calling { is_in_call bench.now caller ≡ false }
+    ensures { result ≡ is_some (begin_fault bench.now caller wished.now) }
+{
+    match wished {
+        Wish::Give(number) if !bench.is_holding(caller, *number) => true,
+        _ => bench.end_of(caller).is_none(),
+    }
+}
+
+impl Actors {
+    /// A step of the host actor on a core's link, where it has something to do. The next turn is the
+    /// worker's. Where the step ends a call, `end` says how.
+    ///
+    /// Errors: only for want of memory. The link and the actors are as they were then.
+    #[inline(always)]
+    pub fn host_step(
+        &mut self,
+        bench: &mut Bench,
+        goes_on: bool,
+        end: &mut CallEnd,
+    ) -> Result<DriveProgress, NoMemory>
+        requires { goes_on ≡ is_in_call bench.old 0 }
+        ensures bench { OnOk result (bench.new ≡ (link_step bench.old 0 (first_or_take (actors_view self.old).host_calls)).bench) }
+        ensures actors { OnOk result (let walk = link_step bench.old 0 (first_or_take (actors_view self.old).host_calls) in
+            actors_view self.new ≡ host_reached (host_begun bench.old (with_next_after actor.Host (actors_view self.old))) walk.bench walk.reach) }
+        ensures driven { IfOk result (λ progress. driven_of progress end.new ≡ driven_by 0 (link_step bench.old 0 (first_or_take (actors_view self.old).host_calls)).reach) }
+        ensures works { IfOk result (λ progress. is_rest progress ≡ false) }
+        ensures same { OnErr result (bench.new ≡ bench.old) }
+        ensures unchanged { OnErr result (actors_view self.new ≡ actors_view self.old) }
+    {
+        self.make_host_room(2)?;
+        self.next = Actor::Worker;
+        self.begin_host(goes_on);
+        let progress = link_step(bench, HOST_CALLER, goes_on, &self.host_calls, end);
+        self.host_reached(bench, progress, end);
+        Ok(progress_by(HOST_CALLER, progress))
+    }
+
+    /// A step of the worker on a core's link, where it makes a call. The next turn is the host actor's.
+    /// Where the step ends the call, `end` says how.
+    ///
+    /// Errors: only for want of memory. The link and the actors are as they were then.
+    #[inline(always)]
+    pub fn worker_step(
+        &mut self,
+        bench: &mut Bench,
+        goes_on: bool,
+        end: &mut CallEnd,
+    ) -> Result<DriveProgress, NoMemory>
+        requires { goes_on ≡ is_in_call bench.old 1 }
+        ensures bench { OnOk result (bench.new ≡ (link_step bench.old 1 (first_or_take (actors_view self.old).worker_calls)).bench) }
+        ensures actors { OnOk result (let walk = link_step bench.old 1 (first_or_take (actors_view self.old).worker_calls) in
+            actors_view self.new ≡ worker_reached (with_next_after actor.Worker (actors_view self.old)) walk.bench walk.reach) }
+        ensures driven { IfOk result (λ progress. driven_of progress end.new ≡ driven_by 1 (link_step bench.old 1 (first_or_take (actors_view self.old).worker_calls)).reach) }
+        ensures works { IfOk result (λ progress. is_rest progress ≡ false) }
+        ensures same { OnErr result (bench.new ≡ bench.old) }
+        ensures unchanged { OnErr result (actors_view self.new ≡ actors_view self.old) }
+    {
+        self.make_worker_room()?;
+        self.next = Actor::Host;
+        let progress = link_step(bench, WORKER_CALLER, goes_on, &self.worker_calls, end);
+        self.worker_reached(bench, progress, end);
+        Ok(progress_by(WORKER_CALLER, progress))
+    }
+
+    /// The worker runs one record of an image that is loaded. The next turn is the host actor's.
+    ///
+    /// Errors: only for want of memory. Memory and actors are as they were then.
+    #[inline(never)]
+    pub fn run_record(
+        &mut self,
+        loaded: &mut Loaded,
+        linked: bool,
+    ) -> Result<DriveProgress, NoMemory>
+        requires { length loaded.old.memory ≡ loaded.old.map.memory_len }
+        ensures loaded { OnOk result (loaded.new ≡ record loaded.old { memory = memory_after loaded.old.memory loaded.old.map linked (actors_view self.old).worker }) }
+        ensures memory { length loaded.new.memory ≡ length loaded.old.memory }
+        ensures actors { OnOk result (actors_view self.new ≡ actors_after_record (with_next_after actor.Worker (actors_view self.old)) loaded.old.memory loaded.old.map linked) }
+        ensures driven { IfOk result (λ progress. (end : CallEnd) → driven_of progress end ≡ driven_by_work (work_of loaded.old.memory loaded.old.map linked (actors_view self.old).worker)) }
+        ensures works { IfOk result (λ progress. is_rest progress ≡ false) }
+        ensures same { OnErr result (loaded.new ≡ loaded.old) }
+        ensures unchanged { OnErr result (actors_view self.new ≡ actors_view self.old) }
+    {
+        self.make_worker_room()?;
+        self.next = Actor::Host;
+        let mut wish = Wish::Take;
+        match self
+            .worker
+            .work(&mut loaded.memory, &loaded.map, linked, &mut wish)
+        {
+            Task::Nothing | Task::Halted => Ok(DriveProgress::Stepped),
+            Task::Asked => {
+                self.worker_calls.push_back_reserved(wish);
+                Ok(DriveProgress::Stepped)
+            }
+            Task::Crash(kind) => Ok(DriveProgress::Crashed(kind)),
+            Task::Fault(fault) => Ok(DriveProgress::Worker(fault)),
+        }
+    }
+
+    /// One step of the call that a caller of a core's link is in, of which the drivers see the end.
+    ///
+    /// Errors: only for want of memory. The link and the actors are as they were then.
+    pub fn step_of(&mut self, bench: &mut Bench, caller: CallerNo) -> Result<Done, NoMemory>
+        requires caller { caller < 64 }
+        requires may { step_fault bench.old caller ≡ None }
+        ensures bench { OnOk result (bench.new ≡ (advance_walk bench.old 0 0 caller).bench) }
+        ensures actors { OnOk result (let walk = advance_walk bench.old 0 0 caller in
+            actors_view self.new ≡ watched actors_after_end walk.bench caller walk.reach (actors_view self.old)) }
+        ensures done { IfOk result (λ done. reach_of_done done ≡ (advance_walk bench.old 0 0 caller).reach) }
+        ensures same { OnErr result (bench.new ≡ bench.old) }
+        ensures unchanged { OnErr result (actors_view self.new ≡ actors_view self.old) }
+    {
+        self.make_host_room(1)?;
+        let done = bench.next_step(caller);
+        if let Done::Ended(end) = &done {
+            self.see_call(bench, caller, end);
+        }
+        Ok(done)
+    }
+}
+
+/// What a step on the link was, by how far its call came.
+fn progress_by(caller: CallerNo, progress: Progress) -> DriveProgress
+    ensures driven { (end : CallEnd) → driven_of result end ≡ driven_by caller (reach_of progress end) }
+    ensures works { is_rest result ≡ false }
+{
+    match progress {
+        Progress::At(_) | Progress::Limit => DriveProgress::Stepped,
+        Progress::Ended => DriveProgress::Ended(caller),
+    }
+}

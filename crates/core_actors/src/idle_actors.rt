@@ -1,0 +1,82 @@
+ghost use Rattle.std.specs.Prelude.{◌≡◌, ◌<◌, ◌&&◌, not, Some};
+ghost use Rattle.core_actors.specs.Actors.{actors_view};
+ghost use Rattle.core_actors.specs.ActorSteps.{begins_with_take, host_is_idle, is_drained, is_empty, waits, worker_is_idle};
+
+use crate::actors::Actors;
+use lane_model::Wish;
+use link_bench::Bench;
+use std::collections::VecDeque;
+
+impl Actors {
+    /// Whether the host actor has nothing to do on the link of its core: it is in no call, has none to
+    /// make, and no message waits for it. Without a link there is no host actor.
+    pub fn is_host_idle(&self, bench: &Option<Bench>) -> bool
+        ensures { result ≡ host_is_idle bench.now (actors_view self.now) }
+    {
+        match bench {
+            Some(bench) => !bench.is_caller_busy(0) && self.rests_between(bench),
+            None => true,
+        }
+    }
+
+    /// Whether the host actor, which is in no call, has none to make, and no message waits for it.
+    #[inline(always)]
+    pub fn rests_between(&self, bench: &Bench) -> bool
+        ensures { result ≡ (is_empty (actors_view self.now).host_calls && is_drained bench.now 0) }
+    {
+        self.host_calls.is_empty() && is_drained(bench, 0)
+    }
+
+    /// Whether the worker has nothing to do: it is in no call, and has ended or waits for a message.
+    pub fn is_worker_idle(&self, bench: &Option<Bench>) -> bool
+        ensures { result ≡ worker_is_idle bench.now (actors_view self.now) }
+    {
+        match bench {
+            Some(bench) => !bench.is_caller_busy(1) && self.waits(bench),
+            None => self.is_halted(),
+        }
+    }
+
+    /// Whether the worker has ended.
+    #[inline(always)]
+    pub fn is_halted(&self) -> bool
+        ensures { result ≡ (actors_view self.now).worker.is_halted }
+    {
+        self.worker.is_halted()
+    }
+
+    /// Whether the worker has ended, or its first call is a take of which there is no message.
+    #[inline(always)]
+    pub fn waits(&self, bench: &Bench) -> bool
+        ensures { result ≡ waits bench.now (actors_view self.now) }
+    {
+        self.worker.is_halted() || begins_with_take(&self.worker_calls) && is_drained(bench, 1)
+    }
+
+    /// Whether the worker has a call to make.
+    #[inline(always)]
+    pub fn has_worker_calls(&self) -> bool
+        ensures { result ≡ not (is_empty (actors_view self.now).worker_calls) }
+    {
+        !self.worker_calls.is_empty()
+    }
+}
+
+/// Whether the first of these calls is a take.
+fn begins_with_take(calls: &VecDeque<Wish>) -> bool
+    ensures { result ≡ begins_with_take calls.now.items }
+{
+    match calls.front() {
+        Some(Wish::Take) => true,
+        Some(_) | None => false,
+    }
+}
+
+/// Whether each message of a lane was handed over.
+fn is_drained(bench: &Bench, lane: u8) -> bool
+    requires { lane < 2 }
+    ensures { result ≡ is_drained bench.now lane }
+{
+    let (accepted, handed, _) = bench.counts(lane);
+    accepted == handed
+}
