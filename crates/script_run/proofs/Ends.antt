@@ -33,7 +33,7 @@ use Rattle.script_run.specs.Outputs.{Form, other, run, check, demo, audit, Outpu
 use Rattle.script_run.specs.Reports.{check_report, fetched_report}
 use Rattle.script_run.specs.Demos.{accepted_from, counted_output, demo_output, said_output}
 use Rattle.script_run.specs.Told.{RunWrites}
-use Rattle.script_run.proofs.Handed.{appends_nothing}
+use Rattle.script_run.proofs.Handed.{front_of_none}
 use Rattle.script_run.proofs.Shelves.{any_held, any_told, held_failed, held_run}
 use Rattle.script_run.specs.Endings.{AuditEnds, Devices, IsAsked, IsAuditOutput, IsReadWell, IsFaultOutput, IsOutput, IsCourse, IsCutOutput, IsFinal, IsRunCourse, IsRunOutput, IsReportOutput, IsScriptOutput, IsStatusCourse, IsWellRun, OfSource, SourceAsksNone, TextAsksNone, EndsWell, RunEnds, Writes, Ends}
 
@@ -99,10 +99,6 @@ pub ends_fault : (ended : Status) (form : Form) (before now : Devices) (output :
     → Writes ended output before.written now.written before.sink_faults now.sink_faults → Ends ended form before now
 ends_fault ended form before now output found fault written =
     record { output = output; course = fault_course ended form before now output found fault; written = written }
-
--- nothing was written, which is a front of any text
-pub front_of_none : (written : Option (List ℕ)) (text : List ℕ) → AppendsFront written written text
-front_of_none written text = record { count = 0; appended = appends_nothing written }
 
 -- some output of a script, and of an image
 some_script : (images : Option (List (List ℕ × List ℕ))) (bytes : List ℕ) → (output : Output) × IsScriptOutput images bytes output

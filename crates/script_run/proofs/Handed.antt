@@ -1,6 +1,6 @@
 -- Bytes that are kept and handed on.
 use Rattle.std.proofs.Common.{◌≡◌, ℕ, ◌+◌, ◌≤◌, min, Option, Some, None, List, [], ◌++◌, length, take, refl, sym, ap, ◌∙◌, append_assoc, append-nil, arith, subst}
-use Rattle.std.proofs.Math.Seq.{take-append-add, take-append_seam}
+use Rattle.std.proofs.Math.Seq.{take-append-add}
 use Rattle.std.proofs.lemmas.List.{take_min, take-append-le}
 use Rattle.std.specs.Io.KnownBytes.{Appends}
 use Rattle.rp_io.specs.Contents.{AppendsFront}
@@ -39,14 +39,18 @@ hands_more a b c k l m x y first second = record {
       ∙ sym (append_assoc first.handed l y) ∙ ap (λ front. front ++ y) first.rest ∙ append_assoc k x y;
 }
 
--- told from the start, and then a front of what is kept and of more is handed on
-pub hands_front : (a b c : Option (List ℕ)) (l x y : List ℕ) → Hands a [] b l x → AppendsFront b c (l ++ y) → AppendsFront a c (x ++ y)
-hands_front a b c l x y told front = record {
+-- kept or handed on, and then a front of what is kept and of more is handed on
+pub hands_front : (a b c : Option (List ℕ)) (k l x y : List ℕ) → Hands a k b l x → AppendsFront b c (l ++ y) → AppendsFront a c ((k ++ x) ++ y)
+hands_front a b c k l x y told front = record {
   count = length told.handed + front.count;
-  appended = appends_same a c _ (take (length told.handed + front.count) (x ++ y))
+  appended = appends_same a c _ (take (length told.handed + front.count) ((k ++ x) ++ y))
       (sym (take-append-add told.handed (l ++ y) front.count) ∙ ap (take (length told.handed + front.count)) (sym (append_assoc told.handed l y) ∙ ap (λ all. all ++ y) told.rest))
       (appends_more a b c told.handed (take front.count (l ++ y)) told.appended front.appended);
 }
+
+-- nothing was written, which is a front of any text
+pub front_of_none : (written : Option (List ℕ)) (bytes : List ℕ) → AppendsFront written written bytes
+front_of_none written bytes = record { count = 0; appended = appends_nothing written }
 
 -- a front of the first bytes is a front of all
 pub front_of_more : (a b : Option (List ℕ)) (x y : List ℕ) → AppendsFront a b x → AppendsFront a b (x ++ y)
@@ -58,16 +62,6 @@ front_of_more a b x y front =
       appended = appends_same a b (take front.count x) (take most (x ++ y)) (sym (take_min front.count x) ∙ sym (take-append-le most x y inside)) front.appended;
     }
 
--- what was told so far is a front of all, whatever is still kept
-pub handed_front : (a b : Option (List ℕ)) (l x more all : List ℕ) → Hands a [] b l x → x ++ more ≡ all → AppendsFront a b all
-handed_front a b l x more all told whole = record {
-  count = length told.handed;
-  appended = appends_same a b told.handed (take (length told.handed) all)
-      (sym (take-append_seam told.handed (l ++ more))
-      ∙ ap (take (length told.handed)) (sym (append_assoc told.handed l more) ∙ ap (λ front. front ++ more) told.rest ∙ whole))
-      told.appended;
-}
-
 -- a front of all, by a front of the bytes up to some place
 pub front_of_all : (a b : Option (List ℕ)) (x more all : List ℕ) → AppendsFront a b x → x ++ more ≡ all → AppendsFront a b all
 front_of_all a b x more all front whole = subst (λ bytes. AppendsFront a b bytes) whole (front_of_more a b x more front)
@@ -76,7 +70,7 @@ front_of_all a b x more all front whole = subst (λ bytes. AppendsFront a b byte
 pub hands_front_kept : (a b c : Option (List ℕ)) (l x : List ℕ) → Hands a [] b l x → AppendsFront b c l → AppendsFront a c x
 hands_front_kept a b c l x told front =
     subst (λ bytes. AppendsFront a c bytes) (append-nil x)
-    (hands_front a b c l x [] told (subst (λ bytes. AppendsFront b c bytes) (sym (append-nil l)) front))
+    (hands_front a b c [] l x [] told (subst (λ bytes. AppendsFront b c bytes) (sym (append-nil l)) front))
 
 -- all of it, and then a front of more, are appended
 pub front_after : (a b c : Option (List ℕ)) (x y : List ℕ) → Appends a b x → AppendsFront b c y → AppendsFront a c (x ++ y)

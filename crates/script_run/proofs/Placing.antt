@@ -1,6 +1,6 @@
 -- What is done under a name: on its link, on its core, or on none.
 use Rattle.std.proofs.Common.{◌≡◌, ℕ, Bool, false, cond, List, [], ◌∷◌, ◌++◌, Option, Some, None, slice_get, slice_set, refl, sym, ap, subst, ◌∙◌, append-nil}
-use Rattle.journal.specs.Lines.{line}
+use Rattle.journal.specs.Lines.{line, transcript}
 use Rattle.journal.specs.declared.events.Event.{Event}
 use Rattle.journal.specs.declared.events.Event.TheVariants as event
 use Rattle.crash_recover.specs.Cores.{CoreState}
@@ -8,12 +8,18 @@ use Rattle.script_run.specs.NamedLinks.{NamedLink}
 use Rattle.script_run.specs.Stores.{Answer}
 use Rattle.script_run.specs.LinkCommands.{link_effect}
 use Rattle.script_run.specs.NamedCores.{NamedCoreState}
-use Rattle.script_run.specs.CoreCommands.{core_effect}
+use Rattle.script_run.specs.CoreCommands.{core_act_effect, core_effect}
+use Rattle.script_run.specs.CoreDrives.{drive_effect}
+use Rattle.script_run.specs.CoreEffects.{CoreEffect}
+use Rattle.script_run.specs.NamedImages.{ImageState}
 use Rattle.script_run.specs.declared.statuses.Stop.{Stop}
 use Rattle.lane_model.specs.declared.calls.LinkConfig.{LinkConfig}
 use Rattle.link_bench.specs.Benches.{BenchState, new_bench_of}
-use Rattle.script_run.specs.Logs.{LogState, HasCoreEffect, HasEffect, HasRunEffect}
+use Rattle.script_run.specs.Logs.{LogState, HandsCoreEffect, HandsRunEffect, HasCoreEffect, HasEffect, HasRunEffect}
+use Rattle.script_run.specs.declared.acts.CoreAct.TheVariants as core
 use Rattle.script_run.specs.declared.acts.NamedAct.{NamedAct}
+use Rattle.script_run.specs.declared.acts.NamedAct.TheVariants as under
+use Rattle.script_run.proofs.Handed.{hands_kept}
 use Rattle.script_run.specs.Runs.{ObjectsState, RunState, RunEffect, core_located_effect, core_place, found_core_effect, found_effect, is_full, located_effect, made_effect, name_effect, new_end, place_of, placed_core_effect, placed_effect, run_tells, unnamed_effect, with_links, without_link_effect}
 
 -- a link of the same name with another bench
@@ -50,6 +56,11 @@ module _ (fetched : Answer) (run : RunState) (called : List ℕ) (wanted : Named
   effect_on_none : None ≡ core_place run.objects.cores called → without_link_effect fetched run called wanted ≡ unnamed_effect run called wanted
   unfolding without_link_effect
   effect_on_none placed = ap (core_located_effect fetched run called wanted) (sym placed)
+
+  -- on the core at a place, where no link has the name
+  pub effect_on_bare_core : (place : ℕ) (named : NamedCoreState) → None ≡ place_of run.objects.links called → Some place ≡ core_place run.objects.cores called
+      → slice_get run.objects.cores place ≡ Some named → name_effect fetched run called wanted ≡ placed_core_effect run place named (core_effect run.objects.images fetched run.objects.is_quiet named run.steps wanted)
+  effect_on_bare_core place named bare placed found = effect_unnamed bare ∙ effect_on_core place named placed found
 
   module _ (before after : LogState) (answer : Option Stop) where
     -- what the link at a place did is what the run did
@@ -115,3 +126,42 @@ module _ (run : RunState) (objects : ObjectsState) (before after : LogState) whe
       let made = with_links run (run.objects.links ++ record { name = name; bench = new_bench_of config (new_end has_service) (new_end false) } ∷ []) in
       subst (λ full. HasRunEffect (cond full (run_tells run event.ObjectsFull) (run_tells made (event.Open name 1))) objects before after None) (sym few)
       (tells_run made (event.Open name 1) is (ap (λ (log : LogState). log.steps) kept ∙ steps) (ap (λ (log : LogState). log.lines) kept))
+
+-- a drive of a core
+pub drive_on_core : (images : List ImageState) (fetched : Answer) (is_quiet : Bool) (named : NamedCoreState) (steps count : ℕ)
+    → core_effect images fetched is_quiet named steps (under.Core (core.Drive count)) ≡ drive_effect named.name is_quiet named.core steps count
+unfolding core_effect core_act_effect
+drive_on_core images fetched is_quiet named steps count = refl
+
+module _ (fetched : Answer) (run : RunState) (called : List ℕ) (count place : ℕ) (named : NamedCoreState) (bare : None ≡ place_of run.objects.links called)
+    (placed : Some place ≡ core_place run.objects.cores called) (found : slice_get run.objects.cores place ≡ Some named) where
+  abbrev driven : CoreEffect
+  driven = drive_effect named.name run.objects.is_quiet named.core run.steps count
+
+  pub drive_placed : name_effect fetched run called (under.Core (core.Drive count)) ≡ placed_core_effect run place named driven
+  drive_placed =
+      effect_on_bare_core fetched run called (under.Core (core.Drive count)) place named bare placed found
+      ∙ ap (placed_core_effect run place named) (drive_on_core run.objects.images fetched run.objects.is_quiet named run.steps count)
+
+  -- what a drive of the core at a place did is what the run did
+  pub drive_run : (before after : LogState) (written new : Option (List ℕ)) (answer : Option Stop) (now : NamedCoreState) → now.name ≡ named.name
+      → HandsCoreEffect driven now.core before after written new answer
+      → HandsRunEffect (name_effect fetched run called (under.Core (core.Drive count))) (record run.objects { cores = slice_set run.objects.cores place now }) before after written new answer
+  drive_run before after written new answer now name did =
+      subst (λ (e : RunEffect). HandsRunEffect e (record run.objects { cores = slice_set run.objects.cores place now }) before after written new answer) (sym drive_placed)
+      (record {
+        objects = sym (ap (λ (n : NamedCoreState). record run.objects { cores = slice_set run.objects.cores place n }) (with_core now named driven.core name did.core));
+        steps = did.steps;
+        hands = did.hands;
+        ending = did.ending;
+      })
+
+-- what a command did that handed on nothing
+pub kept_run : (effect : RunEffect) (objects : ObjectsState) (before after : LogState) (written : Option (List ℕ)) (answer : Option Stop)
+    → HasRunEffect effect objects before after answer → HandsRunEffect effect objects before after written written answer
+kept_run effect objects before after written answer did = record {
+  objects = did.objects;
+  steps = did.steps;
+  hands = hands_kept written before.lines (transcript effect.events) after.lines did.lines;
+  ending = did.ending;
+}

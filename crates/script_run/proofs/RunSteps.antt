@@ -1,5 +1,5 @@
 -- A run, command by command.
-use Rattle.std.proofs.Common.{◌≡◌, ℕ, true, false, zero, suc, ◌+◌, ◌<◌, List, [], ◌∷◌, ◌++◌, length, Option, Some, None, Err, refl, sym, ap, subst, ◌∙◌, append_assoc, drop, get_or, add-one, drop-cons}
+use Rattle.std.proofs.Common.{◌≡◌, ℕ, true, false, zero, suc, ◌+◌, ◌<◌, List, [], ◌∷◌, ◌++◌, length, Option, Some, None, Err, refl, sym, ap, subst, ◌∙◌, append-nil, append_assoc, drop, get_or, add-one, drop-cons}
 use Rattle.script_lang.specs.declared.commands.Command.{Command}
 use Rattle.script_lang.specs.Runnable.{AreRunnable, IsRunnable}
 use Rattle.journal.specs.declared.events.Event.{Event}
@@ -7,7 +7,7 @@ use Rattle.journal.specs.Lines.{line, transcript}
 use Rattle.script_run.specs.declared.statuses.Stop.{Stop}
 use Rattle.script_run.specs.Stores.{Shelf, Told, answer_for, later_told, told_answer}
 use Rattle.rp_io.specs.declared.faults.FetchFault.TheVariants as fetch_fault
-use Rattle.script_run.specs.Logs.{HasRunEffect, LogState}
+use Rattle.script_run.specs.Logs.{HandsRunEffect, LogState}
 use Rattle.script_run.specs.Runs.{AsksNone, IfGoesOn, ObjectsState, RunEffect, RunState, Run, asked_name, run_on, run_from, run_told, effect_of}
 use Rattle.script_run.specs.Outputs.{end_output, transcript_output}
 
@@ -47,21 +47,22 @@ run_none told state = refl
 abbrev pub effect_over : Shelf → RunState → Command → RunEffect
 effect_over shelf state command = effect_of (answer_for shelf (asked_name state.objects command)) state command
 
-module _ (shelf : Shelf) (later : Told) (state : RunState) (first : Command) (more : List Command) where
-  -- a run that stops with its first command
-  pub run_stops : (why : Stop) → (effect_over shelf state first).ending ≡ Some why
-      → run_from (first_told (Some shelf) later) state (first ∷ more)
-      ≡ record { events = (effect_over shelf state first).events; last = (effect_over shelf state first).run; ending = Some why; failed = false }
-  run_stops why stops =
-      run_first (first_told (Some shelf) later) state first more
-      ∙ ap (λ ending. run_on (effect_over shelf state first) ending (run_from later (effect_over shelf state first).run more)) stops
+-- what follows a command: the run stops with it, or the later commands follow
+abbrev pub run_rest : RunEffect → Option Stop → Run → Run
+run_rest effect (Some why) later = record { events = []; last = effect.run; ending = Some why; failed = false }
+run_rest effect None later = later
 
-  -- a run that goes on after its first command
-  pub run_goes_on : (effect_over shelf state first).ending ≡ None
-      → run_from (first_told (Some shelf) later) state (first ∷ more) ≡ behind (effect_over shelf state first).events (run_from later (effect_over shelf state first).run more)
-  run_goes_on goes =
-      run_first (first_told (Some shelf) later) state first more
-      ∙ ap (λ ending. run_on (effect_over shelf state first) ending (run_from later (effect_over shelf state first).run more)) goes
+-- a run is what its first command tells, and what follows
+rest_behind : (effect : RunEffect) (ending : Option Stop) (later : Run) → run_on effect ending later ≡ behind effect.events (run_rest effect ending later)
+rest_behind effect (Some why) later = ap (λ (events : List Event). record { events = events; last = effect.run; ending = Some why; failed = false }) (sym (append-nil effect.events))
+rest_behind effect None later = refl
+
+pub run_behind : (shelf : Shelf) (later : Told) (state : RunState) (first : Command) (more : List Command)
+    → run_from (first_told (Some shelf) later) state (first ∷ more)
+    ≡ behind (effect_over shelf state first).events (run_rest (effect_over shelf state first) (effect_over shelf state first).ending (run_from later (effect_over shelf state first).run more))
+run_behind shelf later state first more =
+    let effect = effect_over shelf state first in
+    run_first (first_told (Some shelf) later) state first more ∙ rest_behind effect effect.ending (run_from later effect.run more)
 
 -- a run whose store fails at its first command
 pub run_fails : (later : Told) (state : RunState) (first : Command) (more : List Command) (name : List ℕ) → asked_name state.objects first ≡ Some name
@@ -91,10 +92,10 @@ asks_behind state first more none goes =
     subst (λ (ending : Option Stop). IfGoesOn ending (AsksNone (effect_of (Err fetch_fault.Missing) state first).run more)) goes none.1
 
 pub asks_later : (state : RunState) (left : List Command) (first : Command) (more : List Command) (shelf : Shelf) (objects : ObjectsState) (before after : LogState) (answer : Option Stop) → left ≡ first ∷ more
-    → AsksNone state left → HasRunEffect (effect_over shelf state first) objects before after answer → answer ≡ None → AsksNone (record { objects = objects; steps = after.steps }) more
-asks_later state left first more shelf objects before after answer is none did goes =
+    → AsksNone state left → (written now : Option (List ℕ)) → HandsRunEffect (effect_over shelf state first) objects before after written now answer → answer ≡ None → AsksNone (record { objects = objects; steps = after.steps }) more
+asks_later state left first more shelf objects before after answer is none written now did goes =
     let asked = asks_first state left first more is none in
-    let found = subst (λ (a : Option (List ℕ)). HasRunEffect (effect_of (answer_for shelf a) state first) objects before after answer) asked did in
+    let found = subst (λ (a : Option (List ℕ)). HandsRunEffect (effect_of (answer_for shelf a) state first) objects before after written now answer) asked did in
     let effect = effect_of (Err fetch_fault.Missing) state first in
     subst (λ (run : RunState). AsksNone run more)
     (ap (λ (l : ObjectsState). record { objects = l; steps = effect.run.steps }) (sym found.objects) ∙ ap (λ (n : ℕ). record { objects = objects; steps = n }) (sym found.steps))

@@ -12,16 +12,18 @@ use Rattle.script_run.specs.declared.statuses.Status.{Status}
 use Rattle.script_run.specs.declared.statuses.Stop.{Stop}
 use Rattle.script_run.specs.declared.runs.RunFault.{RunFault}
 use Rattle.script_run.specs.declared.runs.RunFault.TheVariants as run_fault
-use Rattle.script_run.specs.Stores.{IsHeld, IsShelf, Shelf, Told}
-use Rattle.script_run.specs.Runs.{ObjectsState, RunState, Run, asked_name, run_from, run_of, new_run}
+use Rattle.rp_io.specs.declared.faults.FetchFault.TheVariants as fetch_fault
+use Rattle.script_run.specs.Stores.{IsHeld, IsShelf, Shelf, Told, answer_for}
+use Rattle.script_run.specs.declared.fetches.CommandFault.TheVariants as command_fault
+use Rattle.script_run.specs.Runs.{ObjectsState, RunEffect, RunState, Run, asked_name, run_from, run_of, new_run}
 use Rattle.script_run.specs.Outputs.{Output, end_output, stop_output, store_fault_output, transcript_output}
 use Rattle.script_run.specs.Endings.{IsFailedRun, IsWellRun}
-use Rattle.script_run.specs.Logs.{LogState, Hands, HasRunEffect}
-use Rattle.script_run.specs.Fetches.{DidTold}
+use Rattle.script_run.specs.Logs.{LogState, Hands, HandsRunEffect}
+use Rattle.script_run.specs.Fetches.{DidTold, IsToldCut}
 use Rattle.script_run.specs.Told.{AnswersStatus, EndsRun, IsResultCourse, RunWrites, Tells}
-use Rattle.script_run.proofs.Handed.{appends_more, appends_same, hands_nothing, hands_kept, hands_more, hands_front, handed_front, hands_front_kept, front_of_all}
-use Rattle.script_run.proofs.RunSteps.{behind, effect_over, first_told, transcript-append, text_behind, left_at, run_fails, run_stops, run_goes_on}
-use Rattle.script_run.proofs.Shelves.{AreShelves, any_held, any_told, fault_next, fault_told, shelves_more, then_held, then_told, told_more, told_then}
+use Rattle.script_run.proofs.Handed.{appends_more, appends_same, hands_nothing, hands_kept, hands_more, hands_front, hands_front_kept, front_of_all}
+use Rattle.script_run.proofs.RunSteps.{behind, effect_over, first_told, transcript-append, text_behind, left_at, run_behind, run_fails, run_rest}
+use Rattle.script_run.proofs.Shelves.{AreShelves, any_held, any_told, fault_next, fault_told, shelf_of, shelves_more, then_held, then_told, told_more, told_then}
 
 -- what was told from the start is kept or handed on, over what the store told, and the rest of the run follows
 pub record SoFar (images : Option (List (List ℕ × List ℕ))) (commands : List Command) (from now : Option (List ℕ)) (lines : List ℕ) (rest : Told → Run) : Type 0 where
@@ -51,45 +53,41 @@ last_text rest none = ap (λ (events : List Event). transcript events ++ (end_ou
 
 module _ (images : Option (List (List ℕ × List ℕ))) (commands : List Command) (from now : Option (List ℕ)) (lines : List ℕ) where
   -- the rest told by these events and what follows them
-  told_events : (rest next : Told → Run) (shelf : Shelf) (events : List Event) (kept : List ℕ) → SoFar images commands from now lines rest → IsShelf images shelf
+  told_events : (rest next : Told → Run) (shelf : Shelf) (events : List Event) (new : Option (List ℕ)) (kept : List ℕ) → SoFar images commands from now lines rest → IsShelf images shelf
       → ((later : Told) → rest (first_told (Some shelf) later) ≡ behind events (next later))
-      → kept ≡ lines ++ transcript events → SoFar images commands from now kept next
-  told_events rest next shelf events kept so_far is told lined = record {
+      → Hands now lines new kept (transcript events) → SoFar images commands from new kept next
+  told_events rest next shelf events new kept so_far is told hands = record {
     events = so_far.events ++ events;
     shelves = so_far.shelves ++ shelf ∷ [];
     are = shelves_more images so_far.shelves shelf so_far.are is;
-    hands = subst (λ bytes. Hands from [] now kept bytes) (sym (transcript-append so_far.events events))
-        (hands_more from now now [] lines kept (transcript so_far.events) (transcript events) so_far.hands (hands_kept now lines (transcript events) kept lined));
+    hands = subst (λ bytes. Hands from [] new kept bytes) (sym (transcript-append so_far.events events))
+        (hands_more from now new [] lines kept (transcript so_far.events) (transcript events) so_far.hands hands);
     run = λ later. ap (λ (t : Told). run_of t commands) (told_more so_far.shelves shelf later) ∙ so_far.run (first_told (Some shelf) later)
         ∙ ap (behind so_far.events) (told later) ∙ behind_twice so_far.events events (next later);
   }
 
-  -- a command that the run goes on after
-  so_far_more : (state : RunState) (left : List Command) (first : Command) (more : List Command) (objects : ObjectsState) (before after : LogState) (shelf : Shelf)
-      → SoFar images commands from now lines (λ later. run_from later state left) → left ≡ first ∷ more → before.lines ≡ lines → IsShelf images shelf
-      → HasRunEffect (effect_over shelf state first) objects before after None
-      → SoFar images commands from now after.lines (λ later. run_from later (record { objects = objects; steps = after.steps }) more)
-  so_far_more state left first more objects before after shelf so_far is kept has found =
-      let effect = effect_over shelf state first in
-      let reached : effect.run ≡ record { objects = objects; steps = after.steps } =
-      ap (λ (l : ObjectsState). record { objects = l; steps = effect.run.steps }) (sym found.objects)
-      ∙ ap (λ (s : ℕ). record { objects = objects; steps = s }) (sym found.steps) in
-      told_events (λ later. run_from later state left) (λ later. run_from later (record { objects = objects; steps = after.steps }) more) shelf effect.events after.lines so_far has
-      (λ later. ap (run_from (first_told (Some shelf) later) state) is ∙ run_goes_on shelf later state first more (sym found.ending)
-      ∙ ap (λ (s : RunState). behind effect.events (run_from later s more)) reached)
-      (found.lines ∙ ap (λ (front : List ℕ). front ++ transcript effect.events) kept)
+  module _ (state : RunState) (left : List Command) (first : Command) (more : List Command) (shelf : Shelf)
+      (so_far : SoFar images commands from now lines (λ later. run_from later state left)) (is : left ≡ first ∷ more) (has : IsShelf images shelf) where
+    abbrev told_first : RunEffect
+    told_first = effect_over shelf state first
 
-  -- a command with which the run stops
-  so_far_stop : (state : RunState) (left : List Command) (first : Command) (more : List Command) (objects : ObjectsState) (before after : LogState) (shelf : Shelf) (why : Stop)
-      → SoFar images commands from now lines (λ later. run_from later state left) → left ≡ first ∷ more → before.lines ≡ lines → IsShelf images shelf
-      → HasRunEffect (effect_over shelf state first) objects before after (Some why)
-      → SoFar images commands from now after.lines (λ later. record { events = []; last = (effect_over shelf state first).run; ending = Some why; failed = false })
-  so_far_stop state left first more objects before after shelf why so_far is kept has found =
-      let effect = effect_over shelf state first in
-      told_events (λ later. run_from later state left) (λ later. record { events = []; last = effect.run; ending = Some why; failed = false }) shelf effect.events after.lines so_far has
-      (λ later. ap (run_from (first_told (Some shelf) later) state) is ∙ run_stops shelf later state first more why (sym found.ending)
-      ∙ ap (λ (events : List Event). record { events = events; last = effect.run; ending = Some why; failed = false }) (sym (append-nil effect.events)))
-      (found.lines ∙ ap (λ (front : List ℕ). front ++ transcript effect.events) kept)
+    -- what the next command tells, and what follows it
+    pub so_far_told : (new : Option (List ℕ)) (kept : List ℕ) → Hands now lines new kept (transcript told_first.events)
+        → SoFar images commands from new kept (λ later. run_rest told_first told_first.ending (run_from later told_first.run more))
+    so_far_told new kept hands =
+        told_events (λ later. run_from later state left) (λ later. run_rest told_first told_first.ending (run_from later told_first.run more)) shelf told_first.events new kept so_far has
+        (λ later. ap (run_from (first_told (Some shelf) later) state) is ∙ run_behind shelf later state first more) hands
+
+    -- a command that was run
+    pub so_far_more : (objects : ObjectsState) (before after : LogState) (new : Option (List ℕ)) (answer : Option Stop) → before.lines ≡ lines → HandsRunEffect told_first objects before after now new answer
+        → SoFar images commands from new after.lines (λ later. run_rest told_first answer (run_from later (record { objects = objects; steps = after.steps }) more))
+    so_far_more objects before after new answer kept found =
+        let reached : told_first.run ≡ record { objects = objects; steps = after.steps } =
+        ap (λ (l : ObjectsState). record { objects = l; steps = told_first.run.steps }) (sym found.objects)
+        ∙ ap (λ (s : ℕ). record { objects = objects; steps = s }) (sym found.steps) in
+        subst (λ (run : RunState). SoFar images commands from new after.lines (λ later. run_rest told_first answer (run_from later run more))) reached
+        (subst (λ (ending : Option Stop). SoFar images commands from new after.lines (λ later. run_rest told_first ending (run_from later told_first.run more))) (sym found.ending)
+        (so_far_told new after.lines (subst (λ (bytes : List ℕ). Hands now bytes new after.lines (transcript told_first.events)) kept found.hands)))
 
   -- what is kept is handed on, all of it or nothing
   pub so_far_handed : (rest : Told → Run) (new : Option (List ℕ)) (left : List ℕ) → SoFar images commands from now lines rest → Hands now lines new left []
@@ -116,9 +114,9 @@ module _ (images : Option (List (List ℕ × List ℕ))) (commands : List Comman
   tells_whole (Ok ended) new bytes text all faults before after hands whole same tells =
       (subst (λ b. Appends from new b) whole (handed_whole new bytes text hands tells.0), tells.1 ∙ same)
   tells_whole (Err run_fault.Write) new bytes text all faults before after hands whole same tells =
-      (subst (λ b. AppendsFront from new b) whole (hands_front from now new lines bytes text hands tells.0), subst (λ (n : ℕ). Rose n after) same tells.1)
+      (subst (λ b. AppendsFront from new b) whole (hands_front from now new [] lines bytes text hands tells.0), subst (λ (n : ℕ). Rose n after) same tells.1)
   tells_whole (Err run_fault.NoMemory) new bytes text all faults before after hands whole same tells =
-      (subst (λ b. AppendsFront from new b) whole (hands_front from now new lines bytes text hands tells.0), tells.1 ∙ same)
+      (subst (λ b. AppendsFront from new b) whole (hands_front from now new [] lines bytes text hands tells.0), tells.1 ∙ same)
 
   module _ (rest : Told → Run) (so_far : SoFar images commands from now lines rest) (later : Told) where
     -- the text of the whole, by the events so far
@@ -183,15 +181,16 @@ module _ (images : Option (List (List ℕ × List ℕ))) (commands : List Comman
       ))
 
   -- memory ran out, and no device failed
-  pub so_far_no_memory : (rest : Told → Run) (before after was then : ℕ) → SoFar images commands from now lines rest → after ≡ before → then ≡ was
-      → RunWrites images commands (Err run_fault.NoMemory) from now before after was then
-  so_far_no_memory rest before after was then so_far same still = record {
+  pub so_far_no_memory : (rest : Told → Run) (new : Option (List ℕ)) (before after was then : ℕ) → SoFar images commands from now lines rest → AppendsFront now new lines
+      → after ≡ before → then ≡ was → RunWrites images commands (Err run_fault.NoMemory) from new before after was then
+  so_far_no_memory rest new before after was then so_far front same still = record {
     told = told_then so_far.shelves (any_told images);
     course = (so_far_held rest so_far, still);
     status = tt;
     text = (
-      handed_front from now lines (transcript so_far.events) (transcript_output (rest (any_told images))).text
-          (transcript_output (run_of (told_then so_far.shelves (any_told images)) commands)).text so_far.hands (whole_text rest so_far (any_told images)),
+      front_of_all from new (transcript so_far.events) (transcript_output (rest (any_told images))).text
+          (transcript_output (run_of (told_then so_far.shelves (any_told images)) commands)).text
+          (hands_front_kept from now new lines (transcript so_far.events) so_far.hands front) (whole_text rest so_far (any_told images)),
       same,
     );
   }
@@ -211,21 +210,59 @@ module _ (images : Option (List (List ℕ × List ℕ))) (commands : List Comman
     );
   }
 
-module _ (images : Option (List (List ℕ × List ℕ))) (commands : List Command) (from now : Option (List ℕ)) (objects after_objects : ObjectsState) (i : ℕ) (first : Command) (before after : LogState) (answer : Option Stop)
+module _ (images : Option (List (List ℕ × List ℕ))) (commands : List Command) (from now : Option (List ℕ)) (objects : ObjectsState) (i : ℕ) (first : Command) (before : LogState)
     (so_far : SoFar images commands from now before.lines (λ later. run_from later (record { objects = objects; steps = before.steps }) (drop i commands)))
-    (inside : i < length commands) (is : first ≡ get_or commands i first)
-    (found : DidTold images (record { objects = objects; steps = before.steps }) first after_objects before after answer) where
-  -- the command at a place, after which the run goes on
-  pub so_far_after : answer ≡ None → SoFar images commands from now after.lines (λ later. run_from later (record { objects = after_objects; steps = after.steps }) (drop (i + 1) commands))
-  so_far_after goes =
-      so_far_more images commands from now before.lines (record { objects = objects; steps = before.steps }) (drop i commands) first (drop (i + 1) commands) after_objects before after found.shelf so_far
-      (left_at commands i first inside is) refl found.is
-      (subst (λ (ending : Option Stop). HasRunEffect (effect_over found.shelf (record { objects = objects; steps = before.steps }) first) after_objects before after ending) goes found.did)
+    (inside : i < length commands) (is : first ≡ get_or commands i first) where
+  abbrev state_at : RunState
+  state_at = record { objects = objects; steps = before.steps }
 
-  -- the command at a place, with which the run stops
-  pub so_far_until : (why : Stop) → answer ≡ Some why
-      → SoFar images commands from now after.lines (λ later. record { events = []; last = (effect_over found.shelf (record { objects = objects; steps = before.steps }) first).run; ending = Some why; failed = false })
-  so_far_until why stops =
-      so_far_stop images commands from now before.lines (record { objects = objects; steps = before.steps }) (drop i commands) first (drop (i + 1) commands) after_objects before after found.shelf why so_far
-      (left_at commands i first inside is) refl found.is
-      (subst (λ (ending : Option Stop). HasRunEffect (effect_over found.shelf (record { objects = objects; steps = before.steps }) first) after_objects before after ending) stops found.did)
+  abbrev more_at : List Command
+  more_at = drop (i + 1) commands
+
+  module _ (after_objects : ObjectsState) (after : LogState) (new : Option (List ℕ)) (answer : Option Stop) (found : DidTold images state_at first after_objects before after now new answer) where
+    -- the command at a place was run
+    so_far_run : SoFar images commands from new after.lines (λ later. run_rest (effect_over found.shelf state_at first) answer (run_from later (record { objects = after_objects; steps = after.steps }) more_at))
+    so_far_run =
+        so_far_more images commands from now before.lines state_at (drop i commands) first more_at found.shelf so_far (left_at commands i first inside is) found.is after_objects before after new answer refl found.did
+
+    -- and the run goes on
+    pub so_far_after : answer ≡ None → SoFar images commands from new after.lines (λ later. run_from later (record { objects = after_objects; steps = after.steps }) more_at)
+    so_far_after goes =
+        subst (λ (ending : Option Stop). SoFar images commands from new after.lines
+        (λ later. run_rest (effect_over found.shelf state_at first) ending (run_from later (record { objects = after_objects; steps = after.steps }) more_at))) goes so_far_run
+
+    -- or it stops
+    pub so_far_until : (why : Stop) → answer ≡ Some why
+        → SoFar images commands from new after.lines (λ later. record { events = []; last = (effect_over found.shelf state_at first).run; ending = Some why; failed = false })
+    so_far_until why stops =
+        subst (λ (ending : Option Stop). SoFar images commands from new after.lines
+        (λ later. run_rest (effect_over found.shelf state_at first) ending (run_from later (record { objects = after_objects; steps = after.steps }) more_at))) stops so_far_run
+
+  -- what the command at a place tells, as if it were kept
+  any_shelf : (shelf : Shelf) × IsShelf images shelf × (Err fetch_fault.Missing ≡ answer_for shelf None)
+  any_shelf = shelf_of images None (Err fetch_fault.Missing) refl
+
+  abbrev told_at : RunEffect
+  told_at = effect_over any_shelf.0 state_at first
+
+  abbrev lines_at : List ℕ
+  lines_at = before.lines ++ transcript told_at.events
+
+  abbrev rest_at : Told → Run
+  rest_at later = run_rest told_at told_at.ending (run_from later told_at.run more_at)
+
+  so_far_kept : SoFar images commands from now lines_at rest_at
+  so_far_kept =
+      so_far_told images commands from now before.lines state_at (drop i commands) first more_at any_shelf.0 so_far (left_at commands i first inside is) any_shelf.1 now lines_at
+      (hands_kept now before.lines (transcript told_at.events) lines_at refl)
+
+  -- the command at a place was cut off, by the sink or for want of memory
+  pub so_far_write_cut : (new : Option (List ℕ)) (start faults after was then : ℕ) → IsToldCut command_fault.Write state_at first before now new faults after
+      → faults ≡ start → then ≡ was → RunWrites images commands (Err run_fault.Write) from new start after was then
+  so_far_write_cut new start faults after was then cut same still =
+      so_far_write_fault images commands from now lines_at rest_at new start after was then so_far_kept (cut any_shelf.0).0 (subst (λ (n : ℕ). Rose n after) same (cut any_shelf.0).1) still
+
+  pub so_far_memory_cut : (new : Option (List ℕ)) (start faults after was then : ℕ) → IsToldCut command_fault.NoMemory state_at first before now new faults after
+      → faults ≡ start → then ≡ was → RunWrites images commands (Err run_fault.NoMemory) from new start after was then
+  so_far_memory_cut new start faults after was then cut same still =
+      so_far_no_memory images commands from now lines_at rest_at new start after was then so_far_kept (cut any_shelf.0).0 ((cut any_shelf.0).1 ∙ same) still

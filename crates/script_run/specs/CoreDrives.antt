@@ -1,5 +1,5 @@
 -- What a drive of a core's actors leaves of it and tells (own).
-use Rattle.std.specs.Prelude.{ℕ, zero, suc, ◌+◌, ◌==◌, Bool, true, false, List, [], ◌∷◌, ◌++◌, Option, Some, None, unwrap_or, if◌then◌else◌}
+use Rattle.std.specs.Prelude.{ℕ, zero, suc, ◌+◌, ◌==◌, ◌||◌, Bool, true, false, List, [], ◌∷◌, ◌++◌, Option, Some, None, is_some, unwrap_or, if◌then◌else◌}
 use Rattle.rp_base.specs.declared.limits.TheConstants.{STEPS_MOST}
 use Rattle.rp_base.specs.declared.kinds.CrashKind.{CrashKind}
 use Rattle.rp_base.specs.declared.kinds.CrashKind.TheVariants as kind
@@ -12,8 +12,8 @@ use Rattle.journal.specs.declared.events.Event.{Event}
 use Rattle.journal.specs.declared.events.Event.TheVariants as event
 use Rattle.link_bench.specs.Benches.{BenchState}
 use Rattle.crash_recover.specs.Cores.{CoreState}
-use Rattle.crash_recover.specs.declared.core_drives.Driven.{Driven}
-use Rattle.crash_recover.specs.declared.core_drives.Driven.TheVariants as driven
+use Rattle.core_actors.specs.declared.progress.Driven.{Driven}
+use Rattle.core_actors.specs.declared.progress.Driven.TheVariants as driven
 use Rattle.crash_recover.specs.Drives.{DriveStep, drive_step, is_idle}
 use Rattle.script_run.specs.CallEvents.{end_event}
 use Rattle.script_run.specs.CoreEffects.{CoreEffect, core_tells}
@@ -59,6 +59,15 @@ rest_event name core =
 abbrev pub rests_or : CoreState → ℕ → Option Event → CoreEffect → CoreEffect
 rests_or core steps None effect = effect
 rests_or core steps (Some told) effect = core_tells core steps told
+
+-- a drive is over before its next step: its actors rest, or the run has no step left
+abbrev pub is_over : List ℕ → CoreState → ℕ → Bool
+is_over name core steps = is_some (rest_event name core) || steps == STEPS_MOST
+
+-- the end of a drive that is over, or of which no step is left
+abbrev pub drive_end : ℕ → List ℕ → CoreState → ℕ → CoreEffect
+drive_end left name core steps =
+    rests_or core steps (rest_event name core) (if left == 0 then core_tells core steps (event.Paused name) else core_stops core steps)
 
 -- a step of the actors, and what follows
 abbrev pub step_then : List ℕ → Bool → DriveStep → (CoreState → CoreEffect) → CoreEffect

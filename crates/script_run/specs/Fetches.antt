@@ -1,9 +1,11 @@
 -- What code was told of the image that a command asks for (own).
-use Rattle.std.specs.Prelude.{◌≡◌, ℕ, List, Option, Some, None, is_some, IsTrue, Result, Ok, Err}
+use Rattle.std.specs.Prelude.{◌≡◌, ℕ, List, ◌++◌, Option, Some, None, is_some, IsTrue, Result, Ok, Err}
 use Rattle.rp_io.specs.declared.faults.FetchFault.TheVariants as fetch_fault
 use Rattle.rp_io.specs.Causes.{Rose}
+use Rattle.rp_io.specs.Contents.{AppendsFront}
 use Rattle.rp_io.specs.Images.{fetch_answer}
 use Rattle.script_lang.specs.declared.commands.Command.{Command}
+use Rattle.journal.specs.Lines.{transcript}
 use Rattle.script_run.specs.declared.fetches.CommandFault.{CommandFault}
 use Rattle.script_run.specs.declared.fetches.CommandFault.TheVariants as command_fault
 use Rattle.script_run.specs.declared.fetches.Fetched.{Fetched}
@@ -11,7 +13,7 @@ use Rattle.script_run.specs.declared.fetches.Fetched.TheVariants as fetched
 use Rattle.script_run.specs.declared.statuses.Stop.{Stop}
 use Rattle.script_run.specs.Stores.{Answer, IsAnswer, IsShelf, Shelf, answer_for}
 use Rattle.script_run.specs.Runs.{ObjectsState, RunState, asked_name, effect_of}
-use Rattle.script_run.specs.Logs.{HasRunEffect, LogState}
+use Rattle.script_run.specs.Logs.{HandsRunEffect, LogState}
 
 -- what was told
 abbrev pub answer_of : Fetched → Answer
@@ -32,17 +34,33 @@ IsToldFor images (Some name) answer = IsToldUnder images name answer
 -- why nothing was told, by the count of the store's faults
 abbrev pub IsFetchFault : CommandFault → ℕ → ℕ → Type 0
 IsFetchFault command_fault.Store before now = Rose before now
+IsFetchFault command_fault.Write before now = ⊥
 IsFetchFault command_fault.NoMemory before now = now ≡ before
 
--- a command did what it does over what the store has
-pub record DidTold (images : Option (List (List ℕ × List ℕ))) (run : RunState) (command : Command) (left : ObjectsState) (before after : LogState) (answer : Option Stop) : Type 0 where
+-- a command did what it does over what the store has, and some lines were handed on meanwhile
+pub record DidTold (images : Option (List (List ℕ × List ℕ))) (run : RunState) (command : Command) (left : ObjectsState) (before after : LogState) (written now : Option (List ℕ)) (answer : Option Stop) : Type 0 where
   pub shelf : Shelf
   pub is : IsShelf images shelf
-  pub did : HasRunEffect (effect_of (answer_for shelf (asked_name run.objects command)) run command) left before after answer
+  pub did : HandsRunEffect (effect_of (answer_for shelf (asked_name run.objects command)) run command) left before after written now answer
 
--- a command was run, or it asked a store that failed and told nothing, or memory ran out
-abbrev pub RunsTold : Result (Option Stop) CommandFault → Option (List (List ℕ × List ℕ)) → RunState → Command → ObjectsState → LogState → LogState → ℕ → ℕ → Type 0
-RunsTold (Ok answer) images run command left before after was now = DidTold images run command left before after answer × (now ≡ was)
-RunsTold (Err command_fault.Store) images run command left before after was now =
-    IsTrue (is_some (asked_name run.objects command)) × (after ≡ before) × Rose was now
-RunsTold (Err command_fault.NoMemory) images run command left before after was now = now ≡ was
+-- a text was cut off where the sink failed or memory ran out: a front of it is written
+abbrev pub EndsCut : CommandFault → List ℕ → Option (List ℕ) → Option (List ℕ) → ℕ → ℕ → Type 0
+EndsCut command_fault.Store text old new before now = ⊥
+EndsCut command_fault.Write text old new before now = AppendsFront old new text × Rose before now
+EndsCut command_fault.NoMemory text old new before now = AppendsFront old new text × (now ≡ before)
+
+-- what a command tells was cut off, whatever the store has
+abbrev pub IsToldCut : CommandFault → RunState → Command → LogState → Option (List ℕ) → Option (List ℕ) → ℕ → ℕ → Type 0
+IsToldCut why run command before old new faults now =
+    (shelf : Shelf) → EndsCut why (before.lines ++ transcript (effect_of (answer_for shelf (asked_name run.objects command)) run command).events) old new faults now
+
+-- a command was run, or it asked a store that failed and told nothing, or what it tells was cut off
+abbrev pub RunsTold : Result (Option Stop) CommandFault → Option (List (List ℕ × List ℕ)) → RunState → Command → ObjectsState → LogState → LogState → Option (List ℕ) → Option (List ℕ) → ℕ → ℕ → ℕ → ℕ → Type 0
+RunsTold (Ok answer) images run command left before after old new faults now was then =
+    DidTold images run command left before after old new answer × (now ≡ faults) × (then ≡ was)
+RunsTold (Err command_fault.Store) images run command left before after old new faults now was then =
+    IsTrue (is_some (asked_name run.objects command)) × (after ≡ before) × (new ≡ old) × (now ≡ faults) × Rose was then
+RunsTold (Err command_fault.Write) images run command left before after old new faults now was then =
+    IsToldCut command_fault.Write run command before old new faults now × (then ≡ was)
+RunsTold (Err command_fault.NoMemory) images run command left before after old new faults now was then =
+    IsToldCut command_fault.NoMemory run command before old new faults now × (then ≡ was)

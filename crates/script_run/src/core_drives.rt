@@ -1,15 +1,18 @@
-ghost use Rattle.std.specs.Prelude.{◌≡◌, ◌==◌, ◌||◌, ◌∷◌, not, IfOk, unwrap_or};
+ghost use Rattle.std.specs.Prelude.{◌≡◌, ◌==◌, ◌≤◌, ◌+◌, ◌||◌, ◌⊎◌, ◌∷◌, ◌++◌, not, true, IfOk, IfErr, OnOk};
 ghost use Rattle.journal.specs.declared.events.Event.TheVariants as event;
-ghost use Rattle.script_run.specs.Logs.{HasCoreEffect, Keeps};
+ghost use Rattle.journal.specs.Lines.{transcript};
+ghost use Rattle.script_run.specs.Logs.{DrivesHanding, DrivesOn, HandsCoreEffect, HasCoreEffect, Keeps};
+ghost use Rattle.script_run.specs.Fetches.{EndsCut};
 ghost use Rattle.rp_base.specs.declared.limits.TheConstants.{STEPS_MOST};
-ghost use Rattle.crash_recover.specs.Drives.{drive_step, driven_of, is_idle};
+ghost use Rattle.core_actors.specs.ActorSteps.{driven_of};
+ghost use Rattle.crash_recover.specs.Drives.{drive_step, is_idle};
 ghost use Rattle.remote_code.specs.Faults.{fault_number};
 ghost use Rattle.rp_base.specs.declared.kinds.CrashKind.TheVariants as kind;
-ghost use Rattle.script_run.specs.CoreLives.{core_stops};
-ghost use Rattle.script_run.specs.CoreDrives.{actor_end_events, crash_events, drive_effect, drive_steps, driven_events, is_crashed, rest_event, rests_or, step_events};
+ghost use Rattle.script_run.specs.CoreDrives.{actor_end_events, crash_events, drive_effect, drive_end, drive_steps, driven_events, is_crashed, is_over, rest_event, step_events};
 
 use crate::call_events::end_event;
 use crate::cores::NamedCore;
+use crate::fetches::CommandFault;
 use crate::logs::RunLog;
 use crate::statuses::Stop;
 use crash_recover::DriveProgress;
@@ -17,6 +20,10 @@ use journal::Event;
 use lane_model::CallEnd;
 use remote_code::WorkerFault;
 use rp_base::{CallerNo, CrashKind, LifeState, NoMemory, STEPS_MOST};
+use rp_io::Sink;
+
+/// After how many steps of a drive it is looked whether what is kept is a whole piece.
+const STRETCH: u64 = 1_024;
 
 impl NamedCore {
     /// So many steps of the core's actors, fewer where it crashes or both have nothing to do before.
@@ -37,7 +44,6 @@ impl NamedCore {
     }
 
     /// The same of a core that is up.
-    #[inline(never)]
     fn drive_running(
         &mut self,
         count: u64,
@@ -47,22 +53,90 @@ impl NamedCore {
         ensures name { self.new.name ≡ self.old.name }
         ensures effect { IfOk result (λ ending. HasCoreEffect (drive_steps count self.old.name is_quiet self.old.core log.old.steps) self.new.core log.old log.new ending) }
     {
+        let left = self.advance(count, count, is_quiet, log)?;
+        self.end_drive(left, log)
+    }
+
+    /// A drive that hands on what is told as it goes.
+    #[tactic(auto, unfolding(crate::specs::CoreDrives::drive_effect))]
+    pub(crate) fn drive_handing<K: Sink>(
+        &mut self,
+        count: u64,
+        is_quiet: bool,
+        log: &mut RunLog,
+        out: &mut K,
+    ) -> Result<Option<Stop>, CommandFault>
+        ensures name { self.new.name ≡ self.old.name }
+        ensures effect { IfOk result (λ ending. HandsCoreEffect (drive_effect self.old.name is_quiet self.old.core log.old.steps count) self.new.core log.old log.new (K.written out.old) (K.written out.new) ending) }
+        ensures same { OnOk result (K.faults out.new ≡ K.faults out.old) }
+        ensures cut { IfErr result (λ why. EndsCut why (log.old.lines ++ transcript (drive_effect self.old.name is_quiet self.old.core log.old.steps count).events)
+            (K.written out.old) (K.written out.new) (K.faults out.old) (K.faults out.new)) }
+    {
+        if !self.core.life().is_up() {
+            return Ok(self.drive(count, is_quiet, log)?);
+        }
+        let left = self.drive_pieces(count, is_quiet, log, out)?;
+        Ok(self.drive_running(left, is_quiet, log)?)
+    }
+
+    /// The steps of a drive that come before its last ones. What they tell is handed on as they go, and
+    /// the answer is how many steps of the drive are left.
+    fn drive_pieces<K: Sink>(
+        &mut self,
+        count: u64,
+        is_quiet: bool,
+        log: &mut RunLog,
+        out: &mut K,
+    ) -> Result<u64, CommandFault>
+        ensures name { self.new.name ≡ self.old.name }
+        ensures on { IfOk result (λ left. DrivesHanding self.old.name is_quiet count self.old.core log.old (K.written out.old) left self.new.core log.new (K.written out.new)) }
+        ensures same { OnOk result (K.faults out.new ≡ K.faults out.old) }
+        ensures cut { IfErr result (λ why. EndsCut why (log.old.lines ++ transcript (drive_steps count self.old.name is_quiet self.old.core log.old.steps).events)
+            (K.written out.old) (K.written out.new) (K.faults out.old) (K.faults out.new)) }
+    {
+        let mut left = count;
+        while left > STRETCH {
+            let before = left;
+            left = self.advance(before, STRETCH, is_quiet, log)?;
+            log.hand_on(out)?;
+            if before - left < STRETCH {
+                return Ok(left);
+            }
+        }
+        Ok(left)
+    }
+
+    /// The first `most` steps of a drive of `count` steps, fewer where it is over before. The answer is
+    /// how many of its steps are left.
+    #[inline(never)]
+    fn advance(
+        &mut self,
+        count: u64,
+        most: u64,
+        is_quiet: bool,
+        log: &mut RunLog,
+    ) -> Result<u64, NoMemory>
+        requires { most ≤ count }
+        ensures name { self.new.name ≡ self.old.name }
+        ensures on { IfOk result (λ left. DrivesOn self.old.name is_quiet count self.old.core log.old left self.new.core log.new) }
+        ensures within { IfOk result (λ left. left ≤ count) }
+        ensures over { IfOk result (λ left. (left + most ≡ count) ⊎ (is_over self.old.name self.new.core log.new.steps ≡ true)) }
+    {
         let mut end = CallEnd::Gave(0);
         let mut steps = log.steps();
-        for _ in 0..count {
+        for done in 0..most {
             if self.is_over(steps) {
                 log.set_steps(steps);
-                return self.end_drive(log);
+                return Ok(count - done);
             }
             if !self.drive_on(is_quiet, &mut end, log)? {
                 log.set_steps(steps);
-                return self.end_drive(log);
+                return Ok(count - done);
             }
             steps += 1;
         }
         log.set_steps(steps);
-        let event = self.last_event();
-        self.tell(&event, log)
+        Ok(count - most)
     }
 
     /// Whether a drive ends here whatever the actors have to do: the core crashed, or the run has no
@@ -74,25 +148,15 @@ impl NamedCore {
         self.core.life().state() == LifeState::Crashed || steps == STEPS_MOST
     }
 
-    /// The end of a drive of a core that crashed, whose actors have nothing to do, or whose run has no
-    /// step left.
-    fn end_drive(&mut self, log: &mut RunLog) -> Result<Option<Stop>, NoMemory>
+    /// The end of a drive that is over, or of which no step is left.
+    fn end_drive(&mut self, left: u64, log: &mut RunLog) -> Result<Option<Stop>, NoMemory>
         ensures same { self.new ≡ self.old }
-        ensures effect { IfOk result (λ ending. HasCoreEffect (rests_or self.old.core log.old.steps (rest_event self.old.name self.old.core) (core_stops self.old.core log.old.steps)) self.new.core log.old log.new ending) }
+        ensures effect { IfOk result (λ ending. HasCoreEffect (drive_end left self.old.name self.old.core log.old.steps) self.new.core log.old log.new ending) }
     {
         match self.rest_event() {
             Some(event) => self.tell(&event, log),
+            None if left == 0 => self.tell(&Event::Paused { name: self.name }, log),
             None => Ok(Some(Stop::StepLimit)),
-        }
-    }
-
-    /// Why a drive ends whose steps are done.
-    fn last_event(&self) -> Event
-        ensures { result ≡ unwrap_or (rest_event self.now.name self.now.core) (event.Paused self.now.name) }
-    {
-        match self.rest_event() {
-            Some(event) => event,
-            None => Event::Paused { name: self.name },
         }
     }
 

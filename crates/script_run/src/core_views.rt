@@ -24,11 +24,7 @@ impl NamedCore {
         let Some(loaded) = self.core.loaded() else {
             return self.tell(&Event::NotLoaded { name }, log);
         };
-        let rows = table_rows(
-            log.alloc(),
-            loaded.table.as_slice(),
-            loaded.traces.as_slice(),
-        )?;
+        let rows = table_rows(log.alloc(), &loaded.table, loaded.traces.as_slice())?;
         tell_rows(name, rows.as_slice(), log)?;
         Ok(None)
     }

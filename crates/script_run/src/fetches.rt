@@ -8,7 +8,7 @@ use crate::logs::RunLog;
 use crate::objects::Objects;
 use crate::statuses::Stop;
 use rp_base::NoMemory;
-use rp_io::{FetchFault, FirmwareStore};
+use rp_io::{Failed, FetchFault, FirmwareStore, Sink};
 use script_lang::Command;
 use std::alloc::Global;
 
@@ -23,11 +23,13 @@ pub enum Fetched {
     Found(Vec<u8>),
 }
 
-/// Why a command was not run.
+/// Why a command was not run to its end.
 #[derive(Clone, Copy)]
 pub enum CommandFault {
     /// The store of images failed. Its count of faults rose.
     Store,
+    /// The sink failed. Its count of faults rose.
+    Write,
     /// Memory ran out.
     NoMemory,
 }
@@ -40,20 +42,32 @@ impl From<NoMemory> for CommandFault {
     }
 }
 
+impl From<Failed> for CommandFault {
+    ghost from_gives = { λ _ e. e ≡ command_fault.Write };
+
+    fn from(_failed: Failed) -> CommandFault {
+        CommandFault::Write
+    }
+}
+
 /// Runs one command over what the store has, tells its events, and answers why the run stops in its
-/// midst, if it does.
-pub(crate) fn run_command<F: FirmwareStore>(
+/// midst, if it does. A drive hands on what it tells as it goes.
+pub(crate) fn run_command<F: FirmwareStore, K: Sink>(
     objects: &mut Objects,
     command: &Command,
     store: &mut F,
     log: &mut RunLog,
+    out: &mut K,
 ) -> Result<Option<Stop>, CommandFault>
     requires { IsRunnable command.now }
-    ensures effect { RunsTold result (F.images store.old) (record { objects = objects.old; steps = log.old.steps }) command.now
-        objects.new log.old log.new (F.faults store.old) (F.faults store.new) }
+    ensures effect { RunsTold result (F.images store.old) (record { objects = objects.old; steps = log.old.steps }) command.now objects.new log.old log.new
+        (K.written out.old) (K.written out.new) (K.faults out.old) (K.faults out.new) (F.faults store.old) (F.faults store.new) }
     ensures kept { F.images store.new ≡ F.images store.old }
     ensures unasked { asked_name objects.old command.now ≡ None → store.new ≡ store.old }
 {
+    if let Command::Drive { name, count } = command {
+        return objects.drive(*name, *count, log, out);
+    }
     let fetched = fetch_asked(log.alloc(), objects, command, store)?;
     Ok(objects.run(command, &fetched, log)?)
 }

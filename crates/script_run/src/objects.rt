@@ -1,15 +1,19 @@
-ghost use Rattle.std.specs.Prelude.{◌≡◌, ◌<◌, IfOk, IfSome, false, length};
+ghost use Rattle.std.specs.Prelude.{◌≡◌, ◌<◌, ◌++◌, Some, None, Err, IfOk, IfErr, OnOk, IfSome, false, length};
 ghost use Rattle.std.specs.Option.{option_copied};
 ghost use Rattle.lane_model.specs.Conditions.{IsConfig};
 ghost use Rattle.script_lang.specs.Runnable.{IsBook, IsRunnable};
 ghost use Rattle.script_run.specs.Acts.{IsFitNamed, bare_named};
-ghost use Rattle.script_run.specs.Logs.{HasRunEffect};
+ghost use Rattle.rp_io.specs.declared.faults.FetchFault.TheVariants as fetch_fault;
+ghost use Rattle.journal.specs.Lines.{transcript};
+ghost use Rattle.script_run.specs.declared.acts.CoreAct.TheVariants as core;
+ghost use Rattle.script_run.specs.declared.acts.NamedAct.TheVariants as under;
+ghost use Rattle.script_run.specs.Logs.{HandsRunEffect, HasRunEffect};
 ghost use Rattle.script_run.specs.Runs.{core_made_effect, core_place, without_link_effect, is_full, regions_of, asked_name, core_named, find_core, outside_image, effect_of, has_image, image_effect, image_place, made_effect, name_effect, new_run, place_of, quiet_effect, unnamed_effect};
-ghost use Rattle.script_run.specs.Fetches.{answer_of};
+ghost use Rattle.script_run.specs.Fetches.{EndsCut, answer_of};
 
-use crate::acts::{Line, Making, NamedAct, line_of};
+use crate::acts::{CoreAct, Line, Making, NamedAct, line_of};
 use crate::cores::{NamedCore, is_on};
-use crate::fetches::Fetched;
+use crate::fetches::{CommandFault, Fetched};
 use crate::links::NamedBench;
 use crate::logs::RunLog;
 use crate::statuses::Stop;
@@ -19,6 +23,7 @@ use journal::Event;
 use lane_model::LinkConfig;
 use memory_pool::Regions;
 use rp_base::{LifeState, Name, NoMemory, OBJECTS_MOST, Switch};
+use rp_io::Sink;
 use script_lang::{Command, Recipe, RegionSet};
 use std::alloc::Global;
 use std::marker::Model;
@@ -143,6 +148,45 @@ impl Objects {
         match place_of(self.links.as_slice(), name.bytes()) {
             Some(place) => self.links[place].run(act, log),
             None => self.run_on_cores(name, act, fetched, log),
+        }
+    }
+
+    /// Drives the core of this name, and hands on what is told as it goes. Under the name of a link, or
+    /// of nothing, that there is no such core is all that is told.
+    pub(crate) fn drive<K: Sink>(
+        &mut self,
+        name: Name,
+        count: u64,
+        log: &mut RunLog,
+        out: &mut K,
+    ) -> Result<Option<Stop>, CommandFault>
+        ensures effect { IfOk result (λ ending. HandsRunEffect (name_effect (Err fetch_fault.Missing) (record { objects = self.old; steps = log.old.steps }) name (under.Core (core.Drive count)))
+            self.new log.old log.new (K.written out.old) (K.written out.new) ending) }
+        ensures same { OnOk result (K.faults out.new ≡ K.faults out.old) }
+        ensures cut { IfErr result (λ why. EndsCut why (log.old.lines ++ transcript (name_effect (Err fetch_fault.Missing) (record { objects = self.old; steps = log.old.steps }) name (under.Core (core.Drive count))).events)
+            (K.written out.old) (K.written out.new) (K.faults out.old) (K.faults out.new)) }
+    {
+        match self.place_without_link(name.bytes()) {
+            Some(place) => {
+                let is_quiet = self.is_quiet;
+                self.cores[place].drive_handing(count, is_quiet, log, out)
+            }
+            None => {
+                let act = NamedAct::Core(CoreAct::Drive { count });
+                Ok(self.run_on_links(name, &act, &Fetched::Missing, log)?)
+            }
+        }
+    }
+
+    /// The place of the core of this name, which no link has.
+    fn place_without_link(&self, name: &[u8]) -> Option<usize>
+        ensures core { IfSome result (λ place. Some place ≡ core_place self.now.cores name.now) }
+        ensures link { IfSome result (λ _. None ≡ place_of self.now.links name.now) }
+        ensures within { IfSome result (λ place. place < length self.now.cores) }
+    {
+        match place_of(self.links.as_slice(), name) {
+            Some(_) => None,
+            None => core_place(self.cores.as_slice(), name),
         }
     }
 

@@ -81,10 +81,11 @@ fn tell_commands<F: FirmwareStore, K: Sink>(
 {
     let mut log = RunLog::new(alloc);
     for command in commands {
-        match run_command(objects, command, store, &mut log) {
+        match run_command(objects, command, store, &mut log, out) {
             Ok(None) => log.hand_on(out)?,
             Ok(Some(stop)) => return end_run(Some(stop), &mut log, out),
             Err(CommandFault::Store) => return end_failed(&mut log, out),
+            Err(CommandFault::Write) => return Err(RunFault::Write),
             Err(CommandFault::NoMemory) => return Err(RunFault::NoMemory),
         }
     }

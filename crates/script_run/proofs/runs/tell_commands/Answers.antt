@@ -12,7 +12,7 @@ use Rattle.script_run.specs.Outputs.{end_output, store_fault_output}
 use Rattle.script_run.specs.Told.{EndsRun, RunWrites}
 use Rattle.script_run.specs.Runs.{AsksNone, ObjectsState, Run, RunState, asked_name, run_from}
 use Rattle.script_run.proofs.RunSteps.{asks_first, asks_later, left_at, run_none, runnable_first}
-use Rattle.script_run.proofs.SoFar.{SoFar, asked_some, so_far_none, so_far_ends, so_far_fails, so_far_no_memory, so_far_write_fault, so_far_handed, so_far_after, so_far_until}
+use Rattle.script_run.proofs.SoFar.{SoFar, asked_some, so_far_none, so_far_ends, so_far_fails, so_far_memory_cut, so_far_write_cut, so_far_write_fault, so_far_handed, so_far_after, so_far_until}
 use Rattle.script_run.proofs.runs.tell_commands.Goals as goal
 
 pub run_command-requires : goal.run_command-requires
@@ -54,19 +54,21 @@ returns-in_err-hand_on-in-Ok-None g c =
     let state : RunState = record { objects = c.loop-command.objects; steps = c.loop-command.log.steps } in
     let next : RunState = record { objects = c.run_command.new.objects; steps = c.run_command.new.log.steps } in
     let found = err_from_is_err_and c.from_residual.result c.from_residual.ensures.1 in
-    let did = subst (λ (held : Option (List (List ℕ × List ℕ))). DidTold held state first c.run_command.new.objects c.loop-command.log c.run_command.new.log c.in-Ok-None.field-0) c.loop-command.invariant.images c.in-Ok-None.ensures.effect.0 in
+    let told = c.in-Ok-None.ensures.effect in
+    let did = subst (λ (held : Option (List (List ℕ × List ℕ))). DidTold held state first c.run_command.new.objects c.loop-command.log c.run_command.new.log
+    (sink.written c.loop-command.out) (sink.written c.run_command.new.out) c.in-Ok-None.field-0) c.loop-command.invariant.images told.0 in
     record {
       written = subst (λ (result : Result Status RunFault). RunWrites images commands result (sink.written c.args.out.now) (sink.written c.hand_on.new.out)
           (sink.faults c.args.out.now) (sink.faults c.hand_on.new.out) (store.faults c.args.store.now) (store.faults c.run_command.new.store))
           (sym (found.1 ∙ ap (λ (fault : RunFault). Err fault) found.2))
-          (so_far_write_fault images commands (sink.written c.args.out.now) (sink.written c.loop-command.out) c.run_command.new.log.lines
+          (so_far_write_fault images commands (sink.written c.args.out.now) (sink.written c.run_command.new.out) c.run_command.new.log.lines
           (λ later. run_from later next (drop (i + 1) commands)) (sink.written c.hand_on.new.out) (sink.faults c.args.out.now) (sink.faults c.hand_on.new.out)
           (store.faults c.args.store.now) (store.faults c.run_command.new.store)
-          (so_far_after images commands (sink.written c.args.out.now) (sink.written c.loop-command.out) c.loop-command.objects c.run_command.new.objects i first
-          c.loop-command.log c.run_command.new.log c.in-Ok-None.field-0 c.loop-command.invariant.so_far c.loop-command-test.true c.command-item.is did c.in-Ok-None.field-0-is)
+          (so_far_after images commands (sink.written c.args.out.now) (sink.written c.loop-command.out) c.loop-command.objects i first c.loop-command.log
+          c.loop-command.invariant.so_far c.loop-command-test.true c.command-item.is c.run_command.new.objects c.run_command.new.log (sink.written c.run_command.new.out) c.in-Ok-None.field-0 did c.in-Ok-None.field-0-is)
           c.in_err-hand_on-in-Ok-None.ensures.front
-          (subst (λ (faults : ℕ). Rose faults (sink.faults c.hand_on.new.out)) c.loop-command.invariant.same c.in_err-hand_on-in-Ok-None.ensures.failed)
-          (c.in-Ok-None.ensures.effect.1 ∙ c.loop-command.invariant.still));
+          (subst (λ (faults : ℕ). Rose faults (sink.faults c.hand_on.new.out)) (told.1 ∙ c.loop-command.invariant.same) c.in_err-hand_on-in-Ok-None.ensures.failed)
+          (told.2 ∙ c.loop-command.invariant.still));
       unasked = λ none.
           let sofar = c.loop-command.invariant.unasked none in
           c.run_command.ensures.unasked (asks_first state (drop c.loop-command.command-index commands) first (drop (c.loop-command.command-index + 1) commands)
@@ -82,15 +84,17 @@ returns-in-Ok-Some g c =
     let i = c.loop-command.command-index in
     let first = c.command-item.result in
     let state : RunState = record { objects = c.loop-command.objects; steps = c.loop-command.log.steps } in
-    let did = subst (λ (held : Option (List (List ℕ × List ℕ))). DidTold held state first c.run_command.new.objects c.loop-command.log c.run_command.new.log c.in-Ok-Some.field-0) c.loop-command.invariant.images c.in-Ok-Some.ensures.effect.0 in
-    let so_far = so_far_until images commands (sink.written c.args.out.now) (sink.written c.loop-command.out) c.loop-command.objects c.run_command.new.objects i first
-    c.loop-command.log c.run_command.new.log c.in-Ok-Some.field-0 c.loop-command.invariant.so_far c.loop-command-test.true c.command-item.is did c.in-Ok-Some.stop c.in-Ok-Some.field-0-is in
+    let told = c.in-Ok-Some.ensures.effect in
+    let did = subst (λ (held : Option (List (List ℕ × List ℕ))). DidTold held state first c.run_command.new.objects c.loop-command.log c.run_command.new.log
+    (sink.written c.loop-command.out) (sink.written c.run_command.new.out) c.in-Ok-Some.field-0) c.loop-command.invariant.images told.0 in
+    let so_far = so_far_until images commands (sink.written c.args.out.now) (sink.written c.loop-command.out) c.loop-command.objects i first c.loop-command.log
+    c.loop-command.invariant.so_far c.loop-command-test.true c.command-item.is c.run_command.new.objects c.run_command.new.log (sink.written c.run_command.new.out) c.in-Ok-Some.field-0 did c.in-Ok-Some.stop c.in-Ok-Some.field-0-is in
     record {
       written =
-          so_far_ends images commands (sink.written c.args.out.now) (sink.written c.loop-command.out) c.run_command.new.log.lines _ c.end_run.result (Some c.in-Ok-Some.stop)
-          (sink.written c.end_run.new.out) (sink.faults c.args.out.now) (sink.faults c.loop-command.out) (sink.faults c.end_run.new.out)
-          (store.faults c.args.store.now) (store.faults c.run_command.new.store) so_far (λ later. refl) (λ later. refl) c.loop-command.invariant.same
-          (c.in-Ok-Some.ensures.effect.1 ∙ c.loop-command.invariant.still) c.end_run.ensures;
+          so_far_ends images commands (sink.written c.args.out.now) (sink.written c.run_command.new.out) c.run_command.new.log.lines _ c.end_run.result (Some c.in-Ok-Some.stop)
+          (sink.written c.end_run.new.out) (sink.faults c.args.out.now) (sink.faults c.run_command.new.out) (sink.faults c.end_run.new.out)
+          (store.faults c.args.store.now) (store.faults c.run_command.new.store) so_far (λ later. refl) (λ later. refl) (told.1 ∙ c.loop-command.invariant.same)
+          (told.2 ∙ c.loop-command.invariant.still) c.end_run.ensures;
       unasked = λ none.
           let sofar = c.loop-command.invariant.unasked none in
           c.run_command.ensures.unasked (asks_first state (drop c.loop-command.command-index commands) first (drop (c.loop-command.command-index + 1) commands)
@@ -107,17 +111,40 @@ returns-in-Err-Store g c =
     let first = c.command-item.result in
     let state : RunState = record { objects = c.loop-command.objects; steps = c.loop-command.log.steps } in
     let failed = subst (λ (fault : CommandFault). RunsTold (Err fault) (store.images c.loop-command.store) state first c.run_command.new.objects c.loop-command.log c.run_command.new.log
+    (sink.written c.loop-command.out) (sink.written c.run_command.new.out) (sink.faults c.loop-command.out) (sink.faults c.run_command.new.out)
     (store.faults c.loop-command.store) (store.faults c.run_command.new.store)) c.in-Err-Store.field-0-is c.in-Err-Store.ensures.effect in
     let asks = asked_some (asked_name c.loop-command.objects first) failed.0 in
     record {
       written =
-          so_far_fails images commands (sink.written c.args.out.now) (sink.written c.loop-command.out) c.loop-command.log.lines state (drop i commands) first (drop (i + 1) commands) asks.0
-          c.end_failed.result (sink.written c.end_failed.new.out) (sink.faults c.args.out.now) (sink.faults c.loop-command.out) (sink.faults c.end_failed.new.out)
-          (store.faults c.args.store.now) (store.faults c.run_command.new.store) c.loop-command.invariant.so_far
-          (left_at commands i first c.loop-command-test.true c.command-item.is) asks.1 c.loop-command.invariant.same c.end_failed.ensures.found
-          (subst (λ (faults : ℕ). Rose faults (store.faults c.run_command.new.store)) c.loop-command.invariant.still failed.2)
-          (subst (λ (log : LogState). EndsRun c.end_failed.result store_fault_output log.lines (sink.written c.loop-command.out) (sink.written c.end_failed.new.out)
-          (sink.faults c.loop-command.out) (sink.faults c.end_failed.new.out)) failed.1 c.end_failed.ensures.written);
+          so_far_fails images commands (sink.written c.args.out.now) (sink.written c.run_command.new.out) c.loop-command.log.lines state (drop i commands) first (drop (i + 1) commands) asks.0
+          c.end_failed.result (sink.written c.end_failed.new.out) (sink.faults c.args.out.now) (sink.faults c.run_command.new.out) (sink.faults c.end_failed.new.out)
+          (store.faults c.args.store.now) (store.faults c.run_command.new.store)
+          (subst (λ (written : Option (List ℕ)). SoFar images commands (sink.written c.args.out.now) written c.loop-command.log.lines (λ later. run_from later state (drop i commands))) (sym failed.2) c.loop-command.invariant.so_far)
+          (left_at commands i first c.loop-command-test.true c.command-item.is) asks.1 (failed.3 ∙ c.loop-command.invariant.same) c.end_failed.ensures.found
+          (subst (λ (faults : ℕ). Rose faults (store.faults c.run_command.new.store)) c.loop-command.invariant.still failed.4)
+          (subst (λ (log : LogState). EndsRun c.end_failed.result store_fault_output log.lines (sink.written c.run_command.new.out) (sink.written c.end_failed.new.out)
+          (sink.faults c.run_command.new.out) (sink.faults c.end_failed.new.out)) failed.1 c.end_failed.ensures.written);
+      unasked = λ none.
+          let sofar = c.loop-command.invariant.unasked none in
+          c.run_command.ensures.unasked (asks_first state (drop c.loop-command.command-index commands) first (drop (c.loop-command.command-index + 1) commands)
+          (left_at commands c.loop-command.command-index first c.loop-command-test.true c.command-item.is) sofar.1) ∙ sofar.0;
+    }
+
+pub returns-in-Err-Write : goal.returns-in-Err-Write
+returns-in-Err-Write g c =
+    let store = g.F.FirmwareStore in
+    let sink = g.K.Sink in
+    let commands = c.args.commands.now in
+    let first = c.command-item.result in
+    let state : RunState = record { objects = c.loop-command.objects; steps = c.loop-command.log.steps } in
+    let failed = subst (λ (fault : CommandFault). RunsTold (Err fault) (store.images c.loop-command.store) state first c.run_command.new.objects c.loop-command.log c.run_command.new.log
+    (sink.written c.loop-command.out) (sink.written c.run_command.new.out) (sink.faults c.loop-command.out) (sink.faults c.run_command.new.out)
+    (store.faults c.loop-command.store) (store.faults c.run_command.new.store)) c.in-Err-Write.field-0-is c.in-Err-Write.ensures.effect in
+    record {
+      written =
+          so_far_write_cut (store.images c.args.store.now) commands (sink.written c.args.out.now) (sink.written c.loop-command.out) c.loop-command.objects c.loop-command.command-index first c.loop-command.log
+          c.loop-command.invariant.so_far c.loop-command-test.true c.command-item.is (sink.written c.run_command.new.out) (sink.faults c.args.out.now) (sink.faults c.loop-command.out) (sink.faults c.run_command.new.out)
+          (store.faults c.args.store.now) (store.faults c.run_command.new.store) failed.0 c.loop-command.invariant.same (failed.1 ∙ c.loop-command.invariant.still);
       unasked = λ none.
           let sofar = c.loop-command.invariant.unasked none in
           c.run_command.ensures.unasked (asks_first state (drop c.loop-command.command-index commands) first (drop (c.loop-command.command-index + 1) commands)
@@ -131,13 +158,14 @@ returns-in-Err-NoMemory g c =
     let commands = c.args.commands.now in
     let first = c.command-item.result in
     let state : RunState = record { objects = c.loop-command.objects; steps = c.loop-command.log.steps } in
-    let still = subst (λ (fault : CommandFault). RunsTold (Err fault) (store.images c.loop-command.store) state first c.run_command.new.objects c.loop-command.log c.run_command.new.log
+    let failed = subst (λ (fault : CommandFault). RunsTold (Err fault) (store.images c.loop-command.store) state first c.run_command.new.objects c.loop-command.log c.run_command.new.log
+    (sink.written c.loop-command.out) (sink.written c.run_command.new.out) (sink.faults c.loop-command.out) (sink.faults c.run_command.new.out)
     (store.faults c.loop-command.store) (store.faults c.run_command.new.store)) c.in-Err-NoMemory.field-0-is c.in-Err-NoMemory.ensures.effect in
     record {
       written =
-          so_far_no_memory (store.images c.args.store.now) commands (sink.written c.args.out.now) (sink.written c.loop-command.out) c.loop-command.log.lines
-          (λ later. run_from later state (drop c.loop-command.command-index commands)) (sink.faults c.args.out.now) (sink.faults c.loop-command.out)
-          (store.faults c.args.store.now) (store.faults c.run_command.new.store) c.loop-command.invariant.so_far c.loop-command.invariant.same (still ∙ c.loop-command.invariant.still);
+          so_far_memory_cut (store.images c.args.store.now) commands (sink.written c.args.out.now) (sink.written c.loop-command.out) c.loop-command.objects c.loop-command.command-index first c.loop-command.log
+          c.loop-command.invariant.so_far c.loop-command-test.true c.command-item.is (sink.written c.run_command.new.out) (sink.faults c.args.out.now) (sink.faults c.loop-command.out) (sink.faults c.run_command.new.out)
+          (store.faults c.args.store.now) (store.faults c.run_command.new.store) failed.0 c.loop-command.invariant.same (failed.1 ∙ c.loop-command.invariant.still);
       unasked = λ none.
           let sofar = c.loop-command.invariant.unasked none in
           c.run_command.ensures.unasked (asks_first state (drop c.loop-command.command-index commands) first (drop (c.loop-command.command-index + 1) commands)
@@ -155,26 +183,29 @@ loop-command-preserved g c =
     let more = drop (i + 1) commands in
     let state : RunState = record { objects = c.loop-command.objects; steps = c.loop-command.log.steps } in
     let is = left_at commands i first c.loop-command-test.true c.command-item.is in
-    let told = c.in_ok-hand_on-in-Ok-None.ensures in
-    let did = subst (λ (held : Option (List (List ℕ × List ℕ))). DidTold held state first c.run_command.new.objects c.loop-command.log c.run_command.new.log c.in-Ok-None.field-0) c.loop-command.invariant.images c.in-Ok-None.ensures.effect.0 in
+    let handed = c.in_ok-hand_on-in-Ok-None.ensures in
+    let told = c.in-Ok-None.ensures.effect in
+    let did = subst (λ (held : Option (List (List ℕ × List ℕ))). DidTold held state first c.run_command.new.objects c.loop-command.log c.run_command.new.log
+    (sink.written c.loop-command.out) (sink.written c.run_command.new.out) c.in-Ok-None.field-0) c.loop-command.invariant.images told.0 in
     record {
       so_far = subst (λ (steps : ℕ). SoFar images commands (sink.written c.args.out.now) (sink.written c.hand_on.new.out) c.hand_on.new.self.lines (λ later. run_from later (record { objects = c.run_command.new.objects; steps = steps }) more))
-          (sym told.steps)
-          (so_far_handed images commands (sink.written c.args.out.now) (sink.written c.loop-command.out) c.run_command.new.log.lines
+          (sym handed.steps)
+          (so_far_handed images commands (sink.written c.args.out.now) (sink.written c.run_command.new.out) c.run_command.new.log.lines
           (λ later. run_from later (record { objects = c.run_command.new.objects; steps = c.run_command.new.log.steps }) more)
           (sink.written c.hand_on.new.out) c.hand_on.new.self.lines
-          (so_far_after images commands (sink.written c.args.out.now) (sink.written c.loop-command.out) c.loop-command.objects c.run_command.new.objects i first
-          c.loop-command.log c.run_command.new.log c.in-Ok-None.field-0 c.loop-command.invariant.so_far c.loop-command-test.true c.command-item.is did c.in-Ok-None.field-0-is)
-          told.handed);
+          (so_far_after images commands (sink.written c.args.out.now) (sink.written c.loop-command.out) c.loop-command.objects i first c.loop-command.log
+          c.loop-command.invariant.so_far c.loop-command-test.true c.command-item.is c.run_command.new.objects c.run_command.new.log (sink.written c.run_command.new.out) c.in-Ok-None.field-0 did c.in-Ok-None.field-0-is)
+          handed.handed);
       runnable = (runnable_first first more (drop i commands) is c.loop-command.invariant.runnable).1;
-      same = told.same ∙ c.loop-command.invariant.same;
+      same = handed.same ∙ told.1 ∙ c.loop-command.invariant.same;
       images = c.run_command.ensures.kept ∙ c.loop-command.invariant.images;
-      still = c.in-Ok-None.ensures.effect.1 ∙ c.loop-command.invariant.still;
+      still = told.2 ∙ c.loop-command.invariant.still;
       unasked = λ none.
           let sofar = c.loop-command.invariant.unasked none in (
             c.run_command.ensures.unasked (asks_first state (drop i commands) first more is sofar.1) ∙ sofar.0,
-            subst (λ (steps : ℕ). AsksNone (record { objects = c.run_command.new.objects; steps = steps }) more) (sym told.steps)
-                (asks_later state (drop i commands) first more did.shelf c.run_command.new.objects c.loop-command.log c.run_command.new.log c.in-Ok-None.field-0 is sofar.1 did.did c.in-Ok-None.field-0-is),
+            subst (λ (steps : ℕ). AsksNone (record { objects = c.run_command.new.objects; steps = steps }) more) (sym handed.steps)
+                (asks_later state (drop i commands) first more did.shelf c.run_command.new.objects c.loop-command.log c.run_command.new.log c.in-Ok-None.field-0 is sofar.1
+                (sink.written c.loop-command.out) (sink.written c.run_command.new.out) did.did c.in-Ok-None.field-0-is),
           );
     }
 
