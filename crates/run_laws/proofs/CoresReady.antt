@@ -6,7 +6,7 @@ use Rattle.script_lang.specs.declared.commands.Command.{Command}
 use Rattle.script_lang.specs.Runnable.{AreRunnable, IsRunnable}
 use Rattle.link_bench.specs.Acts.{IsFitAct}
 use Rattle.link_bench.specs.Benches.{BenchState}
-use Rattle.crash_recover.specs.Actors.{ActorsState}
+use Rattle.core_actors.specs.Actors.{ActorsState}
 use Rattle.crash_recover.specs.Cores.{CoreState}
 use Rattle.core_laws.specs.BenchMoves.{IsReachedBench, IsReachedCore}
 use Rattle.core_laws.specs.KeptCores.{IsKeptCore}

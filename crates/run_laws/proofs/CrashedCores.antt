@@ -20,7 +20,7 @@ use Rattle.crash_recover.specs.CoreBoots.{Found, boot_as, boot_of, handover_as, 
 use Rattle.crash_recover.specs.CoreCrashes.{report_as, report_of}
 use Rattle.crash_recover.specs.CoreLeaves.{detach_of, detached_core, leave_as, shutdown_of, unloaded_core}
 use Rattle.crash_recover.specs.CoreRings.{core_ring}
-use Rattle.crash_recover.specs.Drives.{actors_after_end}
+use Rattle.core_actors.specs.ActorEnds.{actors_after_end}
 use Rattle.core_laws.specs.BenchMoves.{IsReachedBench, IsReachedCore}
 use Rattle.core_laws.proofs.ActMoves.{act_closed, closed_by}
 use Rattle.core_laws.proofs.LinkMoves.{comes_none}

@@ -6,3 +6,4 @@ pub mod CoresReady
 pub mod StartsInRuns
 pub mod ClosedLinks
 pub mod CrashedCores
+pub mod ScriptDrives

@@ -3,3 +3,4 @@ pub mod Kept
 pub mod Starts
 pub mod ClosedLinks
 pub mod CrashedCores
+pub mod DriveEnds

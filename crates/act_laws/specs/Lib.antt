@@ -1,0 +1,4 @@
+pub mod Deeds
+pub mod CoreDeeds
+pub mod Accounts
+pub mod DoneDeeds

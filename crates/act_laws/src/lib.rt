@@ -1,0 +1,6 @@
+// Laws of acts on links: the moves that each makes of its link, what it tells of takes, and the account that goes on with them.
+#![tactic(auto)]
+
+mod acts;
+
+pub use acts::{acts_do, cores_do};

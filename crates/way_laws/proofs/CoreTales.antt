@@ -1,0 +1,385 @@
+-- What is done under the name of a core keeps the tale of its link.
+use Rattle.std.proofs.Common.{◌≡◌, ℕ, [], zero, suc, ◌+◌, ◌==◌, Bool, true, false, cond, List, Option, Some, None, IfSome, option_map, Result, Ok, Err, refl, sym, ap, subst}
+use Rattle.std.proofs.lemmas.Bool.{cond_both}
+use Rattle.rp_base.specs.declared.kinds.End.{End}
+use Rattle.rp_base.specs.declared.kinds.End.TheVariants as side
+use Rattle.rp_base.specs.declared.kinds.CrashKind.{CrashKind}
+use Rattle.rp_base.specs.declared.kinds.DriverKind.{DriverKind}
+use Rattle.rp_base.specs.declared.limits.TheConstants.{STEPS_MOST}
+use Rattle.memory_pool.specs.declared.regions.Region.{Region}
+use Rattle.fw_load.specs.declared.rings.RingPair.{RingPair}
+use Rattle.proc_state.specs.declared.answers.Left.{Left as LeftTo}
+use Rattle.proc_state.specs.declared.answers.Left.TheVariants as left_to
+use Rattle.proc_state.specs.declared.answers.LifeFault.{LifeFault}
+use Rattle.proc_state.specs.declared.answers.Power.{Power}
+use Rattle.proc_state.specs.declared.answers.Power.TheVariants as power
+use Rattle.proc_state.specs.Lives.{CoreLife, is_offline, is_up, life_after_boot, life_after_detach, life_after_handover, life_after_shutdown}
+use Rattle.lane_model.specs.Forms.{list_form}
+use Rattle.lane_model.specs.Links.{LinkState}
+use Rattle.lane_model.specs.Recoveries.{link_after_reopen}
+use Rattle.lane_laws.specs.Moves.{Enlist, link_after_move}
+use Rattle.lane_laws.specs.Ways.{IsOpened}
+use Rattle.lane_laws.proofs.LinkRuns.{move_sound}
+use Rattle.lane_laws.proofs.WayFacts.{opened, reopened}
+use Rattle.channel_bus.specs.Laws.{side_laws}
+use Rattle.channel_bus.specs.Sides.{EndState, side_meaning}
+use Rattle.journal.specs.declared.events.Event.{Event}
+use Rattle.journal.specs.declared.events.Event.TheVariants as event
+use Rattle.link_bench.specs.declared.acts.LinkAct.{LinkAct}
+use Rattle.link_bench.specs.Acts.{IsFitAct}
+use Rattle.link_bench.specs.BenchCrashes.{after_reopen}
+use Rattle.link_bench.specs.BenchEnds.{readied_bench}
+use Rattle.link_bench.specs.Benches.{BenchState}
+use Rattle.crash_recover.specs.declared.core_answers.Leave.{Leave}
+use Rattle.crash_recover.specs.declared.core_answers.Start.{Start}
+use Rattle.crash_recover.specs.declared.core_answers.Start.TheVariants as start
+use Rattle.crash_recover.specs.declared.core_faults.CoreFault.{CoreFault}
+use Rattle.crash_recover.specs.declared.core_faults.CoreFault.TheVariants as fault
+use Rattle.crash_recover.specs.declared.core_faults.AddFault.{AddFault}
+use Rattle.crash_recover.specs.CoreRings.{core_ring}
+use Rattle.crash_recover.specs.CoreCrashes.{report_of}
+use Rattle.crash_recover.specs.CoreActs.{core_act_on}
+use Rattle.crash_recover.specs.CoreBoots.{Found, boot_as, boot_of, config_of, core_bench, first_boot, fresh_end, handover_as, handover_of, image_fault, loaded_in, started_core, with_load}
+use Rattle.crash_recover.specs.CoreLeaves.{close_or, detach_of, detached_core, leave_as, live_inc, shutdown_of, unloaded_core}
+use Rattle.crash_recover.specs.CoreRecoveries.{after_recovery, readied_core, recovery_fault, recovery_of, reload_fault, reopen_fault}
+use Rattle.crash_recover.specs.Cores.{CoreOutcome, CoreState, LoadState, add_fault, driver_add_fault, loaded_rings, refuse_or}
+use Rattle.core_actors.specs.Actors.{driver_names}
+use Rattle.core_actors.specs.ActorEnds.{actors_after_end}
+use Rattle.crash_recover.specs.Drives.{drive_step}
+use Rattle.core_laws.specs.BenchMoves.{IsReachedBench, IsReachedCore}
+use Rattle.core_laws.proofs.CoreMoves.{core_driven}
+use Rattle.script_run.specs.declared.acts.CoreAct.{CoreAct}
+use Rattle.script_run.specs.declared.acts.CoreAct.TheVariants as act
+use Rattle.script_run.specs.declared.acts.LinkView.{LinkView}
+use Rattle.script_run.specs.declared.acts.LinkView.TheVariants as view
+use Rattle.script_run.specs.declared.acts.NamedAct.{NamedAct}
+use Rattle.script_run.specs.declared.acts.NamedAct.TheVariants as under
+use Rattle.script_run.specs.CoreCommands.{core_act_effect, core_effect}
+use Rattle.script_run.specs.CoreDrives.{drive_effect, drive_steps, rest_event, rests_or, step_then}
+use Rattle.script_run.specs.CoreEffects.{CoreEffect, added_effect, core_tells, declared_effect, driver_effect, region_effect}
+use Rattle.script_run.specs.CoreLinks.{core_link_effect, core_ring_effect, core_shown_effect, core_turn_holder, core_view_effect, found_ring_effect, found_view_effect}
+use Rattle.script_run.specs.CoreLives.{boot_effect, booted_image, core_stops, crash_effect, detach_effect, found_image, handover_effect, may_step, recover_effect, shutdown_effect}
+use Rattle.script_run.specs.CoreViews.{loaded_table_effect, mem_effect, table_effect, trace_effect}
+use Rattle.script_run.specs.NamedCores.{NamedCoreState}
+use Rattle.script_run.specs.NamedImages.{ImageState}
+use Rattle.script_run.specs.Stores.{Answer}
+use Rattle.run_laws.proofs.CoreWalks.{FitsNamed}
+use Rattle.act_laws.specs.Accounts.{Account}
+use Rattle.way_laws.specs.CoreAccounts.{begun_account, core_account_after, core_act_deeds, deed_account, drive_account, left_account, life_account, ready_if, recovery_account, started_account, unless_some}
+use Rattle.act_laws.specs.CoreDeeds.{drive_deeds, ready_deeds}
+use Rattle.act_laws.specs.Deeds.{Deeds, no_deeds}
+use Rattle.act_laws.proofs.ActLands.{IsLevel, level_at}
+use Rattle.act_laws.proofs.CoreLands.{LandsIf, drive_lands, ready_lands, report_lands}
+use Rattle.act_laws.proofs.Lands.{both_if}
+use Rattle.act_laws.proofs.ReachedActs.{deeds_land}
+use Rattle.act_laws.proofs.Tales.{IsTale, deeds_kept, new_tale}
+
+-- the link that a core has and its account, which both are there or neither is
+abbrev pub TaleIf : End → Option BenchState → Option Account → Type 0
+TaleIf end None None = Unit {0}
+TaleIf end None (Some account) = ⊥
+TaleIf end (Some bench) None = ⊥
+TaleIf end (Some bench) (Some account) = IsTale end bench account
+
+pub level_if : (end : End) (found : Option BenchState) (account : Option Account) → TaleIf end found account → IfSome found IsLevel
+level_if end None account is = tt
+level_if end (Some bench) None is = absurd is
+level_if end (Some bench) (Some account) is = is.level
+
+deeds_if : (end : End) (found : Option BenchState) (account : Option Account) (deeds : Deeds) (now : Option BenchState) → TaleIf end found account → LandsIf found deeds now → TaleIf end now (deed_account end found deeds account)
+deeds_if end None None deeds None is lands = tt
+deeds_if end None None deeds (Some now) is lands = absurd lands
+deeds_if end None (Some account) deeds now is lands = absurd is
+deeds_if end (Some bench) None deeds now is lands = absurd is
+deeds_if end (Some bench) (Some account) deeds None is lands = absurd lands
+deeds_if end (Some bench) (Some account) deeds (Some now) is lands = deeds_kept end bench account is deeds now lands
+
+-- ---- new links
+
+-- a bench at the start of an incarnation
+record IsBegun (bench : BenchState) : Type 0 where
+  pub level : IsLevel bench
+  pub opened : IsOpened side_meaning bench.link
+  pub live : bench.link.era.is_live ≡ true
+
+begun_if : (end : End) (found : Option BenchState) → IfSome found IsBegun → TaleIf end found (begun_account found)
+begun_if end None is = tt
+begun_if end (Some bench) is = new_tale end bench is.level is.opened is.live
+
+opened_enlisted : (link : LinkState EndState) (end : End) → IsOpened side_meaning link → IsOpened side_meaning (link_after_move side_meaning link (Enlist end))
+opened_enlisted link end is = record {
+  new = record { sound = move_sound side_meaning link (Enlist end) is.new.sound tt; to_host = is.new.to_host; to_remote = is.new.to_remote };
+  to_host = is.to_host;
+  to_remote = is.to_remote;
+}
+
+made_begun : (names : List (List ℕ)) (book first : ℕ) (rings : RingPair) → IsBegun (core_bench names book first rings)
+unfolding core_bench
+made_begun names book first rings = record {
+  level = refl;
+  opened = opened_enlisted _ side.Remote (opened_enlisted _ side.Host
+      (opened side_meaning (config_of rings book first) (fresh_end rings.service names) (fresh_end false []) (record { endpoints = refl; bindings = refl }) (record { endpoints = refl; bindings = refl })));
+  live = refl;
+}
+
+rings_begun : (names : List (List ℕ)) (book first : ℕ) (rings : Option RingPair) → IfSome (option_map (core_bench names book first) rings) IsBegun
+rings_begun names book first None = tt
+rings_begun names book first (Some rings) = made_begun names book first rings
+
+-- ---- the life of a core
+
+module _ (end : End) (core : CoreState) (account : Option Account) (is : TaleIf end core.bench account) where
+  abbrev Booted : CoreOutcome Start CoreFault → Type 0
+  Booted done = TaleIf end done.core.bench (started_account done.core.bench done.answer account)
+
+  unless_booted : (why : Option CoreFault) (done : CoreOutcome Start CoreFault) → Booted done → Booted (refuse_or core why done)
+  unless_booted None done rest = rest
+  unless_booted (Some why) done rest = is
+
+  first_booted : (life : CoreLife) (name : List ℕ) (found : Found) → Booted (first_boot life core name found)
+  first_booted life name found =
+      let done : CoreOutcome Start CoreFault = record { core = started_core life (with_load core name (loaded_in core found)); answer = Ok (start.Running life.incarnation) } in
+      cond_both (is_offline core.life.state) (refuse_or core (image_fault core found) done) (record { core = started_core life core; answer = Ok (start.Attached life.incarnation) }) Booted
+      (λ _. unless_booted (image_fault core found) done (begun_if end _ (rings_begun (driver_names core.actors) core.book life.incarnation (loaded_in core found).rings)))
+      (λ _. begun_if end _ (rings_begun (driver_names core.actors) core.book life.incarnation (loaded_rings core.loaded)))
+
+  booted_as : (life : CoreLife) (answer : Result Power LifeFault) (name : List ℕ) (found : Found) → Booted (boot_as life answer core name found)
+  booted_as life (Err why) name found = is
+  booted_as life (Ok (power.Counted users)) name found = is
+  booted_as life (Ok power.First) name found = first_booted life name found
+
+  boot_tale : (name : List ℕ) (found : Found) → Booted (boot_of core name found)
+  unfolding boot_of
+  boot_tale name found = booted_as (life_after_boot core.life).life (life_after_boot core.life).answer name found
+
+  -- ---- the last user
+
+  abbrev Left : CoreOutcome Leave CoreFault → Type 0
+  Left done = TaleIf end done.core.bench (left_account done.core.bench account)
+
+  left_same : (found : Option BenchState) → TaleIf end found account → TaleIf end found (left_account found account)
+  left_same None same = tt
+  left_same (Some bench) same = same
+
+  unless_left : (why : Option CoreFault) (done : CoreOutcome Leave CoreFault) → Left done → Left (refuse_or core why done)
+  unless_left None done rest = rest
+  unless_left (Some why) done rest = left_same core.bench is
+
+  closed_left : (may : Bool) (gone : CoreState) (live : Option ℕ) → TaleIf end gone.bench (left_account gone.bench account) → Left (close_or may core gone live)
+  closed_left may gone None rest = rest
+  closed_left true gone (Some inc) rest = rest
+  closed_left false gone (Some inc) rest = left_same core.bench is
+
+  left_as : (may : Bool) (gone : CoreState) (life : CoreLife) (answer : Result LeftTo LifeFault) → TaleIf end gone.bench (left_account gone.bench account) → Left (leave_as may core gone life answer)
+  left_as may gone life (Err why) rest = left_same core.bench is
+  left_as may gone life (Ok (left_to.Users users)) rest = left_same core.bench is
+  left_as may gone life (Ok left_to.Last) rest = unless_left _ (close_or may core gone (live_inc core.bench)) (closed_left may gone (live_inc core.bench) rest)
+
+  shutdown_tale : (may : Bool) → Left (shutdown_of may core)
+  unfolding shutdown_of
+  shutdown_tale may = left_as may (unloaded_core (life_after_shutdown core.life).life core) (life_after_shutdown core.life).life (life_after_shutdown core.life).answer tt
+
+  detach_tale : (may : Bool) → Left (detach_of may core)
+  unfolding detach_of
+  detach_tale may = left_as may (detached_core (life_after_detach core.life).life core) (life_after_detach core.life).life (life_after_detach core.life).answer tt
+
+  -- ---- a recovery
+
+  ready_lands_if : (found : Option BenchState) → IfSome found IsLevel → LandsIf found (ready_if found) (option_map readied_bench found)
+  ready_lands_if None level = tt
+  ready_lands_if (Some bench) level = ready_lands bench level
+
+  again_begun : (found : Option BenchState) → IfSome found IsLevel → IfSome (option_map (λ (bench : BenchState). after_reopen (readied_bench bench)) found) IsBegun
+  again_begun None level = tt
+  again_begun (Some bench) level = record {
+    level = ap (λ (link : LinkState EndState). link_after_reopen (list_form side_meaning) link) (level_at bench (ready_deeds bench) (readied_bench bench) (ready_lands bench level) level);
+    opened = reopened side_meaning side_laws (readied_bench bench).link;
+    live = refl;
+  }
+
+  unless_life : (why : Option LifeFault) (done : CoreOutcome Start CoreFault) (behind : Option Account) → TaleIf end done.core.bench behind
+      → TaleIf end (refuse_or core (option_map fault.Life why) done).core.bench (unless_some why account behind)
+  unless_life None done behind rest = rest
+  unless_life (Some why) done behind rest = is
+
+  unless_fault : (now : CoreState) (then : Option Account) (why : Option CoreFault) (done : CoreOutcome Start CoreFault) (behind : Option Account) → TaleIf end now.bench then → TaleIf end done.core.bench behind
+      → TaleIf end (refuse_or now why done).core.bench (unless_some why then behind)
+  unless_fault now then None done behind refused rest = rest
+  unless_fault now then (Some why) done behind refused rest = refused
+
+  recovery_tale : (found : Found) → TaleIf end (recovery_of core found).core.bench (recovery_account end core found account)
+  unfolding recovery_of
+  recovery_tale found =
+      let level = level_if end core.bench account is in
+      unless_life (recovery_fault core.life) _ _
+      (unless_fault core account (reload_fault core found) _ _ is
+      (unless_fault (readied_core core) (deed_account end core.bench (ready_if core.bench) account) (reopen_fault core) _ _
+      (deeds_if end core.bench account (ready_if core.bench) (option_map readied_bench core.bench) is (ready_lands_if core.bench level))
+      (begun_if end (after_recovery core (loaded_in core found)).bench (again_begun core.bench level))))
+
+-- ---- drives
+
+rests_tale : (end : End) (core : CoreState) (steps : ℕ) (found : Option Event) (effect : CoreEffect) (account behind : Option Account) → TaleIf end core.bench account → TaleIf end effect.core.bench behind
+    → TaleIf end (rests_or core steps found effect).core.bench (unless_some found account behind)
+rests_tale end core steps None effect account behind is rest = rest
+rests_tale end core steps (Some told) effect account behind is rest = is
+
+driven_tale : (end : End) (count : ℕ) (name : List ℕ) (is_quiet : Bool) (core : CoreState) (steps : ℕ) (account : Option Account) → IsReachedCore core → TaleIf end core.bench account
+    → TaleIf end (drive_steps count name is_quiet core steps).core.bench (drive_account end count name core steps account)
+unfolding drive_steps drive_account
+driven_tale end zero name is_quiet core steps account reached is = is
+driven_tale end (suc more) name is_quiet core steps account reached is =
+    rests_tale end core steps (rest_event name core) _ account _ is
+    (both_if (steps == STEPS_MOST) (λ (effect : CoreEffect) (behind : Option Account). TaleIf end effect.core.bench behind) (core_stops core steps)
+    (step_then name is_quiet (drive_step core) (λ next. drive_steps more name is_quiet next (steps + 1))) account
+    (drive_account end more name (drive_step core).core (steps + 1) (deed_account end core.bench (drive_deeds core) account)) is
+    (driven_tale end more name is_quiet (drive_step core).core (steps + 1) (deed_account end core.bench (drive_deeds core) account) (core_driven core reached)
+    (deeds_if end core.bench account (drive_deeds core) (drive_step core).core.bench is (drive_lands core reached (level_if end core.bench account is)))))
+
+drive_tale : (end : End) (name : List ℕ) (is_quiet : Bool) (core : CoreState) (steps count : ℕ) (account : Option Account) → IsReachedCore core → TaleIf end core.bench account
+    → TaleIf end (drive_effect name is_quiet core steps count).core.bench (cond (is_up core.life.state) (drive_account end count name core steps account) account)
+unfolding drive_effect
+drive_tale end name is_quiet core steps count account reached is =
+    both_if (is_up core.life.state) (λ (effect : CoreEffect) (behind : Option Account). TaleIf end effect.core.bench behind) (drive_steps count name is_quiet core steps) (core_tells core steps (event.NotRunning name))
+    (drive_account end count name core steps account) account (driven_tale end count name is_quiet core steps account reached is) is
+
+-- ---- acts on the link of a core
+
+act_lands_if : (core : CoreState) (steps : ℕ) (asked : LinkAct (List ℕ)) (found : Option BenchState) → core.bench ≡ found → IsFitAct asked → IfSome found IsReachedBench → IfSome found IsLevel
+    → LandsIf found (core_act_deeds core found steps asked) (core_act_on core steps asked found).core.bench
+act_lands_if core steps asked None none fit reached level = subst (λ (now : Option BenchState). LandsIf None no_deeds now) (sym none) tt
+act_lands_if core steps asked (Some bench) found fit reached level = deeds_land actors_after_end 2 bench core.actors steps asked fit reached level
+
+pub link_effect_bench : (name : List ℕ) (core : CoreState) (steps : ℕ) (asked : LinkAct (List ℕ)) (found : Option BenchState) → (core_link_effect name core steps asked found).core ≡ (core_act_on core steps asked found).core
+unfolding core_link_effect
+link_effect_bench name core steps asked None = refl
+link_effect_bench name core steps asked (Some bench) = refl
+
+-- ---- what is done under the name of a core
+
+module _ (end : End) (images : List ImageState) (answer : Answer) (on : NamedCoreState) (steps : ℕ) (account : Option Account) (is : TaleIf end on.core.bench account) where
+  -- the link is as it was
+  abbrev Same : CoreEffect → Type 0
+  Same effect = TaleIf end effect.core.bench account
+
+  added : (region : Region) (why : Option AddFault) → Same (added_effect on.name on.core steps region why)
+  added region None = is
+  added region (Some why) = is
+
+  region_same : (region : Region) → Same (region_effect on.name on.core steps region)
+  unfolding region_effect
+  region_same region = added region (add_fault on.core region)
+
+  declared : (channel : List ℕ) (kind : DriverKind) (why : Option AddFault) → Same (declared_effect on.name on.core steps channel kind why)
+  declared channel kind None = is
+  declared channel kind (Some why) = is
+
+  driver_same : (channel : List ℕ) (kind : DriverKind) → Same (driver_effect on.name on.core steps channel kind)
+  unfolding driver_effect
+  driver_same channel kind = declared channel kind (driver_add_fault on.core channel)
+
+  table_at : (found : Option LoadState) → Same (loaded_table_effect on.name on.core steps found)
+  table_at None = is
+  table_at (Some loaded) = is
+
+  table_same : Same (table_effect on.name on.core steps)
+  unfolding table_effect
+  table_same = table_at on.core.loaded
+
+  trace_same : (index : ℕ) → Same (trace_effect on.name on.core steps index)
+  unfolding trace_effect
+  trace_same index = is
+
+  mem_same : (da len : ℕ) → Same (mem_effect on.name on.core steps da len)
+  unfolding mem_effect
+  mem_same da len = is
+
+  image_left : (why : Option CoreFault) (done : CoreOutcome Start CoreFault) → TaleIf end done.core.bench account → TaleIf end (refuse_or on.core why done).core.bench account
+  image_left None done rest = rest
+  image_left (Some why) done rest = is
+
+  handover_left : (life : CoreLife) (told : Result (Unit {0}) LifeFault) (name : List ℕ) (found : Found) → TaleIf end (handover_as life told on.core name found).core.bench account
+  handover_left life (Err why) name found = is
+  handover_left life (Ok done) name found = image_left (image_fault on.core found) _ is
+
+  handover_same : (name : List ℕ) → Same (handover_effect images answer on.name on.core steps name)
+  unfolding handover_effect handover_of
+  handover_same name = handover_left (life_after_handover on.core.life).life (life_after_handover on.core.life).answer name (found_image images answer name)
+
+  -- ---- views
+
+  ring_at : (lane : ℕ) (found : Option (List ℕ)) → Same (found_ring_effect on.name on.core steps lane found)
+  ring_at lane None = is
+  ring_at lane (Some bytes) = is
+
+  shown_at : (lane : ℕ) (found : Option ℕ) → Same (core_shown_effect on.name on.core steps lane found)
+  shown_at lane None = ring_at lane (core_ring on.core lane)
+  shown_at lane (Some caller) = is
+
+  ring_same : (lane : ℕ) → Same (core_ring_effect on.name on.core steps lane)
+  unfolding core_ring_effect
+  ring_same lane = shown_at lane (core_turn_holder on.core)
+
+  viewed_at : (shown : LinkView) (found : Option BenchState) → Same (found_view_effect on.name on.core steps shown found)
+  viewed_at shown None = is
+  viewed_at shown (Some bench) = is
+
+  view_same : (shown : LinkView) → Same (core_view_effect on.name on.core steps shown)
+  view_same view.Books = viewed_at view.Books on.core.bench
+  view_same (view.Ring lane) = ring_same lane
+  view_same view.Channels = viewed_at view.Channels on.core.bench
+
+  -- ---- lives
+
+  boot_on : (image : List ℕ) → TaleIf end (boot_effect images answer on.name on.core steps image).core.bench (life_account end images answer on steps (act.Boot image) account)
+  unfolding boot_effect
+  boot_on image = boot_tale end on.core account is image (found_image images answer image)
+
+  shutdown_on : TaleIf end (shutdown_effect on.name on.core steps).core.bench (life_account end images answer on steps act.Shutdown account)
+  unfolding shutdown_effect
+  shutdown_on = shutdown_tale end on.core account is (may_step steps)
+
+  detach_on : TaleIf end (detach_effect on.name on.core steps).core.bench (life_account end images answer on steps act.Detach account)
+  unfolding detach_effect
+  detach_on = detach_tale end on.core account is (may_step steps)
+
+  crash_on : (kind : CrashKind) → TaleIf end (crash_effect on.name on.core steps kind).core.bench (life_account end images answer on steps (act.Crash kind) account)
+  unfolding crash_effect
+  crash_on kind = deeds_if end on.core.bench account _ (report_of (may_step steps) on.core).core.bench is (report_lands (may_step steps) on.core (level_if end on.core.bench account is))
+
+  recover_on : TaleIf end (recover_effect images answer on.name on.core steps).core.bench (life_account end images answer on steps act.Recover account)
+  unfolding recover_effect
+  recover_on = recovery_tale end on.core account is (found_image images answer (booted_image on.name on.core))
+
+  core_act_tale : (is_quiet : Bool) (asked : CoreAct) → IsReachedCore on.core → TaleIf end (core_act_effect images answer is_quiet on steps asked).core.bench (life_account end images answer on steps asked account)
+  unfolding core_act_effect
+  core_act_tale is_quiet (act.Region region) reached = region_same region
+  core_act_tale is_quiet (act.Driver channel kind) reached = driver_same channel kind
+  core_act_tale is_quiet (act.Boot image) reached = boot_on image
+  core_act_tale is_quiet (act.Handover image) reached = handover_same image
+  core_act_tale is_quiet act.Shutdown reached = shutdown_on
+  core_act_tale is_quiet act.Detach reached = detach_on
+  core_act_tale is_quiet act.State reached = is
+  core_act_tale is_quiet act.Table reached = table_same
+  core_act_tale is_quiet (act.Trace trace) reached = trace_same trace
+  core_act_tale is_quiet (act.Mem da len) reached = mem_same da len
+  core_act_tale is_quiet (act.Crash kind) reached = crash_on kind
+  core_act_tale is_quiet act.Recover reached = recover_on
+  core_act_tale is_quiet (act.Recovery set) reached = is
+  core_act_tale is_quiet (act.Drive count) reached = drive_tale end on.name is_quiet on.core steps count account reached is
+
+  linked_tale : (asked : LinkAct (List ℕ)) → IsFitAct asked → IsReachedCore on.core
+      → TaleIf end (core_link_effect on.name on.core steps asked on.core.bench).core.bench (deed_account end on.core.bench (core_act_deeds on.core on.core.bench steps asked) account)
+  linked_tale asked fit reached =
+      subst (λ (core : CoreState). TaleIf end core.bench (deed_account end on.core.bench (core_act_deeds on.core on.core.bench steps asked) account)) (sym (link_effect_bench on.name on.core steps asked on.core.bench))
+      (deeds_if end on.core.bench account _ (core_act_on on.core steps asked on.core.bench).core.bench is
+      (act_lands_if on.core steps asked on.core.bench refl fit reached.bench (level_if end on.core.bench account is)))
+
+  pub core_tale : (is_quiet : Bool) (wanted : NamedAct (List ℕ)) → FitsNamed IsFitAct wanted → IsReachedCore on.core
+      → TaleIf end (core_effect images answer is_quiet on steps wanted).core.bench (core_account_after end images answer on steps wanted account)
+  unfolding core_effect
+  core_tale is_quiet (under.Make made) fits reached = is
+  core_tale is_quiet (under.Link asked) fits reached = linked_tale asked fits reached
+  core_tale is_quiet (under.Manage managed) fits reached = is
+  core_tale is_quiet (under.Show shown) fits reached = view_same shown
+  core_tale is_quiet (under.Core asked) fits reached = core_act_tale is_quiet asked reached

@@ -1,0 +1,9 @@
+pub mod LinksAfter
+pub mod LinkTales
+pub mod Noted
+pub mod RunTales
+pub mod CoreTales
+pub mod RunCoreTales
+pub mod CoreRungs
+pub mod RunCoreRungs
+pub mod Worded

@@ -1,0 +1,214 @@
+-- The account of each link of a run tells its tale.
+use Rattle.std.proofs.Common.{◌≡◌, ℕ, zero, suc, ◌==◌, Bool, cond, List, [], ◌∷◌, ◌++◌, Option, Some, None, IfSome, is_some, slice_get, slice_set, refl, sym, ap, subst, ◌∙◌, inl, inr}
+use Rattle.std.specs.Option.{IsSomeAnd, option_map}
+use Rattle.std.proofs.lemmas.Bool.{cond_both, true≢false}
+use Rattle.std.proofs.lemmas.Bool.Decides.{eqb_tells}
+use Rattle.std.proofs.lemmas.List.Elements.{All-nil}
+use Rattle.rp_base.specs.Limits.{IsRingSize}
+use Rattle.rp_base.specs.declared.kinds.End.{End}
+use Rattle.rp_base.specs.declared.kinds.End.TheVariants as side
+use Rattle.lane_laws.specs.SoundRingLinks.{HasSoundRings}
+use Rattle.script_lang.specs.declared.commands.Command.{Command}
+use Rattle.script_lang.specs.declared.commands.Command.TheVariants as command
+use Rattle.script_lang.specs.declared.recipes.RecipeLine.{RecipeLine}
+use Rattle.script_lang.specs.Runnable.{AreRunnable, IsBook, IsRunnable}
+use Rattle.link_bench.specs.Acts.{IsFitAct}
+use Rattle.link_bench.specs.Benches.{BenchState, lists_of}
+use Rattle.link_bench.proofs.Begun.{get-set_other}
+use Rattle.core_laws.specs.BenchMoves.{IsReachedBench, IsReachedCore}
+use Rattle.script_run.specs.declared.acts.Line.{Line}
+use Rattle.script_run.specs.declared.acts.Line.TheVariants as line
+use Rattle.script_run.specs.declared.acts.Making.{Making}
+use Rattle.script_run.specs.declared.acts.Making.TheVariants as making
+use Rattle.script_run.specs.declared.acts.NamedAct.{NamedAct}
+use Rattle.script_run.specs.declared.acts.NamedAct.TheVariants as under
+use Rattle.script_run.specs.Acts.{line_of}
+use Rattle.script_run.specs.NamedCores.{NamedCoreState}
+use Rattle.script_run.specs.NamedLinks.{NamedLink}
+use Rattle.script_run.specs.Runs.{RunState, effect_of, new_run, place_of, run_of}
+use Rattle.script_run.specs.Stores.{Answer, Told}
+use Rattle.run_laws.specs.Reached.{AreReached}
+use Rattle.run_laws.proofs.CoreWalks.{FitsNamed}
+use Rattle.run_laws.proofs.RunWalks.{FitsLine, item_at}
+use Rattle.run_laws.proofs.RunsReached.{effect_reached, line_fits}
+use Rattle.run_laws.proofs.StartsInRuns.{set_there}
+use Rattle.act_laws.specs.Accounts.{Account, IsAccount, new_account}
+use Rattle.way_laws.specs.RunAccounts.{account_behind, account_of, accounting, done_at, is_place, next_account}
+use Rattle.way_laws.proofs.LinksAfter.{HoldsAfter, IsUntouched, holds_after, link_behind, made_link}
+use Rattle.way_laws.proofs.LinkTales.{link_tale, made_tale}
+use Rattle.way_laws.proofs.Noted.{noted_kept}
+use Rattle.act_laws.proofs.Tales.{IsSoundTale, account_is}
+
+-- ---- items of lists
+
+pub get_none_set : {X : Type 0} (items : List X) (i place : ℕ) (item : X) → slice_get items place ≡ None → slice_get (slice_set items i item) place ≡ None
+get_none_set [] i place item none = refl
+get_none_set (x ∷ xs) zero zero item none = absurd (true≢false (ap is_some none))
+get_none_set (x ∷ xs) zero (suc place) item none = none
+get_none_set (x ∷ xs) (suc i) zero item none = none
+get_none_set (x ∷ xs) (suc i) (suc place) item none = get_none_set xs i place item none
+
+pub get_front : {X : Type 0} (items more : List X) (i : ℕ) (item : X) → slice_get items i ≡ Some item → slice_get (items ++ more) i ≡ Some item
+get_front [] more i item found = absurd (cc)
+get_front (x ∷ xs) more zero item found = found
+get_front (x ∷ xs) more (suc i) item found = get_front xs more i item found
+
+-- behind the last item stands the new one, and nothing behind that
+pub get_pushed : {X : Type 0} (P : X → Type 0) (items : List X) (place : ℕ) (item : X) → slice_get items place ≡ None → P item → IfSome (slice_get (items ++ item ∷ []) place) P
+get_pushed P [] zero item none is = is
+get_pushed P [] (suc place) item none is = tt
+get_pushed P (x ∷ xs) zero item none is = absurd (true≢false (ap is_some none))
+get_pushed P (x ∷ xs) (suc place) item none is = get_pushed P xs place item none is
+
+-- ---- what is known of lines
+
+-- the link that a line makes is of fit sizes, and so are the books of a core
+abbrev pub FitsMaking : Making → Type 0
+FitsMaking (making.Link config has_service) = IsRingSize config.num0 × IsRingSize config.num1 × IsBook config.book
+FitsMaking (making.Core regions book) = IsBook book
+
+abbrev pub MakesFit : Line (List RecipeLine) (List ℕ) → Type 0
+MakesFit (line.On name (under.Make made)) = FitsMaking made
+MakesFit other = Unit {0}
+
+pub makes_fit : (asked : Command) → IsRunnable asked → MakesFit (line_of asked)
+makes_fit (command.Link name to_host to_remote book) runs = runs
+makes_fit (command.NsLink name to_host to_remote book) runs = runs
+makes_fit (command.Core name regions book) runs = runs
+makes_fit other runs = tt
+
+done_fits : (run : RunState) (place : ℕ) (done : Line (List RecipeLine) (List ℕ)) → FitsLine IsFitAct done → IfSome (done_at run place done) (FitsNamed IsFitAct)
+done_fits run place (line.Image name lines) fits = tt
+done_fits run place (line.Quiet set) fits = tt
+done_fits run place (line.Dump name image) fits = tt
+done_fits run place (line.On name wanted) fits =
+    cond_both (is_place (place_of run.objects.links name) place) (Some wanted) None (λ (found : Option (NamedAct (List ℕ))). IfSome found (FitsNamed IsFitAct)) (λ _. fits) (λ _. tt)
+
+-- a link behind what is done on it, if anything is
+abbrev now_of : NamedLink → ℕ → Option (NamedAct (List ℕ)) → NamedLink
+now_of on steps None = on
+now_of on steps (Some wanted) = link_behind on steps wanted
+
+pub same_item : {X : Type 0} (one other : X) → Some one ≡ Some other → one ≡ other
+same_item one other same = cc
+
+-- ---- one command
+
+module _ (run : RunState) (done : Line (List RecipeLine) (List ℕ)) (place : ℕ) where
+  -- the link at the place, where there is one
+  module _ (on : NamedLink) (found : slice_get run.objects.links place ≡ Some on) where
+    abbrev There : List NamedLink → Type 0
+    There links = slice_get links place ≡ Some (now_of on run.steps (done_at run place done))
+
+    untouched : (links : List NamedLink) → slice_get links place ≡ Some on → IsUntouched run done → There links
+    untouched links there none = there ∙ ap (λ (acted : Option (NamedAct (List ℕ))). Some (now_of on run.steps acted)) (sym (none place on found))
+
+    there_after : HoldsAfter run done There
+    there_after = record {
+      same = λ none. untouched run.objects.links found none;
+      made = λ name config has_service none is. untouched _ (get_front run.objects.links _ place on found) none;
+      put = λ name wanted at link is placed there.
+          let acted : done_at run place done ≡ cond (at == place) (Some wanted) None =
+          ap (done_at run place) is ∙ ap (λ (p : Option ℕ). cond (is_place p place) (Some wanted) None) placed in
+          elim (eqb_tells at place) [
+            | inl same ↦ (let one : link ≡ on = same_item link on (sym there ∙ ap (slice_get run.objects.links) same.1 ∙ found) in
+                ap (slice_get (slice_set run.objects.links at (link_behind link run.steps wanted))) (sym same.1)
+                ∙ set_there run.objects.links at (link_behind link run.steps wanted) link there
+                ∙ ap (λ (l : NamedLink). Some (link_behind l run.steps wanted)) one
+                ∙ ap (λ (b : Bool). Some (now_of on run.steps (cond b (Some wanted) None))) (sym same.0)
+                ∙ ap (λ (a : Option (NamedAct (List ℕ))). Some (now_of on run.steps a)) (sym acted))
+            | inr differ ↦ get-set_other run.objects.links at place (link_behind link run.steps wanted) (λ same. differ.1 (sym same)) ∙ found
+                ∙ ap (λ (b : Bool). Some (now_of on run.steps (cond b (Some wanted) None))) (sym differ.0)
+                ∙ ap (λ (a : Option (NamedAct (List ℕ))). Some (now_of on run.steps a)) (sym acted)
+          ];
+    }
+
+  -- a new link at the place, where there was none
+  module _ (end : End) (none : slice_get run.objects.links place ≡ None) (fit : MakesFit done) where
+    abbrev IsNew : NamedLink → Type 0
+    IsNew made = IsSoundTale end made.bench (new_account made.bench.link)
+
+    new_after : HoldsAfter run done (λ links. IfSome (slice_get links place) IsNew)
+    new_after = record {
+      same = λ _. subst (λ (found : Option NamedLink). IfSome found IsNew) (sym none) tt;
+      made = λ name config has_service _ is.
+          let fits = subst MakesFit is fit in
+          get_pushed IsNew run.objects.links place (made_link name config has_service) none (made_tale end config has_service fits.0 fits.1 fits.2);
+      put = λ name wanted at link is placed there.
+          subst (λ (found : Option NamedLink). IfSome found IsNew) (sym (get_none_set run.objects.links at place (link_behind link run.steps wanted) none)) tt;
+    }
+
+-- the link at a place and its account, which both are there or neither is
+abbrev pub AreLevel : End → Option NamedLink → Option Account → Type 0
+AreLevel end None None = Unit {0}
+AreLevel end None (Some account) = ⊥
+AreLevel end (Some on) None = ⊥
+AreLevel end (Some on) (Some account) = IsSoundTale end on.bench account
+
+behind_tale : (end : End) (on : NamedLink) (steps : ℕ) (acted : Option (NamedAct (List ℕ))) (account : Account) → IfSome acted (FitsNamed IsFitAct) → IsReachedBench on.bench → IsSoundTale end on.bench account
+    → IsSoundTale end (now_of on steps acted).bench (account_behind end on.bench steps acted account)
+behind_tale end on steps None account fits reached tale = tale
+behind_tale end on steps (Some wanted) account fits reached tale = link_tale end on steps wanted account fits reached tale
+
+new_level : (end : End) (found : Option NamedLink) → IfSome found (λ (made : NamedLink). IsSoundTale end made.bench (new_account made.bench.link))
+    → AreLevel end found (option_map (λ (made : NamedLink). new_account made.bench.link) found)
+new_level end None is = tt
+new_level end (Some made) is = is
+
+module _ (end : End) (place : ℕ) (answer : Answer) (run : RunState) (asked : Command) (runs : IsRunnable asked) (reached : AreReached run.objects) where
+  abbrev after : RunState
+  after = (effect_of answer run asked).run
+
+  next_level : (found : Option NamedLink) (account : Option Account) → slice_get run.objects.links place ≡ found → AreLevel end found account
+      → AreLevel end (slice_get after.objects.links place) (next_account end place run (line_of asked) after found account)
+  next_level None None none is =
+      new_level end (slice_get after.objects.links place)
+      (holds_after answer run asked _ (new_after run (line_of asked) place end none (makes_fit asked runs)))
+  next_level None (Some account) none is = absurd is
+  next_level (Some on) None found is = absurd is
+  next_level (Some on) (Some account) found is =
+      subst (λ (now : Option NamedLink). AreLevel end now (Some (account_behind end on.bench run.steps (done_at run place (line_of asked)) account)))
+      (sym (holds_after answer run asked _ (there_after run (line_of asked) place on found)))
+      (behind_tale end on run.steps (done_at run place (line_of asked)) account (done_fits run place (line_of asked) (line_fits asked runs))
+      (item_at (λ (named : NamedLink). IsReachedBench named.bench) run.objects.links place on found reached.links) is)
+
+-- ---- runs
+
+record Stands (end : End) (place : ℕ) (run : RunState) (account : Option Account) : Type 0 where
+  pub reached : AreReached run.objects
+  pub level : AreLevel end (slice_get run.objects.links place) account
+
+pub run_tales : (end : End) (place : ℕ) (told : Told) (commands : List Command) → AreRunnable commands
+    → AreLevel end (slice_get (run_of told commands).last.objects.links place) (account_of end place told commands)
+run_tales end place told commands runs =
+    (noted_kept (accounting end place) (Stands end place)
+    (λ answer run asked account may stands. record {
+      reached = effect_reached answer run asked may stands.reached;
+      level = next_level end place answer run asked may stands.reached (slice_get run.objects.links place) account refl stands.level;
+    })
+    told new_run commands None runs (record { reached = record { links = All-nil (λ (named : NamedLink). IsReachedBench named.bench); cores = All-nil (λ (named : NamedCoreState). IsReachedCore named.core) }; level = tt })).level
+
+told_at : (end : End) (found : Option NamedLink) (account : Option Account) (on : NamedLink) → found ≡ Some on → AreLevel end found account → IsSomeAnd account (IsAccount end on.bench.link)
+told_at end None account on none is = absurd (true≢false (ap is_some (sym none)))
+told_at end (Some link) None on found is = absurd is
+told_at end (Some link) (Some account) on found is =
+    subst (λ (l : NamedLink). IsAccount end l.bench.link account) (same_item link on found) (account_is end link.bench account is.tale)
+
+pub links_told : (end : End) (told : Told) (commands : List Command) (place : ℕ) (on : NamedLink) → AreRunnable commands → slice_get (run_of told commands).last.objects.links place ≡ Some on
+    → IsSomeAnd (account_of end place told commands) (IsAccount end on.bench.link)
+links_told end told commands place on runs found = told_at end _ (account_of end place told commands) on found (run_tales end place told commands runs)
+
+-- ---- rings
+
+level_at : (end : End) (found : Option NamedLink) (account : Option Account) (on : NamedLink) (P : BenchState → Type 0) → found ≡ Some on → AreLevel end found account
+    → ((account : Account) → IsSoundTale end on.bench account → P on.bench) → P on.bench
+level_at end None account on P none is rest = absurd (true≢false (ap is_some (sym none)))
+level_at end (Some link) None on P found is rest = absurd is
+level_at end (Some link) (Some account) on P found is rest = rest account (subst (λ (l : NamedLink). IsSoundTale end l.bench account) (same_item link on found) is)
+
+module _ (told : Told) (commands : List Command) (place : ℕ) (on : NamedLink) (runs : AreRunnable commands) (found : slice_get (run_of told commands).last.objects.links place ≡ Some on) where
+  pub links_sound : HasSoundRings on.bench.rings
+  links_sound = level_at side.Host _ (account_of side.Host place told commands) on (λ (bench : BenchState). HasSoundRings bench.rings) found (run_tales side.Host place told commands runs) (λ account tale. tale.sound)
+
+  pub links_level : lists_of on.bench.rings ≡ on.bench.link
+  links_level = level_at side.Host _ (account_of side.Host place told commands) on (λ (bench : BenchState). lists_of bench.rings ≡ bench.link) found (run_tales side.Host place told commands runs) (λ account tale. tale.tale.level)

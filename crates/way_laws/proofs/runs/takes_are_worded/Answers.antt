@@ -1,0 +1,9 @@
+use Rattle.link_bench.specs.Watchers.{nobody_sees}
+use Rattle.way_laws.proofs.Worded.{act_tells, take_worded}
+use Rattle.way_laws.proofs.runs.takes_are_worded.Goals as goal
+
+pub returns : goal.returns
+returns c = record {
+  reached = λ own bench steps asked caller came is end. act_tells nobody_sees bench tt steps own asked caller came is end;
+  line = λ name link caller number judged handing end found told. take_worded name link caller number judged handing end found told;
+}

@@ -1,0 +1,137 @@
+-- The accounts of the links of a run's cores: what each command adds to them (own).
+use Rattle.std.specs.Prelude.{ℕ, zero, suc, ◌+◌, ◌==◌, ◌&&◌, Bool, List, slice_get, Option, Some, None, is_none, option_and_then, option_map, Result, Ok, Err, if◌then◌else◌}
+use Rattle.rp_base.specs.declared.kinds.End.{End}
+use Rattle.rp_base.specs.declared.limits.TheConstants.{STEPS_MOST}
+use Rattle.proc_state.specs.Lives.{is_up}
+use Rattle.script_lang.specs.declared.commands.Command.{Command}
+use Rattle.script_lang.specs.declared.recipes.RecipeLine.{RecipeLine}
+use Rattle.link_bench.specs.declared.acts.LinkAct.{LinkAct}
+use Rattle.link_bench.specs.Benches.{BenchState}
+use Rattle.crash_recover.specs.declared.core_answers.Start.{Start}
+use Rattle.crash_recover.specs.declared.core_faults.CoreFault.{CoreFault}
+use Rattle.crash_recover.specs.CoreBoots.{Found, boot_of, loaded_in}
+use Rattle.crash_recover.specs.CoreCrashes.{report_of}
+use Rattle.crash_recover.specs.CoreLeaves.{detach_of, shutdown_of}
+use Rattle.crash_recover.specs.CoreRecoveries.{after_recovery, recovery_fault, reload_fault, reopen_fault}
+use Rattle.crash_recover.specs.Cores.{CoreState}
+use Rattle.core_actors.specs.ActorEnds.{actors_after_end}
+use Rattle.crash_recover.specs.Drives.{drive_step}
+use Rattle.core_laws.specs.Beginnings.{begins_life}
+use Rattle.script_run.specs.declared.acts.CoreAct.{CoreAct}
+use Rattle.script_run.specs.declared.acts.CoreAct.TheVariants as core
+use Rattle.script_run.specs.declared.acts.Line.{Line}
+use Rattle.script_run.specs.declared.acts.Line.TheVariants as line
+use Rattle.script_run.specs.declared.acts.NamedAct.{NamedAct}
+use Rattle.script_run.specs.declared.acts.NamedAct.TheVariants as under
+use Rattle.script_run.specs.Acts.{line_of}
+use Rattle.script_run.specs.CoreDrives.{rest_event}
+use Rattle.script_run.specs.CoreLives.{booted_image, found_image, may_step}
+use Rattle.script_run.specs.NamedCores.{NamedCoreState}
+use Rattle.script_run.specs.NamedImages.{ImageState}
+use Rattle.script_run.specs.Runs.{RunState, core_place, new_run, place_of}
+use Rattle.script_run.specs.Stores.{Answer, Told}
+use Rattle.act_laws.specs.Accounts.{Account, new_account, with_deeds}
+use Rattle.act_laws.specs.CoreDeeds.{drive_deeds, ready_deeds, reported_deeds}
+use Rattle.act_laws.specs.Deeds.{Deeds, act_deeds, no_deeds}
+use Rattle.way_laws.specs.Notes.{Noting, noted_from}
+use Rattle.way_laws.specs.RunAccounts.{is_place}
+
+-- deeds on the link that a core has, if it has one
+abbrev pub deed_account : End → Option BenchState → Deeds → Option Account → Option Account
+deed_account end None deeds account = account
+deed_account end (Some bench) deeds account = option_map (λ (now : Account). with_deeds end bench.link.era.is_live now deeds) account
+
+-- a new account of the link that a core has, if it has one
+abbrev pub begun_account : Option BenchState → Option Account
+begun_account found = option_map (λ (bench : BenchState). new_account bench.link) found
+
+-- an account where something refuses, or else another
+abbrev pub unless_some : {X A : Type 0} → Option X → A → A → A
+unless_some None refused done = done
+unless_some (Some why) refused done = refused
+
+-- behind a boot that left this link: a life that begins has a new one
+abbrev pub started_account : Option BenchState → Result Start CoreFault → Option Account → Option Account
+started_account left (Ok came) account = if begins_life came then begun_account left else account
+started_account left (Err why) account = account
+
+-- behind a shutdown or a detaching, with which the link may have gone
+abbrev pub left_account : Option BenchState → Option Account → Option Account
+left_account None account = None
+left_account (Some left) account = account
+
+-- caller 0 of the link that a core has is made anew
+abbrev pub ready_if : Option BenchState → Deeds
+ready_if None = no_deeds
+ready_if (Some bench) = ready_deeds bench
+
+-- behind a recovery: a refusal of its life or of its image leaves the link as it is; caller 0 is made anew before the link is reopened, which may be refused
+abbrev pub recovery_account : End → CoreState → Found → Option Account → Option Account
+recovery_account end on found account =
+    unless_some (recovery_fault on.life) account (unless_some (reload_fault on found) account
+    (unless_some (reopen_fault on) (deed_account end on.bench (ready_if on.bench) account) (begun_account (after_recovery on (loaded_in on found)).bench)))
+
+-- behind so many steps of the actors, fewer where they come to rest or the run has no step left
+unfoldable pub drive_account : End → ℕ → List ℕ → CoreState → ℕ → Option Account → Option Account
+drive_account end zero name on steps account = account
+drive_account end (suc more) name on steps account =
+    unless_some (rest_event name on) account
+    (if steps == STEPS_MOST then account
+    else drive_account end more name (drive_step on).core (steps + 1) (deed_account end on.bench (drive_deeds on) account))
+
+-- behind an act on a core
+abbrev pub life_account : End → List ImageState → Answer → NamedCoreState → ℕ → CoreAct → Option Account → Option Account
+life_account end images answer on steps (core.Boot image) account =
+    let booted = boot_of on.core image (found_image images answer image) in started_account booted.core.bench booted.answer account
+life_account end images answer on steps core.Shutdown account = left_account (shutdown_of (may_step steps) on.core).core.bench account
+life_account end images answer on steps core.Detach account = left_account (detach_of (may_step steps) on.core).core.bench account
+life_account end images answer on steps (core.Crash kind) account =
+    deed_account end on.core.bench (reported_deeds (report_of (may_step steps) on.core).answer on.core.bench) account
+life_account end images answer on steps core.Recover account =
+    recovery_account end on.core (found_image images answer (booted_image on.name on.core)) account
+life_account end images answer on steps (core.Drive count) account =
+    if is_up on.core.life.state then drive_account end count on.name on.core steps account else account
+life_account end images answer on steps other account = account
+
+-- an act on the link that a core has, whose first two callers are its own
+abbrev pub core_act_deeds : CoreState → Option BenchState → ℕ → LinkAct (List ℕ) → Deeds
+core_act_deeds on None steps asked = no_deeds
+core_act_deeds on (Some bench) steps asked = act_deeds actors_after_end 2 bench on.actors steps asked
+
+-- behind what is done under the name of a core
+abbrev pub core_account_after : End → List ImageState → Answer → NamedCoreState → ℕ → NamedAct (List ℕ) → Option Account → Option Account
+core_account_after end images answer on steps (under.Make made) account = account
+core_account_after end images answer on steps (under.Link asked) account = deed_account end on.core.bench (core_act_deeds on.core on.core.bench steps asked) account
+core_account_after end images answer on steps (under.Manage managed) account = account
+core_account_after end images answer on steps (under.Show shown) account = account
+core_account_after end images answer on steps (under.Core asked) account = life_account end images answer on steps asked account
+
+-- whether no link has this name
+abbrev pub is_unlinked : RunState → List ℕ → Bool
+is_unlinked run name = is_none (option_and_then (slice_get run.objects.links) (place_of run.objects.links name))
+
+-- what a line does under the name of the core at this place
+abbrev pub done_on_core : RunState → ℕ → Line (List RecipeLine) (List ℕ) → Option (NamedAct (List ℕ))
+done_on_core run place (line.Image name lines) = None
+done_on_core run place (line.Quiet set) = None
+done_on_core run place (line.Dump name image) = None
+done_on_core run place (line.On name wanted) = if is_unlinked run name && is_place (core_place run.objects.cores name) place then Some wanted else None
+
+-- the account of the link of a core behind what is done on it, if anything is
+abbrev pub core_account_behind : End → List ImageState → Answer → NamedCoreState → ℕ → Option (NamedAct (List ℕ)) → Option Account → Option Account
+core_account_behind end images answer on steps None account = account
+core_account_behind end images answer on steps (Some wanted) account = core_account_after end images answer on steps wanted account
+
+-- the account of the link of the core at a place behind a command; a core is made without a link
+abbrev pub next_core_account : End → ℕ → Answer → RunState → Line (List RecipeLine) (List ℕ) → Option NamedCoreState → Option Account → Option Account
+next_core_account end place answer before done (Some on) account =
+    core_account_behind end before.objects.images answer on before.steps (done_on_core before place done) account
+next_core_account end place answer before done None account = None
+
+-- what a command adds to the account of the link of the core at a place
+abbrev pub core_accounting : End → ℕ → Noting (Option Account)
+core_accounting end place answer before asked after account = next_core_account end place answer before (line_of asked) (slice_get before.objects.cores place) account
+
+-- the account of the link of the core at a place of a run, at one of its ends
+abbrev pub core_account_of : End → ℕ → Told → List Command → Option Account
+core_account_of end place told commands = noted_from (core_accounting end place) told new_run commands None

@@ -1,0 +1,69 @@
+//! Laws of what runs do on their links and tell of takes. Each is the contract of an empty function, and speaks of definitions alone.
+
+ghost use Rattle.std.specs.Prelude.{◌≡◌, ℕ, List, Some, IfSome, IsSomeAnd, slice_get, [], ◌∷◌};
+ghost use Rattle.rp_base.specs.declared.kinds.End.{End};
+ghost use Rattle.rp_base.specs.declared.kinds.Verdict.{Verdict};
+ghost use Rattle.lane_model.specs.declared.calls.CallEnd.TheVariants as call_end;
+ghost use Rattle.lane_model.specs.Links.{LinkState, end_of};
+ghost use Rattle.lane_laws.specs.Handings.{Handing};
+ghost use Rattle.channel_bus.specs.Sides.{EndState};
+ghost use Rattle.lane_laws.specs.SoundRingLinks.{HasSoundRings};
+ghost use Rattle.script_lang.specs.declared.commands.Command.{Command};
+ghost use Rattle.script_lang.specs.Runnable.{AreRunnable};
+ghost use Rattle.link_bench.specs.declared.acts.ActAnswer.TheVariants as answer;
+ghost use Rattle.link_bench.specs.declared.acts.LinkAct.{LinkAct};
+ghost use Rattle.link_bench.specs.declared.benches.Reach.{Reach};
+ghost use Rattle.link_bench.specs.declared.benches.Reach.TheVariants as reach;
+ghost use Rattle.link_bench.specs.Acts.{link_act};
+ghost use Rattle.link_bench.specs.Watchers.{nobody_sees};
+ghost use Rattle.script_run.specs.CallEvents.{end_event, took_event};
+ghost use Rattle.act_laws.specs.Deeds.{act_deeds, reach_takes};
+ghost use Rattle.link_bench.specs.Benches.{BenchState, lists_of};
+ghost use Rattle.script_run.specs.NamedCores.{NamedCoreState};
+ghost use Rattle.script_run.specs.NamedLinks.{NamedLink};
+ghost use Rattle.script_run.specs.Runs.{run_of};
+ghost use Rattle.script_run.specs.Stores.{Told};
+ghost use Rattle.act_laws.specs.Accounts.{IsAccount};
+ghost use Rattle.way_laws.specs.CoreAccounts.{core_account_of};
+ghost use Rattle.way_laws.specs.RunAccounts.{account_of};
+
+/// After each list of commands, and so after each front of a script, a link of the run comes by the run's own moves since it was made or last
+/// reopened; and what the run told of takes on it since then, at an end of it, is what those moves handed over there, in order and each once,
+/// with number, sender, bytes and verdict: all but what a taker in its last step is yet to tell, or one that was reclaimed. Once the link is
+/// closed nothing more is handed over, and one take at most is told at each end, of a message that was handed over before.
+pub fn links_told()
+    ensures { (end : End) (told : Told) (commands : List Command) (place : ℕ) (on : NamedLink) → AreRunnable commands
+        → slice_get (run_of told commands).last.objects.links place ≡ Some on → IsSomeAnd (account_of end place told commands) (IsAccount end on.bench.link) }
+{}
+
+/// The same of the link of each core of a run, from its boot or last recovery on: the run's own moves are those of the core's actors, of its crash and of
+/// the acts that the script asks for.
+pub fn cores_told()
+    ensures { (end : End) (told : Told) (commands : List Command) (place : ℕ) (on : NamedCoreState) → AreRunnable commands
+        → slice_get (run_of told commands).last.objects.cores place ≡ Some on
+        → IfSome on.core.bench (λ (bench : BenchState). IsSomeAnd (core_account_of end place told commands) (IsAccount end bench.link)) }
+{}
+
+/// After each list of commands the rings of each link of the run, and those of the link of each core, are sound, so that each buffer has one owner, and
+/// they stand for its lists.
+pub fn links_own()
+    ensures rings { (told : Told) (commands : List Command) (place : ℕ) (on : NamedLink) → AreRunnable commands
+        → slice_get (run_of told commands).last.objects.links place ≡ Some on → HasSoundRings on.bench.rings }
+    ensures lists { (told : Told) (commands : List Command) (place : ℕ) (on : NamedLink) → AreRunnable commands
+        → slice_get (run_of told commands).last.objects.links place ≡ Some on → lists_of on.bench.rings ≡ on.bench.link }
+    ensures core_rings { (told : Told) (commands : List Command) (place : ℕ) (on : NamedCoreState) → AreRunnable commands
+        → slice_get (run_of told commands).last.objects.cores place ≡ Some on → IfSome on.core.bench (λ (bench : BenchState). HasSoundRings bench.rings) }
+    ensures core_lists { (told : Told) (commands : List Command) (place : ℕ) (on : NamedCoreState) → AreRunnable commands
+        → slice_get (run_of told commands).last.objects.cores place ≡ Some on → IfSome on.core.bench (λ (bench : BenchState). lists_of bench.rings ≡ bench.link) }
+{}
+
+/// Where an act answers how far a call came, as each call and step of a script does that nothing refuses, what it tells of takes is by how that call
+/// ended; and the line of a take has the number, the bytes and the verdict of the handing that is told.
+pub fn takes_are_worded()
+    ensures reached { (own : ℕ) (bench : BenchState) (steps : ℕ) (asked : LinkAct (List ℕ)) (caller : ℕ) (came : Reach)
+        → (link_act nobody_sees own bench tt steps asked).answer ≡ answer.Reached caller came
+        → (end : End) → (act_deeds nobody_sees own bench tt steps asked).takes end ≡ reach_takes (link_act nobody_sees own bench tt steps asked).bench.link caller came end }
+    ensures line { (name : List ℕ) (link : LinkState EndState) (caller number : ℕ) (judged : Verdict) (handing : Handing) (end : End) → end_of link.callers caller ≡ Some end
+        → reach_takes link caller (reach.Ended (call_end.Took number judged)) end ≡ handing ∷ []
+        → end_event name link caller (call_end.Took number judged) ≡ took_event name caller handing.sent.number handing.sent.message handing.verdict }
+{}
