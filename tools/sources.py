@@ -1,19 +1,22 @@
-"""The sources of the program, and whether the built program is theirs. Used by tools/launch and tools/build."""
+"""The sources of a program, and whether the built program is theirs. Used by tools/launch and tools/build."""
 import hashlib
 import os
 import time
 
 TOP = os.path.dirname(os.path.dirname(os.path.abspath(__file__)))
-OUT = f"{TOP}/crates/rproc/out"
-PROGRAM, STAMP = f"{OUT}/rproc", f"{OUT}/rproc.sources"
+# The crates of the programs.
+PROGRAMS = ("rproc", "rproc_chart")
 # What a check of a crate reads of it.
 PARTS = ("src", "specs", "proofs")
 
 
 class Sources:
-    """The crates that the program stands on, and the sum of their files."""
+    """The crates that a program stands on, and the sum of their files."""
 
-    def __init__(self):
+    def __init__(self, program):
+        self.program = program
+        self.out = f"{TOP}/crates/{program}/out"
+        self.built, self.stamp = f"{self.out}/{program}", f"{self.out}/{program}.sources"
         self.lines = {}
         with open(f"{TOP}/crates.txt") as file:
             for line in file:
@@ -21,7 +24,7 @@ class Sources:
                 if name.strip():
                     self.lines[name.split()[0]] = uses.split()
         # Those below the program, lowest first.
-        self.names = self.below("rproc")
+        self.names = self.below(program)
 
     def below(self, name):
         """The crates of the repository that a crate uses, and those that they use, lowest first."""
@@ -45,8 +48,8 @@ class Sources:
 
     def sum(self):
         """A sum over the names and bytes of all sources, whatever the clock says of them."""
-        total = hashlib.sha256(repr(sorted((it, self.lines[it]) for it in [*self.names, "rproc"])).encode())
-        for name in [*self.names, "rproc"]:
+        total = hashlib.sha256(repr(sorted((it, self.lines[it]) for it in [*self.names, self.program])).encode())
+        for name in [*self.names, self.program]:
             for path in self.files(name):
                 if os.path.isfile(path):
                     with open(path, "rb") as file:
@@ -55,18 +58,18 @@ class Sources:
 
     def changed_since(self, moment):
         """Whether a source was written after a moment of the clock, in nanoseconds."""
-        paths = (path for name in [*self.names, "rproc"] for path in self.files(name))
+        paths = (path for name in [*self.names, self.program] for path in self.files(name))
         return any(os.lstat(it).st_mtime_ns > moment for it in [f"{TOP}/crates.txt", f"{TOP}/HANDLES", *paths])
 
     def is_built(self):
         """Whether the built program is that of these sources. Where only the clock says otherwise, the stamp is made new."""
         try:
-            with open(STAMP) as file:
+            with open(self.stamp) as file:
                 stamp = file.read().strip()
-            began = os.stat(STAMP).st_mtime_ns
+            began = os.stat(self.stamp).st_mtime_ns
         except OSError:
             return False
-        if not os.access(PROGRAM, os.X_OK):
+        if not os.access(self.built, os.X_OK):
             return False
         if not self.changed_since(began):
             return True
@@ -81,7 +84,7 @@ class Sources:
         builds. It keeps a lock in .git from its start on, and no stamp of ours outlasts it."""
         try:
             began = os.stat(f"{TOP}/.git/rt-ci.lock").st_mtime_ns
-            is_left = os.access(PROGRAM, os.X_OK) and not os.path.exists(STAMP) and os.stat(PROGRAM).st_mtime_ns > began
+            is_left = os.access(self.built, os.X_OK) and not os.path.exists(self.stamp) and os.stat(self.built).st_mtime_ns > began
             if not is_left or self.changed_since(began):
                 return False
             self.put_stamp(began, self.sum())
@@ -91,7 +94,7 @@ class Sources:
 
     def put_stamp(self, began, total):
         """Notes that the program is the one of the sources with this sum, which were not written since a moment of the clock."""
-        with open(f"{STAMP}.new", "w") as file:
+        with open(f"{self.stamp}.new", "w") as file:
             file.write(total + "\n")
-        os.utime(f"{STAMP}.new", ns=(began, began))
-        os.replace(f"{STAMP}.new", STAMP)
+        os.utime(f"{self.stamp}.new", ns=(began, began))
+        os.replace(f"{self.stamp}.new", self.stamp)

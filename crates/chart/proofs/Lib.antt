@@ -1,0 +1,4 @@
+pub mod LineFacts
+pub mod RowFacts
+pub mod JoinFacts
+pub mod LawFacts

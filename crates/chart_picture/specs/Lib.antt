@@ -1,0 +1,4 @@
+pub mod Measures
+pub mod Heads
+pub mod Marks
+pub mod Drawings

@@ -1,0 +1,9 @@
+// The picture of a chart: where each of its parts stands.
+#![tactic(auto)]
+
+mod drawings;
+mod heads;
+mod marks;
+mod measures;
+
+pub use drawings::draw;
