@@ -1,0 +1,4 @@
+pub mod Puts
+pub mod LoadForms
+pub mod Numbers
+pub mod ServiceBytes
