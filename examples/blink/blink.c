@@ -1,34 +1,7 @@
 /* A firmware for a core with the standard memory of rproc: a resource table that asks for a carveout, a trace and a
  * device for RPMsg, a trace buffer with a text, and at its entry the one record of a worker that halts at once.
  * The structures are those of Linux include/linux/remoteproc.h. */
-#include <stdint.h>
-
-#define ANYWHERE 0xffffffffu
-#define RSC_CARVEOUT 0u
-#define RSC_TRACE 2u
-#define RSC_VDEV 3u
-#define VIRTIO_ID_RPMSG 7u
-#define VIRTIO_RPMSG_F_NS 1u
-
-struct carveout {
-	uint32_t type, da, pa, len, flags, reserved;
-	char name[32];
-};
-
-struct trace {
-	uint32_t type, da, len, reserved;
-	char name[32];
-};
-
-struct vring {
-	uint32_t da, align, num, notifyid, pa;
-};
-
-struct vdev {
-	uint32_t type, id, notifyid, dfeatures, gfeatures, config_len;
-	uint8_t status, num_of_vrings, reserved[2];
-	struct vring vring[2];
-};
+#include "../worker.h"
 
 struct table {
 	uint32_t ver, num, reserved[2], offset[3];
@@ -37,15 +10,9 @@ struct table {
 	struct vdev rpmsg;
 };
 
-/* The operation, n, a, b and c of a worker's record; all zeros halt. */
-struct record {
-	uint16_t op, n;
-	uint32_t a, b, c;
-};
-
 extern char trace_text[64];
 
-__attribute__((section(".entry"), used)) const struct record worker[1] = { { 0, 0, 0, 0, 0 } };
+__attribute__((section(".entry"), used)) const struct record worker[1] = { HALT() };
 
 __attribute__((section(".trace"), used)) char trace_text[64] = "blink: clock 48 MHz\nblink: ready\n";
 
@@ -59,10 +26,7 @@ __attribute__((section(".resource_table"), used)) const struct table resources =
 	},
 	.frames = { .type = RSC_CARVEOUT, .da = ANYWHERE, .len = 8192, .name = "frames" },
 	.log = { .type = RSC_TRACE, .da = 0x1000, .len = sizeof(trace_text), .name = "log" },
-	.rpmsg = {
-		.type = RSC_VDEV, .id = VIRTIO_ID_RPMSG, .dfeatures = VIRTIO_RPMSG_F_NS, .num_of_vrings = 2,
-		.vring = { { ANYWHERE, 4096, 16, 0, 0 }, { ANYWHERE, 4096, 16, 0, 0 } },
-	},
+	.rpmsg = RPMSG_DEVICE(16),
 };
 
 /* What a real core would run: it toggles a pin for ever, and counts. */
