@@ -21,14 +21,13 @@ use Rattle.crash_recover.specs.declared.core_answers.Start.{Start}
 use Rattle.core_actors.specs.declared.progress.Driven.{Driven}
 use Rattle.core_actors.specs.declared.progress.Driven.TheVariants as driven
 use Rattle.crash_recover.specs.declared.core_faults.AddFault.{AddFault}
+use Rattle.crash_recover.specs.declared.core_faults.AddFault.TheVariants as add
 use Rattle.crash_recover.specs.declared.core_faults.CoreFault.{CoreFault}
 use Rattle.crash_recover.specs.declared.core_faults.CoreFault.TheVariants as fault
-use Rattle.elf_image.specs.declared.sections.Section.{Section}
 use Rattle.fw_load.proofs.Steps.{pair_sound}
-use Rattle.fw_load.specs.Loading.{load_fault}
+use Rattle.fw_load.specs.Loading.{Loads, load_fault}
 use Rattle.fw_load.specs.Rings.{IsSoundPair, pair_from, pair_of}
-use Rattle.fw_load.specs.Tables.{bytes_in, entries_in, rings_before, section_fault, table_of, table_section}
-use Rattle.fw_load.specs.declared.faults.LoadFault.TheVariants as load_why
+use Rattle.fw_load.specs.Tables.{entries_in, patched_in, table_of}
 use Rattle.fw_load.specs.declared.rings.RingPair.{RingPair}
 use Rattle.journal.specs.declared.events.Event.{Event}
 use Rattle.journal.specs.declared.events.Event.TheVariants as event
@@ -42,8 +41,15 @@ use Rattle.link_bench.specs.BenchCrashes.{after_reopen}
 use Rattle.link_bench.specs.BenchEnds.{crashed_bench, readied_bench}
 use Rattle.link_bench.specs.Benches.{BenchState}
 use Rattle.link_bench.specs.declared.acts.LinkAct.{LinkAct}
+use Rattle.load_laws.proofs.LoadParts.{parts_fit, placed_is_sound, table_good}
+use Rattle.load_laws.proofs.PatchParts.{placed_good}
+use Rattle.memory_pool.proofs.RegionsSound.{added_sound}
+use Rattle.memory_pool.specs.Regions.{region_fault}
+use Rattle.memory_pool.specs.Soundness.{IsRange, SoundRegions}
+use Rattle.memory_pool.specs.declared.faults.PlaceFault.{PlaceFault}
 use Rattle.memory_pool.specs.declared.blocks.Block.{Block}
 use Rattle.memory_pool.specs.declared.regions.Region.{Region}
+use Rattle.rp_base.specs.declared.kinds.RegionKind.TheVariants.{Pool, Tcm}
 use Rattle.proc_state.specs.Lives.{CoreLife, is_offline, is_up, life_after_boot, life_after_detach, life_after_handover, life_after_shutdown}
 use Rattle.proc_state.specs.declared.answers.Left.{Left as LeftTo}
 use Rattle.proc_state.specs.declared.answers.Left.TheVariants as left_to
@@ -62,6 +68,7 @@ use Rattle.rp_base.specs.declared.limits.TheConstants.{STEPS_MOST}
 use Rattle.run_laws.proofs.CoreWalks.{FitsNamed}
 use Rattle.script_lang.specs.Runnable.{IsBook}
 use Rattle.script_lang.specs.declared.commands.RegionSet.{RegionSet}
+use Rattle.script_lang.specs.declared.commands.RegionSet.TheVariants as regions
 use Rattle.script_run.specs.CoreCommands.{core_act_effect, core_effect}
 use Rattle.script_run.specs.CoreDrives.{drive_effect, drive_steps, rest_event, rests_or, step_then}
 use Rattle.script_run.specs.CoreEffects.{CoreEffect, added_effect, core_tells, declared_effect, driver_effect, region_effect}
@@ -78,8 +85,9 @@ use Rattle.script_run.specs.declared.acts.LinkView.{LinkView}
 use Rattle.script_run.specs.declared.acts.LinkView.TheVariants as view
 use Rattle.script_run.specs.declared.acts.NamedAct.{NamedAct}
 use Rattle.script_run.specs.declared.acts.NamedAct.TheVariants as under
-use Rattle.std.proofs.Common.{Bool, Err, IfSome, List, None, Ok, Option, Result, Some, [], ap, arith, cond, false, is_some, map, option_map, refl, subst, suc, sym, true, zero, ℕ, ◌+◌, ◌<◌, ◌==◌, ◌∷◌, ◌≡◌, ◌≤◌}
+use Rattle.std.proofs.Common.{Bool, Err, IfSome, List, None, Ok, Option, Result, Some, [], ap, arith, cond, false, is_some, map, option_map, refl, subst, suc, sym, true, zero, ℕ, ◌+◌, ◌<◌, ◌==◌, ◌∷◌, ◌≡◌, ◌≤◌, ◌∙◌}
 use Rattle.std.proofs.lemmas.Bool.{cond_both, eqb-true, true≢false}
+use Rattle.std.proofs.lemmas.List.Elements.{All-nil}
 use Rattle.std.specs.List.{range_with_len}
 use Rattle.std.specs.Option.{option_or, unwrap_or}
 use Rattle.std.specs.Result.{result_ok}
@@ -107,40 +115,46 @@ table_sound table good =
     each_sound (λ index. entry_at table (start_of table index)) 0 (entry_count table)
     (λ index least below. sound_entry table index good (subst (λ (n : ℕ). index < n) (sym (length-entries_of table)) (omega (arith, below))))
 
-pair_at : (is : Bool) (entries : List Entry) (placed : List Block) (index : ℕ) (device : Vdev) (rest : Option RingPair) → (device.id == 7) ≡ is → IsSoundDevice device → IfSome rest IsSoundPair
-    → IfSome (cond is (Some (pair_of placed index (rings_before entries index) device)) rest) IsSoundPair
-pair_at true entries placed index device rest is sound later = pair_sound placed index (rings_before entries index) device sound (eqb-true _ _ is)
-pair_at false entries placed index device rest is sound later = later
+pair_at : (is : Bool) (placed : List Block) (index : ℕ) (device : Vdev) (rest : Option RingPair) → (device.id == 7) ≡ is → IsSoundDevice device → IfSome rest IsSoundPair
+    → IfSome (cond is (Some (pair_of placed index device)) rest) IsSoundPair
+pair_at true placed index device rest is sound later = pair_sound placed index device sound (eqb-true _ _ is)
+pair_at false placed index device rest is sound later = later
 
-found_pair : (entries : List Entry) (placed : List Block) (index : ℕ) (rest : List Entry) → AreSoundEntries rest → IfSome (pair_from entries placed index rest) IsSoundPair
-found_pair entries placed index [] sound = tt
-found_pair entries placed index (entry.Device device ∷ more) sound =
-    pair_at (device.id == 7) entries placed index device (pair_from entries placed (index + 1) more) refl sound.0 (found_pair entries placed (index + 1) more sound.1)
-found_pair entries placed index (other ∷ more) sound = found_pair entries placed (index + 1) more sound.1
+found_pair : (placed : List Block) (index : ℕ) (rest : List Entry) → AreSoundEntries rest → IfSome (pair_from placed index rest) IsSoundPair
+found_pair placed index [] sound = tt
+found_pair placed index (entry.Device device ∷ more) sound =
+    pair_at (device.id == 7) placed index device (pair_from placed (index + 1) more) refl sound.0 (found_pair placed (index + 1) more sound.1)
+found_pair placed index (other ∷ more) sound = found_pair placed (index + 1) more sound.1
 
 first_none : {X : Type 0} (first later : Option X) → option_or first later ≡ None → (first ≡ None) × (later ≡ None)
 first_none None later none = (refl, none)
 first_none (Some why) later none = absurd (true≢false (ap is_some none))
 
-second_none : {X : Type 0} (test : Bool) (why : X) (rest : Option X) → cond test (Some why) rest ≡ None → rest ≡ None
-second_none true why rest none = absurd (true≢false (ap is_some none))
-second_none false why rest none = none
+-- the patched table of an image that may be loaded, where it has one
+patched_sound : (image : List ℕ) (regions : List Region) (placed : List Block) → SoundRegions regions → Loads image regions → placement regions (entries_in (table_of image)) ≡ Ok placed
+    → (found : Option (List ℕ)) → table_of image ≡ found → AreSoundEntries (entries_of (patched_in found placed))
+patched_sound image regions placed sound loads is None has = tt
+patched_sound image regions placed sound loads is (Some table) has =
+    let there : placement regions (entries_of table) ≡ Ok placed = sym (ap (λ (found : Option (List ℕ)). placement regions (entries_in found)) has) ∙ is in
+    let held = placed_is_sound image regions placed sound (parts_fit image regions loads).table is in
+    table_sound (patched_in (Some table) placed) (placed_good table (table_good image regions table loads has) regions placed there held)
 
--- the section of the table of an image that may be loaded, where it has one
-section_sound : (image : List ℕ) (section : Option Section) → section_fault image section ≡ None → AreSoundEntries (entries_in (option_map (bytes_in image) section))
-section_sound image None none = tt
-section_sound image (Some section) none = table_sound (bytes_in image section) (second_none _ _ _ none)
+-- where the entries of its table are placed
+placed_in : Result (List Block) PlaceFault → List Block
+placed_in found = unwrap_or (result_ok found) []
 
-image_sound : (image : List ℕ) (regions : List Region) → load_fault image regions ≡ None → IfSome (loaded_from image regions).rings IsSoundPair
-unfolding loaded_from
-image_sound image regions loads =
-    let table = (first_none _ _ (first_none _ _ loads).1).0 in
-    found_pair (entries_in (table_of image)) (unwrap_or (result_ok (placement regions (entries_in (table_of image)))) []) 0 (entries_in (table_of image)) (section_sound image (table_section image) (none_mapped load_why.Table (section_fault image (table_section image)) table))
+image_sound : (image : List ℕ) (regions : List Region) → SoundRegions regions → load_fault image regions ≡ None → IfSome (loaded_from image regions).rings IsSoundPair
+unfolding loaded_from placed_in
+image_sound image regions sound loads =
+    let fits = parts_fit image regions loads in
+    let placed = placed_in (placement regions (entries_in (table_of image))) in
+    found_pair placed 0 (entries_of (patched_in (table_of image) placed))
+    (patched_sound image regions placed sound loads (fits.placed ∙ ap Ok (sym (ap placed_in fits.placed))) (table_of image) refl)
 
 -- what is loaded of an image that nothing refuses
-loaded_sound : (core : CoreState) (found : Found) → image_fault core found ≡ None → IfSome (loaded_in core found).rings IsSoundPair
-loaded_sound core (Ok image) none = image_sound image core.regions (none_mapped fault.Load (load_fault image core.regions) none)
-loaded_sound core (Err why) none = absurd (true≢false (ap is_some none))
+loaded_sound : (core : CoreState) (found : Found) → SoundRegions core.regions → image_fault core found ≡ None → IfSome (loaded_in core found).rings IsSoundPair
+loaded_sound core (Ok image) sound none = image_sound image core.regions sound (none_mapped fault.Load (load_fault image core.regions) none)
+loaded_sound core (Err why) sound none = absurd (true≢false (ap is_some none))
 
 -- ---- links with sound rings
 
@@ -177,9 +191,10 @@ rings_rung names book first (Some rings) fit sound = made_rung names book first 
 
 -- ---- cores
 
--- a core whose books are of a fit size, and which has sound rings loaded
+-- a core whose books are of a fit size, whose regions are sound, and which has sound rings loaded
 pub record IsFitLoad (core : CoreState) : Type 0 where
   pub book : IsBook core.book
+  pub regions : SoundRegions core.regions
   pub rings : IfSome (loaded_rings core.loaded) IsSoundPair
 
 -- and whose link, if it has one, has sound rings
@@ -206,26 +221,26 @@ again_rung (Some bench) is =
 
 module _ (core : CoreState) (is : IsRungCore core) where
   crashed_core_rung : (life : CoreLife) → IsRungCore (crashed_core life core)
-  crashed_core_rung life = record { load = record { book = is.load.book; rings = is.load.rings }; bench = crashed_rung core.bench is.bench }
+  crashed_core_rung life = record { load = record { book = is.load.book; regions = is.load.regions; rings = is.load.rings }; bench = crashed_rung core.bench is.bench }
 
   report_rung : (may : Bool) → IsRungCore (report_of may core).core
   report_rung may = report_left IsRungCore may core is (λ life stops. crashed_core_rung life)
 
   started_rung : (life : CoreLife) (image : Option (List ℕ)) (loaded : Option LoadState) → IfSome (loaded_rings loaded) IsSoundPair → IsRungCore (started_core life (record core { image = image; loaded = loaded }))
   started_rung life image loaded sound = record {
-    load = record { book = is.load.book; rings = sound };
+    load = record { book = is.load.book; regions = is.load.regions; rings = sound };
     bench = rings_rung (driver_names core.actors) core.book life.incarnation (loaded_rings loaded) is.load.book sound;
   }
 
   first_rung : (life : CoreLife) (name : List ℕ) (found : Found) → IsRungCore (first_boot life core name found).core
   first_rung life name found =
       cond_both (is_offline core.life.state) _ _ (λ (out : CoreOutcome Start CoreFault). IsRungCore out.core)
-      (λ _. refused IsRungCore core (image_fault core found) _ is (λ none. started_rung life (Some name) (Some (loaded_in core found)) (loaded_sound core found none)))
+      (λ _. refused IsRungCore core (image_fault core found) _ is (λ none. started_rung life (Some name) (Some (loaded_in core found)) (loaded_sound core found is.load.regions none)))
       (λ _. started_rung life core.image core.loaded is.load.rings)
 
   booted_as : (life : CoreLife) (answer : Result Power LifeFault) (name : List ℕ) (found : Found) → IsRungCore (boot_as life answer core name found).core
   booted_as life (Err why) name found = is
-  booted_as life (Ok (power.Counted users)) name found = record { load = record { book = is.load.book; rings = is.load.rings }; bench = is.bench }
+  booted_as life (Ok (power.Counted users)) name found = record { load = record { book = is.load.book; regions = is.load.regions; rings = is.load.rings }; bench = is.bench }
   booted_as life (Ok power.First) name found = first_rung life name found
 
   boot_rung : (name : List ℕ) (found : Found) → IsRungCore (boot_of core name found).core
@@ -235,7 +250,7 @@ module _ (core : CoreState) (is : IsRungCore core) where
   handed_as : (life : CoreLife) (told : Result (Unit {0}) LifeFault) (name : List ℕ) (found : Found) → IsRungCore (handover_as life told core name found).core
   handed_as life (Err why) name found = is
   handed_as life (Ok done) name found =
-      refused IsRungCore core (image_fault core found) _ is (λ none. record { load = record { book = is.load.book; rings = loaded_sound core found none }; bench = is.bench })
+      refused IsRungCore core (image_fault core found) _ is (λ none. record { load = record { book = is.load.book; regions = is.load.regions; rings = loaded_sound core found is.load.regions none }; bench = is.bench })
 
   handover_rung : (name : List ℕ) (found : Found) → IsRungCore (handover_of core name found).core
   unfolding handover_of
@@ -248,29 +263,29 @@ module _ (core : CoreState) (is : IsRungCore core) where
 
   left_as : (may : Bool) (gone : CoreState) (life : CoreLife) (answer : Result LeftTo LifeFault) → IsRungCore gone → IsRungCore (leave_as may core gone life answer).core
   left_as may gone life (Err why) rest = is
-  left_as may gone life (Ok (left_to.Users users)) rest = record { load = record { book = is.load.book; rings = is.load.rings }; bench = is.bench }
+  left_as may gone life (Ok (left_to.Users users)) rest = record { load = record { book = is.load.book; regions = is.load.regions; rings = is.load.rings }; bench = is.bench }
   left_as may gone life (Ok left_to.Last) rest = refused IsRungCore core _ (close_or may core gone (live_inc core.bench)) is (λ _. closed_rung may gone (live_inc core.bench) rest)
 
   shutdown_rung : (may : Bool) → IsRungCore (shutdown_of may core).core
   unfolding shutdown_of
   shutdown_rung may =
       let life = (life_after_shutdown core.life).life in
-      left_as may (unloaded_core life core) life (life_after_shutdown core.life).answer (record { load = record { book = is.load.book; rings = tt }; bench = tt })
+      left_as may (unloaded_core life core) life (life_after_shutdown core.life).answer (record { load = record { book = is.load.book; regions = is.load.regions; rings = tt }; bench = tt })
 
   detach_rung : (may : Bool) → IsRungCore (detach_of may core).core
   unfolding detach_of
   detach_rung may =
       let life = (life_after_detach core.life).life in
-      left_as may (detached_core life core) life (life_after_detach core.life).answer (record { load = record { book = is.load.book; rings = is.load.rings }; bench = tt })
+      left_as may (detached_core life core) life (life_after_detach core.life).answer (record { load = record { book = is.load.book; regions = is.load.regions; rings = is.load.rings }; bench = tt })
 
   recovery_rung : (found : Found) → IsRungCore (recovery_of core found).core
   unfolding recovery_of
   recovery_rung found =
       refused IsRungCore core (option_map fault.Life (recovery_fault core.life)) _ is (λ _.
       refused IsRungCore core (reload_fault core found) _ is (λ loads.
-      refused IsRungCore (readied_core core) (reopen_fault core) _ (record { load = record { book = is.load.book; rings = is.load.rings }; bench = ready_rung core.bench is.bench })
+      refused IsRungCore (readied_core core) (reopen_fault core) _ (record { load = record { book = is.load.book; regions = is.load.regions; rings = is.load.rings }; bench = ready_rung core.bench is.bench })
       (λ _. record {
-        load = record { book = is.load.book; rings = loaded_sound core found (first_none (image_fault core found) _ loads).0 };
+        load = record { book = is.load.book; regions = is.load.regions; rings = loaded_sound core found is.load.regions (first_none (image_fault core found) _ loads).0 };
         bench = again_rung core.bench is.bench;
       })))
 
@@ -278,18 +293,18 @@ module _ (core : CoreState) (is : IsRungCore core) where
 
 host_load : (core : CoreState) (found : Option BenchState) → IsFitLoad core → IsFitLoad (host_step core found).core
 host_load core None is = is
-host_load core (Some bench) is = record { book = is.book; rings = is.rings }
+host_load core (Some bench) is = record { book = is.book; regions = is.regions; rings = is.rings }
 
 call_load : (core : CoreState) (found : Option BenchState) → IsFitLoad core → IsFitLoad (worker_call core found).core
 call_load core None is = is
-call_load core (Some bench) is = record { book = is.book; rings = is.rings }
+call_load core (Some bench) is = record { book = is.book; regions = is.regions; rings = is.rings }
 
 run_load : (core : CoreState) (loaded : Option LoadState) → core.loaded ≡ loaded → IsFitLoad core → IsFitLoad (record_run core loaded).core
 run_load core None same is = is
-run_load core (Some load) same is = record { book = is.book; rings = subst (λ (loaded : Option LoadState). IfSome (loaded_rings loaded) IsSoundPair) same is.rings }
+run_load core (Some load) same is = record { book = is.book; regions = is.regions; rings = subst (λ (loaded : Option LoadState). IfSome (loaded_rings loaded) IsSoundPair) same is.rings }
 
 report_load : (core : CoreState) → IsFitLoad core → IsFitLoad (report_of true core).core
-report_load core is = report_left IsFitLoad true core is (λ life stops. record { book = is.book; rings = is.rings })
+report_load core is = report_left IsFitLoad true core is (λ life stops. record { book = is.book; regions = is.regions; rings = is.rings })
 
 reported_load : (came : Driven) (core : CoreState) → IsFitLoad core → IsFitLoad (reported_by came core)
 reported_load driven.Idle core is = is
@@ -307,7 +322,7 @@ actor_load actor.Worker core is =
 drive_rung : (core : CoreState) → IsReachedCore core → IsRungCore core → IsRungCore (drive_step core).core
 drive_rung core reached is = record {
   load = cond_both (is_idle core) _ _ (λ (step : DriveStep). IsFitLoad step.core) (λ _. is.load)
-      (λ _. actor_load (acting core) (with_turn_after (acting core) core) (record { book = is.load.book; rings = is.load.rings }));
+      (λ _. actor_load (acting core) (with_turn_after (acting core) core) (record { book = is.load.book; regions = is.load.regions; rings = is.load.rings }));
   bench = rung_if core.bench (drive_deeds core) (drive_step core).core.bench (drive_lands core reached (level_of core.bench is.bench)) is.bench;
 }
 
@@ -339,7 +354,7 @@ act_rung core steps asked None none fit reached is = is
 act_rung core steps asked (Some bench) found fit reached is =
     let rung : IfSome (Some bench) IsRung = subst (λ (now : Option BenchState). IfSome now IsRung) found is.bench in
     record {
-      load = record { book = is.load.book; rings = is.load.rings };
+      load = record { book = is.load.book; regions = is.load.regions; rings = is.load.rings };
       bench = rung_if (Some bench) (act_deeds actors_after_end 2 bench core.actors steps asked) (Some (act_on_core core bench steps asked).bench)
           (deeds_land actors_after_end 2 bench core.actors steps asked fit reached rung.level) rung;
     }
@@ -350,16 +365,24 @@ module _ (images : List ImageState) (answer : Answer) (on : NamedCoreState) (ste
   abbrev Leaves : CoreEffect → Type 0
   Leaves effect = IsRungCore effect.core
 
-  added : (region : Region) (why : Option AddFault) → Leaves (added_effect on.name on.core steps region why)
-  added region None = record { load = record { book = is.load.book; rings = is.load.rings }; bench = is.bench }
-  added region (Some why) = is
+  -- no region is refused where the core is offline and the region fits beside the others
+  region_fits : (region : Region) (offline : Bool) → cond offline (option_map add.Region (region_fault on.core.regions region)) (Some add.NotOffline) ≡ None → region_fault on.core.regions region ≡ None
+  region_fits region true none = none_mapped add.Region (region_fault on.core.regions region) none
+  region_fits region false none = absurd (true≢false (ap is_some none))
+
+  added : (region : Region) (why : Option AddFault) → add_fault on.core region ≡ why → Leaves (added_effect on.name on.core steps region why)
+  added region None none = record {
+    load = record { book = is.load.book; regions = added_sound on.core.regions region is.load.regions (region_fits region (is_offline on.core.life.state) none); rings = is.load.rings };
+    bench = is.bench;
+  }
+  added region (Some why) none = is
 
   region_rung : (region : Region) → Leaves (region_effect on.name on.core steps region)
   unfolding region_effect
-  region_rung region = added region (add_fault on.core region)
+  region_rung region = added region (add_fault on.core region) refl
 
   declared : (channel : List ℕ) (kind : DriverKind) (why : Option AddFault) → Leaves (declared_effect on.name on.core steps channel kind why)
-  declared channel kind None = record { load = record { book = is.load.book; rings = is.load.rings }; bench = is.bench }
+  declared channel kind None = record { load = record { book = is.load.book; regions = is.load.regions; rings = is.load.rings }; bench = is.bench }
   declared channel kind (Some why) = is
 
   driver_rung : (channel : List ℕ) (kind : DriverKind) → Leaves (driver_effect on.name on.core steps channel kind)
@@ -410,7 +433,7 @@ module _ (images : List ImageState) (answer : Answer) (on : NamedCoreState) (ste
   act_on is_quiet (act.Mem da len) = is
   act_on is_quiet (act.Crash kind) = report_rung on.core is (may_step steps)
   act_on is_quiet act.Recover = recovery_rung on.core is (found_image images answer (booted_image on.name on.core))
-  act_on is_quiet (act.Recovery set) = record { load = record { book = is.load.book; rings = is.load.rings }; bench = is.bench }
+  act_on is_quiet (act.Recovery set) = record { load = record { book = is.load.book; regions = is.load.regions; rings = is.load.rings }; bench = is.bench }
   act_on is_quiet (act.Drive count) = drive_on on.name is_quiet on.core steps count reached is
 
   pub core_rung : (is_quiet : Bool) (wanted : NamedAct (List ℕ)) → FitsNamed IsFitAct wanted → Leaves (core_effect images answer is_quiet on steps wanted)
@@ -422,6 +445,20 @@ module _ (images : List ImageState) (answer : Answer) (on : NamedCoreState) (ste
   core_rung is_quiet (under.Show shown) fits = view_rung shown
   core_rung is_quiet (under.Core asked) fits = act_on is_quiet asked
 
+-- no regions are sound, and so are the standard ones
+no_regions : SoundRegions []
+no_regions = record { few = omega arith; small = omega arith; ranges = All-nil (λ (region : Region). IsRange region.da region.pa region.len); apart = λ i j d less among. absurd (omega (arith, less, among)) }
+
+abbrev tcm : Region
+tcm = record { kind = Tcm; da = 0; pa = 0x20000000; len = 65536 }
+
+abbrev pool : Region
+pool = record { kind = Pool; da = 0x10000000; pa = 0x30000000; len = 1048576 }
+
+regions_sound : (set : RegionSet) → SoundRegions (regions_of set)
+regions_sound regions.Standard = added_sound (tcm ∷ []) pool (added_sound [] tcm no_regions refl) refl
+regions_sound regions.Bare = no_regions
+
 -- a core that a script makes
 pub new_core_rung : (set : RegionSet) (book : ℕ) → IsBook book → IsRungCore (new_core (regions_of set) [] book)
-new_core_rung set book fit = record { load = record { book = fit; rings = tt }; bench = tt }
+new_core_rung set book fit = record { load = record { book = fit; regions = regions_sound set; rings = tt }; bench = tt }
