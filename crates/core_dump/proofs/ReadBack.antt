@@ -1,5 +1,5 @@
 -- A dump is read back as its parts.
-use Rattle.std.proofs.Common.{◌≡◌, ℕ, ◌+◌, ◌*◌, ◌<◌, ◌≤◌, ◌^◌, cond, List, [], ◌∷◌, ◌++◌, length, drop, All, subst, sym, ◌∙◌, ap, arith, refl, lit<, length-append}
+use Rattle.std.proofs.Common.{map, ◌≡◌, ℕ, ◌+◌, ◌*◌, ◌<◌, ◌≤◌, ◌^◌, cond, List, [], ◌∷◌, ◌++◌, length, drop, All, subst, sym, ◌∙◌, ap, arith, refl, lit<, length-append}
 use Rattle.std.proofs.lemmas.Bool.{ne_eqb}
 use Rattle.std.proofs.lemmas.List.Concat.{length-flat_map}
 use Rattle.std.proofs.lemmas.List.Elements.{All-nil, All-cons, All-head, All-tail}
@@ -88,3 +88,18 @@ dump_read entry parts low are =
     (lit< tt) refl refl small (omega (arith, total, same)) (subst (λ n. IsHeader bytes entry n 0 0 0 0) (sym same) header) (identified 4 entry count 0 0 0 0 (headers ++ files)) (layout_is 4 entry count 0 0 0 0 (headers ++ files)) at_headers
     (plain_pass bytes entry count header) in
     record { good = read.good; entry_is = read.entry_is; segments = read.segments_are ∙ segments_same parts 0 start are.each }
+
+pub read_back : (entry : ℕ) (parts : List MemoryPart) (dump : List ℕ) → dump ≡ dump_of entry parts → entry < 2 ^ 32 → AreParts parts → IsReadBack entry parts dump
+read_back entry parts dump is low are = subst (IsReadBack entry parts) (sym is) (dump_read entry parts low are)
+
+abbrev part_of : SegmentAt → MemoryPart
+part_of segment = record { da = segment.da; bytes = segment.file }
+
+parts_of_segments : (parts : List MemoryPart) (index : ℕ) → map part_of (segments_from index parts) ≡ parts
+parts_of_segments [] index = refl
+parts_of_segments (part ∷ more) index = ap (λ (later : List MemoryPart). part ∷ later) (parts_of_segments more (index + 1))
+
+-- one dump has one list of parts
+pub same_parts : (entry other_entry : ℕ) (parts others : List MemoryPart) (dump : List ℕ) → IsReadBack entry parts dump → IsReadBack other_entry others dump → parts ≡ others
+same_parts entry other_entry parts others dump one other =
+    sym (parts_of_segments parts 0) ∙ ap (map part_of) (sym one.segments ∙ other.segments) ∙ parts_of_segments others 0

@@ -56,11 +56,20 @@ fn data_start(count: usize) -> usize
 /// 16,777,216 bytes at most together; none is empty, and none passes the last address.
 ///
 /// Errors: only for want of memory.
-#[tactic(auto, unfolding(crate::specs::Dumps::dump_of))]
+#[tactic(auto, using(crate::proofs::ReadBack::read_back))]
 pub fn write_dump(alloc: Global, entry: Da, parts: &[Part<'_>]) -> Result<Vec<u8>, NoMemory>
     requires { AreParts parts.now }
     ensures bytes { IfOk result (λ dump. dump.items ≡ dump_of entry parts.now) }
     ensures read_back { IfOk result (λ dump. IsReadBack entry parts.now dump.items) }
+{
+    dump_of(alloc, entry, parts)
+}
+
+/// The bytes of the dump: the ELF header, the program headers, and the bytes of the parts.
+#[tactic(auto, unfolding(crate::specs::Dumps::dump_of))]
+fn dump_of(alloc: Global, entry: Da, parts: &[Part<'_>]) -> Result<Vec<u8>, NoMemory>
+    requires { AreParts parts.now }
+    ensures { IfOk result (λ dump. dump.items ≡ dump_of entry parts.now) }
 {
     let start = data_start(parts.len());
     let mut dump = Vec::with_capacity(alloc, start + data_len(parts))?;

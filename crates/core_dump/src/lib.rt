@@ -2,6 +2,7 @@
 #![tactic(auto)]
 
 mod dumps;
+pub mod laws;
 #[cfg(test)]
 mod tests;
 
