@@ -1,5 +1,6 @@
 -- The deeds of an act leave what the act leaves of a link and of its rings.
 use Rattle.std.proofs.Common.{◌≡◌, ℕ, zero, suc, ◌+◌, ◌-◌, ◌==◌, Bool, true, false, cond, List, Option, Some, None, is_some, option_map, Result, Ok, Err, refl, ap, ◌∙◌}
+use Rattle.std.specs.Option.{option_or}
 use Rattle.std.proofs.lemmas.Bool.{cond_both, true≢false}
 use Rattle.rp_base.specs.declared.kinds.End.{End}
 use Rattle.rp_base.specs.declared.limits.TheConstants.{STEPS_MOST}
@@ -25,7 +26,7 @@ use Rattle.link_bench.specs.declared.benches.Reach.TheVariants as reach
 use Rattle.link_bench.specs.declared.turns.TurnEnd.{TurnEnd}
 use Rattle.link_bench.specs.Acts.{Acted, call_act, caller_act, free_act, link_act, made_call, misfit, own_in, pump_act, pump_refusal, step_act, unless_own, unless_refused, walked, wish_of}
 use Rattle.link_bench.specs.BenchCrashes.{left_by_reclaim}
-use Rattle.link_bench.specs.Benches.{BenchState, BenchWalk, IsSendable, advance_fault, advance_steps, advance_walk, begin_fault, begun_of, bench_walk, call_rings, call_steps, call_walk, first_fault, is_in_call, later_rings, later_steps, lists_of, ready_fault, step_fault, whole_call, wish_fault, with_begun}
+use Rattle.link_bench.specs.Benches.{BenchState, BenchWalk, IsSendable, advance_fault, advance_steps, advance_walk, begin_fault, begun_of, bench_walk, call_rings, call_steps, call_walk, is_in_call, later_rings, later_steps, lists_of, ready_fault, step_fault, whole_call, wish_fault, with_begun}
 use Rattle.link_bench.specs.Turns.{Pumped, TurnCall, Turns, is_whole, one_turn, pump_turns, take_turn, tested_call, then_more, turn_call, turn_message}
 use Rattle.link_bench.specs.Watchers.{Seeing}
 use Rattle.link_bench.proofs.Begun.{begin_may}
@@ -143,8 +144,8 @@ module _ {W : Type 0} (sees : Seeing W) where
 
 -- ---- what a refusal that there isn't says
 
-neither : (ready later : Option BenchFault) → ready ≡ None → later ≡ None → first_fault ready later ≡ None
-neither ready later none_ready none_later = ap (λ (f : Option BenchFault). first_fault f later) none_ready ∙ none_later
+neither : (ready later : Option BenchFault) → ready ≡ None → later ≡ None → option_or ready later ≡ None
+neither ready later none_ready none_later = ap (λ (f : Option BenchFault). option_or f later) none_ready ∙ none_later
 
 in_call_at : (found : Option End) (in_call : Bool) → advance_fault found in_call ≡ None → in_call ≡ true
 in_call_at None in_call none = absurd (true≢false (ap is_some none))

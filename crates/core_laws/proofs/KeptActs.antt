@@ -25,7 +25,7 @@ use Rattle.link_bench.specs.declared.benches.BenchFault.TheVariants as fault
 use Rattle.link_bench.specs.declared.benches.Reach.{Reach}
 use Rattle.link_bench.specs.declared.benches.Reach.TheVariants as reach
 use Rattle.link_bench.specs.declared.turns.TurnEnd.{TurnEnd}
-use Rattle.link_bench.specs.Benches.{BenchState, IsSendable, advance_fault, advance_walk, begin_fault, call_walk, first_fault, is_in_call, ready_fault, step_fault, used_fault, wish_fault, with_begun, with_new_caller}
+use Rattle.link_bench.specs.Benches.{BenchState, IsSendable, advance_fault, advance_walk, begin_fault, call_walk, is_in_call, ready_fault, step_fault, used_fault, wish_fault, with_begun, with_new_caller}
 use Rattle.link_bench.specs.Turns.{Pumped, TurnCall, Turns, give_turn, is_whole, one_turn, pump_turns, take_turn, tested_call, then_more, turn_call, turn_message}
 use Rattle.link_bench.specs.Acts.{Acted, IsFitAct, IsFitWish, call_act, caller_act, first_refusal, free_act, link_act, made_call, misfit, own_caller, own_in, pump_act, pump_refusal, step_act, unless_own, unless_refused, wish_of}
 use Rattle.link_bench.specs.Watchers.{Seeing, watched}
@@ -33,8 +33,8 @@ use Rattle.core_laws.proofs.Sendable.{header_length}
 
 -- ---- what a refusal that there isn't says
 
-neither : (ready later : Option BenchFault) → ready ≡ None → later ≡ None → first_fault ready later ≡ None
-neither ready later none_ready none_later = ap (λ (f : Option BenchFault). first_fault f later) none_ready ∙ none_later
+neither : (ready later : Option BenchFault) → ready ≡ None → later ≡ None → option_or ready later ≡ None
+neither ready later none_ready none_later = ap (λ (f : Option BenchFault). option_or f later) none_ready ∙ none_later
 
 in_call_at : (found : Option End) (in_call : Bool) → advance_fault found in_call ≡ None → in_call ≡ true
 in_call_at None in_call none = absurd (true≢false (ap is_some none))

@@ -1,6 +1,6 @@
 -- The next call of an actor of a core may always begin.
 use Rattle.std.proofs.Common.{◌≡◌, ◌≢◌, ℕ, suc, eqb, cond, Bool, true, false, not, IsTrue, ◌||◌, List, [], ◌∷◌, ◌++◌, length, drop, Option, Some, None, is_some, refl, sym, ap, subst, ◌∙◌, arith}
-use Rattle.std.specs.Option.{option_map_or}
+use Rattle.std.specs.Option.{option_map_or, option_or}
 use Rattle.std.proofs.lemmas.Bool.{eq-eqb, false≢true, ne_eqb, or_parts}
 use Rattle.rp_base.specs.declared.kinds.End.{End}
 use Rattle.lane_model.specs.declared.calls.CallEnd.{CallEnd}
@@ -15,7 +15,7 @@ use Rattle.link_bench.specs.declared.benches.BegunCall.{BegunCall}
 use Rattle.link_bench.specs.declared.benches.BenchFault.{BenchFault}
 use Rattle.link_bench.specs.declared.benches.BenchFault.TheVariants as fault
 use Rattle.link_bench.specs.declared.benches.Reach.TheVariants as reach
-use Rattle.link_bench.specs.Benches.{BenchState, BenchWalk, advance_steps, advance_walk, begin_fault, begun_of, bench_walk, caller_fault, calling_fault, first_fault, is_in_call, later_rings, later_steps, start_walk, wish_fault}
+use Rattle.link_bench.specs.Benches.{BenchState, BenchWalk, advance_steps, advance_walk, begin_fault, begun_of, bench_walk, caller_fault, calling_fault, is_in_call, later_rings, later_steps, start_walk, wish_fault}
 use Rattle.core_actors.specs.ActorEnds.{gives_of, left_of, number_taken, sends_of}
 use Rattle.core_actors.specs.ActorSteps.{first_or_take}
 use Rattle.core_laws.specs.PendingCalls.{AreFitLanes, AreGivable, IsNamedEnd, given_after, given_by, is_among}
@@ -149,7 +149,7 @@ module _ (bench : BenchState) (caller : ℕ) (end : End) (user : end_of bench.li
       let wished = first_held (lanes_of bench.link end).incoming.lane.held caller bench calls
       (λ number has. ap (λ (found : Option End). option_map_or (λ end. holds (lanes_of bench.link end).incoming.lane.held number caller) found false) user ∙ has)
       (given_now is_first calls none are) in
-      ap (λ (why : Option BenchFault). first_fault why (wish_fault bench caller (first_or_take calls))) ready ∙ wished
+      ap (λ (why : Option BenchFault). option_or why (wish_fault bench caller (first_or_take calls))) ready ∙ wished
 
 -- what holds of each way of a step on the link holds of the step
 pub linked : (bench : BenchState) (caller : ℕ) (wanted : Wish) (P : BenchWalk → Type 0) (in_call : Bool) → begun_of bench caller ≡ None

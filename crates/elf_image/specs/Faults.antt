@@ -1,17 +1,7 @@
--- The faults of an image, and the first of several tests that fails.
-use Rattle.std.specs.Prelude.{ℕ, Bool, List, [], ◌∷◌, Option, Some, None, if◌then◌else◌}
-use Rattle.std.specs.Option.{option_or}
+-- The faults of an image.
+use Rattle.std.specs.Prelude.{ℕ, Option, Some, None}
 use Rattle.elf_image.specs.declared.faults.ElfFault.{ElfFault}
 use Rattle.elf_image.specs.declared.faults.ElfFault.TheVariants as fault
-
--- the fault of a test that fails, and none where it passes (own)
-abbrev pub fault_if : Bool → ElfFault → Option ElfFault
-fault_if fails found = if fails then Some found else None
-
--- the first fault of tests that are made in order (own)
-abbrev pub first_fault : List (Option ElfFault) → Option ElfFault
-first_fault [] = None
-first_fault (found ∷ more) = option_or found (first_fault more)
 
 -- the number of a fault, from 1 (own)
 abbrev pub fault_number : ElfFault → ℕ

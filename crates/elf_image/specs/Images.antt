@@ -3,7 +3,7 @@ use Rattle.std.specs.Prelude.{◌≡◌, ℕ, ◌+◌, ◌*◌, ◌==◌, nat_lt
 use Rattle.elf_image.specs.Layout.{elf32, layout_of}
 use Rattle.elf_image.specs.declared.layouts.Layout.{Layout}
 use Rattle.elf_image.specs.Headers.{file_header}
-use Rattle.elf_image.specs.Faults.{fault_if, first_fault}
+use Rattle.rp_base.specs.Faults.{fault_if, first_fault}
 use Rattle.elf_image.specs.Segments.{loaded_from, segments_fault}
 use Rattle.elf_image.specs.Sections.{has_sections, sections_fault}
 use Rattle.elf_image.specs.declared.faults.ElfFault.{ElfFault}

@@ -4,7 +4,7 @@ use Rattle.std.specs.List.{range_with_len}
 use Rattle.elf_image.specs.Layout.{layout_of}
 use Rattle.elf_image.specs.declared.layouts.Layout.{Layout}
 use Rattle.elf_image.specs.Headers.{file_header, section_header}
-use Rattle.elf_image.specs.Faults.{fault_if, first_fault}
+use Rattle.rp_base.specs.Faults.{fault_if, first_fault}
 use Rattle.elf_image.specs.declared.faults.ElfFault.{ElfFault}
 use Rattle.elf_image.specs.declared.faults.ElfFault.TheVariants as fault
 use Rattle.elf_image.specs.declared.headers.FileHeader.{FileHeader}

@@ -5,7 +5,7 @@ use Rattle.std.specs.List.{range_with_len, filter}
 use Rattle.std.proofs.lemmas.Bool.{le-ltb, ne_eqb}
 use Rattle.elf_image.specs.Layout.{elf32, layout_of}
 use Rattle.elf_image.specs.Headers.{file_header as file_header_read}
-use Rattle.elf_image.specs.Faults.{fault_if, first_fault}
+use Rattle.rp_base.specs.Faults.{fault_if, first_fault}
 use Rattle.elf_image.specs.Segments.{SegmentAt, segments_of, segment_at, is_loaded, numbered_header, segment_fault, segments_by}
 use Rattle.elf_image.specs.Sections.{section_header_at, sections_fault}
 use Rattle.elf_image.specs.Images.{identification_fault, header_fault, contents_fault, GoodImage, entry_of, entry_by}

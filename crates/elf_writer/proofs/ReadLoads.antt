@@ -7,7 +7,7 @@ use Rattle.std.proofs.lemmas.List.Elements.{All-head, All-tail}
 use Rattle.std.proofs.Math.Seq.{take-append_seam}
 use Rattle.elf_image.specs.Layout.{elf32}
 use Rattle.elf_image.specs.Headers.{program_header as program_header_read, file_header as file_header_read}
-use Rattle.elf_image.specs.Faults.{fault_if, first_fault}
+use Rattle.rp_base.specs.Faults.{fault_if, first_fault}
 use Rattle.elf_image.specs.Segments.{SegmentAt, is_loaded, numbered_header, segment_at, segment_fault}
 use Rattle.elf_image.specs.declared.faults.ElfFault.{ElfFault}
 use Rattle.elf_writer.specs.Headers.{load_header}

@@ -1,6 +1,5 @@
--- Why an image is not loaded, and the first of several tests that fails (own).
-use Rattle.std.specs.Prelude.{ℕ, Bool, List, [], ◌∷◌, Option, Some, None, if◌then◌else◌}
-use Rattle.std.specs.Option.{option_or}
+-- Why an image is not loaded (own).
+use Rattle.std.specs.Prelude.{ℕ, Option, Some, None}
 use Rattle.elf_image.specs.Faults as elf
 use Rattle.resource_table.specs.Faults as table
 use Rattle.memory_pool.specs.Faults as pool
@@ -8,15 +7,6 @@ use Rattle.memory_pool.specs.declared.faults.PlaceFault.{PlaceFault}
 use Rattle.memory_pool.specs.declared.faults.PlaceFault.TheVariants as place
 use Rattle.fw_load.specs.declared.faults.LoadFault.{LoadFault}
 use Rattle.fw_load.specs.declared.faults.LoadFault.TheVariants as fault
-
--- the fault of a test that fails, and none where it passes (own)
-abbrev pub fault_if : Bool → LoadFault → Option LoadFault
-fault_if fails found = if fails then Some found else None
-
--- the first fault of tests that are made in order (own)
-abbrev pub first_fault : List (Option LoadFault) → Option LoadFault
-first_fault [] = None
-first_fault (found ∷ more) = option_or found (first_fault more)
 
 -- a refusal of a placement, of which want of memory is one of the load (own)
 abbrev pub of_place : PlaceFault → LoadFault

@@ -8,7 +8,7 @@ use Rattle.memory_pool.specs.declared.blocks.Block.{Block}
 use Rattle.memory_pool.specs.declared.faults.PlaceFault.{PlaceFault}
 use Rattle.memory_pool.specs.declared.regions.Region.{Region}
 use Rattle.addr_translate.specs.Maps.{IsMapOf}
-use Rattle.fw_load.specs.Faults.{fault_if, first_fault}
+use Rattle.rp_base.specs.Faults.{fault_if, first_fault}
 use Rattle.fw_load.specs.Memory.{memory_at, memory_of}
 use Rattle.fw_load.specs.Rings.{HasBuffers, IsSoundPair, IsTraceIn, pair_from, traces_of}
 use Rattle.resource_table.specs.Entries.{entries_of}

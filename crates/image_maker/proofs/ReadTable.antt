@@ -9,7 +9,7 @@ use Rattle.std.proofs.lemmas.List.Sums.{sum_by-cons}
 use Rattle.rp_base.specs.Texts.{padded_name}
 use Rattle.elf_image.specs.Layout.{elf32}
 use Rattle.elf_image.specs.Headers.{section_header as section_header_read, file_header as file_header_read}
-use Rattle.elf_image.specs.Faults.{fault_if, first_fault}
+use Rattle.rp_base.specs.Faults.{fault_if, first_fault}
 use Rattle.elf_image.specs.Sections.{is_name, name_at, has_sections, section_header_at, sections_from, names_of, has_name, section_place, section_in, sections_fault}
 use Rattle.elf_image.specs.declared.faults.ElfFault.TheVariants as fault
 use Rattle.elf_image.specs.declared.sections.Section.{Section}

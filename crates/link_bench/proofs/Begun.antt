@@ -1,6 +1,6 @@
 -- Calls that are begun, and who may begin one.
 use Rattle.std.proofs.Common.{◌≡◌, ◌≢◌, ℕ, Bool, true, false, ◌||◌, cond, Option, Some, None, List, [], ◌∷◌, zero, suc, slice_get, slice_set, replicate, is_some, option_and_then, unwrap_or, refl, sym, ap, subst, ◌∙◌, inl, inr}
-use Rattle.std.specs.Option.{option_map_or}
+use Rattle.std.specs.Option.{option_map_or, option_or}
 use Rattle.std.proofs.lemmas.Bool.{true≢false}
 use Rattle.std.proofs.lemmas.Bool.Decides.{eqb_tells}
 use Rattle.rp_base.specs.declared.kinds.End.{End}
@@ -13,7 +13,7 @@ use Rattle.link_bench.specs.declared.benches.BegunCall.{BegunCall}
 use Rattle.link_bench.specs.declared.benches.BenchFault.{BenchFault}
 use Rattle.link_bench.specs.declared.benches.BenchFault.TheVariants as fault
 use Rattle.channel_bus.specs.Sides.{EndState}
-use Rattle.link_bench.specs.Benches.{BenchState, AreFitCalls, OthersMay, IsSendable, begin_fault, begun_of, caller_fault, calling_fault, first_fault, ready_fault, wish_fault}
+use Rattle.link_bench.specs.Benches.{BenchState, AreFitCalls, OthersMay, IsSendable, begin_fault, begun_of, caller_fault, calling_fault, ready_fault, wish_fault}
 
 -- what is in one is in the other
 pub some_same : {A : Type 0} {x y : A} → Some x ≡ Some y → x ≡ y
@@ -24,7 +24,7 @@ some_fault : {A : Type 0} (found : A) → Some found ≡ None → ⊥
 some_fault found same = true≢false (ap is_some same)
 
 -- no first fault of two is no fault of each
-pub neither_fault : (first second : Option BenchFault) → first_fault first second ≡ None → (first ≡ None) × (second ≡ None)
+pub neither_fault : (first second : Option BenchFault) → option_or first second ≡ None → (first ≡ None) × (second ≡ None)
 neither_fault None second same = (refl, same)
 neither_fault (Some why) second same = absurd (some_fault why same)
 

@@ -1,5 +1,6 @@
 -- A bench: a link with the calls that are begun and have done no step, and what its calls do (own).
 use Rattle.std.specs.Prelude.{◌≡◌, ◌≢◌, ◌≤◌, ℕ, zero, suc, ◌+◌, ◌==◌, ◌||◌, Bool, List, [], length, slice_get, slice_set, replicate, Option, Some, None, option_and_then, is_some, if◌then◌else◌}
+use Rattle.std.specs.Option.{option_or}
 use Rattle.rp_base.specs.declared.kinds.End.{End}
 use Rattle.rp_base.specs.declared.kinds.End.TheVariants as side
 use Rattle.rp_base.specs.declared.limits.TheConstants.{STEPS_MOST, MESSAGE_MOST}
@@ -203,14 +204,9 @@ wish_fault bench caller (wish.Give number) = if is_holding bench.link caller num
 wish_fault bench caller (wish.Bind address) = None
 wish_fault bench caller (wish.Unbind address) = None
 
--- the first of two faults
-abbrev pub first_fault : Option BenchFault → Option BenchFault → Option BenchFault
-first_fault (Some why) later = Some why
-first_fault None later = later
-
 -- why this call can't begin: the caller before what it wants
 abbrev pub begin_fault : BenchState → ℕ → Wish → Option BenchFault
-begin_fault bench caller wanted = first_fault (ready_fault bench caller) (wish_fault bench caller wanted)
+begin_fault bench caller wanted = option_or (ready_fault bench caller) (wish_fault bench caller wanted)
 
 -- why no step of a call can be done: a caller that isn't in use, or one in no call
 abbrev pub advance_fault : Option End → Bool → Option BenchFault

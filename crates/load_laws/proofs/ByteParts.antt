@@ -12,7 +12,7 @@ use Rattle.memory_pool.specs.declared.blocks.Block.{Block}
 use Rattle.memory_pool.specs.declared.regions.Region.{Region}
 use Rattle.memory_pool.proofs.Sound.{option_cases}
 use Rattle.addr_translate.specs.Bytes.{with_bytes}
-use Rattle.elf_image.specs.Faults.{fault_if, first_fault}
+use Rattle.rp_base.specs.Faults.{fault_if, first_fault}
 use Rattle.elf_image.specs.Headers.{file_header}
 use Rattle.elf_image.specs.Images.{GoodImage, contents_fault, header_fault, identification_fault}
 use Rattle.elf_image.specs.Layout.{layout_of}

@@ -22,7 +22,7 @@ use Rattle.memory_pool.specs.declared.faults.PlaceFault.{PlaceFault}
 use Rattle.memory_pool.specs.declared.regions.Region.{Region}
 use Rattle.memory_pool.proofs.Sound.{nothing_sound, placed_sound}
 use Rattle.memory_pool.proofs.WantedSound.{order_sound, wanted_sound}
-use Rattle.fw_load.specs.Faults.{fault_if}
+use Rattle.rp_base.specs.Faults.{fault_if}
 use Rattle.fw_load.specs.Loading.{Loads, entry_unmapped, mapped_fault, placed_fault, segment_unmapped, segments_unmapped}
 use Rattle.fw_load.specs.Memory.{memory_at}
 use Rattle.fw_load.specs.Tables.{bytes_in, entries_in, section_fault, table_of, table_section}

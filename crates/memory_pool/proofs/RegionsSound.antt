@@ -6,7 +6,7 @@ use Rattle.std.proofs.lemmas.Bool.{or_parts, or_from, ltb-false, leb-false, eqb-
 use Rattle.std.proofs.lemmas.List.Elements.{All-push}
 use Rattle.std.proofs.lemmas.List.Quantifiers.{all_pairs_push}
 use Rattle.std.proofs.lemmas.List.Sums.{sum_by-append}
-use Rattle.memory_pool.specs.Faults.{fault_if, first_fault}
+use Rattle.rp_base.specs.Faults.{fault_if, first_fault}
 use Rattle.memory_pool.specs.Ranges.{ranges_meet}
 use Rattle.memory_pool.specs.Regions.{has_wrong_range, memory_len, region_fault, regions_meet}
 use Rattle.memory_pool.specs.Soundness.{IsRange, SoundRegions}

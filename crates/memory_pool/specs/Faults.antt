@@ -1,19 +1,9 @@
--- Why a region or a placement is refused, and the first of several tests that fails (own).
-use Rattle.std.specs.Prelude.{ℕ, Bool, List, [], ◌∷◌, Option, Some, None, if◌then◌else◌}
-use Rattle.std.specs.Option.{option_or}
+-- Why a region or a placement is refused (own).
+use Rattle.std.specs.Prelude.{ℕ, Option, Some, None}
 use Rattle.memory_pool.specs.declared.faults.RegionFault.{RegionFault}
 use Rattle.memory_pool.specs.declared.faults.RegionFault.TheVariants as region
 use Rattle.memory_pool.specs.declared.faults.PlaceFault.{PlaceFault}
 use Rattle.memory_pool.specs.declared.faults.PlaceFault.TheVariants as place
-
--- the fault of a test that fails, and none where it passes (own)
-abbrev pub fault_if : {F : Type 0} → Bool → F → Option F
-fault_if fails found = if fails then Some found else None
-
--- the first fault of tests that are made in order (own)
-abbrev pub first_fault : {F : Type 0} → List (Option F) → Option F
-first_fault [] = None
-first_fault (found ∷ more) = option_or found (first_fault more)
 
 -- the number of a fault of a region, where it has one (own)
 abbrev pub region_fault_number : RegionFault → Option ℕ

@@ -2,7 +2,7 @@
 use Rattle.std.specs.Prelude.{ℕ, ◌+◌, ◌^◌, ◌==◌, nat_lt, nat_le, Bool, true, false, ◌||◌, List, [], ◌∷◌, length, Option}
 use Rattle.std.specs.List.{list_any, sum_by}
 use Rattle.memory_pool.specs.Ranges.{ranges_meet}
-use Rattle.memory_pool.specs.Faults.{fault_if, first_fault}
+use Rattle.rp_base.specs.Faults.{fault_if, first_fault}
 use Rattle.memory_pool.specs.declared.TheConstants.{REGIONS_MOST, MEMORY_MOST}
 use Rattle.memory_pool.specs.declared.faults.RegionFault.{RegionFault}
 use Rattle.memory_pool.specs.declared.faults.RegionFault.TheVariants as fault

@@ -4,7 +4,7 @@ use Rattle.std.specs.List.{range_with_len}
 use Rattle.std.proofs.lemmas.Bool.{cases_lt, le-ltb}
 use Rattle.rp_base.specs.Limits.{is_ring_size}
 use Rattle.resource_table.specs.Layout.{field, fw_rsc_hdr, fw_rsc_vdev, fw_rsc_vdev_vring}
-use Rattle.resource_table.specs.Faults.{fault_if, first_fault}
+use Rattle.rp_base.specs.Faults.{fault_if, first_fault}
 use Rattle.resource_table.specs.Entries.{entry_of_type, ring_count, ring_of, no_ring, vring_start, vring_at, device_at}
 use Rattle.resource_table.specs.Tables.{size_of_type, uses_reserved, varying_fault, is_rpmsg_of_type, has_wrong_ring_count, device_size, rings_fault, ring_fault_at, is_ring_align}
 use Rattle.resource_table.specs.declared.faults.TableFault.{TableFault}

@@ -3,7 +3,7 @@ use Rattle.std.proofs.Common.{◌≡◌, ℕ, zero, suc, ◌+◌, ◌-◌, ◌<�
 use Rattle.std.specs.List.{range_with_len, list_any}
 use Rattle.std.specs.Option.{option_or}
 use Rattle.std.proofs.lemmas.Option.{none-some}
-use Rattle.resource_table.specs.Faults.{first_fault}
+use Rattle.rp_base.specs.Faults.{first_fault}
 use Rattle.resource_table.specs.declared.faults.TableFault.{TableFault}
 
 -- the numbers from i on, below n, are i and those from i + 1 on

@@ -3,7 +3,7 @@ use Rattle.std.proofs.Common.{◌≡◌, ℕ, zero, suc, ◌+◌, ◌*◌, ◌�
 use Rattle.std.specs.List.{range_with_len, list_any}
 use Rattle.std.proofs.lemmas.Bool.{and_cases, cases_order, ltb-false, or_parts}
 use Rattle.resource_table.specs.Layout.{field, fw_rsc_hdr, resource_table}
-use Rattle.resource_table.specs.Faults.{fault_if, first_fault}
+use Rattle.rp_base.specs.Faults.{fault_if, first_fault}
 use Rattle.resource_table.specs.Entries.{entry_at, entry_count, entry_of_type, start_of, type_at, type_of}
 use Rattle.resource_table.specs.Tables.{GoodTable, earlier_spans, entries_fault, entry_fault, entry_size, entry_span, fixed_size, form_fault, has_wrong_offsets, header_fault, is_past_end, is_rpmsg, is_rpmsg_of_type, offsets_end, size_of_type, spans_meet, table_fault, uses_reserved, varying_fault}
 use Rattle.resource_table.specs.declared.faults.TableFault.{TableFault}

@@ -3,7 +3,7 @@ use Rattle.std.proofs.Common.{◌≡◌, ℕ, ◌+◌, ◌*◌, ◌≤◌, ◌<�
 use Rattle.std.proofs.lemmas.Bool.{ltb-false, ltb-true, false≢true}
 use Rattle.std.proofs.lemmas.Option.{none-some, slice_get_cases, slice_get-get_or}
 use Rattle.std.proofs.lemmas.List.FromFn.{length-map-range_with_len, get_or-map-range_with_len}
-use Rattle.resource_table.specs.Faults.{fault_if}
+use Rattle.rp_base.specs.Faults.{fault_if}
 use Rattle.resource_table.specs.Entries.{entry_count, start_of, type_at, entry_at, entry_of_type, entries_of, device_at}
 use Rattle.resource_table.specs.Tables.{header_fault, entries_fault, entry_fault, form_fault, varying_fault, fixed_size, size_of_type, entry_size, GoodTable}
 use Rattle.resource_table.specs.Walks.{IsSoundHeader}

@@ -1,17 +1,7 @@
--- The faults of a table, and the first of several tests that fails.
-use Rattle.std.specs.Prelude.{ℕ, Bool, List, [], ◌∷◌, Option, Some, None, if◌then◌else◌}
-use Rattle.std.specs.Option.{option_or}
+-- The faults of a table.
+use Rattle.std.specs.Prelude.{ℕ, Option, Some, None}
 use Rattle.resource_table.specs.declared.faults.TableFault.{TableFault}
 use Rattle.resource_table.specs.declared.faults.TableFault.TheVariants as fault
-
--- the fault of a test that fails, and none where it passes (own)
-abbrev pub fault_if : Bool → TableFault → Option TableFault
-fault_if fails found = if fails then Some found else None
-
--- the first fault of tests that are made in order (own)
-abbrev pub first_fault : List (Option TableFault) → Option TableFault
-first_fault [] = None
-first_fault (found ∷ more) = option_or found (first_fault more)
 
 -- the number of a fault, from 20 (own)
 abbrev pub fault_number : TableFault → ℕ

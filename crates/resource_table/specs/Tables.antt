@@ -4,7 +4,7 @@ use Rattle.std.specs.Int.{is_power_of_two}
 use Rattle.std.specs.List.{range_with_len, list_any}
 use Rattle.rp_base.specs.Limits.{is_ring_size}
 use Rattle.resource_table.specs.Layout.{field, resource_table, fw_rsc_hdr, fw_rsc_carveout, fw_rsc_trace, fw_rsc_vdev, fw_rsc_vdev_vring}
-use Rattle.resource_table.specs.Faults.{fault_if, first_fault}
+use Rattle.rp_base.specs.Faults.{fault_if, first_fault}
 use Rattle.resource_table.specs.Entries.{entry_count, start_of, type_at, ring_count, vring_start, vring_at}
 use Rattle.resource_table.specs.declared.faults.TableFault.{TableFault}
 use Rattle.resource_table.specs.declared.faults.TableFault.TheVariants as fault

@@ -47,6 +47,7 @@ impl<D: Desk> RingLane<D> {
     ghost use Rattle.lane_model.specs.declared.stages.SendStage.TheVariants as send_stage;
     ghost use Rattle.ring_core.specs.RingLinks.{opened_ring_lane};
     ghost use Rattle.ring_core.specs.RingWords.{index_of, entry_in, words_of};
+    ghost use Rattle.ring_core.specs.SoundRings.{IsSoundRings};
     ghost use Rattle.lane_model.specs.Sends.{sender_step};
     ghost use Rattle.lane_model.specs.Receives.{receiver_step};
     ghost use Rattle.lane_model.specs.Answers.{outcome_of};
@@ -92,9 +93,10 @@ impl<D: Desk> RingLane<D> {
     }
 
     /// The index of the return ring, or of the forward ring: how many entries were published, modulo
-    /// 65,536.
+    /// 65,536. Its readers also learn that the rings are sound, which is what a lane of rings keeps.
     pub fn index(&self, returns: bool) -> u16
-        ensures { result ≡ index_of self.now.rings returns }
+        ensures index { result ≡ index_of self.now.rings returns }
+        ensures sound { IsSoundRings self.now }
     {
         if returns {
             self.return_index
@@ -107,7 +109,8 @@ impl<D: Desk> RingLane<D> {
     /// length 0.
     pub fn entry(&self, returns: bool, place: u32) -> UsedWord
         requires { place < self.now.rings.sizes.entries }
-        ensures { result ≡ entry_in self.now.rings returns place }
+        ensures entry { result ≡ entry_in self.now.rings returns place }
+        ensures sound { IsSoundRings self.now }
     {
         if returns {
             entry_in(&self.returns, place)
@@ -121,6 +124,7 @@ impl<D: Desk> RingLane<D> {
     /// Errors: only for want of memory.
     pub fn words(&self, alloc: Global, base: Da) -> Result<RingWords, NoMemory>
         ensures words { IfOk result (λ words. words ≡ words_of self.now.rings base) }
+        ensures sound { IsSoundRings self.now }
         ensures sizes { IfOk result (λ words. IsRingSize words.num × (words.capacity ≡ ring_capacity words.num)) }
         ensures long { IfOk result (λ words. (length words.avail ≡ words.num) × (length words.used ≡ words.num)) }
     {

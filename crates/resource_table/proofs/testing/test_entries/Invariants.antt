@@ -1,6 +1,6 @@
 use Rattle.std.proofs.Common.{◌≡◌, ◌-◌, map}
 use Rattle.std.specs.List.{range_with_len}
-use Rattle.resource_table.specs.Faults.{first_fault}
+use Rattle.rp_base.specs.Faults.{first_fault}
 use Rattle.resource_table.specs.Entries.{entry_count}
 use Rattle.resource_table.specs.Tables.{entry_fault, entries_fault}
 use Rattle.resource_table.specs.Walks.{IsEarlier}

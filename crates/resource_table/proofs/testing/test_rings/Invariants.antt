@@ -1,6 +1,6 @@
 use Rattle.std.proofs.Common.{◌≡◌, ◌-◌, map}
 use Rattle.std.specs.List.{range_with_len}
-use Rattle.resource_table.specs.Faults.{first_fault}
+use Rattle.rp_base.specs.Faults.{first_fault}
 use Rattle.resource_table.specs.Tables.{ring_fault_at, rings_fault}
 use Rattle.resource_table.proofs.testing.test_rings.Given as goal
 
