@@ -1,4 +1,4 @@
--- What the blocks of a placement are for (own).
+-- What the blocks of a placement are for (own). No public clause speaks of this: it serves the contracts of the crate's own functions.
 use Rattle.std.specs.Prelude.{◌≡◌, ℕ, ◌<◌, List, length, Option, Some, slice_get, slice_index}
 use Rattle.resource_table.specs.declared.entries.Entry.{Entry}
 use Rattle.resource_table.specs.declared.entries.Entry.TheVariants as entry

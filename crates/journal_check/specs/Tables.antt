@@ -1,4 +1,4 @@
--- What the tables of an audit keep of the lines before (own). The contracts of the crate's own functions speak of it.
+-- What the tables of an audit keep of the lines before (own). No public clause speaks of this: it serves the contracts of the crate's own functions.
 use Rattle.std.specs.Prelude.{◌≡◌, ℕ, ◌<◌, Bool, true, false, ◌&&◌, nat_eq, nat_le, List, [], ◌∷◌, Option, Some, None, unwrap_or, find, bytes_eq}
 use Rattle.std.specs.List.{list_any, range_with_len}
 use Rattle.std.specs.Map.{lookup}

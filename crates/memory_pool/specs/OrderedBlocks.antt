@@ -1,4 +1,4 @@
--- Blocks in the order of their addresses, and what a placement that is under way keeps (own).
+-- Blocks in the order of their addresses, and what a placement that is under way keeps (own). No public clause speaks of this: it serves the contracts of the crate's own functions.
 use Rattle.std.specs.Prelude.{◌≡◌, ◌+◌, ◌≤◌, Bool, false, List}
 use Rattle.std.specs.List.{list_any}
 use Rattle.std.specs.List.Sorted.{IsNonDecreasingBy}

@@ -1,4 +1,4 @@
--- What is kept while the entries of a table are tested, one after the other.
+-- What is kept while the entries of a table are tested, one after the other. No public clause speaks of this: it serves the contracts of the crate's own functions.
 use Rattle.std.specs.Prelude.{◌≡◌, ℕ, ◌+◌, ◌≤◌, ◌<◌, List, All, length}
 use Rattle.std.specs.List.{range_with_len, list_any}
 use Rattle.resource_table.specs.Entries.{entry_count, start_of, type_at}

@@ -1,4 +1,4 @@
--- What the words ask for, as code tells it apart (own).
+-- What the words ask for, as code tells it apart (own). No public clause speaks of this: it serves the contracts of the crate's own functions.
 use Rattle.std.specs.Prelude.{◌≡◌, ◌≤◌, ◌∷◌, List, [], ℕ, Bool, false, ◌==◌, Option, Some, None, option_map, slice_get, drop, codes}
 use Rattle.clap.specs.Words.{first_value, found_of, matched_of, raw_values}
 use Rattle.clap.specs.declared.parser.matches.ArgMatches.{ArgMatches}

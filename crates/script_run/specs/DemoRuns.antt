@@ -1,4 +1,4 @@
--- What code knows of the run of a demo (own).
+-- What code knows of the run of a demo (own). No public clause speaks of this: it serves the contracts of the crate's own functions.
 use Rattle.std.specs.Prelude.{◌≡◌, ℕ, List, [], Some, None, Result, Ok, Err}
 use Rattle.script_lang.specs.declared.commands.Command.{Command}
 use Rattle.script_run.specs.declared.demos.Accepted.{Accepted}

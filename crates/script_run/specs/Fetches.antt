@@ -1,4 +1,4 @@
--- What code was told of the image that a command asks for (own).
+-- What code was told of the image that a command asks for (own). No public clause speaks of this: it serves the contracts of the crate's own functions.
 use Rattle.std.specs.Prelude.{◌≡◌, ℕ, List, ◌++◌, Option, Some, None, is_some, IsTrue, Result, Ok, Err}
 use Rattle.rp_io.specs.declared.faults.FetchFault.TheVariants as fetch_fault
 use Rattle.rp_io.specs.Causes.{Rose}

@@ -1,4 +1,4 @@
--- What becomes of a report (own).
+-- What becomes of a report (own). No public clause speaks of this: it serves the contracts of the crate's own functions.
 use Rattle.std.specs.Prelude.{◌≡◌, ℕ, List, Option, if◌then◌else◌}
 use Rattle.rp_io.specs.Causes.{Rose}
 use Rattle.journal.specs.Notices.{report_text}

@@ -1,4 +1,4 @@
--- What a run keeps beside its links (own).
+-- What a run keeps beside its links (own). No public clause speaks of this: it serves the contracts of the crate's own functions.
 use Rattle.std.specs.Prelude.{◌≡◌, ℕ, Bool, List, ◌++◌, Option}
 use Rattle.std.specs.Io.KnownBytes.{Appends}
 use Rattle.journal.specs.declared.events.Event.{Event}

@@ -1,4 +1,4 @@
--- How what a run tells comes to its sink (own).
+-- How what a run tells comes to its sink (own). No public clause speaks of this: it serves the contracts of the crate's own functions.
 use Rattle.std.specs.Prelude.{◌≡◌, ℕ, List, ◌++◌, Option, Result, Ok, Err}
 use Rattle.std.specs.Io.KnownBytes.{Appends}
 use Rattle.rp_io.specs.Causes.{Rose}

@@ -1,4 +1,4 @@
--- A text that stands before another (own).
+-- A text that stands before another (own). No public clause speaks of this: it serves the contracts of the crate's own functions.
 use Rattle.std.specs.Prelude.{◌≡◌, ℕ, List, ◌++◌}
 
 -- the text before is a front of the text after: the same bytes, and then a rest that may be empty
