@@ -22,7 +22,7 @@ use Rattle.ring_core.specs.declared.states.RingState.{RingState}
 use Rattle.link_words.specs.declared.rule.Slot.{Slot}
 use Rattle.link_words.specs.declared.rule.LinkSizes.{LinkSizes}
 use Rattle.link_words.specs.declared.rule.Call.{Call}
-use Rattle.link_words.specs.declared.rule.Call.TheVariants.{Idle, Sends, Rests, Reclaims, EndsHeld, Receives, EndsReceive, EndsSend, Reopens, HoldsAll}
+use Rattle.link_words.specs.declared.rule.Call.TheVariants.{Idle, Sends, Rests, Reclaims, EndsHeld, Receives, EndsReceive, EndsSend, EndsBoth, Reopens, HoldsAll}
 use Rattle.link_words.specs.declared.rule.Pass.{Pass}
 use Rattle.link_words.specs.declared.rule.View.{View}
 use Rattle.link_words.specs.Words.{lane_to, era_word, shelf_to}
@@ -34,7 +34,7 @@ use Rattle.link_words.specs.Parts.{has_for_manager, HoldsBuffers}
 use Rattle.link_words.specs.Codes.{copied}
 use Rattle.link_words.specs.Passes.{Mover, with_pass, with_call}
 use Rattle.link_words.specs.Calls.{SeatState}
-use Rattle.link_words.specs.Seats.{ClosesEra}
+use Rattle.link_words.proofs.Tells.{ClosesEraBy}
 use Rattle.link_words.proofs.Frames.{some_copy, each_set, numbers_set, keepers_set, manager_set}
 use Rattle.link_words.proofs.Kept.{deed_kept}
 use Rattle.link_words.proofs.Parts.{state_in, told_in, buffers_in, put_together, one_more}
@@ -81,8 +81,10 @@ shut_call m inc k (Receives side.Host t x buffer msg) live has = (has.0, has.1, 
 shut_call m inc k (EndsReceive side.Host t x buffer msg) live has = (has.0, has.1, refl)
 shut_call m inc k (Receives side.Remote t x buffer msg) live has = (has.0, has.1, subst (IsCurrentTake t) (ap (λ (x : Era). x.inc) live) has.2)
 shut_call m inc k (EndsReceive side.Remote t x buffer msg) live has = (has.0, has.1, refl)
-shut_call m inc k (EndsSend side.Host t x buffer) live has = (has.0, has.1, refl)
-shut_call m inc k (EndsSend side.Remote t x buffer) live has = (has.0, has.1, refl)
+shut_call m inc k (EndsSend side.Host t x buffer) live has = (has.0, has.1, refl, subst (IsCurrent t) (ap (λ (x : Era). x.inc) live) has.3)
+shut_call m inc k (EndsBoth side.Host t x buffer y) live has = (has.0, has.1, refl, has.3, has.4, has.5)
+shut_call m inc k (EndsSend side.Remote t x buffer) live has = (has.0, has.1, refl, subst (IsCurrent t) (ap (λ (x : Era). x.inc) live) has.3)
+shut_call m inc k (EndsBoth side.Remote t x buffer y) live has = (has.0, has.1, refl, has.3, has.4, has.5)
 shut_call m inc k (Reopens p i) live has = absurd (true-false (sym (ap (λ (x : Era). x.is_live) live) ∙ has.2.0))
 shut_call m inc k (HoldsAll a b) live has = (has.0, has.1, managers_shut m inc has.2, has.3, has.4)
 
@@ -151,10 +153,10 @@ module _ {B : Type 0} {kc : Coded B} {kz : DeskTables} (cd : Coded (PlacedDesk k
   )
 
   pub closes : (n id : ℕ) (me : SeatState) (o : Mover me.0) (inc old new : ℕ) → old ≡ era_word (record { inc = inc; is_live = true }) → new ≡ era_word (record { inc = inc; is_live = false })
-      → Allows (WordsRule cd desk z) n id me 1 (λ y. either (eqb y old) new y) (λ y me'. ClosesEra me y me' × IsCloseOf cd desk inc y me me')
+      → Allows (WordsRule cd desk z) n id me 1 (λ y. either (eqb y old) new y) (λ y me'. ClosesEraBy me y me' × IsCloseOf cd desk inc y me me')
   closes n id me o inc old new is_old is_new st (m, p, r₀) wide at _ =
       let y : ℕ = get_or st.words 1 0 in let word : y ≡ era_word m.era = ap (λ (ws : List ℕ). get_or ws 1 0) r₀.words_are in
-      exchanged y old new (λ f. (w : View) × (a : Act Slot) × Valid st.homes me.1 a × WordsRule cd desk z (stepped st 1 f id me.1 w a) × (ClosesEra me y (w, carried_after me.1 a) × IsCloseOf cd desk inc y me (w, carried_after me.1 a)))
+      exchanged y old new (λ f. (w : View) × (a : Act Slot) × Valid st.homes me.1 a × WordsRule cd desk z (stepped st 1 f id me.1 w a) × (ClosesEraBy me y (w, carried_after me.1 a) × IsCloseOf cd desk inc y me (w, carried_after me.1 a)))
       (λ hit.
       let era : m.era ≡ record { inc = inc; is_live = true } = era_of_word m.era (record { inc = inc; is_live = true }) (sym word ∙ (hit ∙ is_old)) in
       let r : Shows cd desk z st m 0 = ⊎_elim (λ (none_reset : p ≡ 0). subst (Shows cd desk z st m) none_reset r₀) (λ (still : IsStill m). absurd (true-false (ap (λ (x : Era). x.is_live) (sym era) ∙ still.0))) r₀.turns.still in
@@ -187,7 +189,7 @@ module _ {B : Type 0} {kc : Coded B} {kz : DeskTables} (cd : Coded (PlacedDesk k
                 short = subst (λ (x : Era). x.inc < 4294967296) era r.numbers.short;
               }),
         ),
-        ((m.era, word, refl), record { state = m; sound = state_in r; found = word; copy = λ k manages none was. ((r.numbers.manager id me.0 at manages).copy k was none, ap (λ (x : LaneLink (RingState (PlacedDesk kc kz))). Some (copied cd x)) deed) }),
+        ((m.era, word, r.numbers.short, refl), record { state = m; sound = state_in r; found = word; copy = λ k manages none was. ((r.numbers.manager id me.0 at manages).copy k was none, ap (λ (x : LaneLink (RingState (PlacedDesk kc kz))). Some (copied cd x)) deed) }),
       ))
       (λ miss.
       let other : is_live_in m.era inc ≡ false = not_live_in inc m.era.inc m.era.is_live (λ same live. miss (word ∙ ((λ k. era_word (record { inc = same k; is_live = live k })) ∙ sym is_old))) in
@@ -196,5 +198,5 @@ module _ {B : Type 0} {kc : Coded B} {kz : DeskTables} (cd : Coded (PlacedDesk k
         keeps,
         tt,
         stays st m p r₀ 1 y id me.1 me.0 (Closes inc) at refl tt same,
-        ((m.era, word, refl), record { state = m; sound = state_in r₀; found = word; copy = λ k manages none was. let is = (r₀.numbers.manager id me.0 at manages).copy k was none in (is, was ∙ ap Some (is ∙ ap (copied cd) same)) }),
+        ((m.era, word, r₀.numbers.short, refl), record { state = m; sound = state_in r₀; found = word; copy = λ k manages none was. let is = (r₀.numbers.manager id me.0 at manages).copy k was none in (is, was ∙ ap Some (is ∙ ap (copied cd) same)) }),
       ))

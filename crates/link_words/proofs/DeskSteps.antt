@@ -1,9 +1,9 @@
 -- The two steps on a desk's table.
-use Rattle.std.proofs.Common.{◌≡◌, ℕ, zero, suc, List, [], ◌∷◌, length, set, true, false, refl, sym, ap, ◌∙◌, subst, arith}
+use Rattle.std.proofs.Common.{◌≡◌, ℕ, zero, suc, List, [], ◌∷◌, length, set, true, false, refl, sym, ap, ◌∙◌, arith}
 use mathlib.Core.Option.{Option, some, none, some-injective, some-ne-none}
 use lib.ListN.{get_elem?}
 use base.Stored.{Coded}
-use Rattle.atomic_table.specs.Table.{State, Me, Act, takes, gives, Allows, rest, put_back}
+use Rattle.atomic_table.specs.Table.{Me, takes, gives, Allows, rest, put_back}
 use Rattle.link_words.specs.declared.codes.DeskView.{DeskView}
 use Rattle.link_words.specs.DeskSeats.{IsDeskHome, OpensDesk, ShutsDesk, home_view, away_view}
 

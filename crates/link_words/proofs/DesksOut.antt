@@ -1,5 +1,5 @@
 -- The seat of a desk's table with the desk out, and its badge when the desk is home again.
-use Rattle.std.proofs.Common.{◌≡◌, ℕ, List, [], ◌∷◌, sym, ap, ◌∙◌}
+use Rattle.std.proofs.Common.{◌≡◌, List, [], ◌∷◌, sym, ap, ◌∙◌}
 use Rattle.atomic_table.specs.Table.{Me, rest}
 use Rattle.link_words.specs.declared.codes.DeskView.{DeskView}
 use Rattle.link_words.specs.DeskSeats.{away_view, home_view, code_in}

@@ -16,7 +16,6 @@ use Rattle.atomic_table.specs.Table.{State, keeps, Joins, Allows}
 use Rattle.atomic_table.proofs.Lists.{at_set, set_else}
 use Rattle.rp_base.specs.declared.kinds.End.{End}
 use Rattle.rp_base.specs.declared.kinds.End.TheVariants as side
-use Rattle.rp_base.specs.declared.kinds.Era.{Era}
 use Rattle.lane_model.specs.declared.lane_links.LaneLink.{LaneLink}
 use base.Stored.{Coded}
 use Rattle.lane_model.specs.Desks.{DeskMeaning}
@@ -27,7 +26,7 @@ use Rattle.link_words.specs.declared.rule.LinkSizes.{LinkSizes}
 use Rattle.link_words.specs.declared.rule.Call.TheVariants.{Rests}
 use Rattle.link_words.specs.declared.rule.Pass.{Pass}
 use Rattle.link_words.specs.declared.rule.View.{View}
-use Rattle.link_words.specs.Words.{other, lane_to, era_word}
+use Rattle.link_words.specs.Words.{other, lane_to}
 use Rattle.link_words.specs.Passes.{PassAt, HasNumber, Manages, Mover, numbers_of, spent_view, without_pass, after_end_at, callers_without, after_end_with}
 use Rattle.link_words.specs.Deeds.{Frees, MayDo}
 use Rattle.link_words.specs.Rule.{HasCall, IsCallOf, HistoryOf, HandsOf, Shows, WordsRule, LatestOf}
@@ -44,7 +43,7 @@ use prog.Atomic.{either}
 use Rattle.atomic_table.proofs.Lists.{exchanged}
 use Rattle.std.proofs.Common.{eqb}
 use Rattle.link_words.specs.Passes.{place_of_number}
-use Rattle.link_words.specs.Seats.{with_era, EndsCaller}
+use Rattle.link_words.specs.Seats.{with_era, EndsCaller, LearnsEra}
 use Rattle.link_words.proofs.Moving.{with_views, rebuilt, recast}
 use Rattle.link_words.proofs.Users.{end_else, call_with, history_with, hands_with}
 
@@ -195,7 +194,7 @@ module _ {B : Type 0} {kc : Coded B} {kz : DeskTables} (cd : Coded (PlacedDesk k
   shut_is true is = absurd (false-true is)
   shut_is false is = refl
 
-  pub learns_shut : (slots id : ℕ) (me : SeatState) → Manages me.0 → Allows (WordsRule cd desk z) slots id me 1 (λ y. y) (λ y me'. (era : Era) × (y ≡ era_word era) × (me' ≡ (with_era me.0 era, me.1)))
+  pub learns_shut : (slots id : ℕ) (me : SeatState) → Manages me.0 → Allows (WordsRule cd desk z) slots id me 1 (λ y. y) (λ y me'. LearnsEra me y me')
   learns_shut slots id me manages st (m, p, r) wide at _ =
       let u = with_era me.0 m.era in let views = set st.views id u in let known = r.numbers.manager id me.0 at manages in
       let before : (j l : ℕ) (a : Pass) → PassAt views j l a → PassAt st.views j l a = λ j l a here. ⊎_elim
@@ -217,7 +216,7 @@ module _ {B : Type 0} {kc : Coded B} {kz : DeskTables} (cd : Coded (PlacedDesk k
             }))
             (λ (x : (i ≢ id) × (get_elem? st.views i ≡ some y)). absurd (x.0 (one_manager st.views r.numbers.places i id y me.0 x.1 manages_y at manages)))
             (at_set st.views id i u y ey))),
-        (m.era, ap (λ (ws : List ℕ). get_or ws 1 0) r.words_are, refl),
+        (m.era, ap (λ (ws : List ℕ). get_or ws 1 0) r.words_are, r.numbers.short, refl),
       )
 
   -- the idle word is read by an exchange of 0 for 0, which names the caller

@@ -125,6 +125,34 @@ busy_by cd desk z st m p r id i me o e d low call at may same =
       copy = λ k manages none_out was. let is = (r.numbers.manager id me.0 at manages).copy k was none_out in (is, was ∙ ap Some (is ∙ ap (copied cd) same));
     }
 
+-- the state stays, and the pass goes to another call, whatever of a reopening stands in other words
+pub step_found : {B : Type 0} {kc : Coded B} {kz : DeskTables} (cd : Coded (PlacedDesk kc kz)) (desk : DeskMeaning (PlacedDesk kc kz)) (z : LinkSizes) (st : State Slot View) (m : LaneLink (RingState (PlacedDesk kc kz))) (p : ℕ) (r : Shows cd desk z st m p) (id i : ℕ) (me : SeatState) (o : Mover me.0) (w : Pass) (d : Deed) (slots : List (ℕ × Slot))
+    → get_or st.words i 0 ≡ get_or (words_of 0 [] m) i 0 → get_elem? st.views id ≡ some me.0 → MayDo desk m d → m ≡ after_deed desk m d → IsCallOf m 0 o.pass.number o.pass.call → IsCallOf m 0 o.pass.number w.call
+    → StepBy cd desk (ReadsAt i (get_or st.words i 0)) me o d (with_pass me.0 o w (Some (copied cd m)), slots)
+step_found cd desk z st m p r id i me o w d slots low at may same before next = record {
+  state = m;
+  sound = state_in r;
+  read = low;
+  may = may;
+  before = before;
+  after = subst (λ (x : LaneLink (RingState _)). IsCallOf x 0 o.pass.number (call_at o.place (set me.0.passes o.place w))) same (subst (IsCallOf m 0 o.pass.number) (sym (call_set me.0.passes o.place o.pass w o.here)) next);
+  copy = λ k manages none_out was. ((r.numbers.manager id me.0 at manages).copy k was none_out, ap (λ (x : LaneLink (RingState _)). Some (copied cd x)) same);
+}
+
+-- the seat and the state stay as they are, at a load
+pub stays_by : {B : Type 0} {kc : Coded B} {kz : DeskTables} (i : ℕ) (cd : Coded (PlacedDesk kc kz)) (desk : DeskMeaning (PlacedDesk kc kz)) (z : LinkSizes) (st : State Slot View) (m : LaneLink (RingState (PlacedDesk kc kz))) (r : Shows cd desk z st m 0) (id : ℕ) (me : SeatState) (o : Mover me.0) (d : Deed)
+    → get_elem? st.views id ≡ some me.0 → MayDo desk m d → m ≡ after_deed desk m d → StepBy cd desk (ReadsAt i (get_or st.words i 0)) me o d me
+stays_by i cd desk z st m r id me o d at may same =
+    let before : IsCallOf m 0 o.pass.number o.pass.call = r.turns.calls id o.place o.pass (me.0, at, o.here) in record {
+      state = m;
+      sound = state_in r;
+      read = ap (λ (ws : List ℕ). get_or ws i 0) r.words_are;
+      may = may;
+      before = before;
+      after = subst (λ (x : LaneLink (RingState _)). IsCallOf x 0 o.pass.number (call_at o.place me.0.passes)) same (subst (IsCallOf m 0 o.pass.number) (call_at_is me.0.passes o.place o.pass o.here) before);
+      copy = λ k manages none_out was. let is = (r.numbers.manager id me.0 at manages).copy k was none_out in (is, was ∙ ap Some (is ∙ ap (copied cd) same));
+    }
+
 number_at_is : (ps : List Pass) (k : ℕ) (p : Pass) → get_elem? ps k ≡ some p → p.number ≡ number_at k ps
 number_at_is [] k p at = absurd (some-ne-none p (sym at))
 number_at_is (x ∷ xs) zero p at = ap (λ (q : Pass). q.number) (sym (some-injective x p at))

@@ -14,14 +14,14 @@ use Rattle.lane_model.specs.Crashes.{after_send_end, after_receive_end}
 use Rattle.lane_model.specs.Links.{lanes_of, with_lanes, end_of, link_of, on_lanes, lanes_step, send_later, receive_later}
 use Rattle.lane_model.specs.Conditions.{MayEndStep, is_in_call}
 use Rattle.lane_model.specs.Recoveries.{link_after_reopen}
-use Rattle.lane_laws.specs.Parts.{part_done, with_manager, manager_takes, manager_leaves}
+use Rattle.lane_laws.specs.Parts.{part_done, with_manager, without_manager, manager_takes, manager_leaves}
 use Rattle.lane_model.specs.declared.recoveries.LaneTurn.TheVariants as lane_turn
 use Rattle.lane_model.specs.declared.stages.Turn.{Turn}
 use Rattle.lane_model.specs.Soundness.{SoundLink, IsSoundBetween}
 use Rattle.lane_model.proofs.FormSteps.{step_agrees}
 use Rattle.lane_laws.proofs.SoundKept.{step_sound, caller_sound}
 use Rattle.lane_laws.proofs.CrashLaws.{close_sound, reopen_sound}
-use Rattle.lane_laws.proofs.PartSteps.{part_sound, manager_takes_sound}
+use Rattle.lane_laws.proofs.PartSteps.{part_sound, manager_takes_sound, manager_leaves_sound}
 use Rattle.ring_core.specs.declared.states.RingState.{RingState}
 use Rattle.ring_core.specs.RingSteps.{ring_form}
 use Rattle.ring_core.specs.SoundRings.{IsSoundRings}
@@ -29,7 +29,7 @@ use Rattle.lane_laws.specs.SoundRingLinks.{HasSoundRings}
 use Rattle.lane_laws.proofs.RingLinks.{link_kept, close_kept, reopen_kept}
 use Rattle.ring_core.proofs.Reclaims.{send_ended_sound, receive_ended_sound}
 use Rattle.link_words.specs.Words.{other, lane_to, with_lane}
-use Rattle.link_words.specs.Deeds.{Deed, Steps, Closes, EndsCall, Opens, TakesReceiver, LeavesTurn, Enlists, Frees, Nothing, after_leave_without, after_deed, MayDo, lanes_after_end, IsSoundState}
+use Rattle.link_words.specs.Deeds.{Deed, Steps, Closes, EndsCall, Opens, TakesReceiver, ReleasesReceiver, LeavesTurn, Enlists, Frees, Nothing, after_leave_without, after_deed, MayDo, lanes_after_end, IsSoundState}
 
 true-false : true ≡ false → ⊥
 true-false e = absurd (cc)
@@ -132,6 +132,23 @@ taken_rings s q = record {
 free_has : {C : Type 0} (P : ℕ → C → Type 0) (t : Turn C) → t ≡ turn.Manager → OfCall (manager_leaves t) P
 free_has P t is = subst (λ u. OfCall (manager_leaves u) P) (sym is) tt
 
+-- a lane whose receiver's turn the manager leaves
+released_rings : {D : Type 0} (s : RingState D) → s.lane.receiver ≡ turn.Manager → IsSoundRings s → IsSoundRings (record s { lane = without_manager s.lane lane_turn.Receiver })
+released_rings s is q = record {
+  sized = q.sized;
+  counted = q.counted;
+  forward_index = q.forward_index;
+  return_index = q.return_index;
+  owned = q.owned;
+  apart = q.apart;
+  holdings = q.holdings;
+  filled = q.filled;
+  room = q.room;
+  fit = free_has _ s.lane.receiver is;
+  source = q.source;
+  work = free_has _ s.lane.receiver is;
+}
+
 left_rings : {D : Type 0} (desk : DeskMeaning D) (s : RingState D) (caller : ℕ) → s.lane.receiver ≡ turn.Manager → IsSoundRings s → IsSoundRings (after_leave_without desk s caller)
 left_rings desk s caller is sound = let q = receive_ended_sound desk s caller sound in record {
   sized = q.sized;
@@ -179,6 +196,14 @@ deed_kept desk m (TakesReceiver side.Host) may k = record {
 deed_kept desk m (TakesReceiver side.Remote) may k = record {
   rings = record { to_host = k.rings.to_host; to_remote = taken_rings m.to_remote k.rings.to_remote };
   sound = (manager_takes_sound (link_of (ring_form desk) m) lane_turn.Receiver k.sound).1;
+}
+deed_kept desk m (ReleasesReceiver side.Host) may k = record {
+  rings = record { to_host = released_rings m.to_host may k.rings.to_host; to_remote = k.rings.to_remote };
+  sound = (manager_leaves_sound (link_of (ring_form desk) m) lane_turn.Receiver k.sound).0;
+}
+deed_kept desk m (ReleasesReceiver side.Remote) may k = record {
+  rings = record { to_host = k.rings.to_host; to_remote = released_rings m.to_remote may k.rings.to_remote };
+  sound = (manager_leaves_sound (link_of (ring_form desk) m) lane_turn.Receiver k.sound).1;
 }
 deed_kept desk m (LeavesTurn side.Host caller) may k = record {
   rings = record { to_host = left_rings desk m.to_host caller may.2 k.rings.to_host; to_remote = k.rings.to_remote };

@@ -28,7 +28,7 @@ use Rattle.link_words.specs.declared.rule.Slot.{Slot}
 use Rattle.link_words.specs.declared.rule.SenderSide.{SenderSide}
 use Rattle.link_words.specs.declared.rule.LinkSizes.{LinkSizes}
 use Rattle.link_words.specs.declared.rule.Call.{Call}
-use Rattle.link_words.specs.declared.rule.Call.TheVariants.{Idle, Sends, Rests, Reclaims, EndsHeld, Receives, EndsReceive, EndsSend, Reopens, HoldsAll}
+use Rattle.link_words.specs.declared.rule.Call.TheVariants.{Idle, Sends, Rests, Reclaims, EndsHeld, Receives, EndsReceive, EndsSend, EndsBoth, Reopens, HoldsAll}
 use Rattle.link_words.specs.declared.rule.Pass.{Pass}
 use Rattle.link_words.specs.declared.rule.View.{View}
 use Rattle.rp_base.specs.declared.kinds.Era.{Era}
@@ -94,6 +94,9 @@ module _ {B : Type 0} {kc : Coded B} {kz : DeskTables} (desk : DeskMeaning (Plac
   others_send m side.Host s t number is mine receiver beside taking book after k apart (EndsSend side.Host u x buffer) has =
       absurd (apart (one_holder (lane_to m side.Host).lane.sender number k (ap holder is ∙ mine) (ap holder has.1.0 ∙ has.1.1)))
   others_send m side.Host s t number is mine receiver beside taking book after k apart (EndsSend side.Remote u x buffer) has = has
+  others_send m side.Host s t number is mine receiver beside taking book after k apart (EndsBoth side.Host u x buffer y) has =
+      absurd (apart (one_holder (lane_to m side.Host).lane.sender number k (ap holder is ∙ mine) (ap holder has.1.0 ∙ has.1.1)))
+  others_send m side.Host s t number is mine receiver beside taking book after k apart (EndsBoth side.Remote u x buffer y) has = (has.0, has.1, has.2, receiver ∙ has.3, has.4 ∙ sym beside, has.5)
   others_send m side.Host s t number is mine receiver beside taking book after k apart (Rests side.Remote) has = (has.0, after k apart, has.2)
   others_send m side.Host s t number is mine receiver beside taking book after k apart (Rests side.Host) has = (has.0, has.1, ap (λ u. has_call u k) receiver ∙ has.2)
   others_send m side.Host s t number is mine receiver beside taking book after k apart (Reclaims side.Host x) has = (has.0, receiver ∙ has.1, has.2 ∙ sym beside, has.3, has.4)
@@ -117,6 +120,9 @@ module _ {B : Type 0} {kc : Coded B} {kz : DeskTables} (desk : DeskMeaning (Plac
   others_send m side.Remote s t number is mine receiver beside taking book after k apart (EndsSend side.Remote u x buffer) has =
       absurd (apart (one_holder (lane_to m side.Remote).lane.sender number k (ap holder is ∙ mine) (ap holder has.1.0 ∙ has.1.1)))
   others_send m side.Remote s t number is mine receiver beside taking book after k apart (EndsSend side.Host u x buffer) has = has
+  others_send m side.Remote s t number is mine receiver beside taking book after k apart (EndsBoth side.Remote u x buffer y) has =
+      absurd (apart (one_holder (lane_to m side.Remote).lane.sender number k (ap holder is ∙ mine) (ap holder has.1.0 ∙ has.1.1)))
+  others_send m side.Remote s t number is mine receiver beside taking book after k apart (EndsBoth side.Host u x buffer y) has = (has.0, has.1, has.2, receiver ∙ has.3, has.4 ∙ sym beside, has.5)
   others_send m side.Remote s t number is mine receiver beside taking book after k apart (Rests side.Host) has = (has.0, after k apart, has.2)
   others_send m side.Remote s t number is mine receiver beside taking book after k apart (Rests side.Remote) has = (has.0, has.1, ap (λ u. has_call u k) receiver ∙ has.2)
   others_send m side.Remote s t number is mine receiver beside taking book after k apart (Reclaims side.Remote x) has = (has.0, receiver ∙ has.1, has.2 ∙ sym beside, has.3, has.4)
@@ -154,6 +160,9 @@ module _ {B : Type 0} {kc : Coded B} {kz : DeskTables} (desk : DeskMeaning (Plac
   others_free_send m side.Host s free receiver beside taking book k after (EndsSend side.Host u x buffer) has =
       absurd (free_none k u (sym free ∙ has.1.0) has.1.1)
   others_free_send m side.Host s free receiver beside taking book k after (EndsSend side.Remote u x buffer) has = has
+  others_free_send m side.Host s free receiver beside taking book k after (EndsBoth side.Host u x buffer y) has =
+      absurd (free_none k u (sym free ∙ has.1.0) has.1.1)
+  others_free_send m side.Host s free receiver beside taking book k after (EndsBoth side.Remote u x buffer y) has = (has.0, has.1, has.2, receiver ∙ has.3, has.4 ∙ sym beside, has.5)
   others_free_send m side.Host s free receiver beside taking book k after (Rests side.Remote) has = (has.0, after, has.2)
   others_free_send m side.Host s free receiver beside taking book k after (Rests side.Host) has = (has.0, has.1, ap (λ u. has_call u k) receiver ∙ has.2)
   others_free_send m side.Host s free receiver beside taking book k after (Reclaims side.Host x) has = (has.0, receiver ∙ has.1, has.2 ∙ sym beside, has.3, has.4)
@@ -177,6 +186,9 @@ module _ {B : Type 0} {kc : Coded B} {kz : DeskTables} (desk : DeskMeaning (Plac
   others_free_send m side.Remote s free receiver beside taking book k after (EndsSend side.Remote u x buffer) has =
       absurd (free_none k u (sym free ∙ has.1.0) has.1.1)
   others_free_send m side.Remote s free receiver beside taking book k after (EndsSend side.Host u x buffer) has = has
+  others_free_send m side.Remote s free receiver beside taking book k after (EndsBoth side.Remote u x buffer y) has =
+      absurd (free_none k u (sym free ∙ has.1.0) has.1.1)
+  others_free_send m side.Remote s free receiver beside taking book k after (EndsBoth side.Host u x buffer y) has = (has.0, has.1, has.2, receiver ∙ has.3, has.4 ∙ sym beside, has.5)
   others_free_send m side.Remote s free receiver beside taking book k after (Rests side.Host) has = (has.0, after, has.2)
   others_free_send m side.Remote s free receiver beside taking book k after (Rests side.Remote) has = (has.0, has.1, ap (λ u. has_call u k) receiver ∙ has.2)
   others_free_send m side.Remote s free receiver beside taking book k after (Reclaims side.Remote x) has = (has.0, receiver ∙ has.1, has.2 ∙ sym beside, has.3, has.4)

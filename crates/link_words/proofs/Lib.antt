@@ -15,7 +15,7 @@ pub mod Sends
 pub mod Closes
 pub mod Buffers
 pub mod Publishes
-pub mod Reclaims
+pub mod SendEnds
 pub mod Opens
 pub mod Takes
 pub mod Fresh
@@ -25,6 +25,8 @@ pub mod Books
 pub mod Held
 pub mod Exact
 pub mod Starts
+pub mod TurnWords
+pub mod Ends
 pub mod Entries
 pub mod TakeEnds
 pub mod Parts

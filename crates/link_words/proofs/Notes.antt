@@ -20,7 +20,7 @@ use Rattle.link_words.specs.Calls.{SeatState, Becomes, Notes, with_pass_at, call
 use Rattle.link_words.specs.Deeds.{Deed, after_deed}
 use Rattle.link_words.specs.Passes.{Mover, with_pass}
 use Rattle.link_words.specs.Rule.{HasCall, HistoryOf, HandsOf, LatestOf, WordsRule, IsCallOf}
-use Rattle.link_words.specs.Steps.{IsStepOf}
+use Rattle.link_words.specs.Steps.{IsStepOf, IsCloseOf}
 use Rattle.link_words.proofs.Frames.{each_set, keepers_set, numbers_set, manager_stays}
 use Rattle.link_words.proofs.Parts.{state_in, told_in, buffers_in, put_together}
 
@@ -53,6 +53,10 @@ becomes_noted made f k slots me me' told = ap (noted_seat made k) told ∙ λ i.
 -- a view that stays becomes itself
 pub becomes_same : (k : ℕ) (me me' : SeatState) → me' ≡ me → Becomes (λ p. p) k me.1 me me'
 becomes_same k me me' same = subst (λ (u : SeatState). Becomes (λ p. p) k me.1 me u) (sym same) (λ i. (record me.0 { passes = sym (passes_same k me.0.passes) i }, me.1))
+
+-- a view of which the copy alone changes
+pub becomes_copied : (k : ℕ) (me me' : SeatState) → me' ≡ (record me.0 { copy = me'.0.copy }, me.1) → Becomes (λ p. p) k me.1 me me'
+becomes_copied k me me' told = told ∙ λ i. (record me.0 { copy = me'.0.copy; passes = sym (passes_same k me.0.passes) i }, me.1)
 
 -- a pass stands at this place, or the note changes nothing
 there_or_none : (made : Made) (k : ℕ) (ps : List Pass) → ((p : Pass) × (get_elem? ps k ≡ some p) × (with_pass_at (noted made) k ps ≡ set ps k (noted made p))) ⊎ (with_pass_at (noted made) k ps ≡ ps)
@@ -123,6 +127,10 @@ module _ {B : Type 0} {kc : Coded B} {kz : DeskTables} (cd : Coded (PlacedDesk k
             (rule_noted st' id k w (made _ _ a.4) (set_here st.views id w (near st.views id me.0 at)) a.3),
         follows _ _ a.4,
       )
+
+  -- a close stays what it is
+  pub close_noted : (inc n k : ℕ) (me me' : SeatState) (made : Made) → IsCloseOf cd desk inc n me me' → IsCloseOf cd desk inc n me (noted_seat made k me')
+  close_noted inc n k me me' made s = record { state = s.state; sound = s.sound; found = s.found; copy = s.copy }
 
   -- the step stays what it is
   pub step_noted : (Reads : LaneLink (RingState (PlacedDesk kc kz)) → LaneLink (RingState (PlacedDesk kc kz)) → Type 0) (d : Deed) (number k : ℕ) (call : Call) (me me' : SeatState) (made : Made)

@@ -28,7 +28,7 @@ use Rattle.link_words.specs.declared.rule.Slot.TheVariants.{Sender, Receiver}
 use Rattle.link_words.specs.declared.rule.ReceiverSide.{ReceiverSide}
 use Rattle.link_words.specs.declared.rule.LinkSizes.{LinkSizes}
 use Rattle.link_words.specs.declared.rule.Call.{Call}
-use Rattle.link_words.specs.declared.rule.Call.TheVariants.{Idle, Sends, Rests, Reclaims, EndsHeld, Receives, EndsReceive, EndsSend, Reopens, HoldsAll}
+use Rattle.link_words.specs.declared.rule.Call.TheVariants.{Idle, Sends, Rests, Reclaims, EndsHeld, Receives, EndsReceive, EndsSend, EndsBoth, Reopens, HoldsAll}
 use Rattle.link_words.specs.declared.rule.Pass.{Pass}
 use Rattle.link_words.specs.declared.rule.View.{View}
 use Rattle.link_words.specs.declared.codes.DeskRight.{DeskRight}
@@ -115,6 +115,8 @@ still_call m m' p p' a k apart (Receives side.Remote t x b msg) nh nr same a' ha
 still_call m m' p p' a k apart (EndsReceive side.Remote t x b msg) nh nr same a' has = absurd (apart (is_64 m.to_remote.lane.receiver t k a.remote_receiver has.1.0 has.1.1))
 still_call m m' p p' a k apart (EndsSend side.Host t x b) nh nr same a' has = absurd (apart (is_64 m.to_host.lane.sender t k a.host_sender has.1.0 has.1.1))
 still_call m m' p p' a k apart (EndsSend side.Remote t x b) nh nr same a' has = absurd (apart (is_64 m.to_remote.lane.sender t k a.remote_sender has.1.0 has.1.1))
+still_call m m' p p' a k apart (EndsBoth side.Host t x b y) nh nr same a' has = absurd (nr refl)
+still_call m m' p p' a k apart (EndsBoth side.Remote t x b y) nh nr same a' has = absurd (nh refl)
 still_call m m' p p' a k apart (Reopens q inc) nh nr same a' has = absurd (apart (sym has.0))
 still_call m m' p p' a k apart (HoldsAll x y) nh nr same a' has = absurd (apart (sym has.0))
 

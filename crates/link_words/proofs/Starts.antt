@@ -1,7 +1,7 @@
 -- Step 1 of a send: one attempt to take the sender's turn, on either lane. It needs that the caller is in no call, which its view says.
 use Rattle.link_words.specs.declared.codes.DeskTables.{DeskTables}
 use Rattle.link_words.specs.PlacedDesks.{PlacedDesk}
-use Rattle.std.proofs.Common.{◌≡◌, ◌≢◌, ℕ, suc, ◌≤◌, arith, Bool, true, false, eqb, ◌||◌, List, [], ◌∷◌, length, get_or, refl, sym, ap, ◌∙◌, subst, ⊎_elim}
+use Rattle.std.proofs.Common.{◌≡◌, ◌≢◌, ℕ, suc, ◌≤◌, Bool, true, false, eqb, ◌||◌, List, [], ◌∷◌, length, get_or, refl, sym, ap, ◌∙◌, subst, ⊎_elim}
 use Rattle.std.specs.Prelude.{Option, Some}
 use mathlib.Core.Option.{some, none}
 use mathlib.Core.Path.{Path}
@@ -38,15 +38,14 @@ use Rattle.link_words.specs.Rule.{IsCallOf, fresh_block, Shows, WordsRule}
 use Rattle.link_words.specs.Parts.{HoldsBuffers}
 use Rattle.link_words.specs.Passes.{Mover, with_pass, with_call}
 use Rattle.link_words.specs.Calls.{SeatState}
-use Rattle.link_words.proofs.Users.{in_range}
 use Rattle.link_words.proofs.Frames.{turn_set, side_found, side_set, same_lane}
 use Rattle.link_words.proofs.LaneSteps.{still_sender, no_call, here_sends, others_free_send, lane_moves}
 use Rattle.link_words.proofs.Sends.{true-false, shelved_turn}
 use Rattle.link_words.proofs.Closes.{stays}
 use Rattle.link_words.proofs.Buffers.{homes_here}
+use Rattle.link_words.proofs.TurnWords.{sender_word_most}
 use Rattle.link_words.proofs.Held.{free_if, is_free}
 use Rattle.link_words.proofs.Exact.{StepBy, busy_by, ReadsAt, read_by}
-use Rattle.lane_model.specs.Soundness.{SoundLink, IsSoundTurn}
 use Rattle.link_words.proofs.Parts.{accepted_most, rings_at, buffers_in}
 
 start_of : (follows : ℕ) (message : List ℕ) → Sending
@@ -90,22 +89,6 @@ module _ {B : Type 0} {kc : Coded B} {kz : DeskTables} (desk : DeskMeaning (Plac
 sender_of : {B : Type 0} {kc : Coded B} {kz : DeskTables} (m : LaneLink (RingState (PlacedDesk kc kz))) (e : End) → turn_word (lane_to m e).lane.sender ≡ get_or (words_of 0 [] m) (sender_word e) 0
 sender_of m side.Host = refl
 sender_of m side.Remote = refl
-
-turn_word_most : {C : Type 0} (callers : List (Option End)) (e : End) (t : Turn C) → length callers ≡ 64 → IsSoundTurn callers e t → turn_word t ≤ 65
-turn_word_most callers e turn.Free many is = omega arith
-turn_word_most callers e (turn.Taken c x) many is = let low = in_range callers c e is in omega (arith, low, many)
-turn_word_most callers e (turn.Leaving c x) many is = let low = in_range callers c e is in omega (arith, low, many)
-turn_word_most callers e turn.Manager many is = omega arith
-
-module _ {B : Type 0} {kc : Coded B} {kz : DeskTables} (desk : DeskMeaning (PlacedDesk kc kz)) where
-  -- the word of a turn is at most that of the manager's
-  pub sender_word_most : (m : LaneLink (RingState (PlacedDesk kc kz))) (e : End) → length m.callers ≡ 64 → SoundLink (link_of (ring_form desk) m) → turn_word (lane_to m e).lane.sender ≤ 65
-  sender_word_most m side.Host many sound = turn_word_most m.callers side.Remote m.to_host.lane.sender many sound.to_host.sender
-  sender_word_most m side.Remote many sound = turn_word_most m.callers side.Host m.to_remote.lane.sender many sound.to_remote.sender
-
-  pub receiver_word_most : (m : LaneLink (RingState (PlacedDesk kc kz))) (e : End) → length m.callers ≡ 64 → SoundLink (link_of (ring_form desk) m) → turn_word (lane_to m e).lane.receiver ≤ 65
-  receiver_word_most m side.Host many sound = turn_word_most m.callers side.Host m.to_host.lane.receiver many sound.to_host.receiver
-  receiver_word_most m side.Remote many sound = turn_word_most m.callers side.Remote m.to_remote.lane.receiver many sound.to_remote.receiver
 
 module _ {B : Type 0} {kc : Coded B} {kz : DeskTables} (cd : Coded (PlacedDesk kc kz)) (desk : DeskMeaning (PlacedDesk kc kz)) (z : LinkSizes) where
   abbrev pub SendBeginsBy : (me : SeatState) → Mover me.0 → End → ℕ → List ℕ → ℕ → SeatState → Type 0

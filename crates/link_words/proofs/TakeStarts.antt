@@ -43,7 +43,7 @@ use Rattle.link_words.specs.declared.rule.Call.{Call}
 use Rattle.link_words.specs.declared.rule.Call.TheVariants.{Rests, Receives}
 use Rattle.link_words.specs.declared.rule.View.{View}
 use Rattle.link_words.specs.Turns.{is_manager}
-use Rattle.link_words.specs.Words.{other, lane_to, with_lane, era_word, turn_word, LaneWords, lane_words, words_at, home_if, lane_homes, homes_at, shelf_to, receiver_side, receiver_slot, forward_word, words_of}
+use Rattle.link_words.specs.Words.{other, lane_to, with_lane, era_word, turn_word, LaneWords, lane_words, words_at, home_if, lane_homes, homes_at, shelf_to, receiver_side, receiver_slot, forward_word}
 use Rattle.link_words.specs.Deeds.{Steps, after_deed, MayDo, IsStill}
 use Rattle.link_words.specs.Rule.{IsCallOf, IsHistory, Shows, WordsRule}
 use Rattle.link_words.specs.Histories.{is_past_take_era, IsCurrentTake, IsOfNow}
@@ -68,7 +68,8 @@ use Rattle.link_words.proofs.Takes.{with_receiver, receiver_turn_set, receiver_s
 use Rattle.link_words.specs.Words.{receiver_word}
 use Rattle.link_words.proofs.Held.{receiver_home, free_if, is_free, free_for_all, seen_receiver, shelved_receiver}
 use Rattle.link_words.proofs.Frames.{same_lane}
-use Rattle.link_words.proofs.Starts.{or_false, not_free, receiver_word_most}
+use Rattle.link_words.proofs.Starts.{or_false, not_free}
+use Rattle.link_words.proofs.TurnWords.{receiver_of, receiver_word_most}
 use Rattle.link_words.proofs.Looks.{sizes_is}
 use Rattle.link_words.proofs.Parts.{handed_most, returned_most, rings_at, rings_in, buffers_in}
 use Rattle.link_words.specs.Words.{sizes_at}
@@ -127,11 +128,6 @@ es_out false c q ended inside = inside
 es_current : (b : Bool) (c f inc : ℕ) (ended : CallEnd) → f ≡ inc → IsCurrentTake (settled_turn b c (record { follows = f; work = work.Take take_stage.Look }) ended) inc
 es_current true c f inc ended now = tt
 es_current false c f inc ended now = λ _. now
-
--- the word of a receiver's turn
-receiver_of : {B : Type 0} {kc : Coded B} {kz : DeskTables} (m : LaneLink (RingState (PlacedDesk kc kz))) (e : End) → turn_word (lane_to m e).lane.receiver ≡ get_or (words_of 0 [] m) (receiver_word e) 0
-receiver_of m side.Host = refl
-receiver_of m side.Remote = refl
 
 module _ {B : Type 0} {kc : Coded B} {kz : DeskTables} (desk : DeskMeaning (PlacedDesk kc kz)) (wished : Wish) (first : Work) (follows : ℕ) (begins : (lanes : Lanes (RingState (PlacedDesk kc kz))) (caller : ℕ) → first_step (ring_form desk) lanes caller follows wished ≡ receive_first (ring_form desk) lanes caller follows first) where
   work_done : (m : LaneLink (RingState (PlacedDesk kc kz))) (e : End) (caller : ℕ)

@@ -41,10 +41,10 @@ use Rattle.link_words.specs.declared.rule.Slot.TheVariants.{Buffer, Receiver}
 use Rattle.link_words.specs.declared.rule.ReceiverSide.{ReceiverSide}
 use Rattle.link_words.specs.declared.rule.LinkSizes.{LinkSizes}
 use Rattle.link_words.specs.declared.rule.Call.{Call}
-use Rattle.link_words.specs.declared.rule.Call.TheVariants.{Idle, Sends, Rests, Reclaims, EndsHeld, Receives, EndsReceive, EndsSend, Reopens, HoldsAll}
+use Rattle.link_words.specs.declared.rule.Call.TheVariants.{Idle, Sends, Rests, Reclaims, EndsHeld, Receives, EndsReceive, EndsSend, EndsBoth, Reopens, HoldsAll}
 use Rattle.lane_model.specs.declared.states.Holding.{Holding}
 use Rattle.link_words.specs.Histories.{hands_of}
-use Rattle.link_words.proofs.Frames.{keepers_set}
+use Rattle.link_words.proofs.Frames.{keepers_set, receiver_in}
 use Rattle.link_words.specs.declared.rule.View.{View}
 use Rattle.link_words.specs.Words.{receiver_word, receiver_slot, other, lane_to, with_lane, era_word, lane_words, words_at, LaneWords, LaneHomes, lane_homes, homes_at, shelf_to, sender_side, receiver_side, buffer_slot}
 use Rattle.link_words.specs.Turns.{turns_of, is_manager}
@@ -55,7 +55,7 @@ use Rattle.link_words.specs.Parts.{ReceivesAt, HoldsBuffers}
 use Rattle.link_words.specs.Codes.{copied}
 use Rattle.link_words.specs.Passes.{Mover, with_pass, with_call_and_hands, with_call}
 use Rattle.link_words.specs.Calls.{SeatState}
-use Rattle.link_words.proofs.Tells.{TakeTakesBufferBy, TakeHandsBy}
+use Rattle.link_words.proofs.Tells.{TakeTakesBufferBy, TakeHandsBy, LeavesEmpty}
 use Rattle.link_words.proofs.Frames.{buffer_found, buffer_set}
 use Rattle.link_words.proofs.Hands.{hands_none, hands_others, hands_here, hands_more, hands_same, hands_at}
 use Rattle.link_words.proofs.Kept.{no_send, receive_deed, receive_may, end_receive_deed}
@@ -66,7 +66,7 @@ use Rattle.link_words.specs.declared.rule.Event.TheVariants.{Take}
 use Rattle.link_words.proofs.LaneSteps.{lane_moves_with}
 use Rattle.link_words.proofs.Sends.{live_now, some_number, has_of, true-false}
 use Rattle.link_words.proofs.Buffers.{rings_to, homes_here, loaded, first_is}
-use Rattle.link_words.proofs.Exact.{StepBy, ReadsAt, read_by}
+use Rattle.link_words.proofs.Exact.{StepBy, ReadsAt, WritesAt, read_by, write_by}
 use Rattle.link_words.proofs.Parts.{hands_most, rings_in, buffers_in}
 
 -- the lane, with the receiver's turn written out
@@ -132,6 +132,7 @@ has_receiver e Idle = false
 has_receiver e (Rests i) = false
 has_receiver e (Sends i t x buffer) = false
 has_receiver e (EndsSend i t x buffer) = false
+has_receiver e (EndsBoth i t x buffer y) = same_end e (other i)
 has_receiver e (Receives i t x buffer message) = same_end e i
 has_receiver e (EndsReceive i t x buffer message) = same_end e i
 has_receiver e (Reclaims i x) = same_end e i
@@ -152,8 +153,10 @@ module _ {B : Type 0} {kc : Coded B} {kz : DeskTables} (desk : DeskMeaning (Plac
   others_beside m side.Host s sender beside sending k after (Rests side.Remote) never has = (has.0, ap (λ u. has_call u k) sender ∙ has.1, has.2)
   others_beside m side.Host s sender beside sending k after (Sends side.Host u x buffer) never has = (has.0, (sender ∙ has.1.0, has.1.1, has.1.2 ∙ sym beside, λ out. sending ∙ has.1.3 out), has.2)
   others_beside m side.Host s sender beside sending k after (Sends side.Remote u x buffer) never has = has
-  others_beside m side.Host s sender beside sending k after (EndsSend side.Host u x buffer) never has = (has.0, (sender ∙ has.1.0, has.1.1, has.1.2 ∙ sym beside, λ out. sending ∙ has.1.3 out), has.2)
+  others_beside m side.Host s sender beside sending k after (EndsSend side.Host u x buffer) never has = (has.0, (sender ∙ has.1.0, has.1.1, has.1.2 ∙ sym beside, λ out. sending ∙ has.1.3 out), has.2, has.3)
   others_beside m side.Host s sender beside sending k after (EndsSend side.Remote u x buffer) never has = has
+  others_beside m side.Host s sender beside sending k after (EndsBoth side.Host u x buffer y) never has = (has.0, (sender ∙ has.1.0, has.1.1, has.1.2 ∙ sym beside, λ out. sending ∙ has.1.3 out), has.2, has.3, has.4, has.5)
+  others_beside m side.Host s sender beside sending k after (EndsBoth side.Remote u x buffer y) never has = absurd (never refl has)
   others_beside m side.Host s sender beside sending k after (Receives side.Host u x buffer msg) never has = absurd (never refl has)
   others_beside m side.Host s sender beside sending k after (Receives side.Remote u x buffer msg) never has = has
   others_beside m side.Host s sender beside sending k after (EndsReceive side.Host u x buffer msg) never has = absurd (never refl has)
@@ -169,8 +172,10 @@ module _ {B : Type 0} {kc : Coded B} {kz : DeskTables} (desk : DeskMeaning (Plac
   others_beside m side.Remote s sender beside sending k after (Rests side.Host) never has = (has.0, ap (λ u. has_call u k) sender ∙ has.1, has.2)
   others_beside m side.Remote s sender beside sending k after (Sends side.Remote u x buffer) never has = (has.0, (sender ∙ has.1.0, has.1.1, has.1.2 ∙ sym beside, λ out. sending ∙ has.1.3 out), has.2)
   others_beside m side.Remote s sender beside sending k after (Sends side.Host u x buffer) never has = has
-  others_beside m side.Remote s sender beside sending k after (EndsSend side.Remote u x buffer) never has = (has.0, (sender ∙ has.1.0, has.1.1, has.1.2 ∙ sym beside, λ out. sending ∙ has.1.3 out), has.2)
+  others_beside m side.Remote s sender beside sending k after (EndsSend side.Remote u x buffer) never has = (has.0, (sender ∙ has.1.0, has.1.1, has.1.2 ∙ sym beside, λ out. sending ∙ has.1.3 out), has.2, has.3)
   others_beside m side.Remote s sender beside sending k after (EndsSend side.Host u x buffer) never has = has
+  others_beside m side.Remote s sender beside sending k after (EndsBoth side.Remote u x buffer y) never has = (has.0, (sender ∙ has.1.0, has.1.1, has.1.2 ∙ sym beside, λ out. sending ∙ has.1.3 out), has.2, has.3, has.4, has.5)
+  others_beside m side.Remote s sender beside sending k after (EndsBoth side.Host u x buffer y) never has = absurd (never refl has)
   others_beside m side.Remote s sender beside sending k after (Receives side.Remote u x buffer msg) never has = absurd (never refl has)
   others_beside m side.Remote s sender beside sending k after (Receives side.Host u x buffer msg) never has = has
   others_beside m side.Remote s sender beside sending k after (EndsReceive side.Remote u x buffer msg) never has = absurd (never refl has)
@@ -196,6 +201,8 @@ module _ {B : Type 0} {kc : Coded B} {kz : DeskTables} (desk : DeskMeaning (Plac
   no_other_has m side.Host t number is mine bare k apart (Reclaims side.Remote x) having has = true-false (sym having)
   no_other_has m side.Host t number is mine bare k apart (EndsHeld side.Host x) having has = true-false (sym (ap is_manager (sym is ∙ has.1)) ∙ bare)
   no_other_has m side.Host t number is mine bare k apart (EndsHeld side.Remote x) having has = true-false (sym having)
+  no_other_has m side.Host t number is mine bare k apart (EndsBoth side.Host u x buffer y) having has = true-false (sym having)
+  no_other_has m side.Host t number is mine bare k apart (EndsBoth side.Remote u x buffer y) having has = true-false (sym (ap is_manager (sym is ∙ has.3)) ∙ bare)
   no_other_has m side.Host t number is mine bare k apart (Reopens p inc) having has = true-false (sym (ap is_manager (sym is ∙ has.2.1.host_receiver)) ∙ bare)
   no_other_has m side.Host t number is mine bare k apart (HoldsAll x y) having has = true-false (sym (ap is_manager (sym is ∙ has.2.host_receiver)) ∙ bare)
   no_other_has m side.Remote t number is mine bare k apart (Receives side.Remote u x buffer msg) having has = apart (one_holder desk m.to_remote.lane.receiver number k (ap holder is ∙ mine) (ap holder has.1.0 ∙ has.1.1))
@@ -206,6 +213,8 @@ module _ {B : Type 0} {kc : Coded B} {kz : DeskTables} (desk : DeskMeaning (Plac
   no_other_has m side.Remote t number is mine bare k apart (Reclaims side.Host x) having has = true-false (sym having)
   no_other_has m side.Remote t number is mine bare k apart (EndsHeld side.Remote x) having has = true-false (sym (ap is_manager (sym is ∙ has.1)) ∙ bare)
   no_other_has m side.Remote t number is mine bare k apart (EndsHeld side.Host x) having has = true-false (sym having)
+  no_other_has m side.Remote t number is mine bare k apart (EndsBoth side.Remote u x buffer y) having has = true-false (sym having)
+  no_other_has m side.Remote t number is mine bare k apart (EndsBoth side.Host u x buffer y) having has = true-false (sym (ap is_manager (sym is ∙ has.3)) ∙ bare)
   no_other_has m side.Remote t number is mine bare k apart (Reopens p inc) having has = true-false (sym (ap is_manager (sym is ∙ has.2.1.remote_receiver)) ∙ bare)
   no_other_has m side.Remote t number is mine bare k apart (HoldsAll x y) having has = true-false (sym (ap is_manager (sym is ∙ has.2.remote_receiver)) ∙ bare)
 
@@ -379,7 +388,7 @@ module _ {B : Type 0} {kc : Coded B} {kz : DeskTables} (cd : Coded (PlacedDesk k
   -- part 3 of a reclaim of a take that has its buffer out: the buffer comes home with its message, what the caller holds leaves `held`, and the turn is free
   pub ends_take_out : (n id : ℕ) (me : SeatState) (o : Mover me.0) (e : End) (t : Turn Receiving) (x x' : ReceiverSide) (b first : ℕ) (msg : List ℕ) → o.pass.call ≡ EndsReceive e t x b msg → is_manager t ≡ false → receiver_is_out t ≡ true → first ≡ z.to_host.capacity
       → x' ≡ record x { hands = hands_of_others x.hands o.pass.number } → me.1 ≡ (buffer_slot first e b, Buffer msg) ∷ (receiver_slot e, Receiver x') ∷ rest (rest me.1)
-      → Allows (WordsRule cd desk z) n id me (receiver_word e) (λ _. 0) (λ _ me'. me' ≡ (with_pass me.0 o (with_call_and_hands o.pass (Rests e) []) me'.0.copy, rest (rest me.1)))
+      → Allows (WordsRule cd desk z) n id me (receiver_word e) (λ _. 0) (λ _ me'. LeavesEmpty me o (Rests e) (rest (rest me.1)) me' × StepBy cd desk (WritesAt (receiver_word e) 0) me o (EndsCall e o.pass.number) me')
   ends_take_out n id me o e t x x' b first msg call bare outside first_at side_is has_slots st (m, p, r₀) wide at _ =
       let h : IsCallOf m p o.pass.number (EndsReceive e t x b msg) = subst (IsCallOf m p o.pass.number) call (r₀.turns.calls id o.place o.pass (me.0, at, o.here)) in
       let r = at_zero' st m p e t h.1.0 bare r₀ in let s₀ = lane_to m e in let c = o.pass.number in
@@ -391,21 +400,22 @@ module _ {B : Type 0} {kc : Coded B} {kz : DeskTables} (cd : Coded (PlacedDesk k
       let has : has_call s₀.lane.receiver c ≡ true = has_of s₀.lane.receiver c (ap holder h.1.0 ∙ h.1.1) (ap is_manager h.1.0 ∙ bare) in
       let freed : Bool → RingState (PlacedDesk kc kz) = λ y. record ((ring_form desk).after_receive_end s₀ c) { lane = record ((ring_form desk).after_receive_end s₀ c).lane { receiver = cond y turn.Free s₀.lane.receiver } } in
       let s' = freed true in let ha = lane_homes s₀ (shelf_to r.shelves e) in let hb = lane_homes (lane_to m (other e)) (shelf_to r.shelves (other e)) in let l' = set (shelf_to r.shelves e) b (some (Buffer msg)) in
-      let side : x' ≡ receiver_side s' = side_is ∙ ap (λ (u : ReceiverSide). record u { hands = hands_of_others u.hands c }) h.1.2 in (
+      let side : x' ≡ receiver_side s' = side_is ∙ ap (λ (u : ReceiverSide). record u { hands = hands_of_others u.hands c }) h.1.2 in
+      let deed = ap (λ (y : Bool). with_lane m e (freed y)) (sym has) ∙ end_receive_deed desk m e c has (no_send desk m e c r.sound has) in let mine = receive_rests m e s' c h.0 refl (no_send desk m e c r.sound has) in (
         _,
         chain gives gives,
         (tt, tt),
         lane_moves_by cd desk z st m r e s₀ s' refl (receiver_word e) 0 id me.1 me.0 o (Rests e) [] (chain gives gives) (EndsCall e c) l' at
             (h.2, h.0)
-            (ap (λ (y : Bool). with_lane m e (freed y)) (sym has) ∙ end_receive_deed desk m e c has (no_send desk m e c r.sound has))
+            deed
             (receiver_turn_set e (era_word m.era) 0 (lane_words s₀) (lane_words (lane_to m (other e))))
             (ap (λ (cs : List (ℕ × Slot)). homes_after (homes_at e ha hb) cs (chain gives gives)) has_slots
             ∙ (ap (λ (hs : List (Option_of Slot)). set hs (receiver_slot e) (some (Receiver x'))) (buffer_set e first b (some (Buffer msg)) ha hb near (first_is cd desk z st m r e first first_at))
             ∙ (receiver_side_set e (some (Receiver x')) (record ha { shelf = l' }) hb
             ∙ ap (λ (u : ReceiverSide). homes_at e (record (lane_homes s₀ l') { receiver = some (Receiver u) }) hb) side)))
             (subst (λ (v : ℕ × List ℕ). HoldsBuffers s' (set (shelf_to r.shelves e) v.0 (some (Buffer v.1)))) (λ i. (taken i, sym is_b.1 i)) (shelved_back s₀ s' (shelf_to r.shelves e) sound out ((buffers_in r) e) refl refl refl refl refl (le_refl hd)))
-            (receive_rests m e s' c h.0 refl (no_send desk m e c r.sound has)) (λ j l u there apart. others_receive desk m e s' t c h.1.0 h.1.1 bare refl refl refl (λ k _. refl) u.number apart u.call)
+            mine (λ j l u there apart. others_receive desk m e s' t c h.1.0 h.1.1 bare refl refl refl (λ k _. refl) u.number apart u.call)
             refl refl refl refl (inr (inl refl)) (hands_here m e s' (with_call_and_hands o.pass (Rests e) []) h.0 (hands_none c s₀.lane.lane.held)) (λ u apart. hands_kept desk m e s' u (λ was. hands_others c u.number s₀.lane.lane.held apart ∙ was))
             (keepers_set st.views id me.0 (with_pass me.0 o (with_call_and_hands o.pass (Rests e) []) (Some (copied cd (with_lane m e s')))) o (with_call_and_hands o.pass (Rests e) []) at refl refl (λ i k. absurd (true-false (sym k))) r.turns.keepers),
-        refl,
+        (refl, write_by (receiver_word e) 0 cd desk z st m r id me o (with_call_and_hands o.pass (Rests e) []) (EndsCall e c) (with_lane m e s') (rest (rest me.1)) (receiver_in m e s') at (h.2, h.0) deed mine),
       )

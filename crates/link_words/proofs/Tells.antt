@@ -12,7 +12,6 @@ use Rattle.link_words.specs.Calls.{SeatState}
 use Rattle.link_words.specs.Steps.{look_turn, take_look_turn, hands_but}
 use Rattle.rp_base.specs.declared.kinds.Era.{Era}
 use Rattle.rp_base.specs.declared.kinds.End.{End}
-use Rattle.lane_model.specs.declared.stages.Turn.{Turn}
 use Rattle.lane_model.specs.declared.stages.Turn.TheVariants as turn
 use Rattle.lane_model.specs.declared.stages.Sending.{Sending}
 use Rattle.lane_model.specs.declared.stages.SendStage.TheVariants as stage
@@ -31,17 +30,22 @@ use Rattle.link_words.specs.declared.rule.Slot.{Slot}
 use Rattle.link_words.specs.declared.rule.Slot.TheVariants.{Buffer, Receiver}
 use Rattle.link_words.specs.declared.rule.SenderSide.{SenderSide}
 use Rattle.link_words.specs.declared.rule.ReceiverSide.{ReceiverSide}
-use Rattle.link_words.specs.declared.rule.Call.TheVariants.{Sends, Rests, Receives, EndsSend, Reopens}
+use Rattle.link_words.specs.declared.rule.Call.{Call}
+use Rattle.link_words.specs.declared.rule.Call.TheVariants.{Sends, Rests, Receives, Reopens}
 use Rattle.link_words.specs.declared.rule.Counted.TheVariants.{Room, Waiting, Gave}
 use Rattle.link_words.specs.declared.rule.Event.TheVariants.{Count, Publish, Take}
 use Rattle.link_words.specs.Histories.{NeverBack, latest}
 use Rattle.ring_core.specs.RingSteps.{hands_without}
-use Rattle.link_words.specs.Passes.{Mover, with_call, with_pass}
+use Rattle.link_words.specs.Passes.{Mover, with_call, with_call_and_hands, with_pass}
 use Rattle.link_words.specs.Words.{receiver_slot, other, era_word, buffer_slot}
 
 -- step 2 of a send: the era that was found decides
 abbrev pub SendLoadsEraBy : (me : SeatState) → Mover me.0 → End → ℕ → Sending → SenderSide → ℕ → ℕ → SeatState → Type 0
 SendLoadsEraBy me o e c s x b n me' = (era : Era) × (n ≡ era_word era) × (era.inc < 4294967296) × (me' ≡ (with_pass me.0 o (with_call o.pass (Sends e (after_send_era era c s) x b)) me'.0.copy, me.1))
+
+-- an attempt to close: the era that was found
+abbrev pub ClosesEraBy : SeatState → ℕ → SeatState → Type 0
+ClosesEraBy me n me' = (era : Era) × (n ≡ era_word era) × (era.inc < 4294967296) × (me' ≡ (record me.0 { copy = me'.0.copy }, me.1))
 
 -- step 4 of a send: the buffer is out
 abbrev pub SendTakesBufferBy : (me : SeatState) → Mover me.0 → ℕ → End → ℕ → Sending → SenderSide → ℕ → SeatState → Type 0
@@ -56,9 +60,21 @@ SendPublishesBy me o e c f message x b me' =
 abbrev pub SendLeavesBy : (me : SeatState) → Mover me.0 → End → List (ℕ × Slot) → SeatState → Type 0
 SendLeavesBy me o e left me' = me' ≡ (with_pass me.0 o (with_call o.pass (Rests (other e))) me'.0.copy, left)
 
--- part 1 of a reclaim, by the seat of the caller that has the sender's turn: the era that was found
-abbrev pub FindsClosedEra : (me : SeatState) → Mover me.0 → End → Turn Sending → SenderSide → ℕ → ℕ → SeatState → Type 0
-FindsClosedEra me o e t x b n me' = (era : Era) × (n ≡ era_word era) × (era.is_live ≡ false → me' ≡ (with_pass me.0 o (with_call o.pass (EndsSend e t x b)) me'.0.copy, me.1)) × (era.is_live ≡ true → me' ≡ me)
+-- a seat that has a turn loads the era in a reclaim: where it is closed, its pass is in this call
+abbrev pub FindsClosedBy : (me : SeatState) → Mover me.0 → Call → ℕ → SeatState → Type 0
+FindsClosedBy me o call n me' = (era : Era) × (n ≡ era_word era) × (era.inc < 4294967296) × (era.is_live ≡ false → me' ≡ (with_pass me.0 o (with_call o.pass call) me'.0.copy, me.1)) × (era.is_live ≡ true → me' ≡ me)
+
+-- part 2 of a reclaim: one attempt to take the receiver's turn for the manager, with the seat of the caller
+abbrev pub ClaimsBy : (me : SeatState) → Mover me.0 → End → (ReceiverSide → Call) → Call → ℕ → SeatState → Type 0
+ClaimsBy me o e next busy n me' = (n ≡ 0 → (x : ReceiverSide) × (me' ≡ (with_pass me.0 o (with_call o.pass (next x)) me'.0.copy, (receiver_slot e, Receiver x) ∷ me.1))) × (n ≢ 0 → me' ≡ (with_pass me.0 o (with_call o.pass busy) me'.0.copy, me.1))
+
+-- a turn is left: the pass is in this call, and these slots are still out
+abbrev pub LeavesTo : (me : SeatState) → Mover me.0 → Call → List (ℕ × Slot) → SeatState → Type 0
+LeavesTo me o call left me' = me' ≡ (with_pass me.0 o (with_call o.pass call) me'.0.copy, left)
+
+-- the same of a caller that holds nothing more
+abbrev pub LeavesEmpty : (me : SeatState) → Mover me.0 → Call → List (ℕ × Slot) → SeatState → Type 0
+LeavesEmpty me o call left me' = me' ≡ (with_pass me.0 o (with_call_and_hands o.pass call []) me'.0.copy, left)
 
 -- the manager, which has the four turns and holds nothing, loads the era: a reopening begins where it is closed
 abbrev pub BeginsReopening : (me : SeatState) → Mover me.0 → ℕ → SeatState → Type 0

@@ -57,7 +57,7 @@ use Rattle.link_words.proofs.Entries.{pulls_entry, forward_entry, sizes_known}
 use Rattle.link_words.proofs.Exact.{StepBy, call_is, own_is, in_hand_is, becomes, step_told, ReadsAt, read_there, WritesAt, written_there}
 use Rattle.link_words.proofs.Looks.{sends_look, sends_entry}
 use Rattle.link_words.proofs.Publishes.{publishes}
-use Rattle.link_words.proofs.Reclaims.{leaves}
+use Rattle.link_words.proofs.SendEnds.{leaves}
 use Rattle.link_words.proofs.Sends.{sends_era}
 use Rattle.link_words.proofs.TakeEnds.{leaves_take}
 use Rattle.link_words.proofs.TakeStarts.{takes_era, takes_look}

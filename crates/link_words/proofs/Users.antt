@@ -18,7 +18,7 @@ use Rattle.lane_model.specs.Links.{end_of, free_number}
 use Rattle.lane_model.specs.Soundness.{IsSoundTurn, AreUsers}
 use Rattle.ring_core.specs.declared.states.RingState.{RingState}
 use Rattle.link_words.specs.declared.rule.Call.{Call}
-use Rattle.link_words.specs.declared.rule.Call.TheVariants.{Idle, Sends, Rests, Reclaims, EndsHeld, Receives, EndsReceive, EndsSend, Reopens, HoldsAll}
+use Rattle.link_words.specs.declared.rule.Call.TheVariants.{Idle, Sends, Rests, Reclaims, EndsHeld, Receives, EndsReceive, EndsSend, EndsBoth, Reopens, HoldsAll}
 use Rattle.link_words.specs.declared.rule.Pass.{Pass}
 use Rattle.link_words.specs.Words.{lane_to}
 use Rattle.link_words.specs.Deeds.{AreManagers, HoldsNothing}
@@ -73,8 +73,10 @@ call_with m cs p k (Rests side.Host) same has = (same ∙ has.0, has.1, has.2)
 call_with m cs p k (Rests side.Remote) same has = (same ∙ has.0, has.1, has.2)
 call_with m cs p k (Sends side.Host t x b) same has = (same ∙ has.0, has.1, has.2)
 call_with m cs p k (Sends side.Remote t x b) same has = (same ∙ has.0, has.1, has.2)
-call_with m cs p k (EndsSend side.Host t x b) same has = (same ∙ has.0, has.1, has.2)
-call_with m cs p k (EndsSend side.Remote t x b) same has = (same ∙ has.0, has.1, has.2)
+call_with m cs p k (EndsSend side.Host t x b) same has = (same ∙ has.0, has.1, has.2, has.3)
+call_with m cs p k (EndsSend side.Remote t x b) same has = (same ∙ has.0, has.1, has.2, has.3)
+call_with m cs p k (EndsBoth side.Host t x b y) same has = (same ∙ has.0, has.1, has.2, has.3, has.4, has.5)
+call_with m cs p k (EndsBoth side.Remote t x b y) same has = (same ∙ has.0, has.1, has.2, has.3, has.4, has.5)
 call_with m cs p k (Receives side.Host t x b msg) same has = (same ∙ has.0, has.1, has.2)
 call_with m cs p k (Receives side.Remote t x b msg) same has = (same ∙ has.0, has.1, has.2)
 call_with m cs p k (EndsReceive side.Host t x b msg) same has = (same ∙ has.0, has.1, has.2)
@@ -127,6 +129,7 @@ in_use m p k Idle has = inl has
 in_use m p k (Rests e) has = inr (e, has.0)
 in_use m p k (Sends e t x b) has = inr (_, has.0)
 in_use m p k (EndsSend e t x b) has = inr (_, has.0)
+in_use m p k (EndsBoth e t x b y) has = inr (_, has.0)
 in_use m p k (Receives e t x b msg) has = inr (e, has.0)
 in_use m p k (EndsReceive e t x b msg) has = inr (e, has.0)
 in_use m p k (Reclaims e x) has = inr (e, has.0)

@@ -1,5 +1,5 @@
 -- The call of a pass: at which stage it is, and what a step makes of it (own).
-use Rattle.std.specs.Prelude.{◌≡◌, Bool, true, false, ℕ, zero, suc, if◌then◌else◌, ◌==◌, List, [], ◌∷◌}
+use Rattle.std.specs.Prelude.{◌≡◌, Bool, true, false, ℕ, zero, suc, if◌then◌else◌, ◌==◌, ◌||◌, List, [], ◌∷◌}
 use Rattle.atomic_table.specs.Table.{Me, rest}
 use Rattle.rp_base.specs.declared.kinds.End.{End}
 use Rattle.lane_model.specs.declared.calls.CallEnd.{CallEnd}
@@ -14,14 +14,14 @@ use Rattle.link_words.specs.declared.rule.Slot.TheVariants.{Sender, Receiver}
 use Rattle.link_words.specs.declared.rule.SenderSide.{SenderSide}
 use Rattle.link_words.specs.declared.rule.ReceiverSide.{ReceiverSide}
 use Rattle.link_words.specs.declared.rule.Call.{Call}
-use Rattle.link_words.specs.declared.rule.Call.TheVariants.{Idle, Sends, Rests, Reclaims, EndsHeld, Receives, EndsReceive, EndsSend, Reopens, HoldsAll}
+use Rattle.link_words.specs.declared.rule.Call.TheVariants.{Idle, Sends, Rests, Reclaims, EndsHeld, Receives, EndsReceive, EndsSend, EndsBoth, Reopens, HoldsAll}
 use Rattle.link_words.specs.declared.rule.Pass.{Pass}
 use Rattle.link_words.specs.declared.rule.Made.{Made}
 use Rattle.link_words.specs.declared.rule.Event.{Event}
 use Rattle.link_words.specs.declared.rule.Event.TheVariants.{Step}
 use Rattle.link_words.specs.declared.rule.View.{View}
 use Rattle.link_words.specs.Passes.{Mover, with_call, place_of_number}
-use Rattle.link_words.specs.Words.{sender_slot, receiver_slot}
+use Rattle.link_words.specs.Words.{other, sender_slot, receiver_slot}
 
 -- what a seat knows and which slots are out with it, each with its value, the last one first
 abbrev pub SeatState : Type 0
@@ -33,6 +33,7 @@ send_or otherwise f Idle = otherwise
 send_or otherwise f (Rests e) = otherwise
 send_or otherwise f (Sends e t x b) = f e t x b
 send_or otherwise f (EndsSend e t x b) = otherwise
+send_or otherwise f (EndsBoth e t x b y) = otherwise
 send_or otherwise f (Receives e t x b message) = otherwise
 send_or otherwise f (EndsReceive e t x b message) = otherwise
 send_or otherwise f (Reclaims e x) = otherwise
@@ -46,6 +47,7 @@ receive_or otherwise f Idle = otherwise
 receive_or otherwise f (Rests e) = otherwise
 receive_or otherwise f (Sends e t x b) = otherwise
 receive_or otherwise f (EndsSend e t x b) = otherwise
+receive_or otherwise f (EndsBoth e t x b y) = otherwise
 receive_or otherwise f (Receives e t x b message) = f e t x b message
 receive_or otherwise f (EndsReceive e t x b message) = otherwise
 receive_or otherwise f (Reclaims e x) = otherwise
@@ -87,6 +89,7 @@ has_side slot Idle = false
 has_side slot (Rests e) = false
 has_side slot (Sends e t x b) = sender_slot e == slot
 has_side slot (EndsSend e t x b) = sender_slot e == slot
+has_side slot (EndsBoth e t x b y) = (sender_slot e == slot) || (receiver_slot (other e) == slot)
 has_side slot (Receives e t x b message) = receiver_slot e == slot
 has_side slot (EndsReceive e t x b message) = receiver_slot e == slot
 has_side slot (Reclaims e x) = receiver_slot e == slot

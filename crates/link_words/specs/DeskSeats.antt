@@ -1,5 +1,5 @@
 -- The one seat of a desk's table, and the rule of the table (own).
-use Rattle.std.specs.Prelude.{◌≡◌, ◌∷◌, [], ℕ, List, length, true, false}
+use Rattle.std.specs.Prelude.{◌≡◌, ◌∷◌, [], List, length, true, false}
 use mathlib.Core.Option.{some}
 use base.Stored.{Gv, gnil, Coded}
 use Rattle.atomic_table.specs.Table.{State, Me}

@@ -13,3 +13,4 @@ pub mod Fresh
 pub mod Calls
 pub mod Steps
 pub mod Seats
+pub mod Reclaims

@@ -24,7 +24,7 @@ use Rattle.link_words.specs.declared.rule.Slot.TheVariants.{Buffer}
 use Rattle.link_words.specs.declared.rule.SenderSide.{SenderSide}
 use Rattle.link_words.specs.declared.rule.ReceiverSide.{ReceiverSide}
 use Rattle.link_words.specs.declared.rule.Call.{Call}
-use Rattle.link_words.specs.declared.rule.Call.TheVariants.{Idle, Sends, Rests, Reclaims, EndsHeld, Receives, EndsReceive, EndsSend, Reopens, HoldsAll}
+use Rattle.link_words.specs.declared.rule.Call.TheVariants.{Idle, Sends, Rests, Reclaims, EndsHeld, Receives, EndsReceive, EndsSend, EndsBoth, Reopens, HoldsAll}
 use Rattle.link_words.specs.declared.rule.View.{View}
 use Rattle.link_words.specs.declared.rule.Pass.{Pass}
 use Rattle.link_words.specs.Codes.{copied}
@@ -50,7 +50,8 @@ IsCallAt t p number Idle = number ≡ 64
 IsCallAt t p number (Sends e u x buffer) = (end_of t.callers number ≡ Some (other e)) × SendsAt (t.lanes e) number u x buffer × IsCurrent u t.era.inc
 IsCallAt t p number (Receives e u x buffer message) = (end_of t.callers number ≡ Some e) × ReceivesAt (t.lanes e) number u x buffer message × IsCurrentTake u t.era.inc
 IsCallAt t p number (EndsReceive e u x buffer message) = (end_of t.callers number ≡ Some e) × ReceivesAt (t.lanes e) number u x buffer message × (t.era.is_live ≡ false)
-IsCallAt t p number (EndsSend e u x buffer) = (end_of t.callers number ≡ Some (other e)) × SendsAt (t.lanes e) number u x buffer × (t.era.is_live ≡ false)
+IsCallAt t p number (EndsSend e u x buffer) = (end_of t.callers number ≡ Some (other e)) × SendsAt (t.lanes e) number u x buffer × (t.era.is_live ≡ false) × IsCurrent u t.era.inc
+IsCallAt t p number (EndsBoth e u x buffer y) = (end_of t.callers number ≡ Some (other e)) × SendsAt (t.lanes e) number u x buffer × (t.era.is_live ≡ false) × ((t.lanes (other e)).receiver ≡ turn.Manager) × (y ≡ (t.lanes (other e)).receiver_side) × (p ≡ 0)
 IsCallAt t p number (Rests e) = (end_of t.callers number ≡ Some e) × (has_call (t.lanes (other e)).sender number ≡ false) × (has_call (t.lanes e).receiver number ≡ false)
 IsCallAt t p number (Reclaims e x) = (end_of t.callers number ≡ Some e) × ((t.lanes e).receiver ≡ turn.Manager) × (x ≡ (t.lanes e).receiver_side) × (p ≡ 0) × (has_call (t.lanes (other e)).sender number ≡ false)
 IsCallAt t p number (EndsHeld e x) = (end_of t.callers number ≡ Some e) × ((t.lanes e).receiver ≡ turn.Manager) × (x ≡ (t.lanes e).receiver_side) × (p ≡ 0) × (t.era.is_live ≡ false) × (has_call (t.lanes (other e)).sender number ≡ false)
@@ -65,6 +66,7 @@ has_for_manager e (Rests i) = false
 has_for_manager e (Sends i u x buffer) = false
 has_for_manager e (Receives i u x buffer message) = false
 has_for_manager e (EndsSend i u x buffer) = false
+has_for_manager e (EndsBoth i u x buffer y) = same_end e (other i)
 has_for_manager e (EndsReceive i u x buffer message) = false
 has_for_manager e (Reclaims i x) = same_end e i
 has_for_manager e (EndsHeld i x) = same_end e i

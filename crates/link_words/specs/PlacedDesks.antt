@@ -1,7 +1,7 @@
 -- A desk in its place behind the receiver's turn of an end, in a table of its own, and the right to it, which goes with that turn (own).
 use Rattle.std.specs.Prelude.{◌≡◌, [], Bool, true, false}
 use mathlib.Core.Path.{refl, sym, ap, ◌∙◌}
-use base.Stored.{Gv, gnil, Coded, coded×, coded_bool, coded_via}
+use base.Stored.{gnil, Coded, coded×, coded_bool, coded_via}
 use Rattle.atomic_table.specs.Seated.{TableId}
 use Rattle.rp_base.specs.declared.kinds.End.{End}
 use Rattle.rp_base.specs.declared.kinds.End.TheVariants as side

@@ -1,5 +1,5 @@
 -- What the steps tell that move, make and end callers, and those of the manager's own view (own).
-use Rattle.std.specs.Prelude.{not, ◌≡◌, ℕ, Some}
+use Rattle.std.specs.Prelude.{not, ◌≡◌, ◌<◌, ℕ, Some}
 use mathlib.Core.Option.{Option, some, none}
 use Rattle.rp_base.specs.declared.kinds.Era.{Era}
 use Rattle.rp_base.specs.declared.kinds.End.{End}
@@ -7,8 +7,9 @@ use Rattle.link_words.specs.declared.copies.LinkCopy.{LinkCopy}
 use Rattle.link_words.specs.declared.rule.Slot.{Slot}
 use Rattle.link_words.specs.declared.rule.Slot.TheVariants.{Empty, Sender, Receiver, Buffer, Caller, Start}
 use Rattle.link_words.specs.declared.rule.View.{View}
-use Rattle.link_words.specs.Calls.{SeatState}
-use Rattle.link_words.specs.Passes.{with_new_caller, after_end_of, after_settle}
+use Rattle.link_words.specs.declared.rule.Made.TheVariants as made
+use Rattle.link_words.specs.Calls.{SeatState, Notes}
+use Rattle.link_words.specs.Passes.{with_new_caller, after_end_of, after_settle, place_of_number}
 use Rattle.link_words.specs.Words.{era_word}
 
 -- a caller is made on this end, which the manager carries
@@ -34,12 +35,12 @@ abbrev pub with_era : View → Era → View
 with_era v era = record v { is_closed = not era.is_live }
 
 abbrev pub LearnsEra : SeatState → ℕ → SeatState → Type 0
-LearnsEra me n me' = (era : Era) × (n ≡ era_word era) × (me' ≡ (with_era me.0 era, me.1))
+LearnsEra me n me' = (era : Era) × (n ≡ era_word era) × (era.inc < 4294967296) × (me' ≡ (with_era me.0 era, me.1))
 
 -- those that were out have come back, and the view has a copy again
 abbrev pub Settles : SeatState → SeatState → Type 0
 Settles me me' = (k : LinkCopy) × (me' ≡ (after_settle me.0 (Some k), me.1))
 
--- one attempt to close the era: the era that was found
-abbrev pub ClosesEra : SeatState → ℕ → SeatState → Type 0
-ClosesEra me n me' = (era : Era) × (n ≡ era_word era) × (me' ≡ (record me.0 { copy = me'.0.copy }, me.1))
+-- one attempt to close the era: the era that was found, which the pass of the closer notes
+abbrev pub ClosesEra : ℕ → SeatState → ℕ → SeatState → Type 0
+ClosesEra closer me n me' = (era : Era) × (n ≡ era_word era) × (era.inc < 4294967296) × Notes (made.Close era) (λ p. p) (place_of_number closer me.0.passes) me.1 me me'

@@ -9,6 +9,7 @@ mod loads;
 mod moves;
 mod places;
 mod plays;
+mod reclaims;
 mod rule;
 mod seats;
 mod sides;
@@ -20,6 +21,7 @@ pub use codes::{DeskCode, DeskRight, DeskTables, DeskView};
 pub use copies::LinkCopy;
 pub use desks::{DeskRule, DeskTable};
 pub use loads::{EraUse, IndexUse, load_entry, load_era, load_index};
+pub use reclaims::{claim_turn, find_closed, leave_ended};
 pub use rule::{
     Call, CallStart, Counted, Event, LinkSeat, LinkSizes, LinkTable, LinkWords, Made, Pass,
     ReceiverSide, Ring, SenderSide, Slot, View,

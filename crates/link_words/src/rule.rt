@@ -87,6 +87,8 @@ pub enum Call {
     EndsReceive(End, Turn<Receiving>, ReceiverSide, u64, Message),
     /// A send that a reclaim ends: its seat has found the era closed while it had the turn.
     EndsSend(End, Turn<Sending>, SenderSide, u64),
+    /// The same of a caller that holds buffers: its seat has its receiver's turn for the manager too, with this side.
+    EndsBoth(End, Turn<Sending>, SenderSide, u64, ReceiverSide),
     /// A caller between its calls that a reclaim ends: its seat has its receiver's turn for the manager.
     Reclaims(End, ReceiverSide),
     /// The same, and its seat has found the era closed since.
@@ -140,6 +142,8 @@ pub enum Made {
     Entry,
     /// The turn is free.
     Left,
+    /// An attempt to close found this era.
+    Close(Era),
 }
 
 /// What a step read or made of the counts of a lane.

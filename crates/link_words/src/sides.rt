@@ -1,6 +1,6 @@
 //! What goes with a receiver's turn, in its slot.
 ghost use Rattle.std.specs.Prelude.{◌≡◌, ◌+◌, ◌<◌, ◌≤◌, ◌^◌, ◌++◌, ◌∷◌, [], length, IfOk, vec_capacity};
-ghost use Rattle.ring_core.specs.RingSteps.{held_buffer, hands_without};
+ghost use Rattle.ring_core.specs.RingSteps.{held_buffer, hands_of_others, hands_without};
 ghost use Rattle.rp_base.specs.declared.limits.TheConstants.{CAPACITY_MOST};
 
 use crate::codes::DeskView;
@@ -160,6 +160,13 @@ impl ReceiverState {
         remove_hand(&mut self.hands, number);
         self.returned += 1;
     }
+
+    /// What this caller has in hand is in no hand any more.
+    pub fn put_aside(&mut self, caller: CallerNo)
+        ensures { self.new ≡ record self.old { hands = hands_of_others self.old.hands caller } }
+    {
+        remove_hands_of(&mut self.hands, caller);
+    }
 }
 
 /// The buffer in which the message of this number is in hand.
@@ -178,4 +185,12 @@ fn remove_hand(hands: &mut Vec<Hand>, number: u64)
     ensures room { vec_capacity hands.new ≡ vec_capacity hands.old }
 {
     hands.retain(|hand| hand.number != number);
+}
+
+/// Takes out the hands of this caller.
+fn remove_hands_of(hands: &mut Vec<Hand>, caller: CallerNo)
+    ensures rest { hands.new.items ≡ hands_of_others hands.old.items caller }
+    ensures room { vec_capacity hands.new ≡ vec_capacity hands.old }
+{
+    hands.retain(|hand| hand.caller != caller);
 }

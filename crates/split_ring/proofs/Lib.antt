@@ -12,3 +12,4 @@ pub mod CallSteps
 pub mod CallEnds
 pub mod Makes
 pub mod Crosses
+pub mod CloseSteps

@@ -1,9 +1,10 @@
 -- What a call asks and tells of its caller, by the link (own).
-use Rattle.std.specs.Prelude.{◌≡◌, ◌<◌, ℕ, List, Result}
+use Rattle.std.specs.Prelude.{◌≡◌, ◌<◌, ℕ, List, [], ◌∷◌, Result}
 use base.Stored.{Coded}
 use Rattle.link_words.specs.declared.rule.Event.{Event}
 use Rattle.link_words.specs.Histories.{LaneCounts, seen}
 use Rattle.link_words.specs.Words.{other}
+use Rattle.lane_model.specs.declared.recoveries.Already.{Already}
 use Rattle.lane_model.specs.declared.calls.Progress.{Progress}
 use Rattle.lane_model.specs.declared.calls.Progress.TheVariants as progress
 use Rattle.lane_model.specs.Desks.{DeskMeaning}
@@ -22,6 +23,7 @@ use Rattle.split_ring.specs.declared.takes.Taken.{Taken}
 use Rattle.split_ring.specs.declared.takes.TakeFault.{TakeFault}
 use Rattle.split_ring.specs.Binds.{IsDeskCall}
 use Rattle.split_ring.specs.Calls.{IsInPhase, Advances}
+use Rattle.split_ring.specs.Closes.{HasClosed}
 use Rattle.split_ring.specs.Links.{IsManager}
 use Rattle.split_ring.specs.Receives.{IsGive, IsGiveAbove, IsHeldBy, IsTake, IsTakeNotBelow}
 use Rattle.split_ring.specs.Seats.{IsCaller, IsSeatOf, pass_in}
@@ -58,6 +60,13 @@ module _ {D : Type 0} where
   abbrev pub IsCallerOf : SharedLink D → Caller → Type 0
   IsCallerOf link caller = IsCaller link.table.shared.table_id link.sizes caller.id caller.seat.table_id caller.seat.me
 
+  -- a caller of this link, in a call or in none
+  pub record IsUserOf (link : SharedLink D) (caller : Caller) : Type 0 where
+    pub seat : IsSeatOf link.table.shared.table_id link.sizes caller.seat.table_id caller.seat.me
+    pub one : caller.seat.me.0.passes ≡ pass_in caller.seat.me ∷ []
+    pub number : (pass_in caller.seat.me).number ≡ caller.id.number
+    pub low : caller.id.number < 64
+
   -- the manager of this link
   abbrev pub IsManagerOf : SharedLink D → Manager → Type 0
   IsManagerOf link manager = IsManager link.table.shared.table_id link.sizes manager.users manager.seat.table_id manager.seat.me
@@ -72,6 +81,13 @@ module _ {D : Type 0} where
     pub number : (pass_in caller.seat.me).number ≡ caller.id.number
     pub low : caller.id.number < 64
     pub stands : IsInPhase link.sizes caller.id call.phase caller.seat.me
+
+  -- the same caller, in the same call, or in none where it was in none
+  pub record IsWhereItWas (link : SharedLink D) (before after : Caller) : Type 0 where
+    pub id : after.id ≡ before.id
+    pub user : IsUserOf link after
+    pub rests : IsCallerOf link before → IsCallerOf link after
+    pub in_call : (call : RingCall D) → MayAdvance link before call → MayAdvance link after call
 
   -- the same behind a step that says this, or the caller is in no call again
   abbrev pub IsAdvanced : SharedLink D → Caller → RingCall D → Progress → Type 0
@@ -102,6 +118,14 @@ module _ {D : Type 0} (coded : Coded D) (meaning : DeskMeaning D) where
   -- the caller made one unbinding at this address, with this answer
   abbrev pub MakesUnbind : SharedLink D → Caller → ℕ → Result Endpoint DeskFault → Caller → Type 0
   MakesUnbind link before address answer after = MakesDeskCall link before (asks.Unbind address) answer after
+
+  -- the caller made one attempt to close this incarnation, with this answer
+  abbrev pub MakesClose : Caller → ℕ → Result (Unit {0}) Already → Caller → Type 0
+  MakesClose before inc answer after = HasClosed coded meaning before.id.number inc answer before.seat.me after.seat.me
+
+  -- and so did the manager
+  abbrev pub ManagerCloses : Manager → ℕ → Result (Unit {0}) Already → Manager → Type 0
+  ManagerCloses before inc answer after = HasClosed coded meaning 64 inc answer before.seat.me after.seat.me
 
   -- the caller took one step of this call, which said this
   abbrev pub TakesStep : SharedLink D → Caller → RingCall D → Progress → Caller → RingCall D → Type 0

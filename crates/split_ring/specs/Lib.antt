@@ -7,5 +7,6 @@ pub mod Sends
 pub mod Receives
 pub mod Binds
 pub mod Calls
+pub mod Closes
 pub mod Callers
 pub mod Forms

@@ -21,6 +21,10 @@ pub struct Caller {
 }
 
 impl Caller {
+    ghost use Rattle.std.specs.Prelude.{[]};
+    ghost use Rattle.link_words.specs.declared.rule.Call.TheVariants.{Rests};
+    ghost use Rattle.split_ring.specs.Seats.{IsAt};
+
     /// Its number, under which the turns that it has are marked.
     pub fn number(&self) -> CallerNo
         ensures { result ≡ self.now.id.number }
@@ -33,6 +37,14 @@ impl Caller {
         ensures { result ≡ self.now.id.end }
     {
         self.id.end
+    }
+
+    /// Its next calls follow this incarnation. It has to be in no call.
+    pub fn follow(&mut self, inc: Inc)
+        requires { IsAt self.old.seat.me (Rests self.old.id.end) [] }
+        ensures { self.new ≡ record self.old { id = record self.old.id { follows = inc } } }
+    {
+        self.id.follows = inc;
     }
 
     /// The incarnation that its calls follow.

@@ -4,6 +4,7 @@
 mod binds;
 mod callers;
 mod calls;
+mod closes;
 mod forms;
 mod gives;
 mod layouts;

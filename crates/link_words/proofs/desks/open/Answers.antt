@@ -1,4 +1,3 @@
-use Rattle.std.proofs.Common.{arith}
 use Rattle.link_words.proofs.DeskSteps.{opens_desk}
 use Rattle.link_words.proofs.desks.open.Goals as goal
 

@@ -1,0 +1,47 @@
+-- The word of a turn: it is at most the manager's, and the turn that it shows.
+use Rattle.link_words.specs.declared.codes.DeskTables.{DeskTables}
+use Rattle.link_words.specs.PlacedDesks.{PlacedDesk}
+use Rattle.std.proofs.Common.{◌≡◌, ◌≢◌, ◌≤◌, List, [], length, get_or, arith, refl}
+use Rattle.std.specs.Prelude.{Option}
+use base.Stored.{Coded}
+use Rattle.rp_base.specs.declared.kinds.End.{End}
+use Rattle.rp_base.specs.declared.kinds.End.TheVariants as side
+use Rattle.lane_laws.specs.Parts.{manager_takes}
+use Rattle.lane_model.specs.declared.lane_links.LaneLink.{LaneLink}
+use Rattle.lane_model.specs.declared.stages.Turn.{Turn}
+use Rattle.lane_model.specs.declared.stages.Turn.TheVariants as turn
+use Rattle.lane_model.specs.Desks.{DeskMeaning}
+use Rattle.lane_model.specs.Links.{link_of}
+use Rattle.lane_model.specs.Soundness.{SoundLink, IsSoundTurn}
+use Rattle.ring_core.specs.declared.states.RingState.{RingState}
+use Rattle.ring_core.specs.RingSteps.{ring_form}
+use Rattle.link_words.specs.Words.{lane_to, turn_word, words_of, receiver_word}
+use Rattle.link_words.proofs.Users.{in_range}
+
+turn_word_most : {C : Type 0} (callers : List (Option End)) (e : End) (t : Turn C) → length callers ≡ 64 → IsSoundTurn callers e t → turn_word t ≤ 65
+turn_word_most callers e turn.Free many is = omega arith
+turn_word_most callers e (turn.Taken c x) many is = let low = in_range callers c e is in omega (arith, low, many)
+turn_word_most callers e (turn.Leaving c x) many is = let low = in_range callers c e is in omega (arith, low, many)
+turn_word_most callers e turn.Manager many is = omega arith
+
+module _ {B : Type 0} {kc : Coded B} {kz : DeskTables} (desk : DeskMeaning (PlacedDesk kc kz)) where
+  -- the word of a turn is at most that of the manager's
+  pub sender_word_most : (m : LaneLink (RingState (PlacedDesk kc kz))) (e : End) → length m.callers ≡ 64 → SoundLink (link_of (ring_form desk) m) → turn_word (lane_to m e).lane.sender ≤ 65
+  sender_word_most m side.Host many sound = turn_word_most m.callers side.Remote m.to_host.lane.sender many sound.to_host.sender
+  sender_word_most m side.Remote many sound = turn_word_most m.callers side.Host m.to_remote.lane.sender many sound.to_remote.sender
+
+  pub receiver_word_most : (m : LaneLink (RingState (PlacedDesk kc kz))) (e : End) → length m.callers ≡ 64 → SoundLink (link_of (ring_form desk) m) → turn_word (lane_to m e).lane.receiver ≤ 65
+  receiver_word_most m side.Host many sound = turn_word_most m.callers side.Host m.to_host.lane.receiver many sound.to_host.receiver
+  receiver_word_most m side.Remote many sound = turn_word_most m.callers side.Remote m.to_remote.lane.receiver many sound.to_remote.receiver
+
+-- the word of a receiver's turn
+pub receiver_of : {B : Type 0} {kc : Coded B} {kz : DeskTables} (m : LaneLink (RingState (PlacedDesk kc kz))) (e : End) → turn_word (lane_to m e).lane.receiver ≡ get_or (words_of 0 [] m) (receiver_word e) 0
+receiver_of m side.Host = refl
+receiver_of m side.Remote = refl
+
+-- the manager takes no turn that another has
+pub takes_none : {C : Type 0} (t : Turn C) → turn_word t ≢ 0 → manager_takes t ≡ t
+takes_none turn.Free held = absurd (held refl)
+takes_none (turn.Taken caller call) held = refl
+takes_none (turn.Leaving caller end) held = refl
+takes_none turn.Manager held = refl

@@ -1,0 +1,25 @@
+use Rattle.std.proofs.Common.{◌≡◌, ◌∙◌, refl, ap}
+use Rattle.link_words.specs.declared.rule.Made.TheVariants as made
+use Rattle.link_words.specs.Calls.{SeatState}
+use Rattle.link_words.specs.Passes.{place_of_number}
+use Rattle.split_ring.proofs.CloseSteps.{manages_noted}
+use Rattle.split_ring.proofs.links.SharedLink.close_by.Goals as goal
+
+pub close_once-requires-clause-pass : goal.close_once-requires-clause-pass
+close_once-requires-clause-pass g c = let m = c.requires.manages in record { place = m.0; pass = m.1; here = m.2 }
+
+pub close_once-requires-clause-seat : goal.close_once-requires-clause-seat
+close_once-requires-clause-seat g c = record { at_table = c.requires.at_table; told = c.requires.told }
+
+pub returns-clause-manager : goal.returns-clause-manager
+returns-clause-manager g c =
+    let q = c.requires in let x = c.close_once.ensures.closed in let me = c.args.manager.now.seat.me in let me' = c.close_once.new.seat.me in (
+      record {
+        at_table = c.close_once.ensures.same.0 ∙ q.at_table;
+        manages = manages_noted (made.Close x.era) (place_of_number 64 me.0.passes) me me' x.noted q.manages;
+        knows = ap (λ (s : SeatState). s.0.users) x.noted ∙ q.knows;
+        told = ap (λ (s : SeatState). s.0.sizes) x.noted ∙ q.told;
+        empty = ap (λ (s : SeatState). s.1) x.noted ∙ q.empty;
+      },
+      refl,
+    )
