@@ -10,5 +10,6 @@ pub mod GiveSteps
 pub mod BindSteps
 pub mod CallSteps
 pub mod CallEnds
+pub mod CallSeen
 pub mod Makes
 pub mod Crosses
