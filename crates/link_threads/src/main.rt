@@ -5,6 +5,7 @@
 ghost use Rattle.split_ring.specs.Callers.{IsCallerOf};
 
 mod books;
+mod threads;
 mod turns;
 mod workers;
 

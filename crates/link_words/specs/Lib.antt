@@ -1,3 +1,4 @@
+pub mod Intents
 pub mod DeskSeats
 pub mod PlacedDesks
 pub mod Words

@@ -4,6 +4,7 @@
 mod codes;
 mod copies;
 mod desks;
+mod intents;
 pub mod laws;
 mod loads;
 mod moves;
@@ -20,6 +21,7 @@ mod turns;
 pub use codes::{DeskCode, DeskRight, DeskTables, DeskView};
 pub use copies::LinkCopy;
 pub use desks::{DeskRule, DeskTable};
+pub use intents::Intent;
 pub use loads::{EraUse, IndexUse, load_entry, load_era, load_index};
 pub use reclaims::{claim_turn, find_closed, leave_ended};
 pub use rule::{

@@ -1,9 +1,10 @@
 //! The words, the slots, what a seat knows, and the rule.
 use crate::codes::{DeskRight, DeskTables};
 use crate::copies::LinkCopy;
+use crate::intents::Intent;
 use crate::sides::ReceiverState;
 use atomic_table::{Seat, Shared, TableRule};
-use lane_model::{Desk, Receiving, Sending, Turn, Wish};
+use lane_model::{Desk, Receiving, Sending, Turn};
 use ring_core::{Hand, RingSizes};
 use rp_base::{CallerNo, End, Era, Inc, Message};
 use std::collections::LinkedList;
@@ -49,7 +50,7 @@ pub struct CallStart {
     pub end: End,
     /// The incarnation that the call follows.
     pub follows: Inc,
-    pub wish: Wish,
+    pub wish: Intent,
 }
 
 /// What a slot holds.

@@ -6,25 +6,11 @@ ghost use Rattle.link_words.specs.Steps.{GoesOn, Begins, HasWord, StoresWord, tu
 ghost use Rattle.link_words.specs.Layouts.{place_in};
 ghost use Rattle.link_words.specs.Words.{words_in};
 
-use crate::places::{other, receiver_place, sender_place};
+use crate::places::{receiver_place, sender_place};
 use crate::plays::{TellsLeavesReceiver, TellsLeavesSender, TellsTakesTurn};
 use crate::rule::{CallStart, LinkSeat, LinkTable, Slot};
-use lane_model::{Desk, LaneTurn, Wish};
+use lane_model::{Desk, LaneTurn};
 use rp_base::End;
-
-/// The word of the turn that a caller of this end needs for what it wishes.
-#[inline(always)]
-fn wish_place(end: End, wish: &Wish) -> usize
-    ensures { result ≡ place_in (turn_word_for end wish.now) }
-{
-    match wish {
-        Wish::Send(_) => sender_place(other(end)),
-        Wish::Take => receiver_place(end),
-        Wish::Give(_) => receiver_place(end),
-        Wish::Bind(_) => receiver_place(end),
-        Wish::Unbind(_) => receiver_place(end),
-    }
-}
 
 /// Step 1 of what a caller wishes: one attempt to take the turn that it needs. The answer is the word of that turn as it was: 0
 /// where it was free, and the caller has it now; else the number of the one who has it, and 1.
@@ -37,7 +23,7 @@ pub fn take_turn<D: Desk>(table: &LinkTable<D>, seat: &mut LinkSeat, start: Call
     ensures holder { result ≤ 65 }
     ensures step { Begins D.row.coded D.meaning seat.old.me (HasWord (place_in (turn_word_for start.end start.wish)) result) start.caller start.follows start.wish seat.new.me }
 {
-    let word = wish_place(start.end, &start.wish);
+    let word = start.wish.place(start.end);
     let new = start.caller as u64 + 1;
     table.compare_exchange_with::<TellsTakesTurn<D>>(seat, word, 0, new, &Slot::Start(start))
 }

@@ -10,6 +10,7 @@ pub mod GiveSteps
 pub mod BindSteps
 pub mod CallSteps
 pub mod CallEnds
+pub mod CallSeen
 pub mod Makes
 pub mod Crosses
 pub mod CloseSteps

@@ -2,9 +2,11 @@
 use Rattle.std.specs.Prelude.{◌≡◌, ◌<◌, ℕ, List, [], ◌∷◌, Result}
 use base.Stored.{Coded}
 use Rattle.link_words.specs.declared.rule.Event.{Event}
+use Rattle.link_words.specs.Calls.{SeatState}
 use Rattle.link_words.specs.Histories.{LaneCounts, seen}
 use Rattle.link_words.specs.Words.{other}
 use Rattle.lane_model.specs.declared.recoveries.Already.{Already}
+use Rattle.lane_model.specs.declared.calls.Ask.{Ask}
 use Rattle.lane_model.specs.declared.calls.Progress.{Progress}
 use Rattle.lane_model.specs.declared.calls.Progress.TheVariants as progress
 use Rattle.lane_model.specs.Desks.{DeskMeaning}
@@ -22,9 +24,10 @@ use Rattle.split_ring.specs.declared.sends.SendFault.{SendFault}
 use Rattle.split_ring.specs.declared.takes.Taken.{Taken}
 use Rattle.split_ring.specs.declared.takes.TakeFault.{TakeFault}
 use Rattle.split_ring.specs.Binds.{IsDeskCall}
-use Rattle.split_ring.specs.Calls.{IsInPhase, Advances}
+use Rattle.split_ring.specs.Calls.{IsInPhase, Advances, HasCome}
 use Rattle.split_ring.specs.Closes.{HasClosed}
 use Rattle.split_ring.specs.Links.{IsManager}
+use Rattle.split_ring.specs.NotBelow.{EndsNotBelow}
 use Rattle.split_ring.specs.Receives.{IsGive, IsGiveAbove, IsHeldBy, IsTake, IsTakeNotBelow}
 use Rattle.split_ring.specs.Seats.{IsCaller, IsSeatOf, pass_in}
 use Rattle.split_ring.specs.Sends.{IsSend, IsSendNotBelow}
@@ -130,3 +133,9 @@ module _ {D : Type 0} (coded : Coded D) (meaning : DeskMeaning D) where
   -- the caller took one step of this call, which said this
   abbrev pub TakesStep : SharedLink D → Caller → RingCall D → Progress → Caller → RingCall D → Type 0
   TakesStep link caller call said after next = Advances coded meaning link.sizes caller.id call.phase said next.phase caller.seat.me after.seat.me
+
+  -- whatever this call asked and wherever its caller stood when it began: if it has come to this phase by the walk, and the step ends it, then its
+  -- answer tells no count that is below what the caller had seen then; a give makes one above that
+  abbrev pub StepNotBelow : SharedLink D → Caller → RingCall D → Progress → Caller → Type 0
+  StepNotBelow link caller call said after = (asked : Ask) (start : SeatState) → HasCome coded meaning link.sizes caller.id asked start call.phase caller.seat.me
+      → EndsNotBelow caller.id asked said (pass_in start).own (own_of after)

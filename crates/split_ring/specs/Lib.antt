@@ -8,5 +8,6 @@ pub mod Receives
 pub mod Binds
 pub mod Calls
 pub mod Closes
+pub mod NotBelow
 pub mod Callers
 pub mod Forms

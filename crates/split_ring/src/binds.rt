@@ -17,8 +17,8 @@ use crate::callers::{Caller, CallerId};
 use crate::links::SharedLink;
 use crate::takes::receiver_slot;
 use crate::turns::{era_of, is_live_in};
-use lane_model::{Desk, LaneTurn, Wish};
-use link_words::{DeskTable, EraUse, LinkSeat, ReceiverState, Slot, load_era};
+use lane_model::{Desk, LaneTurn};
+use link_words::{DeskTable, EraUse, Intent, LinkSeat, ReceiverState, Slot, load_era};
 use rp_base::{BindFault, CallerNo, End, Endpoint, Era};
 
 /// Why a binding or an unbinding ended otherwise.
@@ -42,12 +42,12 @@ pub(crate) enum DeskAsk {
 }
 
 /// What a caller wishes that asks this of the desk.
-pub(crate) fn desk_wish(asked: DeskAsk) -> Wish
+pub(crate) fn desk_wish(asked: DeskAsk) -> Intent
     ensures { result ≡ desk_wish asked }
 {
     match asked {
-        DeskAsk::Bind(address) => Wish::Bind(address),
-        DeskAsk::Unbind(address) => Wish::Unbind(address),
+        DeskAsk::Bind(address) => Intent::bind(address),
+        DeskAsk::Unbind(address) => Intent::unbind(address),
     }
 }
 

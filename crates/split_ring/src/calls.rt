@@ -6,7 +6,7 @@ ghost use Rattle.link_words.specs.declared.rule.Made.TheVariants as made;
 ghost use Rattle.link_words.specs.Calls.{SeatState};
 ghost use Rattle.split_ring.specs.declared.calls.Phase.TheVariants as phase;
 ghost use Rattle.split_ring.specs.Calls.{send_answer, desk_said, hands_in, IsInPhase, IsOwnAsk, IsShort, IsPath, Advances};
-ghost use Rattle.split_ring.specs.Callers.{IsAdvanced, MayAdvance, TakesStep};
+ghost use Rattle.split_ring.specs.Callers.{IsAdvanced, MayAdvance, StepNotBelow, TakesStep};
 ghost use Rattle.split_ring.specs.Seats.{IsSeatOf, pass_in};
 ghost use Rattle.split_ring.specs.Turns.{HasBegun};
 ghost use Rattle.split_ring.specs.Walks.{HasDone, same_hands};
@@ -17,10 +17,8 @@ use crate::links::SharedLink;
 use crate::sends::{SendCall, SendFault};
 use crate::takes::TakeCall;
 use crate::turns::other;
-use lane_model::{
-    Answer, Ask, Desk, GiveStage, Held, LaneTurn, Progress, SendStage, TakeStage, Wish,
-};
-use link_words::LinkSeat;
+use lane_model::{Answer, Ask, Desk, GiveStage, Held, LaneTurn, Progress, SendStage, TakeStage};
+use link_words::{Intent, LinkSeat};
 use rp_base::{CallerNo, Endpoint, Message};
 use std::marker::PhantomData;
 use std::mem;
@@ -54,16 +52,16 @@ pub struct RingCall<D: Desk> {
 }
 
 /// What a caller wishes that asks this.
-fn wish_of(ask: &Ask) -> Wish
+fn wish_of(ask: &Ask) -> Intent
     ensures wish { result ≡ wish_of ask.now }
     ensures short { IsShort result }
 {
     match ask {
-        Ask::Send(message) => Wish::Send(message.copy()),
-        Ask::Take => Wish::Take,
-        Ask::Give(held) => Wish::Give(held.number()),
-        Ask::Bind(address) => Wish::Bind(*address),
-        Ask::Unbind(address) => Wish::Unbind(*address),
+        Ask::Send(message) => Intent::send(message),
+        Ask::Take => Intent::take(),
+        Ask::Give(held) => Intent::give(held.number()),
+        Ask::Bind(address) => Intent::bind(*address),
+        Ask::Unbind(address) => Intent::unbind(*address),
     }
 }
 
@@ -121,6 +119,7 @@ impl<D: Desk> SharedLink<D> {
         requires { MayAdvance self.now caller.old call.old }
         ensures caller { (caller.new.id ≡ caller.old.id) × IsAdvanced self.now caller.new call.new result }
         ensures step { TakesStep D.row.coded D.meaning self.now caller.old call.old result caller.new call.new }
+        ensures seen { StepNotBelow D.row.coded D.meaning self.now caller.old call.old result caller.new }
     {
         let phase = mem::replace(&mut call.phase, Phase::Ended);
         let (next, progress) = self.step_on(&mut caller.seat, caller.id, phase);

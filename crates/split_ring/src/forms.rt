@@ -2,7 +2,7 @@
 //! doing too. What a step is the clauses of its methods say.
 ghost use Rattle.std.specs.Prelude.{◌≡◌};
 ghost use Rattle.split_ring.specs.declared.calls.Phase.TheVariants as phase;
-ghost use Rattle.split_ring.specs.Callers.{IsAdvanced, MayAdvance, TakesStep};
+ghost use Rattle.split_ring.specs.Callers.{IsAdvanced, MayAdvance, StepNotBelow, TakesStep};
 
 use crate::callers::Caller;
 use crate::calls::RingCall;
@@ -43,6 +43,7 @@ impl<'a, D: Desk> Link for &'a SharedLink<D> {
         requires { MayAdvance self.old.now caller.old call.old }
         ensures caller { (caller.new.id ≡ caller.old.id) × IsAdvanced self.old.now caller.new call.new result }
         ensures step { TakesStep D.row.coded D.meaning self.old.now caller.old call.old result caller.new call.new }
+        ensures seen { StepNotBelow D.row.coded D.meaning self.old.now caller.old call.old result caller.new }
     {
         self.advance_call(caller, call)
     }

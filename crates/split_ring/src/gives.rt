@@ -18,8 +18,8 @@ use crate::callers::{Caller, CallerId};
 use crate::links::SharedLink;
 use crate::slots::{give_back_in, returned_in};
 use crate::takes::receiver_slot;
-use lane_model::{Desk, Held, LaneTurn, Wish};
-use link_words::{LinkSeat, Ring, publish_index, store_entry};
+use lane_model::{Desk, Held, LaneTurn};
+use link_words::{Intent, LinkSeat, Ring, publish_index, store_entry};
 use rp_base::CallerNo;
 use vring_layout::UsedWord;
 
@@ -45,7 +45,7 @@ impl<D: Desk> SharedLink<D> {
     {
         let who = caller.id;
         let number = held.number();
-        if let Err(holder) = self.enter(&mut caller.seat, who, Wish::Give(number)) {
+        if let Err(holder) = self.enter(&mut caller.seat, who, Intent::give(number)) {
             return Err(GiveBusy { holder, held });
         }
         let returned = self.store_given(&mut caller.seat, who, number);

@@ -21,9 +21,10 @@ use crate::callers::{Caller, CallerId};
 use crate::links::SharedLink;
 use crate::slots::{accept_in, accepted_in, fill};
 use crate::turns::{era_of, is_live_in, other};
-use lane_model::{Desk, LaneTurn, Wish};
+use lane_model::{Desk, LaneTurn};
 use link_words::{
-    EraUse, IndexUse, LinkSeat, Ring, load_entry, load_era, load_index, publish_index, store_entry,
+    EraUse, IndexUse, Intent, LinkSeat, Ring, load_entry, load_era, load_index, publish_index,
+    store_entry,
 };
 use ring_core::RingSizes;
 use rp_base::{CallerNo, End, Era, Message};
@@ -86,8 +87,7 @@ impl<D: Desk> SharedLink<D> {
         ensures seen { SendNotBelow caller.old result }
     {
         let who = caller.id;
-        let wish = Wish::Send(message.copy());
-        if let Err(holder) = self.enter(&mut caller.seat, who, wish) {
+        if let Err(holder) = self.enter(&mut caller.seat, who, Intent::send(message)) {
             return Err(SendFault::Busy(holder));
         }
         let answer = self.send_on(&mut caller.seat, who, message);

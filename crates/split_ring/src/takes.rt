@@ -22,8 +22,10 @@ use crate::callers::{Caller, CallerId};
 use crate::links::SharedLink;
 use crate::slots::{handed_in, message_in};
 use crate::turns::{era_of, is_live_in};
-use lane_model::{Desk, Held, LaneTurn, Wish};
-use link_words::{EraUse, IndexUse, LinkSeat, Ring, Slot, load_entry, load_era, load_index};
+use lane_model::{Desk, Held, LaneTurn};
+use link_words::{
+    EraUse, IndexUse, Intent, LinkSeat, Ring, Slot, load_entry, load_era, load_index,
+};
 use rp_base::{Buffer, CallerNo, End, Era, Message, Verdict};
 
 /// A message that was handed over, in its buffer, and what the desk said of it.
@@ -95,7 +97,7 @@ impl<D: Desk> SharedLink<D> {
         ensures held { IfOk result (λ taken. Holds caller.new taken.held) }
     {
         let who = caller.id;
-        if let Err(holder) = self.enter(&mut caller.seat, who, Wish::Take) {
+        if let Err(holder) = self.enter(&mut caller.seat, who, Intent::take()) {
             return Err(TakeFault::Busy(holder));
         }
         let answer = self.take_on(&mut caller.seat, who);

@@ -1,7 +1,8 @@
 //! What may cross threads.
 use crate::callers::{Caller, Manager};
+use crate::calls::RingCall;
 use crate::links::{OwnedDesk, OwnedTable, SharedLink};
-use lane_model::Desk;
+use lane_model::{Desk, Held};
 use link_words::Slot;
 
 fn send<T: Send>() {}
@@ -15,6 +16,14 @@ fn slot_is_send() {
 fn caller_is_send() {
     send::<Caller>();
     send::<Manager>();
+}
+
+fn held_is_send() {
+    send::<Held>();
+}
+
+fn call_is_send<D: Desk + Send>() {
+    send::<RingCall<D>>();
 }
 
 fn words_are_shared<D: Desk>() {

@@ -14,8 +14,8 @@ ghost use Rattle.split_ring.specs.Walks.{HasDone, same_hands};
 
 use crate::callers::CallerId;
 use crate::links::SharedLink;
-use lane_model::{Desk, LaneTurn, Wish};
-use link_words::{CallStart, LinkSeat, leave_turn, take_turn};
+use lane_model::{Desk, LaneTurn};
+use link_words::{CallStart, Intent, LinkSeat, leave_turn, take_turn};
 use rp_base::{CallerNo, End, Era, Inc};
 
 /// The other end.
@@ -53,7 +53,7 @@ impl<D: Desk> SharedLink<D> {
         &self,
         seat: &mut LinkSeat,
         who: CallerId,
-        wish: Wish,
+        wish: Intent,
     ) -> Result<(), CallerNo>
         requires caller { IsCaller self.now.table.shared.table_id self.now.sizes who seat.old.table_id seat.old.me }
         requires fit { IsFit wish (pass_in seat.old.me).hands }
