@@ -7,5 +7,6 @@ pub mod Sends
 pub mod Receives
 pub mod Binds
 pub mod Calls
+pub mod Waits
 pub mod Callers
 pub mod Forms
