@@ -8,6 +8,7 @@ pub mod TakeSteps
 pub mod TakeWalks
 pub mod GiveSteps
 pub mod BindSteps
+pub mod Waiting
 pub mod CallSteps
 pub mod CallEnds
 pub mod CallSeen

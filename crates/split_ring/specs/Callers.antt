@@ -31,6 +31,7 @@ use Rattle.split_ring.specs.NotBelow.{EndsNotBelow}
 use Rattle.split_ring.specs.Receives.{IsGive, IsGiveAbove, IsHeldBy, IsTake, IsTakeNotBelow}
 use Rattle.split_ring.specs.Seats.{IsCaller, IsSeatOf, pass_in}
 use Rattle.split_ring.specs.Sends.{IsSend, IsSendNotBelow}
+use Rattle.split_ring.specs.Waits.{IsWaitingSend, IsWaitingTake}
 
 -- the buffer is in the hands of this caller
 abbrev pub Holds : Caller → HeldBuffer → Type 0
@@ -105,6 +106,13 @@ module _ {D : Type 0} (coded : Coded D) (meaning : DeskMeaning D) where
   -- the caller made one take, with this answer
   abbrev pub MakesTake : Caller → Result Taken TakeFault → Caller → Type 0
   MakesTake before answer after = IsTake coded meaning before.id answer before.seat.me after.seat.me
+
+  -- the caller sent this message, or took, in one try or more, each but the last answered Busy, with this answer
+  abbrev pub WaitsToSend : SharedLink D → Caller → List ℕ → Result ℕ SendFault → Caller → Type 0
+  WaitsToSend link before message answer after = IsWaitingSend coded meaning link.sizes before.id message answer before.seat.me after.seat.me
+
+  abbrev pub WaitsToTake : Caller → Result Taken TakeFault → Caller → Type 0
+  WaitsToTake before answer after = IsWaitingTake coded meaning before.id answer before.seat.me after.seat.me
 
   -- the caller made one give of this buffer, with this answer
   abbrev pub MakesGive : Caller → HeldBuffer → Result ℕ GiveBusy → Caller → Type 0

@@ -9,5 +9,6 @@ pub mod Binds
 pub mod Calls
 pub mod Closes
 pub mod NotBelow
+pub mod Waits
 pub mod Callers
 pub mod Forms

@@ -14,6 +14,7 @@ mod slots;
 mod takes;
 mod threads;
 mod turns;
+mod waits;
 
 pub use binds::DeskFault;
 pub use callers::{Caller, CallerId, Manager};
@@ -22,3 +23,4 @@ pub use gives::GiveBusy;
 pub use links::SharedLink;
 pub use sends::SendFault;
 pub use takes::{TakeFault, Taken};
+pub use waits::Pauses;
