@@ -73,14 +73,14 @@ module _ {B : Type 0} {kc : Coded B} {kz : DeskTables} (cd : Coded (PlacedDesk k
   pub opens_new : (config : LinkConfig) (host remote : PlacedDesk kc kz) (xs ys : List (List ℕ)) → IsConfig config → config.first < 4294967296 → length xs ≡ ring_capacity config.num0 → length ys ≡ ring_capacity config.num1
       → let z : LinkSizes = record { to_host = sizes_of config.num0 true; to_remote = sizes_of config.num1 false; book = config.book; first = config.first; desks = kz } in
       WordsRule cd desk z (opening (words_of 0 [] (opened_ring_link config host remote))
-      (opened_slots (right_to host) (right_to remote) xs ys)
+      (opened_slots config.book (right_to host) (right_to remote) xs ys)
       (first_view z 64))
   opens_new config host remote xs ys is low many0 many1 =
       let z : LinkSizes = record { to_host = sizes_of config.num0 true; to_remote = sizes_of config.num1 false; book = config.book; first = config.first; desks = kz } in let m = opened_ring_link config host remote in (
         m,
         0,
         put_together refl
-            (record { host = map some (map Buffer xs); remote = map some (map Buffer ys) }) (ap (λ (l : List (Option_of Slot)). some (Sender opened_sender) ∷ some (Receiver (opened_receiver (right_to host))) ∷ some (Sender opened_sender) ∷ some (Receiver (opened_receiver (right_to remote))) ∷ l)
+            (record { host = map some (map Buffer xs); remote = map some (map Buffer ys) }) (ap (λ (l : List (Option_of Slot)). some (Sender (opened_sender config.book)) ∷ some (Receiver (opened_receiver config.book (right_to host))) ∷ some (Sender (opened_sender config.book)) ∷ some (Receiver (opened_receiver config.book (right_to remote))) ∷ l)
             (map_append some (map Buffer xs) (map Buffer ys)))
             (record { rings = opened_link_sound config host remote is; sound = opened_sound config host remote }) ((refl, refl), (refl, refl)) shelf (record { start = m; run = []; by_run = refl })
             (record {

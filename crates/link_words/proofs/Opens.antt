@@ -134,8 +134,8 @@ opened_hands desk m q bare has side.Host user = ap (hands_of q.number) (sym bare
 opened_hands desk m q bare has side.Remote user = ap (hands_of q.number) (sym bare.1) ∙ has side.Remote user
 
 -- the manager's view after the opening
-abbrev pub opened_view : (v : View) → Mover v → DeskRight → DeskRight → Option LinkCopy → View
-opened_view v o host remote k = record (with_pass v o (with_call o.pass (HoldsAll (opened_receiver host) (opened_receiver remote))) k) { is_closed = false; inc = v.inc + 1; reclaims = [] }
+abbrev pub opened_view : (v : View) → Mover v → ℕ → DeskRight → DeskRight → Option LinkCopy → View
+opened_view v o book host remote k = record (with_pass v o (with_call o.pass (HoldsAll (opened_receiver book host) (opened_receiver book remote))) k) { is_closed = false; inc = v.inc + 1; reclaims = [] }
 
 module _ {B : Type 0} {kc : Coded B} {kz : DeskTables} (cd : Coded (PlacedDesk kc kz)) (desk : DeskMeaning (PlacedDesk kc kz)) (z : LinkSizes) where
   fresh_is : (m : LaneLink (RingState (PlacedDesk kc kz))) → (m.to_host.rings.sizes ≡ z.to_host) × (m.to_remote.rings.sizes ≡ z.to_remote) → fresh_block desk m ≡ fresh_of z
@@ -222,14 +222,14 @@ module _ {B : Type 0} {kc : Coded B} {kz : DeskTables} (cd : Coded (PlacedDesk k
   -- the era is opened, where all is reset and nothing is held: the one step of the ring form
   pub opens : (n id : ℕ) (me : SeatState) (o : Mover me.0) (q inc new : ℕ) → o.pass.call ≡ Reopens q inc → q ≡ length (fresh_of z)
       → new ≡ era_word (record { inc = inc + 1; is_live = true }) → inc + 1 < 4294967296
-      → Allows (WordsRule cd desk z) n id me 1 (λ _. new) (λ _ me'. (host : DeskRight) × (remote : DeskRight) × (me' ≡ (opened_view me.0 o host remote me'.0.copy, me.1)))
+      → Allows (WordsRule cd desk z) n id me 1 (λ _. new) (λ _ me'. (host : DeskRight) × (remote : DeskRight) × (me' ≡ (opened_view me.0 o z.book host remote me'.0.copy, me.1)))
   opens n id me o q inc new call all new_is more st (m, p, r) wide at _ =
       let h : IsCallOf m p o.pass.number (Reopens q inc) = subst (IsCallOf m p o.pass.number) call (r.turns.calls id o.place o.pass (me.0, at, o.here)) in let a = h.2.1 in
       let fresh = fresh_block desk m in let old = reset_block (lane_words m.to_host) (lane_words m.to_remote) in
       let full : p ≡ length fresh = sym h.1 ∙ (all ∙ ap length (sym (fresh_is m (sizes_in r)))) in
       let m' = link_after_opening desk m in let may : MayDo desk m Opens = (h.2, h.4) in
       let word : new ≡ era_word m'.era = new_is ∙ ap (λ (k : ℕ). era_word (record { inc = k + 1; is_live = true })) (sym h.3) in
-      let host = right_to m'.to_host.lane.desk in let remote = right_to m'.to_remote.lane.desk in let w : Call = HoldsAll (opened_receiver host) (opened_receiver remote) in let u = opened_view me.0 o host remote (Some (copied cd m')) in let each = each_set st.views id me.0 u o (with_call o.pass w) at refl in (
+      let host = right_to m'.to_host.lane.desk in let remote = right_to m'.to_remote.lane.desk in let w : Call = HoldsAll (opened_receiver z.book host) (opened_receiver z.book remote) in let u = opened_view me.0 o z.book host remote (Some (copied cd m')) in let each = each_set st.views id me.0 u o (with_call o.pass w) at refl in (
         u,
         keeps,
         tt,
@@ -243,7 +243,7 @@ module _ {B : Type 0} {kc : Coded B} {kz : DeskTables} (cd : Coded (PlacedDesk k
               (record {
                 calls = each (HasCall m p) (HasCall m' 0) r.numbers.places r.turns.calls
                     (λ j l u there apart. still_call m m' p 0 a u.number (λ same. apart (h.0 ∙ same)) u.call (λ kept. apart (r.turns.keepers side.Host id o.place j l o.pass u (me.0, at, o.here) there (ap (has_for_manager side.Host) call) kept)) (λ kept. apart (r.turns.keepers side.Remote id o.place j l o.pass u (me.0, at, o.here) there (ap (has_for_manager side.Remote) call) kept)) refl (record { host_sender = refl; host_receiver = refl; remote_sender = refl; remote_receiver = refl }))
-                    (h.0, refl, record { host_sender = refl; host_receiver = refl; remote_sender = refl; remote_receiver = refl }, refl, refl);
+                    (h.0, refl, record { host_sender = refl; host_receiver = refl; remote_sender = refl; remote_receiver = refl }, ap (λ (k : ℕ). opened_receiver k host) (sym r.to_host.book), ap (λ (k : ℕ). opened_receiver k remote) (sym r.to_remote.book));
                 keepers = keepers_set st.views id me.0 u o (with_call o.pass w) at refl refl (λ i k. ap (has_for_manager i) call) r.turns.keepers;
                 still = inl refl;
               })

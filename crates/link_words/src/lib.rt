@@ -27,7 +27,7 @@ pub use rule::{
 pub use seats::{
     close_era, end_carried, enlist_carried, join, learn_era, let_go, settle, split, take_in,
 };
-pub use sides::ReceiverState;
+pub use sides::{ReceiverState, SenderState};
 pub use slots::copy_message;
 pub use stores::{publish_index, store_entry};
 pub use turns::{leave_turn, take_turn};

@@ -1,9 +1,9 @@
 //! The words, the slots, what a seat knows, and the rule.
 use crate::codes::{DeskRight, DeskTables};
 use crate::copies::LinkCopy;
-use crate::sides::ReceiverState;
+use crate::sides::{ReceiverState, SenderState};
 use atomic_table::{Seat, Shared, TableRule};
-use lane_model::{Desk, Receiving, Sending, Turn, Wish};
+use lane_model::{BookEntry, Desk, Receiving, Sending, Turn, Wish};
 use ring_core::{Hand, RingSizes};
 use rp_base::{CallerNo, End, Era, Inc, Message};
 use std::collections::LinkedList;
@@ -22,10 +22,15 @@ pub struct LinkSizes {
     pub desks: DeskTables,
 }
 
-/// What goes with the sender's turn of a lane: how many messages were accepted.
-#[derive(Drop)]
+/// What goes with the sender's turn of a lane, as contracts see it: a [`SenderState`] in its slot.
+/// No value of it is made.
 pub struct SenderSide {
+    /// How many messages were accepted.
     pub accepted: u64,
+    /// The messages, by number.
+    pub entries: LinkedList<BookEntry>,
+    /// For how many messages the book has room.
+    pub room: u64,
 }
 
 /// What goes with the receiver's turn of a lane, as contracts see it: a [`ReceiverState`] in its slot.
@@ -33,6 +38,10 @@ pub struct SenderSide {
 pub struct ReceiverSide {
     /// How many messages were handed over.
     pub handed: u64,
+    /// To whom each was handed, by number.
+    pub takers: LinkedList<CallerNo>,
+    /// For how many takers there is room.
+    pub room: u64,
     /// How many buffers were given back.
     pub returned: u64,
     /// The buffers that are in hand, with the messages' numbers.
@@ -56,7 +65,7 @@ pub struct CallStart {
 #[derive(Drop)]
 pub enum Slot {
     Empty,
-    Sender(SenderSide),
+    Sender(SenderState),
     Receiver(ReceiverState),
     Buffer(Message),
     /// In no slot: the caller that a step names to the proofs.
