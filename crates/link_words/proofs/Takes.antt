@@ -1,4 +1,6 @@
 -- The steps of a take at which a buffer goes out and comes home, with the era loaded again; and the leave by which a reclaim ends it.
+use Rattle.link_words.proofs.Gathered.{there, gathered_receive}
+use Rattle.link_words.specs.Sides.{is_there, sides_at}
 use Rattle.link_words.specs.declared.codes.DeskTables.{DeskTables}
 use Rattle.link_words.specs.PlacedDesks.{PlacedDesk, right_to}
 use Rattle.std.proofs.Common.{◌≡◌, ◌≢◌, ℕ, ◌+◌, ◌-◌, ◌<◌, ◌≤◌, Bool, true, false, cond, List, [], ◌∷◌, ◌++◌, length, get_or, set, refl, sym, ap, ◌∙◌, subst, inl, inr, ⊎_elim, arith, length-set, length-append, le_refl}
@@ -41,7 +43,7 @@ use Rattle.link_words.specs.declared.rule.Slot.TheVariants.{Buffer, Receiver}
 use Rattle.link_words.specs.declared.rule.ReceiverSide.{ReceiverSide}
 use Rattle.link_words.specs.declared.rule.LinkSizes.{LinkSizes}
 use Rattle.link_words.specs.declared.rule.Call.{Call}
-use Rattle.link_words.specs.declared.rule.Call.TheVariants.{Idle, Sends, Rests, Reclaims, EndsHeld, Receives, EndsReceive, EndsSend, Reopens, HoldsAll}
+use Rattle.link_words.specs.declared.rule.Call.TheVariants.{Idle, Sends, Rests, Reclaims, EndsHeld, Receives, EndsReceive, EndsSend, Reopens, Gathers}
 use Rattle.lane_model.specs.declared.states.Holding.{Holding}
 use Rattle.link_words.specs.Histories.{hands_of}
 use Rattle.link_words.proofs.Frames.{keepers_set}
@@ -136,8 +138,8 @@ has_receiver e (Receives i t x buffer message) = same_end e i
 has_receiver e (EndsReceive i t x buffer message) = same_end e i
 has_receiver e (Reclaims i x) = same_end e i
 has_receiver e (EndsHeld i x) = same_end e i
-has_receiver e (Reopens q inc) = true
-has_receiver e (HoldsAll x y) = true
+has_receiver e (Reopens q inc a b) = true
+has_receiver e (Gathers a b) = is_there (sides_at e a b).receiver
 
 module _ {B : Type 0} {kc : Coded B} {kz : DeskTables} (desk : DeskMeaning (PlacedDesk kc kz)) where
   pub still_receiver : (m : LaneLink (RingState (PlacedDesk kc kz))) (e : End) → AreManagers m → (lane_to m e).lane.receiver ≡ turn.Manager
@@ -162,8 +164,8 @@ module _ {B : Type 0} {kc : Coded B} {kz : DeskTables} (desk : DeskMeaning (Plac
   others_beside m side.Host s sender beside sending k after (Reclaims side.Remote x) never has = (has.0, has.1, has.2, has.3, ap (λ u. has_call u k) sender ∙ has.4)
   others_beside m side.Host s sender beside sending k after (EndsHeld side.Host x) never has = absurd (never refl has)
   others_beside m side.Host s sender beside sending k after (EndsHeld side.Remote x) never has = (has.0, has.1, has.2, has.3, has.4, ap (λ u. has_call u k) sender ∙ has.5)
-  others_beside m side.Host s sender beside sending k after (Reopens p inc) never has = absurd (never refl has)
-  others_beside m side.Host s sender beside sending k after (HoldsAll x y) never has = absurd (never refl has)
+  others_beside m side.Host s sender beside sending k after (Reopens p inc a b) never has = absurd (never refl has)
+  others_beside m side.Host s sender beside sending k after (Gathers a b) never has = (has.0, has.1, gathered_receive (turns_of m.to_host) (turns_of s) a (λ is. never is has) sender beside has.2, has.3)
   others_beside m side.Remote s sender beside sending k after Idle never has = has
   others_beside m side.Remote s sender beside sending k after (Rests side.Remote) never has = (has.0, has.1, after)
   others_beside m side.Remote s sender beside sending k after (Rests side.Host) never has = (has.0, ap (λ u. has_call u k) sender ∙ has.1, has.2)
@@ -179,8 +181,8 @@ module _ {B : Type 0} {kc : Coded B} {kz : DeskTables} (desk : DeskMeaning (Plac
   others_beside m side.Remote s sender beside sending k after (Reclaims side.Host x) never has = (has.0, has.1, has.2, has.3, ap (λ u. has_call u k) sender ∙ has.4)
   others_beside m side.Remote s sender beside sending k after (EndsHeld side.Remote x) never has = absurd (never refl has)
   others_beside m side.Remote s sender beside sending k after (EndsHeld side.Host x) never has = (has.0, has.1, has.2, has.3, has.4, ap (λ u. has_call u k) sender ∙ has.5)
-  others_beside m side.Remote s sender beside sending k after (Reopens p inc) never has = absurd (never refl has)
-  others_beside m side.Remote s sender beside sending k after (HoldsAll x y) never has = absurd (never refl has)
+  others_beside m side.Remote s sender beside sending k after (Reopens p inc a b) never has = absurd (never refl has)
+  others_beside m side.Remote s sender beside sending k after (Gathers a b) never has = (has.0, has.1, has.2, gathered_receive (turns_of m.to_remote) (turns_of s) b (λ is. never is has) sender beside has.3)
 
   -- another cannot have a receiver's turn that a caller has
   no_other_has : (m : LaneLink (RingState (PlacedDesk kc kz))) (e : End) (t : Turn Receiving) (number : ℕ) → (lane_to m e).lane.receiver ≡ t → holder t ≡ Some number → is_manager t ≡ false → (k : ℕ) → number ≢ k → (call : Call) → has_receiver e call ≡ true → IsCallOf m 0 k call → ⊥
@@ -196,8 +198,8 @@ module _ {B : Type 0} {kc : Coded B} {kz : DeskTables} (desk : DeskMeaning (Plac
   no_other_has m side.Host t number is mine bare k apart (Reclaims side.Remote x) having has = true-false (sym having)
   no_other_has m side.Host t number is mine bare k apart (EndsHeld side.Host x) having has = true-false (sym (ap is_manager (sym is ∙ has.1)) ∙ bare)
   no_other_has m side.Host t number is mine bare k apart (EndsHeld side.Remote x) having has = true-false (sym having)
-  no_other_has m side.Host t number is mine bare k apart (Reopens p inc) having has = true-false (sym (ap is_manager (sym is ∙ has.2.1.host_receiver)) ∙ bare)
-  no_other_has m side.Host t number is mine bare k apart (HoldsAll x y) having has = true-false (sym (ap is_manager (sym is ∙ has.2.host_receiver)) ∙ bare)
+  no_other_has m side.Host t number is mine bare k apart (Reopens p inc a b) having has = true-false (sym (ap is_manager (sym is ∙ has.2.1.host_receiver)) ∙ bare)
+  no_other_has m side.Host t number is mine bare k apart (Gathers a b) having has = let x = there a.receiver having in true-false (sym (ap is_manager (sym is ∙ (has.2.receiver x.0 x.1).0)) ∙ bare)
   no_other_has m side.Remote t number is mine bare k apart (Receives side.Remote u x buffer msg) having has = apart (one_holder desk m.to_remote.lane.receiver number k (ap holder is ∙ mine) (ap holder has.1.0 ∙ has.1.1))
   no_other_has m side.Remote t number is mine bare k apart (Receives side.Host u x buffer msg) having has = true-false (sym having)
   no_other_has m side.Remote t number is mine bare k apart (EndsReceive side.Remote u x buffer msg) having has = apart (one_holder desk m.to_remote.lane.receiver number k (ap holder is ∙ mine) (ap holder has.1.0 ∙ has.1.1))
@@ -206,8 +208,8 @@ module _ {B : Type 0} {kc : Coded B} {kz : DeskTables} (desk : DeskMeaning (Plac
   no_other_has m side.Remote t number is mine bare k apart (Reclaims side.Host x) having has = true-false (sym having)
   no_other_has m side.Remote t number is mine bare k apart (EndsHeld side.Remote x) having has = true-false (sym (ap is_manager (sym is ∙ has.1)) ∙ bare)
   no_other_has m side.Remote t number is mine bare k apart (EndsHeld side.Host x) having has = true-false (sym having)
-  no_other_has m side.Remote t number is mine bare k apart (Reopens p inc) having has = true-false (sym (ap is_manager (sym is ∙ has.2.1.remote_receiver)) ∙ bare)
-  no_other_has m side.Remote t number is mine bare k apart (HoldsAll x y) having has = true-false (sym (ap is_manager (sym is ∙ has.2.remote_receiver)) ∙ bare)
+  no_other_has m side.Remote t number is mine bare k apart (Reopens p inc a b) having has = true-false (sym (ap is_manager (sym is ∙ has.2.1.remote_receiver)) ∙ bare)
+  no_other_has m side.Remote t number is mine bare k apart (Gathers a b) having has = let x = there b.receiver having in true-false (sym (ap is_manager (sym is ∙ (has.3.receiver x.0 x.1).0)) ∙ bare)
 
   pub others_receive : (m : LaneLink (RingState (PlacedDesk kc kz))) (e : End) (s : RingState (PlacedDesk kc kz)) (t : Turn Receiving) (number : ℕ) → (lane_to m e).lane.receiver ≡ t → holder t ≡ Some number → is_manager t ≡ false
       → (s.lane.sender ≡ (lane_to m e).lane.sender) → (sender_side s ≡ sender_side (lane_to m e)) → (s.rings.sending ≡ (lane_to m e).rings.sending) → ((k : ℕ) → number ≢ k → has_call s.lane.receiver k ≡ false)

@@ -34,6 +34,9 @@ use Rattle.link_words.specs.declared.rule.ReceiverSide.{ReceiverSide}
 use Rattle.link_words.specs.declared.rule.Call.TheVariants.{Sends, Rests, Receives, EndsSend, Reopens}
 use Rattle.link_words.specs.declared.rule.Counted.TheVariants.{Room, Waiting, Gave}
 use Rattle.link_words.specs.declared.rule.Event.TheVariants.{Count, Publish, Take}
+use Rattle.link_words.specs.declared.rule.LaneSides.{LaneSides}
+use Rattle.link_words.specs.Reopens.{AreBooksOf, books_by}
+use Rattle.link_words.specs.Sides.{sides_at}
 use Rattle.link_words.specs.Histories.{NeverBack, latest}
 use Rattle.ring_core.specs.RingSteps.{hands_without}
 use Rattle.link_words.specs.Passes.{Mover, with_call, with_pass}
@@ -61,8 +64,10 @@ abbrev pub FindsClosedEra : (me : SeatState) → Mover me.0 → End → Turn Sen
 FindsClosedEra me o e t x b n me' = (era : Era) × (n ≡ era_word era) × (era.is_live ≡ false → me' ≡ (with_pass me.0 o (with_call o.pass (EndsSend e t x b)) me'.0.copy, me.1)) × (era.is_live ≡ true → me' ≡ me)
 
 -- the manager, which has the four turns and holds nothing, loads the era: a reopening begins where it is closed
-abbrev pub BeginsReopening : (me : SeatState) → Mover me.0 → ℕ → SeatState → Type 0
-BeginsReopening me o n me' = (era : Era) × (n ≡ era_word era) × (era.is_live ≡ false → me' ≡ (with_pass me.0 o (with_call o.pass (Reopens 0 era.inc)) me'.0.copy, me.1)) × (era.is_live ≡ true → me' ≡ me)
+abbrev pub BeginsReopeningBy : (me : SeatState) → Mover me.0 → LaneSides → LaneSides → ℕ → SeatState → Type 0
+BeginsReopeningBy me o a b n me' = (era : Era) × (n ≡ era_word era) × (era.inc ≡ me.0.inc) × (era.inc < 4294967296) × (me.0.is_closed ≡ true → era.is_live ≡ false)
+    × (era.is_live ≡ false → (me' ≡ (with_pass me.0 o (with_call o.pass (Reopens 0 era.inc a b)) me'.0.copy, me.1)) × AreBooksOf me.0 (λ e. books_by (sides_at e a b)))
+    × (era.is_live ≡ true → me' ≡ me)
 
 -- step 4 of a take: the buffer is out, with its message
 abbrev pub TakeTakesBufferBy : (me : SeatState) → Mover me.0 → ℕ → End → ℕ → ℕ → ReceiverSide → ℕ → SeatState → Type 0

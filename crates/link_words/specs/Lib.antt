@@ -2,6 +2,7 @@ pub mod DeskSeats
 pub mod PlacedDesks
 pub mod Words
 pub mod Layouts
+pub mod Sides
 pub mod Passes
 pub mod Turns
 pub mod Histories
@@ -13,3 +14,4 @@ pub mod Fresh
 pub mod Calls
 pub mod Steps
 pub mod Seats
+pub mod Reopens

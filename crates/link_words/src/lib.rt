@@ -6,9 +6,11 @@ mod copies;
 mod desks;
 pub mod laws;
 mod loads;
+mod manages;
 mod moves;
 mod places;
 mod plays;
+mod reopens;
 mod rule;
 mod seats;
 mod sides;
@@ -20,8 +22,11 @@ pub use codes::{DeskCode, DeskRight, DeskTables, DeskView};
 pub use copies::LinkCopy;
 pub use desks::{DeskRule, DeskTable};
 pub use loads::{EraUse, IndexUse, load_entry, load_era, load_index};
+pub use reopens::{
+    begin_reopening, leave_for_manager, open_era, reset_index, reset_place, take_for_manager,
+};
 pub use rule::{
-    Call, CallStart, Counted, Event, LinkSeat, LinkSizes, LinkTable, LinkWords, Made, Pass,
+    Call, CallStart, Counted, Event, LaneSides, LinkSeat, LinkSizes, LinkTable, LinkWords, Made, Pass,
     ReceiverSide, Ring, SenderSide, Slot, View,
 };
 pub use seats::{

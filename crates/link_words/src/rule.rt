@@ -50,6 +50,13 @@ pub struct ReceiverSide {
     pub desk: DeskRight,
 }
 
+/// The side states of a lane that the manager has, each with its turn, as contracts see them. No value of
+/// it is made.
+pub struct LaneSides {
+    pub sender: Option<SenderSide>,
+    pub receiver: Option<ReceiverSide>,
+}
+
 /// What a caller begins.
 #[derive(Drop)]
 pub struct CallStart {
@@ -100,10 +107,12 @@ pub enum Call {
     Reclaims(End, ReceiverSide),
     /// The same, and its seat has found the era closed since.
     EndsHeld(End, ReceiverSide),
-    /// The manager has the four turns, in any era, with the sides of both receivers.
-    HoldsAll(ReceiverSide, ReceiverSide),
-    /// The manager in a reopening: it has the four turns, this incarnation is closed, nothing is held, and so many words are reset.
-    Reopens(u64, Inc),
+    /// The manager outside a reopening, in any era, with the side states that it has of the lane to the host and of the one to the
+    /// remote.
+    Gathers(LaneSides, LaneSides),
+    /// The manager in a reopening, with its side states: it has the four turns, this incarnation is closed, nothing is held, and so many
+    /// words are reset.
+    Reopens(u64, Inc, LaneSides, LaneSides),
 }
 
 /// A caller, or the manager under the number 64, as the proofs know it. No value of it is made.

@@ -215,7 +215,7 @@ module _ {D : Type 0} (coded : Coded D) (meaning : DeskMeaning D) where
       (λ i. (slot_is z me c stage.Look (send_slots c) id sized at.0 zero i, told.0) ∷ at.0.out i)
       (record { in_call = ap (λ (k : Call). send_or k (λ e t x b. Sends e (under_way_or t (λ caller s. turn.Taken caller (record s { stage = stage.Buffer })) t) x id) k) at.0.in_call; own = refl; number = refl; in_hand = refl })
       (stepped_once coded meaning (made.Buffer id) me me' step) in
-      ((told.0, (all.0, at.1)), all.1)
+      ((told.0, (all.0, record { is = at.1.is; most = at.1.most })), all.1)
 
   pub takes_own : (z : LinkSizes) (me me' : SeatState) (c : SendCall) → me.0.sizes ≡ z → IsSendAt c stage.Look me → SendTakesBuffer (accepted_by me) me me' → IsRingStep coded meaning me me'
       → ((y : Slot) × IsFilledAt z (record c { buffer = c.accepted }) stage.Buffer y me') × HasDone coded meaning (Step (made.Buffer c.accepted) ∷ []) same_hands me me'
