@@ -22,7 +22,7 @@ use Rattle.ring_core.specs.declared.states.RingState.{RingState}
 use Rattle.link_words.specs.declared.rule.Slot.{Slot}
 use Rattle.link_words.specs.declared.rule.LinkSizes.{LinkSizes}
 use Rattle.link_words.specs.declared.rule.Call.{Call}
-use Rattle.link_words.specs.declared.rule.Call.TheVariants.{Idle, Sends, Rests, Reclaims, EndsHeld, Receives, EndsReceive, EndsSend, EndsBoth, Reopens, HoldsAll}
+use Rattle.link_words.specs.declared.rule.Call.TheVariants.{Idle, Sends, Rests, Reclaims, EndsHeld, Receives, EndsReceive, EndsSend, EndsBoth, Reopens, Gathers}
 use Rattle.link_words.specs.declared.rule.Pass.{Pass}
 use Rattle.link_words.specs.declared.rule.View.{View}
 use Rattle.link_words.specs.Words.{lane_to, era_word, shelf_to}
@@ -63,9 +63,6 @@ not_live_in : (inc found : ℕ) (live : Bool) → ((found ≡ inc) → live ≡ 
 not_live_in inc found false never = and_false (eqb found inc)
 not_live_in inc found true never = ap (λ (b : Bool). b && true) (ne_eqb found inc (λ same. never same refl))
 
-managers_shut : {B : Type 0} {kc : Coded B} {kz : DeskTables} (m : LaneLink (RingState (PlacedDesk kc kz))) (inc : ℕ) → AreManagers m → AreManagers (record m { era = record { inc = inc; is_live = false } })
-managers_shut m inc a = record { host_sender = a.host_sender; host_receiver = a.host_receiver; remote_sender = a.remote_sender; remote_receiver = a.remote_receiver }
-
 -- a change of the era alone, which shuts it
 shut_call : {B : Type 0} {kc : Coded B} {kz : DeskTables} (m : LaneLink (RingState (PlacedDesk kc kz))) (inc : ℕ) (k : ℕ) (call : Call) → m.era ≡ record { inc = inc; is_live = true } → IsCallOf m 0 k call → IsCallOf (record m { era = record { inc = inc; is_live = false } }) 0 k call
 shut_call m inc k Idle live has = has
@@ -85,8 +82,8 @@ shut_call m inc k (EndsSend side.Host t x buffer) live has = (has.0, has.1, refl
 shut_call m inc k (EndsBoth side.Host t x buffer y) live has = (has.0, has.1, refl, has.3, has.4, has.5)
 shut_call m inc k (EndsSend side.Remote t x buffer) live has = (has.0, has.1, refl, subst (IsCurrent t) (ap (λ (x : Era). x.inc) live) has.3)
 shut_call m inc k (EndsBoth side.Remote t x buffer y) live has = (has.0, has.1, refl, has.3, has.4, has.5)
-shut_call m inc k (Reopens p i) live has = absurd (true-false (sym (ap (λ (x : Era). x.is_live) live) ∙ has.2.0))
-shut_call m inc k (HoldsAll a b) live has = (has.0, has.1, managers_shut m inc has.2, has.3, has.4)
+shut_call m inc k (Reopens p i a b) live has = absurd (true-false (sym (ap (λ (x : Era). x.is_live) live) ∙ has.2.0))
+shut_call m inc k (Gathers a b) live has = has
 
 shut_hands : {B : Type 0} {kc : Coded B} {kz : DeskTables} (m : LaneLink (RingState (PlacedDesk kc kz))) (inc : ℕ) (q : Pass) → HandsOf m q → HandsOf (record m { era = record { inc = inc; is_live = false } }) q
 shut_hands m inc q has side.Host user = has side.Host user

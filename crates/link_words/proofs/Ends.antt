@@ -17,7 +17,7 @@ use Rattle.lane_model.specs.Desks.{DeskMeaning}
 use Rattle.ring_core.specs.declared.states.RingState.{RingState}
 use Rattle.ring_core.specs.Owners.{sender_is_out, receiver_is_out}
 use Rattle.link_words.specs.declared.rule.Call.{Call}
-use Rattle.link_words.specs.declared.rule.Call.TheVariants.{Idle, Sends, Rests, Reclaims, EndsHeld, Receives, EndsReceive, EndsSend, EndsBoth, Reopens, HoldsAll}
+use Rattle.link_words.specs.declared.rule.Call.TheVariants.{Idle, Sends, Rests, Reclaims, EndsHeld, Receives, EndsReceive, EndsSend, EndsBoth, Reopens, Gathers}
 use Rattle.link_words.specs.declared.rule.LinkSizes.{LinkSizes}
 use Rattle.link_words.specs.declared.rule.ReceiverSide.{ReceiverSide}
 use Rattle.link_words.specs.declared.rule.SenderSide.{SenderSide}
@@ -93,8 +93,8 @@ module _ {B : Type 0} {kc : Coded B} {kz : DeskTables} (cd : Coded (PlacedDesk k
   finds (EndsBoth e t x b y) s has = absurd has
   finds (EndsReceive e t x b message) s has = absurd has
   finds (EndsHeld e x) s has = absurd has
-  finds (Reopens p inc) s has = absurd has
-  finds (HoldsAll x y) s has = absurd has
+  finds (Reopens p inc a b) s has = absurd has
+  finds (Gathers x y) s has = absurd has
 
   -- the attempt on the receiver's turn
   claims_told : (end : End) (caller : ℕ) (o : Mover me.0) → o.place ≡ place_of_number caller me.0.passes → (call : Call) → o.pass.call ≡ call → (y : ℕ) (me' : SeatState)
@@ -129,8 +129,8 @@ module _ {B : Type 0} {kc : Coded B} {kz : DeskTables} (cd : Coded (PlacedDesk k
   claims_all end caller place o here at (EndsReceive e t x b message) is un = absurd un
   claims_all end caller place o here at (Reclaims e x) is un = absurd un
   claims_all end caller place o here at (EndsHeld e x) is un = absurd un
-  claims_all end caller place o here at (Reopens p inc) is un = absurd un
-  claims_all end caller place o here at (HoldsAll x y) is un = absurd un
+  claims_all end caller place o here at (Reopens p inc a b) is un = absurd un
+  claims_all end caller place o here at (Gathers x y) is un = absurd un
 
   -- the leaves: what is told by the call is told by the pass that steps
   abbrev LeftBy : Mover me.0 → Call → SeatState → Type 0
@@ -191,8 +191,8 @@ module _ {B : Type 0} {kc : Coded B} {kz : DeskTables} (cd : Coded (PlacedDesk k
   ends_sender lane place at sized (EndsReceive e t x b message) s has = absurd has
   ends_sender lane place at sized (Reclaims e x) s has = absurd has
   ends_sender lane place at sized (EndsHeld e x) s has = absurd has
-  ends_sender lane place at sized (Reopens p inc) s has = absurd has
-  ends_sender lane place at sized (HoldsAll x y) s has = absurd has
+  ends_sender lane place at sized (Reopens p inc a b) s has = absurd has
+  ends_sender lane place at sized (Gathers x y) s has = absurd has
 
   ends_receiver : (lane : End) (place : ℕ) → place ≡ place_in (receiver_word lane) → me.0.sizes ≡ z → (call : Call) (s : StandsIn me call) → MayEnd lane_turn.Receiver lane s.mover.pass.number me call → LeaveTold place
   ends_receiver lane place at sized (EndsReceive e t x b message) s has = leaves_by (EndsReceive e t x b message) s lane_turn.Receiver e place (at ∙ ap (λ (i : End). place_in (receiver_word i)) (sym has.0))
@@ -207,8 +207,8 @@ module _ {B : Type 0} {kc : Coded B} {kz : DeskTables} (cd : Coded (PlacedDesk k
   ends_receiver lane place at sized (EndsSend e t x b) s has = absurd has
   ends_receiver lane place at sized (EndsBoth e t x b y) s has = absurd has
   ends_receiver lane place at sized (Receives e t x b message) s has = absurd has
-  ends_receiver lane place at sized (Reopens p inc) s has = absurd has
-  ends_receiver lane place at sized (HoldsAll x y) s has = absurd has
+  ends_receiver lane place at sized (Reopens p inc a b) s has = absurd has
+  ends_receiver lane place at sized (Gathers x y) s has = absurd has
 
   pub ends : (turn : LaneTurn) (lane : End) (place : ℕ) → place ≡ place_in (turn_number turn lane) → me.0.sizes ≡ z → (call : Call) (s : StandsIn me call) → MayEnd turn lane s.mover.pass.number me call → LeaveTold place
   ends lane_turn.Sender lane place at sized call s has = ends_sender lane place at sized call s has

@@ -105,7 +105,7 @@ pub read_by : {B : Type 0} {kc : Coded B} {kz : DeskTables} (i : ℕ) (cd : Code
 read_by i cd desk z st m r id me o w d m' slots at may is mine =
     step_with (ReadsAt i (get_or st.words i 0)) cd desk z st m r id me o w d m' slots at (ap (λ (ws : List ℕ). get_or ws i 0) r.words_are) may is mine
 
-call_at_is : (ps : List Pass) (k : ℕ) (p : Pass) → get_elem? ps k ≡ some p → p.call ≡ call_at k ps
+pub call_at_is : (ps : List Pass) (k : ℕ) (p : Pass) → get_elem? ps k ≡ some p → p.call ≡ call_at k ps
 call_at_is [] k p at = absurd (some-ne-none p (sym at))
 call_at_is (x ∷ xs) zero p at = ap (λ (q : Pass). q.call) (sym (some-injective x p at))
 call_at_is (x ∷ xs) (suc k) p at = call_at_is xs k p at
@@ -168,7 +168,7 @@ in_hand_at_is [] k p at = absurd (some-ne-none p (sym at))
 in_hand_at_is (x ∷ xs) zero p at = ap (λ (q : Pass). q.hands) (sym (some-injective x p at))
 in_hand_at_is (x ∷ xs) (suc k) p at = in_hand_at_is xs k p at
 
-passes_at : (f : Pass → Pass) (ps : List Pass) (k : ℕ) (p : Pass) → get_elem? ps k ≡ some p → set ps k (f p) ≡ with_pass_at f k ps
+pub passes_at : (f : Pass → Pass) (ps : List Pass) (k : ℕ) (p : Pass) → get_elem? ps k ≡ some p → set ps k (f p) ≡ with_pass_at f k ps
 passes_at f [] k p at = refl
 passes_at f (x ∷ xs) zero p at = ap (λ (q : Pass). f q ∷ xs) (sym (some-injective x p at))
 passes_at f (x ∷ xs) (suc k) p at = ap (λ (l : List Pass). x ∷ l) (passes_at f xs k p at)

@@ -70,19 +70,23 @@ module _ (views : List View) (id : ℕ) (v u : View) (o : Mover v) (w : Pass) (a
       let a = before_set R (λ x. (refl, λ e m. m)) (sym same, quiet) i k p ep in let b = before_set R (λ x. (refl, λ e m. m)) (sym same, quiet) j l q eq in
       sym a.2.0 ∙ old e i k j l a.0 b.0 a.1 b.1 (a.2.1 e kp) (b.2.1 e kq) ∙ b.2.0
 
-  -- a call that nobody else's stands beside
-  pub keepers_new : ((e : End) → has_for_manager e w.call ≡ true → (j l : ℕ) (q : Pass) → PassAt views j l q → has_for_manager e q.call ≡ true → ⊥) → AreKeepersApart views → AreKeepersApart (set views id u)
-  keepers_new never old e i k j l p q ep eq kp kq = go (after_set views id v u o.place w at is i k p ep) (after_set views id v u o.place w at is j l q eq)
+  -- a call beside which the others that have a turn for the manager are of the same number
+  pub keepers_more : ((e : End) → has_for_manager e w.call ≡ true → (j l : ℕ) (q : Pass) → PassAt views j l q → has_for_manager e q.call ≡ true → w.number ≡ q.number) → AreKeepersApart views → AreKeepersApart (set views id u)
+  keepers_more same old e i k j l p q ep eq kp kq = go (after_set views id v u o.place w at is i k p ep) (after_set views id v u o.place w at is j l q eq)
     where
       go : ((i ≡ id) × (k ≡ o.place) × (w ≡ p)) ⊎ (PassAt views i k p × (i ≡ id → k ≡ o.place → ⊥)) → ((j ≡ id) × (l ≡ o.place) × (w ≡ q)) ⊎ (PassAt views j l q × (j ≡ id → l ≡ o.place → ⊥)) → p.number ≡ q.number
       go a b = ⊎_elim
           (λ (x : (i ≡ id) × (k ≡ o.place) × (w ≡ p)). ⊎_elim
           (λ (y : (j ≡ id) × (l ≡ o.place) × (w ≡ q)). ap (λ (z : Pass). z.number) (sym x.2 ∙ y.2))
-          (λ (y : PassAt views j l q × (j ≡ id → l ≡ o.place → ⊥)). absurd (never e (ap (λ (z : Pass). has_for_manager e z.call) x.2 ∙ kp) j l q y.0 kq)) b)
+          (λ (y : PassAt views j l q × (j ≡ id → l ≡ o.place → ⊥)). ap (λ (z : Pass). z.number) (sym x.2) ∙ same e (ap (λ (z : Pass). has_for_manager e z.call) x.2 ∙ kp) j l q y.0 kq) b)
           (λ (x : PassAt views i k p × (i ≡ id → k ≡ o.place → ⊥)). ⊎_elim
-          (λ (y : (j ≡ id) × (l ≡ o.place) × (w ≡ q)). absurd (never e (ap (λ (z : Pass). has_for_manager e z.call) y.2 ∙ kq) i k p x.0 kp))
+          (λ (y : (j ≡ id) × (l ≡ o.place) × (w ≡ q)). sym (same e (ap (λ (z : Pass). has_for_manager e z.call) y.2 ∙ kq) i k p x.0 kp) ∙ ap (λ (z : Pass). z.number) y.2)
           (λ (y : PassAt views j l q × (j ≡ id → l ≡ o.place → ⊥)). old e i k j l p q x.0 y.0 kp kq) b)
           a
+
+  -- a call that nobody else's stands beside
+  pub keepers_new : ((e : End) → has_for_manager e w.call ≡ true → (j l : ℕ) (q : Pass) → PassAt views j l q → has_for_manager e q.call ≡ true → ⊥) → AreKeepersApart views → AreKeepersApart (set views id u)
+  keepers_new never = keepers_more (λ e mine j l q there theirs. absurd (never e mine j l q there theirs))
 
   manages_set : w.number ≡ o.pass.number → Manages u → Manages v
   manages_set same (k, b, eb, is_64) =

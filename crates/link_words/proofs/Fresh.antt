@@ -28,9 +28,11 @@ use Rattle.lane_laws.proofs.RingLinks.{opened_link_sound}
 use Rattle.link_words.specs.declared.rule.Slot.{Slot}
 use Rattle.link_words.specs.declared.rule.Slot.TheVariants.{Buffer, Sender, Receiver}
 use Rattle.link_words.specs.declared.rule.LinkSizes.{LinkSizes}
-use Rattle.link_words.specs.declared.rule.Call.TheVariants.{Idle}
+use Rattle.link_words.specs.declared.rule.Call.TheVariants.{Gathers}
 use Rattle.link_words.specs.declared.rule.Pass.{Pass}
 use Rattle.link_words.specs.declared.rule.View.{View}
+use Rattle.link_words.specs.Sides.{no_sides}
+use Rattle.link_words.proofs.Gathered.{gathered_none}
 use Rattle.link_words.specs.Passes.{PassAt}
 use Rattle.link_words.specs.Words.{lane_to, words_of, shelf_to}
 use Rattle.link_words.proofs.Parts.{SendsAgree, TakesAt}
@@ -62,10 +64,10 @@ only : (z : LinkSizes) (i : ℕ) (v : View) → get_elem? (first_view z 64 ∷ [
 only z zero v e = (refl, some-injective _ v e)
 only z (suc i) v e = absurd (some-ne-none v (sym e))
 
-first : (z : LinkSizes) (j l : ℕ) (q : Pass) → PassAt (first_view z 64 ∷ []) j l q → (j ≡ 0) × (l ≡ 0) × (record { number = 64; call = Idle; first = 0; own = []; hands = [] } ≡ q)
+first : (z : LinkSizes) (j l : ℕ) (q : Pass) → PassAt (first_view z 64 ∷ []) j l q → (j ≡ 0) × (l ≡ 0) × (record { number = 64; call = Gathers no_sides no_sides; first = 0; own = []; hands = [] } ≡ q)
 first z j l q (v, ev, eq) = let a = only z j v ev in let b = pass l (subst (λ (x : View). get_elem? x.passes l ≡ some q) (sym a.1) eq) in (a.0, b.0, b.1)
   where
-    pass : (k : ℕ) → get_elem? (record { number = 64; call = Idle; first = 0; own = []; hands = [] } ∷ []) k ≡ some q → (k ≡ 0) × (record { number = 64; call = Idle; first = 0; own = []; hands = [] } ≡ q)
+    pass : (k : ℕ) → get_elem? (record { number = 64; call = Gathers no_sides no_sides; first = 0; own = []; hands = [] } ∷ []) k ≡ some q → (k ≡ 0) × (record { number = 64; call = Gathers no_sides no_sides; first = 0; own = []; hands = [] } ≡ q)
     pass zero e = (refl, some-injective _ q e)
     pass (suc k) e = absurd (some-ne-none q (sym e))
 
@@ -73,18 +75,18 @@ module _ {B : Type 0} {kc : Coded B} {kz : DeskTables} (cd : Coded (PlacedDesk k
   pub opens_new : (config : LinkConfig) (host remote : PlacedDesk kc kz) (xs ys : List (List ℕ)) → IsConfig config → config.first < 4294967296 → length xs ≡ ring_capacity config.num0 → length ys ≡ ring_capacity config.num1
       → let z : LinkSizes = record { to_host = sizes_of config.num0 true; to_remote = sizes_of config.num1 false; book = config.book; first = config.first; desks = kz } in
       WordsRule cd desk z (opening (words_of 0 [] (opened_ring_link config host remote))
-      (opened_slots (right_to host) (right_to remote) xs ys)
+      (opened_slots config.book (right_to host) (right_to remote) xs ys)
       (first_view z 64))
   opens_new config host remote xs ys is low many0 many1 =
       let z : LinkSizes = record { to_host = sizes_of config.num0 true; to_remote = sizes_of config.num1 false; book = config.book; first = config.first; desks = kz } in let m = opened_ring_link config host remote in (
         m,
         0,
         put_together refl
-            (record { host = map some (map Buffer xs); remote = map some (map Buffer ys) }) (ap (λ (l : List (Option_of Slot)). some (Sender opened_sender) ∷ some (Receiver (opened_receiver (right_to host))) ∷ some (Sender opened_sender) ∷ some (Receiver (opened_receiver (right_to remote))) ∷ l)
+            (record { host = map some (map Buffer xs); remote = map some (map Buffer ys) }) (ap (λ (l : List (Option_of Slot)). some (Sender (opened_sender config.book)) ∷ some (Receiver (opened_receiver config.book (right_to host))) ∷ some (Sender (opened_sender config.book)) ∷ some (Receiver (opened_receiver config.book (right_to remote))) ∷ l)
             (map_append some (map Buffer xs) (map Buffer ys)))
             (record { rings = opened_link_sound config host remote is; sound = opened_sound config host remote }) ((refl, refl), (refl, refl)) shelf (record { start = m; run = []; by_run = refl })
             (record {
-              calls = λ j l q there. subst (HasCall m 0) (first z j l q there).2 refl;
+              calls = λ j l q there. subst (HasCall m 0) (first z j l q there).2 (refl, refl, gathered_none _, gathered_none _);
               keepers = λ e i k j l p q ep eq _ _. ap (λ (x : Pass). x.number) (sym (first z i k p ep).2 ∙ (first z j l q eq).2);
               still = inl refl;
             })

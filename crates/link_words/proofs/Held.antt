@@ -1,5 +1,6 @@
 -- A reclaim of a caller that is in no call and holds buffers: the manager takes its receiver's turn with the caller's own seat, finds the era
 -- closed while it has it, and leaves it without what the caller held.
+use Rattle.link_words.proofs.Gathered.{there}
 use Rattle.link_words.specs.declared.codes.DeskTables.{DeskTables}
 use Rattle.link_words.specs.PlacedDesks.{PlacedDesk}
 use Rattle.std.proofs.Common.{◌≡◌, ◌≢◌, ℕ, ◌<◌, ◌≤◌, Bool, true, false, eqb, List, [], ◌∷◌, length, get_or, refl, sym, ap, ◌∙◌, subst, ⊎_elim, arith, suc-ne-zero, inl, inr}
@@ -32,7 +33,7 @@ use Rattle.link_words.specs.declared.rule.Slot.TheVariants.{Buffer, Receiver}
 use Rattle.link_words.specs.declared.rule.ReceiverSide.{ReceiverSide}
 use Rattle.link_words.specs.declared.rule.LinkSizes.{LinkSizes}
 use Rattle.link_words.specs.declared.rule.Call.{Call}
-use Rattle.link_words.specs.declared.rule.Call.TheVariants.{Idle, Sends, Rests, Reclaims, EndsHeld, Receives, EndsReceive, EndsSend, EndsBoth, Reopens, HoldsAll}
+use Rattle.link_words.specs.declared.rule.Call.TheVariants.{Idle, Sends, Rests, Reclaims, EndsHeld, Receives, EndsReceive, EndsSend, EndsBoth, Reopens, Gathers}
 use Rattle.link_words.specs.declared.rule.Pass.{Pass}
 use Rattle.link_words.specs.declared.rule.View.{View}
 use Rattle.link_words.specs.Words.{receiver_slot, other, lane_to, with_lane, era_word, turn_word, lane_words, words_at, LaneWords, LaneHomes, lane_homes, homes_at, home_if, words_of, shelf_to, receiver_side}
@@ -116,8 +117,8 @@ module _ {B : Type 0} {kc : Coded B} {kz : DeskTables} (cd : Coded (PlacedDesk k
   free_for_all m side.Host p free k (Reclaims side.Remote x) having has = true-false (sym having)
   free_for_all m side.Host p free k (EndsHeld side.Host x) having has = true-false (ap is_free (sym free ∙ has.1))
   free_for_all m side.Host p free k (EndsHeld side.Remote x) having has = true-false (sym having)
-  free_for_all m side.Host p free k (Reopens q inc) having has = true-false (ap is_free (sym free ∙ has.2.1.host_receiver))
-  free_for_all m side.Host p free k (HoldsAll x y) having has = true-false (ap is_free (sym free ∙ has.2.host_receiver))
+  free_for_all m side.Host p free k (Reopens q inc a b) having has = true-false (ap is_free (sym free ∙ has.2.1.host_receiver))
+  free_for_all m side.Host p free k (Gathers a b) having has = let x = there a.receiver having in true-false (ap is_free (sym free ∙ (has.2.receiver x.0 x.1).0))
   free_for_all m side.Remote p free k (Receives side.Remote t x b msg) having has = not_held t k (sym has.1.0 ∙ free) has.1.1
   free_for_all m side.Remote p free k (Receives side.Host t x b msg) having has = true-false (sym having)
   free_for_all m side.Remote p free k (EndsReceive side.Remote t x b msg) having has = not_held t k (sym has.1.0 ∙ free) has.1.1
@@ -126,11 +127,11 @@ module _ {B : Type 0} {kc : Coded B} {kz : DeskTables} (cd : Coded (PlacedDesk k
   free_for_all m side.Remote p free k (Reclaims side.Host x) having has = true-false (sym having)
   free_for_all m side.Remote p free k (EndsHeld side.Remote x) having has = true-false (ap is_free (sym free ∙ has.1))
   free_for_all m side.Remote p free k (EndsHeld side.Host x) having has = true-false (sym having)
-  free_for_all m side.Remote p free k (Reopens q inc) having has = true-false (ap is_free (sym free ∙ has.2.1.remote_receiver))
-  free_for_all m side.Remote p free k (HoldsAll x y) having has = true-false (ap is_free (sym free ∙ has.2.remote_receiver))
+  free_for_all m side.Remote p free k (Reopens q inc a b) having has = true-false (ap is_free (sym free ∙ has.2.1.remote_receiver))
+  free_for_all m side.Remote p free k (Gathers a b) having has = let x = there b.receiver having in true-false (ap is_free (sym free ∙ (has.3.receiver x.0 x.1).0))
 
   -- a call that minds the turn for the manager has it
-  minds_has : (e : End) (call : Call) → has_for_manager e call ≡ true → has_receiver e call ≡ true
+  pub minds_has : (e : End) (call : Call) → has_for_manager e call ≡ true → has_receiver e call ≡ true
   minds_has e Idle kept = kept
   minds_has e (Rests i) kept = kept
   minds_has e (Sends i t x b) kept = kept
@@ -140,8 +141,8 @@ module _ {B : Type 0} {kc : Coded B} {kz : DeskTables} (cd : Coded (PlacedDesk k
   minds_has e (EndsReceive i t x b msg) kept = absurd (true-false (sym kept))
   minds_has e (Reclaims i x) kept = kept
   minds_has e (EndsHeld i x) kept = kept
-  minds_has e (Reopens q inc) kept = kept
-  minds_has e (HoldsAll x y) kept = kept
+  minds_has e (Reopens q inc a b) kept = kept
+  minds_has e (Gathers a b) kept = kept
 
   -- where the manager has the turn, who has it minds it for the manager
   has_minds : (m : LaneLink (RingState (PlacedDesk kc kz))) (e : End) (p : ℕ) → (lane_to m e).lane.receiver ≡ turn.Manager → (k : ℕ) (call : Call) → has_receiver e call ≡ true → IsCallOf m p k call → has_for_manager e call ≡ true
@@ -160,11 +161,11 @@ module _ {B : Type 0} {kc : Coded B} {kz : DeskTables} (cd : Coded (PlacedDesk k
   has_minds m side.Remote p is k (EndsReceive side.Host t x b msg) having has = absurd (true-false (sym having))
   has_minds m e p is k (Reclaims i x) having has = having
   has_minds m e p is k (EndsHeld i x) having has = having
-  has_minds m e p is k (Reopens q inc) having has = refl
-  has_minds m e p is k (HoldsAll x y) having has = refl
+  has_minds m e p is k (Reopens q inc a b) having has = refl
+  has_minds m e p is k (Gathers a b) having has = having
 
   -- nobody else has the turn that this seat minds for the manager
-  alone : (st : State Slot View) (m : LaneLink (RingState (PlacedDesk kc kz))) (r : Shows cd desk z st m 0) (e : End) (id : ℕ) (v : View) (o : Mover v) → get_elem? st.views id ≡ some v → has_for_manager e o.pass.call ≡ true → (lane_to m e).lane.receiver ≡ turn.Manager
+  pub alone : (st : State Slot View) (m : LaneLink (RingState (PlacedDesk kc kz))) (r : Shows cd desk z st m 0) (e : End) (id : ℕ) (v : View) (o : Mover v) → get_elem? st.views id ≡ some v → has_for_manager e o.pass.call ≡ true → (lane_to m e).lane.receiver ≡ turn.Manager
       → (j l : ℕ) (q : Pass) → PassAt st.views j l q → o.pass.number ≢ q.number → has_receiver e q.call ≡ true → IsCallOf m 0 q.number q.call → ⊥
   alone st m r e id v o at mind is j l q there apart having has = apart (r.turns.keepers e id o.place j l o.pass q (v, at, o.here) there mind (has_minds m e 0 is q.number q.call having has))
 
@@ -176,7 +177,7 @@ module _ {B : Type 0} {kc : Coded B} {kz : DeskTables} (cd : Coded (PlacedDesk k
   minded m side.Host s number user is sends = (user, is, refl, refl, sends)
   minded m side.Remote s number user is sends = (user, is, refl, refl, sends)
 
-  same_end_is : (i e : End) → same_end i e ≡ true → i ≡ e
+  pub same_end_is : (i e : End) → same_end i e ≡ true → i ≡ e
   same_end_is side.Host side.Host same = refl
   same_end_is side.Host side.Remote same = absurd (true-false (sym same))
   same_end_is side.Remote side.Host same = absurd (true-false (sym same))

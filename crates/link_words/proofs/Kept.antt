@@ -15,6 +15,7 @@ use Rattle.lane_model.specs.Links.{lanes_of, with_lanes, end_of, link_of, on_lan
 use Rattle.lane_model.specs.Conditions.{MayEndStep, is_in_call}
 use Rattle.lane_model.specs.Recoveries.{link_after_reopen}
 use Rattle.lane_laws.specs.Parts.{part_done, with_manager, without_manager, manager_takes, manager_leaves}
+use Rattle.lane_model.specs.declared.recoveries.LaneTurn.{LaneTurn}
 use Rattle.lane_model.specs.declared.recoveries.LaneTurn.TheVariants as lane_turn
 use Rattle.lane_model.specs.declared.stages.Turn.{Turn}
 use Rattle.lane_model.specs.Soundness.{SoundLink, IsSoundBetween}
@@ -29,7 +30,7 @@ use Rattle.lane_laws.specs.SoundRingLinks.{HasSoundRings}
 use Rattle.lane_laws.proofs.RingLinks.{link_kept, close_kept, reopen_kept}
 use Rattle.ring_core.proofs.Reclaims.{send_ended_sound, receive_ended_sound}
 use Rattle.link_words.specs.Words.{other, lane_to, with_lane}
-use Rattle.link_words.specs.Deeds.{Deed, Steps, Closes, EndsCall, Opens, TakesReceiver, ReleasesReceiver, LeavesTurn, Enlists, Frees, Nothing, after_leave_without, after_deed, MayDo, lanes_after_end, IsSoundState}
+use Rattle.link_words.specs.Deeds.{Deed, Steps, Closes, EndsCall, Opens, TakesReceiver, ReleasesReceiver, LeavesTurn, Enlists, Frees, Nothing, after_leave_without, after_deed, MayDo, lanes_after_end, IsSoundState, ManagerTakes, ManagerLeaves}
 
 true-false : true ≡ false → ⊥
 true-false e = absurd (cc)
@@ -129,6 +130,60 @@ taken_rings s q = record {
   work = of_taken _ s.lane.receiver q.work;
 }
 
+-- a lane one of whose turns the manager takes, or leaves
+managed_rings : {D : Type 0} (s : RingState D) (which : LaneTurn) → IsSoundRings s → IsSoundRings (record s { lane = with_manager s.lane which })
+managed_rings s lane_turn.Receiver q = taken_rings s q
+managed_rings s lane_turn.Sender q = record {
+  sized = q.sized;
+  counted = q.counted;
+  forward_index = q.forward_index;
+  return_index = q.return_index;
+  owned = q.owned;
+  apart = q.apart;
+  holdings = q.holdings;
+  filled = q.filled;
+  room = of_taken _ s.lane.sender q.room;
+  fit = q.fit;
+  source = of_taken _ s.lane.sender q.source;
+  work = q.work;
+}
+
+of_left : {C : Type 0} (P : ℕ → C → Type 0) (t : Turn C) → OfCall t P → OfCall (manager_leaves t) P
+of_left P turn.Free has = tt
+of_left P (turn.Taken caller call) has = has
+of_left P (turn.Leaving caller end) has = tt
+of_left P turn.Manager has = tt
+
+freed_rings : {D : Type 0} (s : RingState D) (which : LaneTurn) → IsSoundRings s → IsSoundRings (record s { lane = without_manager s.lane which })
+freed_rings s lane_turn.Sender q = record {
+  sized = q.sized;
+  counted = q.counted;
+  forward_index = q.forward_index;
+  return_index = q.return_index;
+  owned = q.owned;
+  apart = q.apart;
+  holdings = q.holdings;
+  filled = q.filled;
+  room = of_left _ s.lane.sender q.room;
+  fit = q.fit;
+  source = of_left _ s.lane.sender q.source;
+  work = q.work;
+}
+freed_rings s lane_turn.Receiver q = record {
+  sized = q.sized;
+  counted = q.counted;
+  forward_index = q.forward_index;
+  return_index = q.return_index;
+  owned = q.owned;
+  apart = q.apart;
+  holdings = q.holdings;
+  filled = q.filled;
+  room = q.room;
+  fit = of_left _ s.lane.receiver q.fit;
+  source = q.source;
+  work = of_left _ s.lane.receiver q.work;
+}
+
 free_has : {C : Type 0} (P : ℕ → C → Type 0) (t : Turn C) → t ≡ turn.Manager → OfCall (manager_leaves t) P
 free_has P t is = subst (λ u. OfCall (manager_leaves u) P) (sym is) tt
 
@@ -204,6 +259,21 @@ deed_kept desk m (ReleasesReceiver side.Host) may k = record {
 deed_kept desk m (ReleasesReceiver side.Remote) may k = record {
   rings = record { to_host = k.rings.to_host; to_remote = released_rings m.to_remote may k.rings.to_remote };
   sound = (manager_leaves_sound (link_of (ring_form desk) m) lane_turn.Receiver k.sound).1;
+deed_kept desk m (ManagerTakes which side.Host) may k = record {
+  rings = record { to_host = managed_rings m.to_host which k.rings.to_host; to_remote = k.rings.to_remote };
+  sound = (manager_takes_sound (link_of (ring_form desk) m) which k.sound).0;
+}
+deed_kept desk m (ManagerTakes which side.Remote) may k = record {
+  rings = record { to_host = k.rings.to_host; to_remote = managed_rings m.to_remote which k.rings.to_remote };
+  sound = (manager_takes_sound (link_of (ring_form desk) m) which k.sound).1;
+}
+deed_kept desk m (ManagerLeaves which side.Host) may k = record {
+  rings = record { to_host = freed_rings m.to_host which k.rings.to_host; to_remote = k.rings.to_remote };
+  sound = (manager_leaves_sound (link_of (ring_form desk) m) which k.sound).0;
+}
+deed_kept desk m (ManagerLeaves which side.Remote) may k = record {
+  rings = record { to_host = k.rings.to_host; to_remote = freed_rings m.to_remote which k.rings.to_remote };
+  sound = (manager_leaves_sound (link_of (ring_form desk) m) which k.sound).1;
 }
 deed_kept desk m (LeavesTurn side.Host caller) may k = record {
   rings = record { to_host = left_rings desk m.to_host caller may.2 k.rings.to_host; to_remote = k.rings.to_remote };

@@ -1,4 +1,5 @@
 -- A step of a seat on one lane that is a deed of the ring form keeps the rule.
+use Rattle.link_words.proofs.Gathered.{gathered_send}
 use Rattle.link_words.specs.declared.codes.DeskTables.{DeskTables}
 use Rattle.link_words.specs.PlacedDesks.{PlacedDesk}
 use Rattle.link_words.specs.Histories.{NoneOf}
@@ -28,7 +29,7 @@ use Rattle.link_words.specs.declared.rule.Slot.{Slot}
 use Rattle.link_words.specs.declared.rule.SenderSide.{SenderSide}
 use Rattle.link_words.specs.declared.rule.LinkSizes.{LinkSizes}
 use Rattle.link_words.specs.declared.rule.Call.{Call}
-use Rattle.link_words.specs.declared.rule.Call.TheVariants.{Idle, Sends, Rests, Reclaims, EndsHeld, Receives, EndsReceive, EndsSend, EndsBoth, Reopens, HoldsAll}
+use Rattle.link_words.specs.declared.rule.Call.TheVariants.{Idle, Sends, Rests, Reclaims, EndsHeld, Receives, EndsReceive, EndsSend, EndsBoth, Reopens, Gathers}
 use Rattle.link_words.specs.declared.rule.Pass.{Pass}
 use Rattle.link_words.specs.declared.rule.View.{View}
 use Rattle.rp_base.specs.declared.kinds.Era.{Era}
@@ -103,10 +104,9 @@ module _ {B : Type 0} {kc : Coded B} {kz : DeskTables} (desk : DeskMeaning (Plac
   others_send m side.Host s t number is mine receiver beside taking book after k apart (Reclaims side.Remote x) has = (has.0, has.1, has.2, has.3, after k apart)
   others_send m side.Host s t number is mine receiver beside taking book after k apart (EndsHeld side.Host x) has = (has.0, receiver ∙ has.1, has.2 ∙ sym beside, has.3, has.4, has.5)
   others_send m side.Host s t number is mine receiver beside taking book after k apart (EndsHeld side.Remote x) has = (has.0, has.1, has.2, has.3, has.4, after k apart)
-  others_send m side.Host s t number is mine receiver beside taking book after k apart (Reopens p inc) has =
+  others_send m side.Host s t number is mine receiver beside taking book after k apart (Reopens p inc a b) has =
       absurd (apart (one_holder (lane_to m side.Host).lane.sender number 64 (ap holder is ∙ mine) (ap holder (still_sender m side.Host has.2.1)) ∙ sym has.0))
-  others_send m side.Host s t number is mine receiver beside taking book after k apart (HoldsAll a b) has =
-      absurd (apart (one_holder (lane_to m side.Host).lane.sender number 64 (ap holder is ∙ mine) (ap holder (still_sender m side.Host has.2)) ∙ sym has.0))
+  others_send m side.Host s t number is mine receiver beside taking book after k apart (Gathers a b) has = (has.0, has.1, gathered_send (turns_of m.to_host) (turns_of s) a (λ held. apart (one_holder m.to_host.lane.sender number 64 (ap holder is ∙ mine) (ap holder held) ∙ sym has.0)) receiver beside has.2, has.3)
   others_send m side.Remote s t number is mine receiver beside taking book after k apart Idle has = has
   others_send m side.Remote s t number is mine receiver beside taking book after k apart (Sends side.Remote u x buffer) has =
       absurd (apart (one_holder (lane_to m side.Remote).lane.sender number k (ap holder is ∙ mine) (ap holder has.1.0 ∙ has.1.1)))
@@ -129,10 +129,9 @@ module _ {B : Type 0} {kc : Coded B} {kz : DeskTables} (desk : DeskMeaning (Plac
   others_send m side.Remote s t number is mine receiver beside taking book after k apart (Reclaims side.Host x) has = (has.0, has.1, has.2, has.3, after k apart)
   others_send m side.Remote s t number is mine receiver beside taking book after k apart (EndsHeld side.Remote x) has = (has.0, receiver ∙ has.1, has.2 ∙ sym beside, has.3, has.4, has.5)
   others_send m side.Remote s t number is mine receiver beside taking book after k apart (EndsHeld side.Host x) has = (has.0, has.1, has.2, has.3, has.4, after k apart)
-  others_send m side.Remote s t number is mine receiver beside taking book after k apart (Reopens p inc) has =
+  others_send m side.Remote s t number is mine receiver beside taking book after k apart (Reopens p inc a b) has =
       absurd (apart (one_holder (lane_to m side.Remote).lane.sender number 64 (ap holder is ∙ mine) (ap holder (still_sender m side.Remote has.2.1)) ∙ sym has.0))
-  others_send m side.Remote s t number is mine receiver beside taking book after k apart (HoldsAll a b) has =
-      absurd (apart (one_holder (lane_to m side.Remote).lane.sender number 64 (ap holder is ∙ mine) (ap holder (still_sender m side.Remote has.2)) ∙ sym has.0))
+  others_send m side.Remote s t number is mine receiver beside taking book after k apart (Gathers a b) has = (has.0, has.1, has.2, gathered_send (turns_of m.to_remote) (turns_of s) b (λ held. apart (one_holder m.to_remote.lane.sender number 64 (ap holder is ∙ mine) (ap holder held) ∙ sym has.0)) receiver beside has.3)
 
   free_none : (k : ℕ) (u : Turn Sending) → turn.Free ≡ u → holder u ≡ Some k → ⊥
   free_none k u is held = none_some k (ap holder is ∙ held)
@@ -169,10 +168,9 @@ module _ {B : Type 0} {kc : Coded B} {kz : DeskTables} (desk : DeskMeaning (Plac
   others_free_send m side.Host s free receiver beside taking book k after (Reclaims side.Remote x) has = (has.0, has.1, has.2, has.3, after)
   others_free_send m side.Host s free receiver beside taking book k after (EndsHeld side.Host x) has = (has.0, receiver ∙ has.1, has.2 ∙ sym beside, has.3, has.4, has.5)
   others_free_send m side.Host s free receiver beside taking book k after (EndsHeld side.Remote x) has = (has.0, has.1, has.2, has.3, has.4, after)
-  others_free_send m side.Host s free receiver beside taking book k after (Reopens p inc) has =
+  others_free_send m side.Host s free receiver beside taking book k after (Reopens p inc a b) has =
       absurd (free_not (sym free ∙ still_sender m side.Host has.2.1))
-  others_free_send m side.Host s free receiver beside taking book k after (HoldsAll a b) has =
-      absurd (free_not (sym free ∙ still_sender m side.Host has.2))
+  others_free_send m side.Host s free receiver beside taking book k after (Gathers a b) has = (has.0, has.1, gathered_send (turns_of m.to_host) (turns_of s) a (λ held. free_not (sym free ∙ held)) receiver beside has.2, has.3)
   others_free_send m side.Remote s free receiver beside taking book k after Idle has = has
   others_free_send m side.Remote s free receiver beside taking book k after (Sends side.Remote u x buffer) has =
       absurd (free_none k u (sym free ∙ has.1.0) has.1.1)
@@ -195,10 +193,9 @@ module _ {B : Type 0} {kc : Coded B} {kz : DeskTables} (desk : DeskMeaning (Plac
   others_free_send m side.Remote s free receiver beside taking book k after (Reclaims side.Host x) has = (has.0, has.1, has.2, has.3, after)
   others_free_send m side.Remote s free receiver beside taking book k after (EndsHeld side.Remote x) has = (has.0, receiver ∙ has.1, has.2 ∙ sym beside, has.3, has.4, has.5)
   others_free_send m side.Remote s free receiver beside taking book k after (EndsHeld side.Host x) has = (has.0, has.1, has.2, has.3, has.4, after)
-  others_free_send m side.Remote s free receiver beside taking book k after (Reopens p inc) has =
+  others_free_send m side.Remote s free receiver beside taking book k after (Reopens p inc a b) has =
       absurd (free_not (sym free ∙ still_sender m side.Remote has.2.1))
-  others_free_send m side.Remote s free receiver beside taking book k after (HoldsAll a b) has =
-      absurd (free_not (sym free ∙ still_sender m side.Remote has.2))
+  others_free_send m side.Remote s free receiver beside taking book k after (Gathers a b) has = (has.0, has.1, has.2, gathered_send (turns_of m.to_remote) (turns_of s) b (λ held. free_not (sym free ∙ held)) receiver beside has.3)
 
   -- the mover's call, by the lane
   pub here_sends : (m : LaneLink (RingState (PlacedDesk kc kz))) (e : End) (s : RingState (PlacedDesk kc kz)) (number : ℕ) (t : Turn Sending) (x : SenderSide) (buffer : ℕ) → end_of m.callers number ≡ Some (other e) → SendsAt (turns_of s) number t x buffer → IsCurrent t m.era.inc

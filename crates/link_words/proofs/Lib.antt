@@ -17,6 +17,9 @@ pub mod Buffers
 pub mod Publishes
 pub mod SendEnds
 pub mod Opens
+pub mod Gathered
+pub mod ManagerTurns
+pub mod ManagerTold
 pub mod Takes
 pub mod Fresh
 pub mod Weakens

@@ -80,6 +80,10 @@ module _ {D : Type 0} (s : RingState D) (q : IsSoundRings s) where
   pub hands_most : length s.lane.lane.takers < length s.lane.lane.accepted → length s.rings.hands < CAPACITY_MOST
   hands_most more = let back = q.counted.back in let out = q.counted.out in let most = q.sized.most in omega (arith, back, out, most, more)
 
+  -- and there is room for one who takes it
+  pub takers_room : length s.lane.lane.takers < length s.lane.lane.accepted → length s.lane.lane.takers < s.lane.lane.book
+  takers_room more = let within = q.counted.within in omega (arith, within, more)
+
 -- a lane with sound rings has the counts of its indexes near
 pub near : {B : Type 0} {kc : Coded B} {kz : DeskTables} (s : RingState (PlacedDesk kc kz)) (sizes : RingSizes) → s.rings.sizes ≡ sizes → IsSoundRings s → AreNear sizes.capacity (length s.lane.lane.accepted) s.lane.lane.returned
 near s sizes is q =

@@ -44,6 +44,7 @@ use Rattle.link_words.specs.Histories.{hands_of}
 use Rattle.link_words.specs.Codes.{copied}
 use Rattle.link_words.specs.Passes.{Mover, with_pass}
 use Rattle.link_words.specs.Calls.{SeatState}
+use Rattle.link_words.specs.Steps.{accepted_side}
 use Rattle.link_words.proofs.Tells.{SendPublishesBy}
 use Rattle.link_words.proofs.Frames.{buffer_set, keepers_set, forward_in}
 use Rattle.link_words.proofs.Kept.{send_deed, send_may}
@@ -115,7 +116,7 @@ module _ {B : Type 0} {kc : Coded B} {kz : DeskTables} (cd : Coded (PlacedDesk k
       let low : s.rings.sending < s.rings.sizes.capacity = subst (λ (k : ℕ). k < s.rings.sizes.capacity) (sym sends.0) (source-below s.rings.sizes a (length s.lane.lane.takers) s.lane.lane.returned s.rings.forward s.rings.returns s.rings.hands s.rings.aside sound.owned room) in
       let near : b < length (shelf_to r.shelves e) = omega (arith, low, q.long, out) in
       let s' : RingState (PlacedDesk kc kz) = (ring_form desk).sent_on s m.era in let entry : BookEntry = record { caller = c; message = message } in
-      let t' : Turn Sending = turn.Leaving c (end.Sent x.accepted) in let x' : SenderSide = record { accepted = x.accepted + 1 } in let w : Pass = record o.pass { call = Sends e t' x' b; own = Publish e f x.accepted message ∷ o.pass.own } in let who : c ≡ o.pass.number = some_number c o.pass.number h.1.1 in let hist = r.histories.own id o.place o.pass (me.0, at, o.here) in
+      let t' : Turn Sending = turn.Leaving c (end.Sent x.accepted) in let x' : SenderSide = accepted_side x c message in let w : Pass = record o.pass { call = Sends e t' x' b; own = Publish e f x.accepted message ∷ o.pass.own } in let who : c ≡ o.pass.number = some_number c o.pass.number h.1.1 in let hist = r.histories.own id o.place o.pass (me.0, at, o.here) in
       let has : has_call s₀.lane.sender o.pass.number ≡ true = has_of s₀.lane.sender o.pass.number (ap holder h.1.0 ∙ h.1.1) (ap is_manager h.1.0) in
       let l' = set (shelf_to r.shelves e) b (some (Buffer message)) in
       let index : new ≡ next_index s.rings.forward_index = new_is ∙ (ap (λ (k : ℕ). (k + 1) % 65536) side ∙ (sym (mod-add-mod a 65536 1) ∙ ap (λ (k : ℕ). (k + 1) % 65536) (sym sound.forward_index))) in
@@ -123,7 +124,7 @@ module _ {B : Type 0} {kc : Coded B} {kz : DeskTables} (cd : Coded (PlacedDesk k
       let may = send_may desk m e o.pass.number 0 h.0 has in
       let deed : with_lane m e s' ≡ after_deed desk m (Steps o.pass.number 0 None) = ap (λ (u : RingState (PlacedDesk kc kz)). with_lane m e ((ring_form desk).sent_on u m.era)) (sym is) ∙ send_deed desk m e o.pass.number 0 h.0 has in
       let mine : IsCallOf (with_lane m e s') 0 o.pass.number (Sends e t' x' b) = here_sends desk m e s' o.pass.number t' x' b h.0
-      (ap (λ (k : ℕ). turn.Leaving c (end.Sent k)) (sym side), h.1.1, (λ i. record { accepted = (ap (λ (k : ℕ). k + 1) side ∙ sym more) i }), λ o. absurd (true-false (sym o))) tt in (
+      (ap (λ (k : ℕ). turn.Leaving c (end.Sent k)) (sym side), h.1.1, (ap (λ (u : SenderSide). accepted_side u c message) h.1.2 ∙ (λ i. record { accepted = sym more i; entries = s.lane.lane.accepted ++ entry ∷ []; room = s.lane.lane.book })), λ o. absurd (true-false (sym o))) tt in (
         _,
         gives,
         tt,
@@ -147,5 +148,5 @@ module _ {B : Type 0} {kc : Coded B} {kz : DeskTables} (cd : Coded (PlacedDesk k
             (λ u apart. hands_kept desk m e s' u (λ was. ap (λ (y : RingState (PlacedDesk kc kz)). hands_of u.number y.lane.lane.held) (sym is) ∙ was))
             (λ n none. none_published m e s' entry (sym (ap (λ (y : RingState (PlacedDesk kc kz)). y.lane.lane.accepted ++ entry ∷ []) is)) (sym (ap (λ (y : RingState (PlacedDesk kc kz)). y.lane.lane.takers) is)) n (λ same. not_used m.callers o.pass.number n (other e) h.0 none (sym who ∙ same)))
             (keepers_set st.views id me.0 (with_pass me.0 o w (Some (copied cd (with_lane m e s')))) o w at refl refl (λ i k. absurd (true-false (sym k))) r.turns.keepers),
-        (refl, write_by (forward_word e) new cd desk z st m r id me o w (Steps o.pass.number 0 None) (with_lane m e s') (rest me.1) (index ∙ forward_in m e s') at may deed mine),
+        ((subst (λ (u : SenderSide). u.accepted < u.room) (sym h.1.2) (sound.room refl).1, refl), write_by (forward_word e) new cd desk z st m r id me o w (Steps o.pass.number 0 None) (with_lane m e s') (rest me.1) (index ∙ forward_in m e s') at may deed mine),
       )

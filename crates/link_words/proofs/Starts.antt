@@ -81,7 +81,7 @@ module _ {B : Type 0} {kc : Coded B} {kz : DeskTables} (desk : DeskMeaning (Plac
   not_free (turn.Leaving c y) caller x held = refl
   not_free turn.Manager caller x held = refl
 
-  seen_sender : (m : LaneLink (RingState (PlacedDesk kc kz))) (p : ℕ) (i : End) → get_or (words_of p (fresh_block desk m) m) (sender_word i) 0 ≡ turn_word (lane_to m i).lane.sender
+  pub seen_sender : (m : LaneLink (RingState (PlacedDesk kc kz))) (p : ℕ) (i : End) → get_or (words_of p (fresh_block desk m) m) (sender_word i) 0 ≡ turn_word (lane_to m i).lane.sender
   seen_sender m p side.Host = refl
   seen_sender m p side.Remote = refl
 

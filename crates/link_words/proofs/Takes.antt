@@ -1,4 +1,6 @@
 -- The steps of a take at which a buffer goes out and comes home, with the era loaded again; and the leave by which a reclaim ends it.
+use Rattle.link_words.proofs.Gathered.{there, gathered_receive}
+use Rattle.link_words.specs.Sides.{is_there, sides_at}
 use Rattle.link_words.specs.declared.codes.DeskTables.{DeskTables}
 use Rattle.link_words.specs.PlacedDesks.{PlacedDesk, right_to}
 use Rattle.std.proofs.Common.{◌≡◌, ◌≢◌, ℕ, ◌+◌, ◌-◌, ◌<◌, ◌≤◌, Bool, true, false, cond, List, [], ◌∷◌, ◌++◌, length, get_or, set, refl, sym, ap, ◌∙◌, subst, inl, inr, ⊎_elim, arith, length-set, length-append, le_refl}
@@ -41,7 +43,7 @@ use Rattle.link_words.specs.declared.rule.Slot.TheVariants.{Buffer, Receiver}
 use Rattle.link_words.specs.declared.rule.ReceiverSide.{ReceiverSide}
 use Rattle.link_words.specs.declared.rule.LinkSizes.{LinkSizes}
 use Rattle.link_words.specs.declared.rule.Call.{Call}
-use Rattle.link_words.specs.declared.rule.Call.TheVariants.{Idle, Sends, Rests, Reclaims, EndsHeld, Receives, EndsReceive, EndsSend, EndsBoth, Reopens, HoldsAll}
+use Rattle.link_words.specs.declared.rule.Call.TheVariants.{Idle, Sends, Rests, Reclaims, EndsHeld, Receives, EndsReceive, EndsSend, EndsBoth, Reopens, Gathers}
 use Rattle.lane_model.specs.declared.states.Holding.{Holding}
 use Rattle.link_words.specs.Histories.{hands_of}
 use Rattle.link_words.proofs.Frames.{keepers_set, receiver_in}
@@ -67,7 +69,7 @@ use Rattle.link_words.proofs.LaneSteps.{lane_moves_with}
 use Rattle.link_words.proofs.Sends.{live_now, some_number, has_of, true-false}
 use Rattle.link_words.proofs.Buffers.{rings_to, homes_here, loaded, first_is}
 use Rattle.link_words.proofs.Exact.{StepBy, ReadsAt, WritesAt, read_by, write_by}
-use Rattle.link_words.proofs.Parts.{hands_most, rings_in, buffers_in}
+use Rattle.link_words.proofs.Parts.{hands_most, rings_in, buffers_in, takers_room}
 
 -- the lane, with the receiver's turn written out
 abbrev pub with_receiver : {B : Type 0} {kc : Coded B} {kz : DeskTables} → RingState (PlacedDesk kc kz) → Turn Receiving → RingState (PlacedDesk kc kz)
@@ -137,8 +139,8 @@ has_receiver e (Receives i t x buffer message) = same_end e i
 has_receiver e (EndsReceive i t x buffer message) = same_end e i
 has_receiver e (Reclaims i x) = same_end e i
 has_receiver e (EndsHeld i x) = same_end e i
-has_receiver e (Reopens q inc) = true
-has_receiver e (HoldsAll x y) = true
+has_receiver e (Reopens q inc a b) = true
+has_receiver e (Gathers a b) = is_there (sides_at e a b).receiver
 
 module _ {B : Type 0} {kc : Coded B} {kz : DeskTables} (desk : DeskMeaning (PlacedDesk kc kz)) where
   pub still_receiver : (m : LaneLink (RingState (PlacedDesk kc kz))) (e : End) → AreManagers m → (lane_to m e).lane.receiver ≡ turn.Manager
@@ -165,8 +167,8 @@ module _ {B : Type 0} {kc : Coded B} {kz : DeskTables} (desk : DeskMeaning (Plac
   others_beside m side.Host s sender beside sending k after (Reclaims side.Remote x) never has = (has.0, has.1, has.2, has.3, ap (λ u. has_call u k) sender ∙ has.4)
   others_beside m side.Host s sender beside sending k after (EndsHeld side.Host x) never has = absurd (never refl has)
   others_beside m side.Host s sender beside sending k after (EndsHeld side.Remote x) never has = (has.0, has.1, has.2, has.3, has.4, ap (λ u. has_call u k) sender ∙ has.5)
-  others_beside m side.Host s sender beside sending k after (Reopens p inc) never has = absurd (never refl has)
-  others_beside m side.Host s sender beside sending k after (HoldsAll x y) never has = absurd (never refl has)
+  others_beside m side.Host s sender beside sending k after (Reopens p inc a b) never has = absurd (never refl has)
+  others_beside m side.Host s sender beside sending k after (Gathers a b) never has = (has.0, has.1, gathered_receive (turns_of m.to_host) (turns_of s) a (λ is. never is has) sender beside has.2, has.3)
   others_beside m side.Remote s sender beside sending k after Idle never has = has
   others_beside m side.Remote s sender beside sending k after (Rests side.Remote) never has = (has.0, has.1, after)
   others_beside m side.Remote s sender beside sending k after (Rests side.Host) never has = (has.0, ap (λ u. has_call u k) sender ∙ has.1, has.2)
@@ -184,8 +186,8 @@ module _ {B : Type 0} {kc : Coded B} {kz : DeskTables} (desk : DeskMeaning (Plac
   others_beside m side.Remote s sender beside sending k after (Reclaims side.Host x) never has = (has.0, has.1, has.2, has.3, ap (λ u. has_call u k) sender ∙ has.4)
   others_beside m side.Remote s sender beside sending k after (EndsHeld side.Remote x) never has = absurd (never refl has)
   others_beside m side.Remote s sender beside sending k after (EndsHeld side.Host x) never has = (has.0, has.1, has.2, has.3, has.4, ap (λ u. has_call u k) sender ∙ has.5)
-  others_beside m side.Remote s sender beside sending k after (Reopens p inc) never has = absurd (never refl has)
-  others_beside m side.Remote s sender beside sending k after (HoldsAll x y) never has = absurd (never refl has)
+  others_beside m side.Remote s sender beside sending k after (Reopens p inc a b) never has = absurd (never refl has)
+  others_beside m side.Remote s sender beside sending k after (Gathers a b) never has = (has.0, has.1, has.2, gathered_receive (turns_of m.to_remote) (turns_of s) b (λ is. never is has) sender beside has.3)
 
   -- another cannot have a receiver's turn that a caller has
   no_other_has : (m : LaneLink (RingState (PlacedDesk kc kz))) (e : End) (t : Turn Receiving) (number : ℕ) → (lane_to m e).lane.receiver ≡ t → holder t ≡ Some number → is_manager t ≡ false → (k : ℕ) → number ≢ k → (call : Call) → has_receiver e call ≡ true → IsCallOf m 0 k call → ⊥
@@ -203,8 +205,8 @@ module _ {B : Type 0} {kc : Coded B} {kz : DeskTables} (desk : DeskMeaning (Plac
   no_other_has m side.Host t number is mine bare k apart (EndsHeld side.Remote x) having has = true-false (sym having)
   no_other_has m side.Host t number is mine bare k apart (EndsBoth side.Host u x buffer y) having has = true-false (sym having)
   no_other_has m side.Host t number is mine bare k apart (EndsBoth side.Remote u x buffer y) having has = true-false (sym (ap is_manager (sym is ∙ has.3)) ∙ bare)
-  no_other_has m side.Host t number is mine bare k apart (Reopens p inc) having has = true-false (sym (ap is_manager (sym is ∙ has.2.1.host_receiver)) ∙ bare)
-  no_other_has m side.Host t number is mine bare k apart (HoldsAll x y) having has = true-false (sym (ap is_manager (sym is ∙ has.2.host_receiver)) ∙ bare)
+  no_other_has m side.Host t number is mine bare k apart (Reopens p inc a b) having has = true-false (sym (ap is_manager (sym is ∙ has.2.1.host_receiver)) ∙ bare)
+  no_other_has m side.Host t number is mine bare k apart (Gathers a b) having has = let x = there a.receiver having in true-false (sym (ap is_manager (sym is ∙ (has.2.receiver x.0 x.1).0)) ∙ bare)
   no_other_has m side.Remote t number is mine bare k apart (Receives side.Remote u x buffer msg) having has = apart (one_holder desk m.to_remote.lane.receiver number k (ap holder is ∙ mine) (ap holder has.1.0 ∙ has.1.1))
   no_other_has m side.Remote t number is mine bare k apart (Receives side.Host u x buffer msg) having has = true-false (sym having)
   no_other_has m side.Remote t number is mine bare k apart (EndsReceive side.Remote u x buffer msg) having has = apart (one_holder desk m.to_remote.lane.receiver number k (ap holder is ∙ mine) (ap holder has.1.0 ∙ has.1.1))
@@ -215,8 +217,8 @@ module _ {B : Type 0} {kc : Coded B} {kz : DeskTables} (desk : DeskMeaning (Plac
   no_other_has m side.Remote t number is mine bare k apart (EndsHeld side.Host x) having has = true-false (sym having)
   no_other_has m side.Remote t number is mine bare k apart (EndsBoth side.Remote u x buffer y) having has = true-false (sym having)
   no_other_has m side.Remote t number is mine bare k apart (EndsBoth side.Host u x buffer y) having has = true-false (sym (ap is_manager (sym is ∙ has.3)) ∙ bare)
-  no_other_has m side.Remote t number is mine bare k apart (Reopens p inc) having has = true-false (sym (ap is_manager (sym is ∙ has.2.1.remote_receiver)) ∙ bare)
-  no_other_has m side.Remote t number is mine bare k apart (HoldsAll x y) having has = true-false (sym (ap is_manager (sym is ∙ has.2.remote_receiver)) ∙ bare)
+  no_other_has m side.Remote t number is mine bare k apart (Reopens p inc a b) having has = true-false (sym (ap is_manager (sym is ∙ has.2.1.remote_receiver)) ∙ bare)
+  no_other_has m side.Remote t number is mine bare k apart (Gathers a b) having has = let x = there b.receiver having in true-false (sym (ap is_manager (sym is ∙ (has.3.receiver x.0 x.1).0)) ∙ bare)
 
   pub others_receive : (m : LaneLink (RingState (PlacedDesk kc kz))) (e : End) (s : RingState (PlacedDesk kc kz)) (t : Turn Receiving) (number : ℕ) → (lane_to m e).lane.receiver ≡ t → holder t ≡ Some number → is_manager t ≡ false
       → (s.lane.sender ≡ (lane_to m e).lane.sender) → (sender_side s ≡ sender_side (lane_to m e)) → (s.rings.sending ≡ (lane_to m e).rings.sending) → ((k : ℕ) → number ≢ k → has_call s.lane.receiver k ≡ false)
@@ -289,7 +291,7 @@ module _ {B : Type 0} {kc : Coded B} {kz : DeskTables} (cd : Coded (PlacedDesk k
       let t : Turn Receiving = turn.Taken c (record { follows = f; work = work.Take take_stage.Buffer }) in
       let s₀ = lane_to m e in let s = with_receiver s₀ t in let is : s₀ ≡ s = λ k. with_receiver s₀ (h.1.0 k) in let era = m.era in
       let sound : IsSoundRings s = subst IsSoundRings is (rings_to m e (rings_in r)) in let q : HoldsBuffers s (shelf_to r.shelves e) = subst (λ (u : RingState (PlacedDesk kc kz)). HoldsBuffers u (shelf_to r.shelves e)) is ((buffers_in r) e) in
-      let hd = length s.lane.lane.takers in let message : List ℕ = message_at s.lane.lane.accepted hd in let out = h.1.3 refl in let tk = taking_is s sound refl in let few : length x.hands < CAPACITY_MOST = subst (λ (y : ReceiverSide). length y.hands < CAPACITY_MOST) (sym h.1.2) (hands_most s sound tk.1) in
+      let hd = length s.lane.lane.takers in let message : List ℕ = message_at s.lane.lane.accepted hd in let out = h.1.3 refl in let tk = taking_is s sound refl in let few : length x.hands < CAPACITY_MOST = subst (λ (y : ReceiverSide). length y.hands < CAPACITY_MOST) (sym h.1.2) (hands_most s sound tk.1) in let sure : x.handed < x.room = subst (λ (y : ReceiverSide). y.handed < y.room) (sym h.1.2) (takers_room s sound tk.1) in
       let low : s.rings.taking < s.rings.sizes.capacity = subst (λ (k : ℕ). k < s.rings.sizes.capacity) (sym tk.0)
       (message-below s.rings.sizes (length s.lane.lane.accepted) hd s.lane.lane.returned s.rings.forward s.rings.returns s.rings.hands s.rings.aside sound.owned hd (le_refl hd) tk.1) in
       let is_b : s.rings.taking ≡ b = out.0 in let near : b < length (shelf_to r.shelves e) = omega (arith, low, q.long, is_b) in
@@ -304,10 +306,10 @@ module _ {B : Type 0} {kc : Coded B} {kz : DeskTables} (cd : Coded (PlacedDesk k
       let hb = lane_homes (lane_to m (other e)) (shelf_to r.shelves (other e)) in let l' = set (shelf_to r.shelves e) b (some (Buffer msg)) in let s' = leaves true in
       let verdict : Verdict = desk.verdict s.lane.desk x.handed msg in let left : PlacedDesk kc kz = desk.delivered s.lane.desk x.handed msg in let nth : x.handed ≡ hd = ap (λ (y : ReceiverSide). y.handed) h.1.2 in
       let t' : Turn Receiving = turn.Leaving c (end.Took x.handed verdict) in
-      let x' : ReceiverSide = record x { handed = x.handed + 1; hands = x.hands ++ record { number = x.handed; caller = c; buffer = b } ∷ []; desk = right_to left } in
+      let x' : ReceiverSide = record x { handed = x.handed + 1; takers = x.takers ++ c ∷ []; hands = x.hands ++ record { number = x.handed; caller = c; buffer = b } ∷ []; desk = right_to left } in
       let more : length (s.lane.lane.takers ++ c ∷ []) ≡ hd + 1 = length-append s.lane.lane.takers (c ∷ []) in
-      let side : x' ≡ receiver_side s' = ap (λ (y : ReceiverSide). record y { handed = y.handed + 1; hands = y.hands ++ record { number = y.handed; caller = c; buffer = b } ∷ []; desk = right_to left }) h.1.2
-      ∙ (λ i. record { handed = sym more i; returned = s.lane.lane.returned; hands = s.rings.hands ++ record { number = hd; caller = c; buffer = sym is_b i } ∷ []; desk = right_to (desk.delivered s.lane.desk (nth i) (out.1 i)) }) in
+      let side : x' ≡ receiver_side s' = ap (λ (y : ReceiverSide). record y { handed = y.handed + 1; takers = y.takers ++ c ∷ []; hands = y.hands ++ record { number = y.handed; caller = c; buffer = b } ∷ []; desk = right_to left }) h.1.2
+      ∙ (λ i. record { handed = sym more i; takers = s.lane.lane.takers ++ c ∷ []; room = s.lane.lane.book; returned = s.lane.lane.returned; hands = s.rings.hands ++ record { number = hd; caller = c; buffer = sym is_b i } ∷ []; desk = right_to (desk.delivered s.lane.desk (nth i) (out.1 i)) }) in
       let w : Call = Receives e t' x' b msg in let more_hands : List ℕ = o.pass.hands ++ x.handed ∷ [] in let pass : Pass = record o.pass { call = w; own = Take e f x.handed msg ∷ o.pass.own; hands = more_hands } in let new : Holding = record { number = hd; caller = c } in let who : c ≡ o.pass.number = some_number c o.pass.number h.1.1 in
       let held_now : hands_of o.pass.number s.lane.lane.held ≡ o.pass.hands = hands_at m e o.pass h.0 (r.histories.hands id o.place o.pass (me.0, at, o.here)) in
       let mine : IsCallOf (with_lane m e s') 0 o.pass.number w = here_receives desk m e s' o.pass.number t' x' b msg h.0 ((λ i. turn.Leaving c (end.Took (sym nth i) (desk.verdict s.lane.desk (sym nth i) (sym out.1 i)))), h.1.1, side, (λ o. absurd (true-false (sym o))), refl) tt in (
@@ -328,7 +330,7 @@ module _ {B : Type 0} {kc : Coded B} {kz : DeskTables} (cd : Coded (PlacedDesk k
             (λ n none. none_handed m e s' c refl refl n (λ same. not_used m.callers o.pass.number n e h.0 none (sym who ∙ same)))
             (keepers_set st.views id me.0 (with_pass me.0 o pass (Some (copied cd (with_lane m e s')))) o pass at refl refl (λ i k. absurd (true-false (sym k))) r.turns.keepers),
         (
-          (m.era, word, r.numbers.short, few, s.lane.desk, ap (λ (y : ReceiverSide). y.desk) h.1.2, (λ _. refl), λ dead. absurd (true-false (sym is_live ∙ dead))),
+          (m.era, word, r.numbers.short, few, sure, s.lane.desk, ap (λ (y : ReceiverSide). y.desk) h.1.2, (λ _. refl), λ dead. absurd (true-false (sym is_live ∙ dead))),
           read_by 1 cd desk z st m r id me o pass (Steps o.pass.number 0 None) (with_lane m e s') (rest me.1) at may deed mine,
         ),
       )
@@ -341,7 +343,7 @@ module _ {B : Type 0} {kc : Coded B} {kz : DeskTables} (cd : Coded (PlacedDesk k
       let t : Turn Receiving = turn.Taken c (record { follows = f; work = work.Take take_stage.Buffer }) in
       let s₀ = lane_to m e in let s = with_receiver s₀ t in let is : s₀ ≡ s = λ k. with_receiver s₀ (h.1.0 k) in let era = m.era in
       let sound : IsSoundRings s = subst IsSoundRings is (rings_to m e (rings_in r)) in let q : HoldsBuffers s (shelf_to r.shelves e) = subst (λ (u : RingState (PlacedDesk kc kz)). HoldsBuffers u (shelf_to r.shelves e)) is ((buffers_in r) e) in
-      let hd = length s.lane.lane.takers in let message : List ℕ = message_at s.lane.lane.accepted hd in let out = h.1.3 refl in let tk = taking_is s sound refl in let few : length x.hands < CAPACITY_MOST = subst (λ (y : ReceiverSide). length y.hands < CAPACITY_MOST) (sym h.1.2) (hands_most s sound tk.1) in
+      let hd = length s.lane.lane.takers in let message : List ℕ = message_at s.lane.lane.accepted hd in let out = h.1.3 refl in let tk = taking_is s sound refl in let few : length x.hands < CAPACITY_MOST = subst (λ (y : ReceiverSide). length y.hands < CAPACITY_MOST) (sym h.1.2) (hands_most s sound tk.1) in let sure : x.handed < x.room = subst (λ (y : ReceiverSide). y.handed < y.room) (sym h.1.2) (takers_room s sound tk.1) in
       let low : s.rings.taking < s.rings.sizes.capacity = subst (λ (k : ℕ). k < s.rings.sizes.capacity) (sym tk.0)
       (message-below s.rings.sizes (length s.lane.lane.accepted) hd s.lane.lane.returned s.rings.forward s.rings.returns s.rings.hands s.rings.aside sound.owned hd (le_refl hd) tk.1) in
       let is_b : s.rings.taking ≡ b = out.0 in let near : b < length (shelf_to r.shelves e) = omega (arith, low, q.long, is_b) in
@@ -366,7 +368,7 @@ module _ {B : Type 0} {kc : Coded B} {kz : DeskTables} (cd : Coded (PlacedDesk k
             mine
             (others_receive desk m e s' t o.pass.number h.1.0 h.1.1 refl refl refl refl (λ k apart. no_call desk t' o.pass.number k h.1.1 apart)) refl refl refl refl (λ i k. absurd (true-false (sym k))),
         (
-          (m.era, word, r.numbers.short, few, s.lane.desk, ap (λ (y : ReceiverSide). y.desk) h.1.2, (λ live. absurd (true-false (sym live ∙ is_live))), λ _. refl),
+          (m.era, word, r.numbers.short, few, sure, s.lane.desk, ap (λ (y : ReceiverSide). y.desk) h.1.2, (λ live. absurd (true-false (sym live ∙ is_live))), λ _. refl),
           read_by 1 cd desk z st m r id me o (with_call o.pass w) (Steps o.pass.number 0 None) (with_lane m e s') (rest me.1) at may deed mine,
         ),
       )

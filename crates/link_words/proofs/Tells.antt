@@ -9,7 +9,7 @@ use Rattle.lane_model.specs.Receives.{after_take_era}
 use Rattle.std.specs.Prelude.{◌≡◌, true, false, ℕ, ◌+◌, List, [], ◌∷◌, ◌++◌}
 use Rattle.atomic_table.specs.Table.{rest}
 use Rattle.link_words.specs.Calls.{SeatState}
-use Rattle.link_words.specs.Steps.{look_turn, take_look_turn, hands_but}
+use Rattle.link_words.specs.Steps.{accepted_side, look_turn, take_look_turn, hands_but}
 use Rattle.rp_base.specs.declared.kinds.Era.{Era}
 use Rattle.rp_base.specs.declared.kinds.End.{End}
 use Rattle.lane_model.specs.declared.stages.Turn.TheVariants as turn
@@ -34,6 +34,9 @@ use Rattle.link_words.specs.declared.rule.Call.{Call}
 use Rattle.link_words.specs.declared.rule.Call.TheVariants.{Sends, Rests, Receives, Reopens}
 use Rattle.link_words.specs.declared.rule.Counted.TheVariants.{Room, Waiting, Gave}
 use Rattle.link_words.specs.declared.rule.Event.TheVariants.{Count, Publish, Take}
+use Rattle.link_words.specs.declared.rule.LaneSides.{LaneSides}
+use Rattle.link_words.specs.Reopens.{AreBooksOf, books_by}
+use Rattle.link_words.specs.Sides.{sides_at}
 use Rattle.link_words.specs.Histories.{NeverBack, latest}
 use Rattle.ring_core.specs.RingSteps.{hands_without}
 use Rattle.link_words.specs.Passes.{Mover, with_call, with_call_and_hands, with_pass}
@@ -53,8 +56,8 @@ SendTakesBufferBy me o first e c s x id me' = (y : Slot) × (me' ≡ (with_pass 
 
 -- step 6 of a send: the message is in the book, and the buffer at home
 abbrev pub SendPublishesBy : (me : SeatState) → Mover me.0 → End → ℕ → ℕ → List ℕ → SenderSide → ℕ → SeatState → Type 0
-SendPublishesBy me o e c f message x b me' =
-    me' ≡ (with_pass me.0 o (record o.pass { call = Sends e (turn.Leaving c (end.Sent x.accepted)) (record { accepted = x.accepted + 1 }) b; own = Publish e f x.accepted message ∷ o.pass.own }) me'.0.copy, rest me.1)
+SendPublishesBy me o e c f message x b me' = (x.accepted < x.room)
+    × (me' ≡ (with_pass me.0 o (record o.pass { call = Sends e (turn.Leaving c (end.Sent x.accepted)) (accepted_side x c message) b; own = Publish e f x.accepted message ∷ o.pass.own }) me'.0.copy, rest me.1))
 
 -- the turn is free, what was out is at home, and these slots are still out
 abbrev pub SendLeavesBy : (me : SeatState) → Mover me.0 → End → List (ℕ × Slot) → SeatState → Type 0
@@ -77,8 +80,10 @@ abbrev pub LeavesEmpty : (me : SeatState) → Mover me.0 → Call → List (ℕ 
 LeavesEmpty me o call left me' = me' ≡ (with_pass me.0 o (with_call_and_hands o.pass call []) me'.0.copy, left)
 
 -- the manager, which has the four turns and holds nothing, loads the era: a reopening begins where it is closed
-abbrev pub BeginsReopening : (me : SeatState) → Mover me.0 → ℕ → SeatState → Type 0
-BeginsReopening me o n me' = (era : Era) × (n ≡ era_word era) × (era.is_live ≡ false → me' ≡ (with_pass me.0 o (with_call o.pass (Reopens 0 era.inc)) me'.0.copy, me.1)) × (era.is_live ≡ true → me' ≡ me)
+abbrev pub BeginsReopeningBy : (me : SeatState) → Mover me.0 → LaneSides → LaneSides → ℕ → SeatState → Type 0
+BeginsReopeningBy me o a b n me' = (era : Era) × (n ≡ era_word era) × (era.inc ≡ me.0.inc) × (era.inc < 4294967296) × (me.0.is_closed ≡ true → era.is_live ≡ false)
+    × (era.is_live ≡ false → (me' ≡ (with_pass me.0 o (with_call o.pass (Reopens 0 era.inc a b)) me'.0.copy, me.1)) × AreBooksOf me.0 (λ e. books_by (sides_at e a b)))
+    × (era.is_live ≡ true → me' ≡ me)
 
 -- step 4 of a take: the buffer is out, with its message
 abbrev pub TakeTakesBufferBy : (me : SeatState) → Mover me.0 → ℕ → End → ℕ → ℕ → ReceiverSide → ℕ → SeatState → Type 0
@@ -87,11 +92,11 @@ TakeTakesBufferBy me o first e c f x id me' = (message : List ℕ)
 
 -- step 5 of a take: the era that was found decides; the buffer's slot is at home either way
 abbrev pub TakeHandsBy : {B : Type 0} {kc : Coded B} {kz : DeskTables} → DeskMeaning (PlacedDesk kc kz) → (me : SeatState) → Mover me.0 → End → ℕ → ℕ → ReceiverSide → ℕ → List ℕ → ℕ → SeatState → Type 0
-TakeHandsBy {kc = kc} {kz = kz} desk me o e c f x b message n me' = (era : Era) × (n ≡ era_word era) × (era.inc < 4294967296) × (length x.hands < CAPACITY_MOST) × (at : PlacedDesk kc kz) × (x.desk ≡ right_to at)
+TakeHandsBy {kc = kc} {kz = kz} desk me o e c f x b message n me' = (era : Era) × (n ≡ era_word era) × (era.inc < 4294967296) × (length x.hands < CAPACITY_MOST) × (x.handed < x.room) × (at : PlacedDesk kc kz) × (x.desk ≡ right_to at)
     × (is_live_in era f ≡ true → me' ≡ (
       with_pass me.0 o (record o.pass {
         call = Receives e (turn.Leaving c (end.Took x.handed (desk.verdict at x.handed message)))
-            (record x { handed = x.handed + 1; hands = x.hands ++ record { number = x.handed; caller = c; buffer = b } ∷ []; desk = right_to (desk.delivered at x.handed message) }) b message;
+            (record x { handed = x.handed + 1; takers = x.takers ++ c ∷ []; hands = x.hands ++ record { number = x.handed; caller = c; buffer = b } ∷ []; desk = right_to (desk.delivered at x.handed message) }) b message;
         own = Take e f x.handed message ∷ o.pass.own;
         hands = o.pass.hands ++ x.handed ∷ [];
       }) me'.0.copy,

@@ -49,7 +49,7 @@ use Rattle.link_words.specs.Layouts.{place_in}
 use Rattle.link_words.specs.Parts.{AreNear}
 use Rattle.link_words.specs.Passes.{Mover, with_call, with_pass}
 use Rattle.link_words.specs.Rule.{WordsRule, PlacedRule, LinkRule}
-use Rattle.link_words.specs.Steps.{GoesOn, desk_by, hands_by, handed_side, with_binding, desk_says, desk_after, GoesOnWith, SendLoadsEra, SendLooks, SendTakesBuffer, SendStoresEntry, SendPublishes, LeavesSender, TakeLoadsEra, TakeLooks, TakeTakesBuffer, TakeHands, LeavesReceiver, look_turn, take_look_turn, sizes_by, accepted_by, handed_by, with_publish, with_handing, GiveStoresEntry, GivePublishes, with_room, with_waiting, BindLoadsEra, with_entry, with_given, given_or, hands_but, StoresWord, HasWord}
+use Rattle.link_words.specs.Steps.{accepted_side, room_by, taker_room_by, GoesOn, desk_by, hands_by, handed_side, with_binding, desk_says, desk_after, GoesOnWith, SendLoadsEra, SendLooks, SendTakesBuffer, SendStoresEntry, SendPublishes, LeavesSender, TakeLoadsEra, TakeLooks, TakeTakesBuffer, TakeHands, LeavesReceiver, look_turn, take_look_turn, sizes_by, accepted_by, handed_by, with_publish, with_handing, GiveStoresEntry, GivePublishes, with_room, with_waiting, BindLoadsEra, with_entry, with_given, given_or, hands_but, StoresWord, HasWord}
 use Rattle.link_words.specs.Words.{other, sizes_at, entries_before, entry_number, sender_word, receiver_word, forward_word, return_word, buffer_slot}
 use Rattle.link_words.proofs.Apart.{apart}
 use Rattle.link_words.proofs.Buffers.{pulls_own}
@@ -125,6 +125,9 @@ work_here me e w s = sym (call_is me s.mover (place_of me) s.here) ∙ s.call
 
 pub send_accepted : (me : SeatState) (e : End) (q : _) (s : SendAt me e q) → accepted_by me ≡ s.side.accepted
 send_accepted me e q s = ap (λ (k : Call). send_or 0 (λ e t x b. x.accepted) k) (send_here me e q s)
+
+pub send_room : (me : SeatState) (e : End) (q : _) (s : SendAt me e q) → room_by me ≡ s.side.room
+send_room me e q s = ap (λ (k : Call). send_or 0 (λ e t x b. x.room) k) (send_here me e q s)
 
 pub work_handed : (me : SeatState) (e : End) (w : _) (s : WorkAt me e w) → handed_by me ≡ s.side.handed
 work_handed me e w s = ap (λ (k : Call). receive_or 0 (λ e t x b message. x.handed) k) (work_here me e w s)
@@ -232,13 +235,16 @@ module _ {B : Type 0} {kc : Coded B} {kz : DeskTables} (cd : Coded (PlacedDesk k
       → Allows (PlacedRule cd desk z) n id me place (λ _. new) (λ _ me'. SendPublishes me me' × GoesOnWith cd desk (StoresWord place new) me me')
   send_publishes s count place new is at new_is sized slots =
       let F : Pass → Call → Pass = λ p k. send_or p (λ e t x b. under_way_or p (λ caller q. record p {
-        call = Sends e (turn.Leaving caller (end.Sent x.accepted)) (record { accepted = x.accepted + 1 }) b;
+        call = Sends e (turn.Leaving caller (end.Sent x.accepted)) (accepted_side x caller q.message) b;
         own = Publish e q.follows x.accepted q.message ∷ p.own;
       }) t) k in
       stored_plain (forward_word e) place new s.mover s.here (λ _. SendPublishesBy me s.mover e s.caller s.follows s.message s.side s.buffer) (λ _ me'. SendPublishes me me') is
       (publishes cd desk z n id me s.mover e s.caller s.follows s.message s.side s.buffer z.to_host.capacity new s.call refl
       (slots ∙ ap (λ (w : LinkSizes). (buffer_slot w.to_host.capacity e s.buffer, Buffer s.message) ∷ rest me.1) sized) (new_is ∙ ap (λ (k : ℕ). k % 65536) (sym at)))
-      (λ y me' t₀. becomes me s.mover (place_of me) s.here with_publish _ (rest me.1) me' (ap (F s.mover.pass) (sym s.call)) t₀)
+      (λ y me' t₀. (
+        subst (λ (v : ℕ × ℕ). v.0 < v.1) (λ i. (sym (send_accepted me e stage.Entry s) i, sym (send_room me e stage.Entry s) i)) t₀.0,
+        becomes me s.mover (place_of me) s.here with_publish _ (rest me.1) me' (ap (F s.mover.pass) (sym s.call)) t₀.1,
+      ))
 
   pub leaves_sender : (s : SendEnds me e) (place : ℕ) → place ≡ place_in (sender_word e) → Allows (PlacedRule cd desk z) n id me place (λ _. 0) (λ _ me'. LeavesSender me me' × GoesOnWith cd desk (StoresWord place 0) me me')
   leaves_sender s place is =
@@ -310,6 +316,10 @@ module _ {B : Type 0} (kc : Coded B) (kz : DeskTables) (cd : Coded (PlacedDesk k
   hands_here : (w : Work) (s : WorkAt me e w) → hands_by me ≡ s.side.hands
   hands_here w s = ap (λ (k : Call). receive_or [] (λ e t x b message. x.hands) k) (work_here me e w s)
 
+  taker_room : (w : Work) (s : WorkAt me e w) → (s.side.handed < s.side.room) → handed_by me < taker_room_by me
+  taker_room w s = subst (λ (v : ℕ × ℕ). v.0 < v.1)
+      (λ i. (sym (work_handed me e w s) i, sym (ap (λ (k : Call). receive_or 0 (λ e t x b message. x.room) k) (work_here me e w s)) i))
+
   right_is : (w : Work) (s : WorkAt me e w) (at : PlacedDesk kc kz) → s.side.desk ≡ right_to at → IsRightTo kc kz (desk_by me) at.desk
   right_is w s at is = let all = desk_here w s ∙ is in record {
     table = ap (λ (r : DeskRight). r.table) all ∙ ap (λ (r : DeskRight). table_at kz r.end) (sym all);
@@ -318,7 +328,7 @@ module _ {B : Type 0} (kc : Coded B) (kz : DeskTables) (cd : Coded (PlacedDesk k
 
   abbrev handed_to : (live : Bool) (c : ℕ) (x : ReceiverSide) (b : ℕ) (message : List ℕ) (era : Era) (follows : ℕ) (desk : B) (right : DeskRight) (p : Pass) → Pass
   handed_to live c x b message era follows desk right p = cond live (record p {
-    call = Receives e (turn.Leaving c (end.Took x.handed (meaning.verdict desk x.handed message))) (record x { handed = x.handed + 1; hands = x.hands ++ record { number = x.handed; caller = c; buffer = b } ∷ []; desk = right }) b message;
+    call = Receives e (turn.Leaving c (end.Took x.handed (meaning.verdict desk x.handed message))) (record x { handed = x.handed + 1; takers = x.takers ++ c ∷ []; hands = x.hands ++ record { number = x.handed; caller = c; buffer = b } ∷ []; desk = right }) b message;
     own = Take e follows x.handed message ∷ p.own;
     hands = p.hands ++ x.handed ∷ [];
   }) (with_call p (Receives e (turn.Leaving c (end.Dead era)) x b message))
@@ -335,19 +345,19 @@ module _ {B : Type 0} (kc : Coded B) (kz : DeskTables) (cd : Coded (PlacedDesk k
       (λ y me' t₀. hands_told s y me' t₀)
     where
       hands_told : (s : WorkAt me e (work.Take take_stage.Buffer)) (y : ℕ) (me' : SeatState) (t : TakeHandsBy (placed_meaning kc kz meaning) me s.mover e s.caller s.follows s.side s.buffer s.message y me') → TakeHands kc meaning kz me y (noted_seat (made.Era t.0) (place_of me) me')
-      hands_told s y me' t₀ = (t₀.0, t₀.1, t₀.2, subst (λ (l : List Hand). length l < CAPACITY_MOST) (sym (hands_here (work.Take take_stage.Buffer) s)) t₀.3, t₀.4.desk, right_is (work.Take take_stage.Buffer) s t₀.4 t₀.5, go (is_live_in t₀.0 s.follows) refl)
+      hands_told s y me' t₀ = (t₀.0, t₀.1, t₀.2, subst (λ (l : List Hand). length l < CAPACITY_MOST) (sym (hands_here (work.Take take_stage.Buffer) s)) t₀.3, taker_room (work.Take take_stage.Buffer) s t₀.4, t₀.5.desk, right_is (work.Take take_stage.Buffer) s t₀.5 t₀.6, go (is_live_in t₀.0 s.follows) refl)
         where
           desk : B
-          desk = t₀.4.desk
+          desk = t₀.5.desk
 
           go : (live : Bool) → is_live_in t₀.0 s.follows ≡ live → Notes (made.Era t₀.0) (with_handing kc meaning t₀.0 desk) (place_of me) (rest me.1) me (noted_seat (made.Era t₀.0) (place_of me) me')
           go true live = becomes_with (made.Era t₀.0) me s.mover (place_of me) s.here (with_handing kc meaning t₀.0 desk) _ (rest me.1) me'
-              (ap (λ (r : DeskRight). handed_to true s.caller s.side s.buffer s.message t₀.0 s.follows desk (right_after (meaning.delivered desk s.side.handed s.message) r) s.mover.pass) (sym t₀.5)
+              (ap (λ (r : DeskRight). handed_to true s.caller s.side s.buffer s.message t₀.0 s.follows desk (right_after (meaning.delivered desk s.side.handed s.message) r) s.mover.pass) (sym t₀.6)
               ∙ (ap (λ (b : Bool). handed_to b s.caller s.side s.buffer s.message t₀.0 s.follows desk (right_after (meaning.delivered desk s.side.handed s.message) s.side.desk) s.mover.pass) (sym live)
-              ∙ ap (with_handing_of kc meaning t₀.0 desk s.mover.pass) (sym s.call))) (t₀.6 live)
+              ∙ ap (with_handing_of kc meaning t₀.0 desk s.mover.pass) (sym s.call))) (t₀.7 live)
           go false dead = becomes_with (made.Era t₀.0) me s.mover (place_of me) s.here (with_handing kc meaning t₀.0 desk) _ (rest me.1) me'
               (ap (λ (b : Bool). handed_to b s.caller s.side s.buffer s.message t₀.0 s.follows desk (right_after (meaning.delivered desk s.side.handed s.message) s.side.desk) s.mover.pass) (sym dead)
-              ∙ ap (with_handing_of kc meaning t₀.0 desk s.mover.pass) (sym s.call)) (t₀.7 dead)
+              ∙ ap (with_handing_of kc meaning t₀.0 desk s.mover.pass) (sym s.call)) (t₀.8 dead)
 
   bind_told : (w : Work) (s : WorkAt me e w) (y : ℕ) (me' : SeatState)
       (t : BindLoadsEraBy {kc = kc} {kz = kz} (λ p handed. record p { desk = desk_after meaning p.desk handed w }) (λ p handed. desk_says meaning p.desk handed w) me s.mover e s.caller s.follows s.side s.buffer s.message y me')

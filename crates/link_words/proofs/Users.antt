@@ -18,7 +18,7 @@ use Rattle.lane_model.specs.Links.{end_of, free_number}
 use Rattle.lane_model.specs.Soundness.{IsSoundTurn, AreUsers}
 use Rattle.ring_core.specs.declared.states.RingState.{RingState}
 use Rattle.link_words.specs.declared.rule.Call.{Call}
-use Rattle.link_words.specs.declared.rule.Call.TheVariants.{Idle, Sends, Rests, Reclaims, EndsHeld, Receives, EndsReceive, EndsSend, EndsBoth, Reopens, HoldsAll}
+use Rattle.link_words.specs.declared.rule.Call.TheVariants.{Idle, Sends, Rests, Reclaims, EndsHeld, Receives, EndsReceive, EndsSend, EndsBoth, Reopens, Gathers}
 use Rattle.link_words.specs.declared.rule.Pass.{Pass}
 use Rattle.link_words.specs.Words.{lane_to}
 use Rattle.link_words.specs.Deeds.{AreManagers, HoldsNothing}
@@ -85,8 +85,8 @@ call_with m cs p k (Reclaims side.Host x) same has = (same ∙ has.0, has.1, has
 call_with m cs p k (Reclaims side.Remote x) same has = (same ∙ has.0, has.1, has.2, has.3, has.4)
 call_with m cs p k (EndsHeld side.Host x) same has = (same ∙ has.0, has.1, has.2, has.3, has.4, has.5)
 call_with m cs p k (EndsHeld side.Remote x) same has = (same ∙ has.0, has.1, has.2, has.3, has.4, has.5)
-call_with m cs p k (Reopens q inc) same has = (has.0, has.1, (has.2.0, managers_with m cs has.2.1), has.3, has.4)
-call_with m cs p k (HoldsAll x y) same has = (has.0, has.1, managers_with m cs has.2, has.3, has.4)
+call_with m cs p k (Reopens q inc a b) same has = (has.0, has.1, (has.2.0, managers_with m cs has.2.1), has.3, has.4, has.5, has.6)
+call_with m cs p k (Gathers a b) same has = has
 
 pub history_with : {B : Type 0} {kc : Coded B} {kz : DeskTables} (m : LaneLink (RingState (PlacedDesk kc kz))) (cs : List (Option End)) (q : Pass) → HistoryOf m q → HistoryOf (record m { callers = cs }) q
 history_with m cs q has = record { sent = λ i. go i; taken = λ i. took i; read = λ i. red i; none_later = has.none_later; counts = λ i. saw i }
@@ -134,8 +134,8 @@ in_use m p k (Receives e t x b msg) has = inr (e, has.0)
 in_use m p k (EndsReceive e t x b msg) has = inr (e, has.0)
 in_use m p k (Reclaims e x) has = inr (e, has.0)
 in_use m p k (EndsHeld e x) has = inr (e, has.0)
-in_use m p k (Reopens q inc) has = inl has.0
-in_use m p k (HoldsAll x y) has = inl has.0
+in_use m p k (Reopens q inc a b) has = inl has.0
+in_use m p k (Gathers a b) has = inl has.0
 
 -- a number in use is one of those there are
 pub in_range : (callers : List (Option End)) (n : ℕ) (e : End) → end_of callers n ≡ Some e → n < length callers

@@ -14,7 +14,7 @@ use Rattle.link_words.specs.declared.rule.Slot.TheVariants.{Sender, Receiver}
 use Rattle.link_words.specs.declared.rule.SenderSide.{SenderSide}
 use Rattle.link_words.specs.declared.rule.ReceiverSide.{ReceiverSide}
 use Rattle.link_words.specs.declared.rule.Call.{Call}
-use Rattle.link_words.specs.declared.rule.Call.TheVariants.{Idle, Sends, Rests, Reclaims, EndsHeld, Receives, EndsReceive, EndsSend, EndsBoth, Reopens, HoldsAll}
+use Rattle.link_words.specs.declared.rule.Call.TheVariants.{Idle, Sends, Rests, Reclaims, EndsHeld, Receives, EndsReceive, EndsSend, EndsBoth, Reopens, Gathers}
 use Rattle.link_words.specs.declared.rule.Pass.{Pass}
 use Rattle.link_words.specs.declared.rule.Made.{Made}
 use Rattle.link_words.specs.declared.rule.Event.{Event}
@@ -22,6 +22,7 @@ use Rattle.link_words.specs.declared.rule.Event.TheVariants.{Step}
 use Rattle.link_words.specs.declared.rule.View.{View}
 use Rattle.link_words.specs.Passes.{Mover, with_call, place_of_number}
 use Rattle.link_words.specs.Words.{other, sender_slot, receiver_slot}
+use Rattle.link_words.specs.Sides.{has_slot}
 
 -- what a seat knows and which slots are out with it, each with its value, the last one first
 abbrev pub SeatState : Type 0
@@ -38,8 +39,8 @@ send_or otherwise f (Receives e t x b message) = otherwise
 send_or otherwise f (EndsReceive e t x b message) = otherwise
 send_or otherwise f (Reclaims e x) = otherwise
 send_or otherwise f (EndsHeld e x) = otherwise
-send_or otherwise f (Reopens p inc) = otherwise
-send_or otherwise f (HoldsAll x y) = otherwise
+send_or otherwise f (Reopens p inc a b) = otherwise
+send_or otherwise f (Gathers a b) = otherwise
 
 -- of a call with the receiver's turn, by the same and the message of the buffer that is out; else something else
 abbrev pub receive_or : {A : Type 0} → A → (End → Turn Receiving → ReceiverSide → ℕ → List ℕ → A) → Call → A
@@ -52,8 +53,8 @@ receive_or otherwise f (Receives e t x b message) = f e t x b message
 receive_or otherwise f (EndsReceive e t x b message) = otherwise
 receive_or otherwise f (Reclaims e x) = otherwise
 receive_or otherwise f (EndsHeld e x) = otherwise
-receive_or otherwise f (Reopens p inc) = otherwise
-receive_or otherwise f (HoldsAll x y) = otherwise
+receive_or otherwise f (Reopens p inc a b) = otherwise
+receive_or otherwise f (Gathers a b) = otherwise
 
 -- of a turn with a call under way; else something else
 abbrev pub under_way_or : {A C : Type 0} → A → (ℕ → C → A) → Turn C → A
@@ -94,8 +95,8 @@ has_side slot (Receives e t x b message) = receiver_slot e == slot
 has_side slot (EndsReceive e t x b message) = receiver_slot e == slot
 has_side slot (Reclaims e x) = receiver_slot e == slot
 has_side slot (EndsHeld e x) = receiver_slot e == slot
-has_side slot (Reopens p inc) = true
-has_side slot (HoldsAll x y) = true
+has_side slot (Reopens p inc a b) = has_slot slot a b
+has_side slot (Gathers a b) = has_slot slot a b
 
 abbrev pub place_with : ℕ → List Pass → ℕ
 place_with slot [] = 0

@@ -10,6 +10,7 @@ use Rattle.lane_model.specs.Links.{Lanes, lanes_of, with_lanes, end_of, form_ste
 use Rattle.lane_model.specs.Conditions.{MayStep}
 use Rattle.lane_model.specs.Recoveries.{link_after_close, link_after_reopen}
 use Rattle.lane_laws.specs.Parts.{with_manager, without_manager, turn_left_without, MayPart}
+use Rattle.lane_model.specs.declared.recoveries.LaneTurn.{LaneTurn}
 use Rattle.lane_model.specs.declared.recoveries.LaneTurn.TheVariants as lane_turn
 use Rattle.lane_model.specs.declared.recoveries.ReclaimPart.TheVariants as part
 use Rattle.link_words.specs.Words.{lane_to, with_lane}
@@ -34,6 +35,9 @@ pub data Deed : Type 0 where
   LeavesTurn : End → ℕ → Deed
   -- the manager leaves this receiver's turn, and nothing else changes
   ReleasesReceiver : End → Deed
+  -- the manager takes this turn of the lane to this end, where it is free, or leaves it, and nothing else changes
+  ManagerTakes : LaneTurn → End → Deed
+  ManagerLeaves : LaneTurn → End → Deed
   -- a caller is made on this end, or the number of this caller of this end is free
   Enlists : End → Deed
   Frees : End → ℕ → Deed
@@ -79,6 +83,8 @@ module _ {D : Type 0} (desk : DeskMeaning D) where
   after_deed m Opens = link_after_opening m
   after_deed m (TakesReceiver e) = with_lane m e (record (lane_to m e) { lane = with_manager (lane_to m e).lane lane_turn.Receiver })
   after_deed m (ReleasesReceiver e) = with_lane m e (record (lane_to m e) { lane = without_manager (lane_to m e).lane lane_turn.Receiver })
+  after_deed m (ManagerTakes which e) = with_lane m e (record (lane_to m e) { lane = with_manager (lane_to m e).lane which })
+  after_deed m (ManagerLeaves which e) = with_lane m e (record (lane_to m e) { lane = without_manager (lane_to m e).lane which })
   after_deed m (LeavesTurn e caller) = with_lane m e (after_leave_without (lane_to m e) caller)
   after_deed m (Enlists e) = record m { callers = with_caller m.callers e (free_number m.callers) }
   after_deed m (Frees e caller) = record m { callers = slice_set m.callers caller None }
@@ -92,6 +98,8 @@ module _ {D : Type 0} (desk : DeskMeaning D) where
   MayDo m Opens = IsStill m × HoldsNothing m
   MayDo m (TakesReceiver e) = Unit {0}
   MayDo m (ReleasesReceiver e) = (lane_to m e).lane.receiver ≡ turn.Manager
+  MayDo m (ManagerTakes which e) = Unit {0}
+  MayDo m (ManagerLeaves which e) = Unit {0}
   MayDo m (LeavesTurn e caller) = (m.era.is_live ≡ false) × (end_of m.callers caller ≡ Some e) × ((lane_to m e).lane.receiver ≡ turn.Manager)
   MayDo m (Enlists e) = Unit {0}
   MayDo m (Frees e caller) = (m.era.is_live ≡ false) × (end_of m.callers caller ≡ Some e) × MayPart (lanes_of (link_of (ring_form desk) m) e) caller part.FreesNumber

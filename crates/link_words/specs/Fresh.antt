@@ -24,14 +24,14 @@ fresh_of z = reset_block (fresh_lane z.to_host) (fresh_lane z.to_remote)
 abbrev pub sizes_for : LinkConfig → DeskTables → LinkSizes
 sizes_for config desks = record { to_host = sizes_of config.num0 true; to_remote = sizes_of config.num1 false; book = config.book; first = config.first; desks = desks }
 
--- the side states of a new lane count nothing, and the receiver's has the right to a desk
-abbrev pub opened_sender : SenderSide
-opened_sender = record { accepted = 0 }
+-- the side states of a new lane count nothing and have room for so many messages, and the receiver's has the right to a desk
+abbrev pub opened_sender : ℕ → SenderSide
+opened_sender book = record { accepted = 0; entries = []; room = book }
 
-abbrev pub opened_receiver : DeskRight → ReceiverSide
-opened_receiver right = record { handed = 0; returned = 0; hands = []; desk = right }
+abbrev pub opened_receiver : ℕ → DeskRight → ReceiverSide
+opened_receiver book right = record { handed = 0; takers = []; room = book; returned = 0; hands = []; desk = right }
 
--- the slots of a new link, with the right to the desk of each end, and something in the buffers
-abbrev pub opened_slots : DeskRight → DeskRight → List (List ℕ) → List (List ℕ) → List Slot
-opened_slots host remote to_host to_remote = Sender opened_sender ∷ Receiver (opened_receiver host)
-    ∷ Sender opened_sender ∷ Receiver (opened_receiver remote) ∷ (map Buffer to_host ++ map Buffer to_remote)
+-- the slots of a new link whose books have so much room, with the right to the desk of each end, and something in the buffers
+abbrev pub opened_slots : ℕ → DeskRight → DeskRight → List (List ℕ) → List (List ℕ) → List Slot
+opened_slots book host remote to_host to_remote = Sender (opened_sender book) ∷ Receiver (opened_receiver book host)
+    ∷ Sender (opened_sender book) ∷ Receiver (opened_receiver book remote) ∷ (map Buffer to_host ++ map Buffer to_remote)

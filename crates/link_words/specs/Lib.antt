@@ -3,6 +3,7 @@ pub mod DeskSeats
 pub mod PlacedDesks
 pub mod Words
 pub mod Layouts
+pub mod Sides
 pub mod Passes
 pub mod Turns
 pub mod Histories
@@ -15,3 +16,4 @@ pub mod Calls
 pub mod Steps
 pub mod Seats
 pub mod Reclaims
+pub mod Reopens

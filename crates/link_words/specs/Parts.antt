@@ -24,11 +24,13 @@ use Rattle.link_words.specs.declared.rule.Slot.TheVariants.{Buffer}
 use Rattle.link_words.specs.declared.rule.SenderSide.{SenderSide}
 use Rattle.link_words.specs.declared.rule.ReceiverSide.{ReceiverSide}
 use Rattle.link_words.specs.declared.rule.Call.{Call}
-use Rattle.link_words.specs.declared.rule.Call.TheVariants.{Idle, Sends, Rests, Reclaims, EndsHeld, Receives, EndsReceive, EndsSend, EndsBoth, Reopens, HoldsAll}
+use Rattle.link_words.specs.declared.rule.Call.TheVariants.{Idle, Sends, Rests, Reclaims, EndsHeld, Receives, EndsReceive, EndsSend, EndsBoth, Reopens, Gathers}
+use Rattle.link_words.specs.declared.rule.LaneSides.{LaneSides}
 use Rattle.link_words.specs.declared.rule.View.{View}
 use Rattle.link_words.specs.declared.rule.Pass.{Pass}
 use Rattle.link_words.specs.Codes.{copied}
 use Rattle.link_words.specs.Passes.{PassAt, EachPass, HasNumber, Manages}
+use Rattle.link_words.specs.Sides.{is_there, sides_at}
 use Rattle.link_words.specs.Words.{other}
 use Rattle.link_words.specs.Turns.{is_manager, LaneTurns, LinkTurns, HasFourTurns}
 use Rattle.link_words.specs.Histories.{NoneOf, same_end, LaneBooks, HasHistory, HasHands, IsOfNow, IsCurrent, IsCurrentTake}
@@ -43,6 +45,11 @@ ReceivesAt lane number t x buffer message = (lane.receiver ≡ t) × (holder t �
     × (receiver_is_out t ≡ true → (lane.taking ≡ buffer) × (message ≡ lane.next))
     × (is_manager t ≡ false)
 
+-- the manager has these side states of a lane, and the turns that they go with
+pub record HasGathered (lane : LaneTurns) (sides : LaneSides) : Type 0 where
+  pub sender : (x : SenderSide) → sides.sender ≡ Some x → (lane.sender ≡ turn.Manager) × (x ≡ lane.sender_side)
+  pub receiver : (x : ReceiverSide) → sides.receiver ≡ Some x → (lane.receiver ≡ turn.Manager) × (x ≡ lane.receiver_side)
+
 -- a pass of this number is in this call, where a reopening has reset so many words. A call with a turn is the one that the turn names,
 -- a caller at rest has no turn, and a manager that reopens has the four turns in a closed era in which nothing is held
 abbrev pub IsCallAt : LinkTurns → ℕ → ℕ → Call → Type 0
@@ -55,9 +62,9 @@ IsCallAt t p number (EndsBoth e u x buffer y) = (end_of t.callers number ≡ Som
 IsCallAt t p number (Rests e) = (end_of t.callers number ≡ Some e) × (has_call (t.lanes (other e)).sender number ≡ false) × (has_call (t.lanes e).receiver number ≡ false)
 IsCallAt t p number (Reclaims e x) = (end_of t.callers number ≡ Some e) × ((t.lanes e).receiver ≡ turn.Manager) × (x ≡ (t.lanes e).receiver_side) × (p ≡ 0) × (has_call (t.lanes (other e)).sender number ≡ false)
 IsCallAt t p number (EndsHeld e x) = (end_of t.callers number ≡ Some e) × ((t.lanes e).receiver ≡ turn.Manager) × (x ≡ (t.lanes e).receiver_side) × (p ≡ 0) × (t.era.is_live ≡ false) × (has_call (t.lanes (other e)).sender number ≡ false)
-IsCallAt t p number (Reopens q inc) = (number ≡ 64) × (q ≡ p) × ((t.era.is_live ≡ false) × HasFourTurns (λ e. (t.lanes e).sender) (λ e. (t.lanes e).receiver)) × (t.era.inc ≡ inc)
-    × (((t.lanes side.Host).held ≡ []) × ((t.lanes side.Remote).held ≡ []))
-IsCallAt t p number (HoldsAll host remote) = (number ≡ 64) × (p ≡ 0) × HasFourTurns (λ e. (t.lanes e).sender) (λ e. (t.lanes e).receiver) × (host ≡ (t.lanes side.Host).receiver_side) × (remote ≡ (t.lanes side.Remote).receiver_side)
+IsCallAt t p number (Reopens q inc a b) = (number ≡ 64) × (q ≡ p) × ((t.era.is_live ≡ false) × HasFourTurns (λ e. (t.lanes e).sender) (λ e. (t.lanes e).receiver)) × (t.era.inc ≡ inc)
+    × (((t.lanes side.Host).held ≡ []) × ((t.lanes side.Remote).held ≡ [])) × HasGathered (t.lanes side.Host) a × HasGathered (t.lanes side.Remote) b
+IsCallAt t p number (Gathers a b) = (number ≡ 64) × (p ≡ 0) × HasGathered (t.lanes side.Host) a × HasGathered (t.lanes side.Remote) b
 
 -- a call that has the receiver's turn of the lane to this end for the manager
 abbrev pub has_for_manager : End → Call → Bool
@@ -70,8 +77,8 @@ has_for_manager e (EndsBoth i u x buffer y) = same_end e (other i)
 has_for_manager e (EndsReceive i u x buffer message) = false
 has_for_manager e (Reclaims i x) = same_end e i
 has_for_manager e (EndsHeld i x) = same_end e i
-has_for_manager e (Reopens q inc) = true
-has_for_manager e (HoldsAll x y) = true
+has_for_manager e (Reopens q inc a b) = true
+has_for_manager e (Gathers a b) = is_there (sides_at e a b).receiver
 
 -- no two passes have one turn for the manager
 abbrev pub AreKeepersApart : List View → Type 0

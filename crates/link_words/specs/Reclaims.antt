@@ -13,7 +13,7 @@ use Rattle.ring_core.specs.declared.states.RingState.{RingState}
 use Rattle.ring_core.specs.Owners.{sender_is_out, receiver_is_out}
 use Rattle.ring_core.specs.RingSteps.{hands_of_others}
 use Rattle.link_words.specs.declared.rule.Call.{Call}
-use Rattle.link_words.specs.declared.rule.Call.TheVariants.{Idle, Sends, Rests, Reclaims, EndsHeld, Receives, EndsReceive, EndsSend, EndsBoth, Reopens, HoldsAll}
+use Rattle.link_words.specs.declared.rule.Call.TheVariants.{Idle, Sends, Rests, Reclaims, EndsHeld, Receives, EndsReceive, EndsSend, EndsBoth, Reopens, Gathers}
 use Rattle.link_words.specs.declared.rule.Pass.{Pass}
 use Rattle.link_words.specs.declared.rule.ReceiverSide.{ReceiverSide}
 use Rattle.link_words.specs.declared.rule.Slot.{Slot}
@@ -47,8 +47,8 @@ doomed_call (Receives e t x b message) = EndsReceive e t x b message
 doomed_call (EndsReceive e t x b message) = EndsReceive e t x b message
 doomed_call (Reclaims e x) = EndsHeld e x
 doomed_call (EndsHeld e x) = EndsHeld e x
-doomed_call (Reopens p inc) = Reopens p inc
-doomed_call (HoldsAll x y) = HoldsAll x y
+doomed_call (Reopens p inc a b) = Reopens p inc a b
+doomed_call (Gathers x y) = Gathers x y
 
 -- a seat that has a turn, which it may find the era closed with
 abbrev pub HasTurn : Call → Type 0
@@ -90,8 +90,8 @@ claimed_call y (Receives e t x b message) = Receives e t x b message
 claimed_call y (EndsReceive e t x b message) = EndsReceive e t x b message
 claimed_call y (Reclaims e x) = Reclaims e x
 claimed_call y (EndsHeld e x) = EndsHeld e x
-claimed_call y (Reopens p inc) = Reopens p inc
-claimed_call y (HoldsAll a b) = HoldsAll a b
+claimed_call y (Reopens p inc a b) = Reopens p inc a b
+claimed_call y (Gathers a b) = Gathers a b
 
 abbrev pub spared_call : Call → Call
 spared_call Idle = Idle
@@ -103,8 +103,8 @@ spared_call (Receives e t x b message) = Receives e t x b message
 spared_call (EndsReceive e t x b message) = EndsReceive e t x b message
 spared_call (Reclaims e x) = Reclaims e x
 spared_call (EndsHeld e x) = EndsHeld e x
-spared_call (Reopens p inc) = Reopens p inc
-spared_call (HoldsAll a b) = HoldsAll a b
+spared_call (Reopens p inc a b) = Reopens p inc a b
+spared_call (Gathers a b) = Gathers a b
 
 -- one attempt to take the receiver's turn for the manager
 abbrev pub ClaimsTurn : End → ℕ → SeatState → ℕ → SeatState → Type 0
@@ -153,8 +153,8 @@ ended_pass p (Receives e t x b message) = p
 ended_pass p (EndsReceive e t x b message) = with_call_and_hands p (Rests e) []
 ended_pass p (Reclaims e x) = with_call p (Rests e)
 ended_pass p (EndsHeld e x) = with_call_and_hands p (Rests e) []
-ended_pass p (Reopens q inc) = p
-ended_pass p (HoldsAll x y) = p
+ended_pass p (Reopens q inc a b) = p
+ended_pass p (Gathers x y) = p
 
 -- the slots that are still out
 abbrev pub slots_left : Call → List (ℕ × Slot) → List (ℕ × Slot)
@@ -167,8 +167,8 @@ slots_left (Receives e t x b message) slots = slots
 slots_left (EndsReceive e t x b message) slots = if receiver_is_out t then rest (rest slots) else rest slots
 slots_left (Reclaims e x) slots = rest slots
 slots_left (EndsHeld e x) slots = rest slots
-slots_left (Reopens q inc) slots = slots
-slots_left (HoldsAll x y) slots = slots
+slots_left (Reopens q inc a b) slots = slots
+slots_left (Gathers x y) slots = slots
 
 -- the deed of the ring form: the call is gone; or the manager leaves the receiver's turn, without what this caller held, or as it took it
 abbrev pub ending_of : Call → ℕ → Deed
@@ -181,8 +181,8 @@ ending_of (Receives e t x b message) caller = Nothing
 ending_of (EndsReceive e t x b message) caller = EndsCall e caller
 ending_of (Reclaims e x) caller = ReleasesReceiver e
 ending_of (EndsHeld e x) caller = LeavesTurn e caller
-ending_of (Reopens q inc) caller = Nothing
-ending_of (HoldsAll x y) caller = Nothing
+ending_of (Reopens q inc a b) caller = Nothing
+ending_of (Gathers x y) caller = Nothing
 
 -- the turn is left, and its slots are at home
 abbrev pub LeavesEnded : SeatState → SeatState → Type 0

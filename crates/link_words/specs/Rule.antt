@@ -14,10 +14,11 @@ use Rattle.ring_core.specs.RingSteps.{ring_form}
 use Rattle.link_words.specs.declared.rule.Slot.{Slot}
 use Rattle.link_words.specs.declared.rule.LinkSizes.{LinkSizes}
 use Rattle.link_words.specs.declared.rule.Call.{Call}
-use Rattle.link_words.specs.declared.rule.Call.TheVariants.{Idle}
+use Rattle.link_words.specs.declared.rule.Call.TheVariants.{Gathers}
 use Rattle.link_words.specs.declared.rule.Pass.{Pass}
 use Rattle.link_words.specs.declared.rule.View.{View}
 use Rattle.link_words.specs.declared.rule.Event.{Event}
+use Rattle.link_words.specs.Sides.{no_sides}
 use Rattle.link_words.specs.Words.{lane_to, lane_words, reset_block, words_of, homes_of, Shelves}
 use Rattle.link_words.specs.Layouts.{layout}
 use Rattle.link_words.specs.Turns.{turns_in}
@@ -25,10 +26,10 @@ use Rattle.link_words.specs.Histories.{HasHistory, HasHands, IsOfNow, books_of}
 use Rattle.link_words.specs.Deeds.{Deed, after_deed, MayDo}
 use Rattle.link_words.specs.Parts.{IsCallAt, LanePart, TurnsPart, HistoriesPart, NumbersPart}
 
--- the view of the first seat, which is the manager's: its own pass, in no call
+-- the view of the first seat, which is the manager's: its own pass, which has no side state
 abbrev pub first_view : LinkSizes → ℕ → View
 first_view z n = record {
-  passes = record { number = n; call = Idle; first = 0; own = []; hands = [] } ∷ [];
+  passes = record { number = n; call = Gathers no_sides no_sides; first = 0; own = []; hands = [] } ∷ [];
   out = [];
   users = replicate 64 None;
   inc = z.first;

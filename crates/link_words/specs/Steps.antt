@@ -207,6 +207,10 @@ hands_by me = receive_or [] (λ e t x b message. x.hands) (call_at (place_of me)
 abbrev pub handed_by : SeatState → ℕ
 handed_by me = receive_or 0 (λ e t x b message. x.handed) (call_at (place_of me) me.0.passes)
 
+-- and for how many takers there is room
+abbrev pub taker_room_by : SeatState → ℕ
+taker_room_by me = receive_or 0 (λ e t x b message. x.room) (call_at (place_of me) me.0.passes)
+
 -- the incarnation that its call follows, and what the pass has done
 abbrev pub follows_by : SeatState → ℕ
 follows_by me = let call = call_at (place_of me) me.0.passes in
@@ -246,16 +250,24 @@ SendTakesBuffer id me me' = (y : Slot) × Notes (made.Buffer id) (λ p. with_cal
 abbrev pub SendStoresEntry : SeatState → SeatState → Type 0
 SendStoresEntry me me' = Notes made.Entry (with_send (λ x caller s. turn.Taken caller (record s { stage = stage.Entry }))) (place_of me) me.1 me me'
 
+-- the side state after the acceptance of a message of this caller, which is the next of the book
+abbrev pub accepted_side : SenderSide → ℕ → List ℕ → SenderSide
+accepted_side x caller message = record x { accepted = x.accepted + 1; entries = x.entries ++ record { caller = caller; message = message } ∷ [] }
+
 -- a pass whose send was accepted: its message is the next of what it sent
 abbrev pub with_publish : Pass → Pass
 with_publish p = send_or p (λ e t x b. under_way_or p (λ caller s. record p {
-  call = Sends e (turn.Leaving caller (end.Sent x.accepted)) (record { accepted = x.accepted + 1 }) b;
+  call = Sends e (turn.Leaving caller (end.Sent x.accepted)) (accepted_side x caller s.message) b;
   own = Publish e s.follows x.accepted s.message ∷ p.own;
 }) t) p.call
 
--- step 6 of a send: the message is accepted, and its buffer is at home
+-- for how many messages a send has room by its side state
+abbrev pub room_by : SeatState → ℕ
+room_by me = send_or 0 (λ e t x b. x.room) (call_at (place_of me) me.0.passes)
+
+-- step 6 of a send: the message is accepted, for which the book has room, and its buffer is at home
 abbrev pub SendPublishes : SeatState → SeatState → Type 0
-SendPublishes me me' = Becomes with_publish (place_of me) (rest me.1) me me'
+SendPublishes me me' = (accepted_by me < room_by me) × Becomes with_publish (place_of me) (rest me.1) me me'
 
 -- the last step of a send: the turn is free, and its side state is at home
 abbrev pub LeavesSender : SeatState → SeatState → Type 0
@@ -295,6 +307,7 @@ desk_by me = receive_or no_right (λ e t x b message. x.desk) (call_at (place_of
 abbrev pub handed_side : {D : Type 0} → Coded D → DeskMeaning D → D → ReceiverSide → ℕ → ℕ → List ℕ → ReceiverSide
 handed_side coded meaning desk x caller buffer message = record x {
   handed = x.handed + 1;
+  takers = x.takers ++ caller ∷ [];
   hands = x.hands ++ record { number = x.handed; caller = caller; buffer = buffer } ∷ [];
   desk = record x.desk { code = coded.code (meaning.delivered desk x.handed message) };
 }
@@ -312,7 +325,7 @@ with_handing coded meaning era desk p = receive_or p (λ e t x b message. under_
 
 -- step 5 of a take: the desk that it has the right to judges the message; the buffer's slot is at home either way
 abbrev pub TakeHands : {D : Type 0} → Coded D → DeskMeaning D → DeskTables → SeatState → ℕ → SeatState → Type 0
-TakeHands coded meaning tables me n me' = (era : Era) × (n ≡ era_word era) × (era.inc < 4294967296) × (length (hands_by me) < CAPACITY_MOST) × (desk : _) × IsRightTo coded tables (desk_by me) desk
+TakeHands coded meaning tables me n me' = (era : Era) × (n ≡ era_word era) × (era.inc < 4294967296) × (length (hands_by me) < CAPACITY_MOST) × (handed_by me < taker_room_by me) × (desk : _) × IsRightTo coded tables (desk_by me) desk
     × Notes (made.Era era) (with_handing coded meaning era desk) (place_of me) (rest me.1) me me'
 
 -- the numbers in hand but for this one

@@ -137,7 +137,7 @@ with_shelf sh side.Remote l = record sh { remote = l }
 module _ {D : Type 0} where
   -- what goes with the sender's turn of a lane
   abbrev pub sender_side : RingState D → SenderSide
-  sender_side s = record { accepted = length s.lane.lane.accepted }
+  sender_side s = record { accepted = length s.lane.lane.accepted; entries = s.lane.lane.accepted; room = s.lane.lane.book }
 
   -- the words of a link, of which a reopening has reset so many
   abbrev pub words_of : ℕ → List ℕ → LaneLink (RingState D) → List ℕ
@@ -146,7 +146,7 @@ module _ {D : Type 0} where
 module _ {B : Type 0} {kc : Coded B} {kz : DeskTables} where
   -- what goes with the receiver's turn of a lane
   abbrev pub receiver_side : RingState (PlacedDesk kc kz) → ReceiverSide
-  receiver_side s = record { handed = length s.lane.lane.takers; returned = s.lane.lane.returned; hands = s.rings.hands; desk = right_to s.lane.desk }
+  receiver_side s = record { handed = length s.lane.lane.takers; takers = s.lane.lane.takers; room = s.lane.lane.book; returned = s.lane.lane.returned; hands = s.rings.hands; desk = right_to s.lane.desk }
 
   -- the slots of a lane that are at home
   abbrev pub lane_homes : RingState (PlacedDesk kc kz) → List (Option Slot) → LaneHomes

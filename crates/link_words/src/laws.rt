@@ -43,7 +43,7 @@ use lane_model::Desk;
 pub fn opening_meets_rule<D: Desk>()
     ensures { (config : LinkConfig) (desks : DeskTables) (host remote : D) (to_host to_remote : List (List ℕ)) → IsConfig config → config.first < 2 ^ 32
         → length to_host ≡ ring_capacity config.num0 → length to_remote ≡ ring_capacity config.num1
-        → LinkRule D.row.coded D.meaning (sizes_for config desks) (opening (layout (words_of 0 [] (opened_ring_link config host remote))) (opened_slots (right_at D.row.coded desks side.Host host) (right_at D.row.coded desks side.Remote remote) to_host to_remote) (first_view (sizes_for config desks) 64)) }
+        → LinkRule D.row.coded D.meaning (sizes_for config desks) (opening (layout (words_of 0 [] (opened_ring_link config host remote))) (opened_slots config.book (right_at D.row.coded desks side.Host host) (right_at D.row.coded desks side.Remote remote) to_host to_remote) (first_view (sizes_for config desks) 64)) }
 {}
 
 /// The state that a table shows, between any two steps: it is sound, each buffer of a lane has exactly one place, and the two counts

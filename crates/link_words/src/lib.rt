@@ -7,10 +7,12 @@ mod desks;
 mod intents;
 pub mod laws;
 mod loads;
+mod manages;
 mod moves;
 mod places;
 mod plays;
 mod reclaims;
+mod reopens;
 mod rule;
 mod seats;
 mod sides;
@@ -24,14 +26,17 @@ pub use desks::{DeskRule, DeskTable};
 pub use intents::Intent;
 pub use loads::{EraUse, IndexUse, load_entry, load_era, load_index};
 pub use reclaims::{claim_turn, find_closed, leave_ended};
+pub use reopens::{
+    begin_reopening, leave_for_manager, open_era, reset_index, reset_place, take_for_manager,
+};
 pub use rule::{
-    Call, CallStart, Counted, Event, LinkSeat, LinkSizes, LinkTable, LinkWords, Made, Pass,
+    Call, CallStart, Counted, Event, LaneSides, LinkSeat, LinkSizes, LinkTable, LinkWords, Made, Pass,
     ReceiverSide, Ring, SenderSide, Slot, View,
 };
 pub use seats::{
     close_era, end_carried, enlist_carried, join, learn_era, let_go, settle, split, take_in,
 };
-pub use sides::ReceiverState;
+pub use sides::{ReceiverState, SenderState};
 pub use slots::copy_message;
 pub use stores::{publish_index, store_entry};
 pub use turns::{leave_turn, take_turn};

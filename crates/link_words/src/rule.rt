@@ -5,6 +5,8 @@ use crate::intents::Intent;
 use crate::sides::ReceiverState;
 use atomic_table::{Seat, Shared, TableRule};
 use lane_model::{Desk, Receiving, Sending, Turn};
+use crate::sides::{ReceiverState, SenderState};
+use lane_model::{BookEntry, Desk, Receiving, Sending, Turn, Wish};
 use ring_core::{Hand, RingSizes};
 use rp_base::{CallerNo, End, Era, Inc, Message};
 use std::collections::LinkedList;
@@ -23,10 +25,15 @@ pub struct LinkSizes {
     pub desks: DeskTables,
 }
 
-/// What goes with the sender's turn of a lane: how many messages were accepted.
-#[derive(Drop)]
+/// What goes with the sender's turn of a lane, as contracts see it: a [`SenderState`] in its slot.
+/// No value of it is made.
 pub struct SenderSide {
+    /// How many messages were accepted.
     pub accepted: u64,
+    /// The messages, by number.
+    pub entries: LinkedList<BookEntry>,
+    /// For how many messages the book has room.
+    pub room: u64,
 }
 
 /// What goes with the receiver's turn of a lane, as contracts see it: a [`ReceiverState`] in its slot.
@@ -34,12 +41,23 @@ pub struct SenderSide {
 pub struct ReceiverSide {
     /// How many messages were handed over.
     pub handed: u64,
+    /// To whom each was handed, by number.
+    pub takers: LinkedList<CallerNo>,
+    /// For how many takers there is room.
+    pub room: u64,
     /// How many buffers were given back.
     pub returned: u64,
     /// The buffers that are in hand, with the messages' numbers.
     pub hands: LinkedList<Hand>,
     /// The right to the desk of this end.
     pub desk: DeskRight,
+}
+
+/// The side states of a lane that the manager has, each with its turn, as contracts see them. No value of
+/// it is made.
+pub struct LaneSides {
+    pub sender: Option<SenderSide>,
+    pub receiver: Option<ReceiverSide>,
 }
 
 /// What a caller begins.
@@ -57,7 +75,7 @@ pub struct CallStart {
 #[derive(Drop)]
 pub enum Slot {
     Empty,
-    Sender(SenderSide),
+    Sender(SenderState),
     Receiver(ReceiverState),
     Buffer(Message),
     /// In no slot: the caller that a step names to the proofs.
@@ -94,10 +112,12 @@ pub enum Call {
     Reclaims(End, ReceiverSide),
     /// The same, and its seat has found the era closed since.
     EndsHeld(End, ReceiverSide),
-    /// The manager has the four turns, in any era, with the sides of both receivers.
-    HoldsAll(ReceiverSide, ReceiverSide),
-    /// The manager in a reopening: it has the four turns, this incarnation is closed, nothing is held, and so many words are reset.
-    Reopens(u64, Inc),
+    /// The manager outside a reopening, in any era, with the side states that it has of the lane to the host and of the one to the
+    /// remote.
+    Gathers(LaneSides, LaneSides),
+    /// The manager in a reopening, with its side states: it has the four turns, this incarnation is closed, nothing is held, and so many
+    /// words are reset.
+    Reopens(u64, Inc, LaneSides, LaneSides),
 }
 
 /// A caller, or the manager under the number 64, as the proofs know it. No value of it is made.

@@ -1,23 +1,69 @@
-//! What goes with a receiver's turn, in its slot.
+//! What goes with a turn, in its slot.
 ghost use Rattle.std.specs.Prelude.{◌≡◌, ◌+◌, ◌<◌, ◌≤◌, ◌^◌, ◌++◌, ◌∷◌, [], length, IfOk, vec_capacity};
 ghost use Rattle.ring_core.specs.RingSteps.{held_buffer, hands_of_others, hands_without};
+ghost use Rattle.rp_base.specs.declared.limits.TheConstants.{BOOK_MOST};
+ghost use Rattle.link_words.specs.Fresh.{opened_sender};
+ghost use Rattle.link_words.specs.Steps.{accepted_side};
 ghost use Rattle.rp_base.specs.declared.limits.TheConstants.{CAPACITY_MOST};
 
 use crate::codes::DeskView;
 use crate::desks::{DeskTable, open, shut};
 use atomic_table::Badge;
-use lane_model::Desk;
+use lane_model::{Book, Desk};
 use ring_core::Hand;
 use rp_base::{BindFault, CAPACITY_MOST, CallerNo, End, Endpoint, Message, NoMemory, Verdict};
 use std::alloc::Global;
 use std::marker::Model;
 use std::mem;
 
-/// The counts and the hands of a lane, and the right to the desk of its receivers' end. It takes its room at once, for as many hands as
-/// a lane has buffers.
+/// The book of a lane: the messages that were accepted in this incarnation. It takes its room at once.
+#[derive(Drop)]
+pub struct SenderState {
+    book: Book,
+}
+
+impl Model for SenderState {
+    ghost use Rattle.std.specs.Prelude.{length};
+    ghost use Rattle.link_words.specs.declared.rule.SenderSide.{SenderSide};
+
+    ghost Value = { SenderSide };
+
+    ghost view = { λ s. record { accepted = length s.book.entries; entries = s.book.entries; room = s.book.room } };
+}
+
+impl SenderState {
+    /// Of a lane on which nothing was accepted, with room for so many messages.
+    pub fn make(alloc: Global, book: u32) -> Result<SenderState, NoMemory>
+        requires { book ≤ BOOK_MOST }
+        ensures { IfOk result (λ side. side ≡ opened_sender book) }
+    {
+        Ok(SenderState {
+            book: Book::with_room(alloc, book)?,
+        })
+    }
+
+    /// How many messages were accepted.
+    pub fn accepted(&self) -> u64
+        ensures { result ≡ self.now.accepted }
+    {
+        self.book.len()
+    }
+
+    /// The next message is accepted, from this caller. It copies the message, and takes no memory.
+    pub fn accept(&mut self, caller: CallerNo, message: &Message)
+        requires { self.old.accepted < self.old.room }
+        ensures { self.new ≡ accepted_side self.old caller message.now }
+    {
+        self.book.push(caller, message.bytes());
+    }
+}
+
+/// The counts and the hands of a lane, to whom each message was handed, and the right to the desk of its receivers' end.
+/// It takes its room at once, for as many hands as a lane has buffers and as many takers as its book has entries.
 #[derive(Drop)]
 pub struct ReceiverState {
-    handed: u64,
+    takers: Vec<CallerNo>,
+    room: u32,
     returned: u64,
     hands: Vec<Hand>,
     end: End,
@@ -25,28 +71,35 @@ pub struct ReceiverState {
 }
 
 impl Model for ReceiverState {
-    ghost use Rattle.std.specs.Prelude.{◌≡◌, ◌≤◌, ◌∷◌, [], vec_capacity};
+    ghost use Rattle.std.specs.Prelude.{◌≡◌, ◌≤◌, ◌∷◌, [], length, vec_capacity};
     ghost use Rattle.link_words.specs.declared.rule.ReceiverSide.{ReceiverSide};
     ghost use Rattle.link_words.specs.DeskSeats.{code_in, home_view};
 
     ghost Value = { ReceiverSide };
 
-    ghost view = { λ r. record { handed = r.handed; returned = r.returned; hands = r.hands.items; desk = record { end = r.end; table = r.desk.table_id; code = code_in r.desk.views } } };
+    ghost view = { λ r. record { handed = length r.takers.items; takers = r.takers.items; room = r.room; returned = r.returned; hands = r.hands.items; desk = record { end = r.end; table = r.desk.table_id; code = code_in r.desk.views } } };
 
-    ghost invariant = { λ r. (256 ≤ vec_capacity r.hands) × (r.desk.views ≡ home_view (code_in r.desk.views) ∷ []) };
+    ghost invariant = { λ r. (256 ≤ vec_capacity r.hands) × (r.room ≤ vec_capacity r.takers) × (r.desk.views ≡ home_view (code_in r.desk.views) ∷ []) };
 }
 
 impl ReceiverState {
     ghost use Rattle.link_words.specs.DeskSeats.{code_in, home_view};
     ghost use Rattle.link_words.specs.Fresh.{opened_receiver};
 
-    /// Of a lane on which nothing was handed over, with the seat of the desk's table.
-    pub fn make(alloc: Global, end: End, desk: Badge<DeskView>) -> Result<ReceiverState, NoMemory>
+    /// Of a lane on which nothing was handed over, with room for so many takers and the seat of the desk's
+    /// table.
+    pub fn make(
+        alloc: Global,
+        book: u32,
+        end: End,
+        desk: Badge<DeskView>,
+    ) -> Result<ReceiverState, NoMemory>
         requires { desk.views ≡ home_view (code_in desk.views) ∷ [] }
-        ensures { IfOk result (λ side. side ≡ opened_receiver (record { end = end; table = desk.table_id; code = code_in desk.views })) }
+        ensures { IfOk result (λ side. side ≡ opened_receiver book (record { end = end; table = desk.table_id; code = code_in desk.views })) }
     {
         Ok(ReceiverState {
-            handed: 0,
+            takers: Vec::with_capacity(alloc, book as usize)?,
+            room: book,
             returned: 0,
             hands: Vec::with_capacity(alloc, CAPACITY_MOST as usize)?,
             end,
@@ -121,7 +174,7 @@ impl ReceiverState {
     pub fn handed(&self) -> u64
         ensures { result ≡ self.now.handed }
     {
-        self.handed
+        self.takers.len() as u64
     }
 
     /// How many buffers were given back.
@@ -140,16 +193,16 @@ impl ReceiverState {
 
     /// The next message is in the hands of this caller, in this buffer.
     pub fn hand_over(&mut self, caller: CallerNo, buffer: u32)
-        requires room { length self.old.hands < CAPACITY_MOST }
-        requires count { self.old.handed < 2 ^ 60 }
-        ensures { self.new ≡ record self.old { handed = self.old.handed + 1; hands = self.old.hands ++ record { number = self.old.handed; caller = caller; buffer = buffer } ∷ [] } }
+        requires hands { length self.old.hands < CAPACITY_MOST }
+        requires room { self.old.handed < self.old.room }
+        ensures { self.new ≡ record self.old { handed = self.old.handed + 1; takers = self.old.takers ++ caller ∷ []; hands = self.old.hands ++ record { number = self.old.handed; caller = caller; buffer = buffer } ∷ [] } }
     {
         self.hands.push_reserved(Hand {
-            number: self.handed,
+            number: self.takers.len() as u64,
             caller,
             buffer,
         });
-        self.handed += 1;
+        self.takers.push_reserved(caller);
     }
 
     /// The buffer of the message of this number is back.

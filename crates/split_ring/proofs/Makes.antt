@@ -40,16 +40,16 @@ module _ {D : Type 0} (coded : Coded D) (meaning : DeskMeaning D) where
   -- the table of a new link may be made
   pub makes : (config : LinkConfig) (desks : DeskTables) (host remote : D) (z : LinkSizes) (words : List ℕ) (slots : List Slot) (to_host to_remote : DeskRight)
       → ((config : LinkConfig) (desks : DeskTables) (host remote : D) (xs ys : List (List ℕ)) → IsConfig config → config.first < 2 ^ 32 → length xs ≡ ring_capacity config.num0 → length ys ≡ ring_capacity config.num1
-      → LinkRule coded meaning (sizes_for config desks) (opening (layout (words_of 0 [] (opened_ring_link config host remote))) (opened_slots (right_at coded desks side.Host host) (right_at coded desks side.Remote remote) xs ys) (first_view (sizes_for config desks) 64)))
-      → IsConfig config → config.first < 2 ^ 32 → z ≡ sizes_for config desks → words ≡ layout (opened_words z) → slots ≡ opened_slots to_host to_remote (replicate z.to_host.capacity []) (replicate z.to_remote.capacity [])
+      → LinkRule coded meaning (sizes_for config desks) (opening (layout (words_of 0 [] (opened_ring_link config host remote))) (opened_slots config.book (right_at coded desks side.Host host) (right_at coded desks side.Remote remote) xs ys) (first_view (sizes_for config desks) 64)))
+      → IsConfig config → config.first < 2 ^ 32 → z ≡ sizes_for config desks → words ≡ layout (opened_words z) → slots ≡ opened_slots z.book to_host to_remote (replicate z.to_host.capacity []) (replicate z.to_remote.capacity [])
       → to_host ≡ right_at coded desks side.Host host → to_remote ≡ right_at coded desks side.Remote remote
       → LinkRule coded meaning z (opening words slots (first_view z 64))
   makes config desks host remote z words slots to_host to_remote law is low sized worded slotted hosts remotes =
       let n = ring_capacity config.num0 in let k = ring_capacity config.num1 in
       let all = law config desks host remote (replicate n []) (replicate k []) is low (copies_length n) (copies_length k) in
       let words_are : words ≡ layout (words_of 0 [] (opened_ring_link config host remote)) = worded ∙ (ap (λ (y : LinkSizes). layout (opened_words y)) sized ∙ ap layout (sym (opened_is config desks host remote))) in
-      let slots_are : slots ≡ opened_slots (right_at coded desks side.Host host) (right_at coded desks side.Remote remote) (replicate n []) (replicate k []) =
-      slotted ∙ ((λ i. opened_slots (hosts i) (remotes i) (replicate (sized i).to_host.capacity []) (replicate (sized i).to_remote.capacity []))) in
+      let slots_are : slots ≡ opened_slots config.book (right_at coded desks side.Host host) (right_at coded desks side.Remote remote) (replicate n []) (replicate k []) =
+      slotted ∙ ((λ i. opened_slots (sized i).book (hosts i) (remotes i) (replicate (sized i).to_host.capacity []) (replicate (sized i).to_remote.capacity []))) in
       subst (λ (y : LinkSizes). LinkRule coded meaning y (opening words slots (first_view y 64))) (sym sized)
       (subst (λ (ws : List ℕ). LinkRule coded meaning (sizes_for config desks) (opening ws slots (first_view (sizes_for config desks) 64))) (sym words_are)
       (subst (λ (ss : List Slot). LinkRule coded meaning (sizes_for config desks) (opening (layout (words_of 0 [] (opened_ring_link config host remote))) ss (first_view (sizes_for config desks) 64))) (sym slots_are) all))

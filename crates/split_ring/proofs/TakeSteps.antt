@@ -249,6 +249,7 @@ module _ {D : Type 0} (coded : Coded D) (meaning : DeskMeaning D) where
     pub desk : D
     pub right : IsRightTo coded z.desks x.desk desk
     pub room : length x.hands < CAPACITY_MOST
+    pub takers : x.handed < x.room
     pub at : IsAt me' (Receives c.who.end (turn.Leaving c.who.number (end.Took x.handed (meaning.verdict desk x.handed m))) (handed_side coded meaning desk x c.who.number b m) b m) (receive_slots c.who x)
     pub done : HasDone coded meaning (Step (made.Era (live_era c.who.follows)) ∷ Take c.who.end c.who.follows x.handed m ∷ []) (one_more x.handed) me me'
 
@@ -258,13 +259,14 @@ module _ {D : Type 0} (coded : Coded D) (meaning : DeskMeaning D) where
       let x = out.side in let at = out.at in let w = work.Take take_stage.Buffer in let slots = hand_slots z c.who x b m in let zero = alone_out z me c.who w x b m at in
       let same : found ≡ told.0 = reads told.0 told.1 told.2 in let here : is_live_in told.0 c.who.follows ≡ true = ap (λ (e : Era). is_live_in e c.who.follows) (sym same) ∙ live in
       let is : told.0 ≡ live_era c.who.follows = live_is told.0 c.who.follows here in
-      let all = after_step coded meaning (λ p. noted (made.Era told.0) (with_handing coded meaning told.0 told.4 p)) (rest me.1) (receive_slots c.who x) me me' (place_of me)
-      (Receives c.who.end (turn.Leaving c.who.number (end.Took x.handed (meaning.verdict told.4 x.handed m))) (handed_side coded meaning told.4 x c.who.number b m) b m)
-      (Step (made.Era told.0) ∷ Take c.who.end c.who.follows x.handed m ∷ []) (one_more x.handed) at.one zero told.6 (ap rest at.out) (handed_pass c x b m told.0 told.4 (pass_in me) at.in_call here) (me, me', refl, step, refl) in
+      let all = after_step coded meaning (λ p. noted (made.Era told.0) (with_handing coded meaning told.0 told.5 p)) (rest me.1) (receive_slots c.who x) me me' (place_of me)
+      (Receives c.who.end (turn.Leaving c.who.number (end.Took x.handed (meaning.verdict told.5 x.handed m))) (handed_side coded meaning told.5 x c.who.number b m) b m)
+      (Step (made.Era told.0) ∷ Take c.who.end c.who.follows x.handed m ∷ []) (one_more x.handed) at.one zero told.7 (ap rest at.out) (handed_pass c x b m told.0 told.5 (pass_in me) at.in_call here) (me, me', refl, step, refl) in
       record {
-        desk = told.4;
-        right = subst (λ (y : LinkSizes). IsRightTo coded y.desks x.desk told.4) sized (subst (λ (r : DeskRight). IsRightTo coded me.0.sizes.desks r told.4) (side_is no_right (λ y. y.desk) me c.who w x b m slots at zero) told.5);
+        desk = told.5;
+        right = subst (λ (y : LinkSizes). IsRightTo coded y.desks x.desk told.5) sized (subst (λ (r : DeskRight). IsRightTo coded me.0.sizes.desks r told.5) (side_is no_right (λ y. y.desk) me c.who w x b m slots at zero) told.6);
         room = subst (λ (hands : List Hand). length hands < CAPACITY_MOST) (side_is [] (λ y. y.hands) me c.who w x b m slots at zero) told.3;
+        takers = subst (λ (v : ℕ × ℕ). v.0 < v.1) (λ i. (side_is 0 (λ y. y.handed) me c.who w x b m slots at zero i, side_is 0 (λ y. y.room) me c.who w x b m slots at zero i)) told.4;
         at = all.0;
         done = subst (λ (e : Era). HasDone coded meaning (Step (made.Era e) ∷ Take c.who.end c.who.follows x.handed m ∷ []) (one_more x.handed) me me') is all.1;
       }
@@ -275,7 +277,7 @@ module _ {D : Type 0} (coded : Coded D) (meaning : DeskMeaning D) where
   hands_dead z me me' c n b m found out told step reads dead =
       let x = out.side in let at = out.at in let zero = alone_out z me c.who (work.Take take_stage.Buffer) x b m at in
       let same : found ≡ told.0 = reads told.0 told.1 told.2 in let here : is_live_in told.0 c.who.follows ≡ false = ap (λ (e : Era). is_live_in e c.who.follows) (sym same) ∙ dead in
-      let all = after_step coded meaning (λ p. noted (made.Era told.0) (with_handing coded meaning told.0 told.4 p)) (rest me.1) (receive_slots c.who x) me me' (place_of me)
-      (Receives c.who.end (turn.Leaving c.who.number (end.Dead told.0)) x b m) (Step (made.Era told.0) ∷ []) same_hands at.one zero told.6 (ap rest at.out) (dead_pass c x b m told.0 told.4 (pass_in me) at.in_call here)
+      let all = after_step coded meaning (λ p. noted (made.Era told.0) (with_handing coded meaning told.0 told.5 p)) (rest me.1) (receive_slots c.who x) me me' (place_of me)
+      (Receives c.who.end (turn.Leaving c.who.number (end.Dead told.0)) x b m) (Step (made.Era told.0) ∷ []) same_hands at.one zero told.7 (ap rest at.out) (dead_pass c x b m told.0 told.5 (pass_in me) at.in_call here)
       (stepped_once coded meaning (made.Era told.0) me me' step) in
       ((c.who.number, end.Dead told.0, x, b, m, all.0), dead_is found c.who.follows dead, subst (λ (e : Era). HasDone coded meaning (Step (made.Era e) ∷ []) same_hands me me') (sym same) all.1)

@@ -31,23 +31,28 @@ use Rattle.split_ring.specs.declared.sends.SendFault.TheVariants as fault
 
 -- the call of a send that has done the step of this stage last
 abbrev pub send_call : SendCall → SendStage → Call
-send_call c stage = Sends (other c.who.end) (turn.Taken c.who.number (record { follows = c.who.follows; message = c.message.value; stage = stage })) (record { accepted = c.accepted }) c.buffer
+send_call c stage = Sends (other c.who.end) (turn.Taken c.who.number (record { follows = c.who.follows; message = c.message.value; stage = stage })) c.side.value c.buffer
 
--- its side state is out, with this count
-abbrev pub send_slots : SendCall → ℕ → List (ℕ × Slot)
-send_slots c accepted = (sender_slot (other c.who.end), Sender (record { accepted = accepted })) ∷ []
+-- its side state is out
+abbrev pub send_slots : SendCall → List (ℕ × Slot)
+send_slots c = (sender_slot (other c.who.end), Sender c.side.value) ∷ []
+
+-- the call knows the count of its side state, which is that of a book
+pub record IsCounted (c : SendCall) : Type 0 where
+  pub is : c.side.value.accepted ≡ c.accepted
+  pub most : c.accepted ≤ BOOK_MOST
 
 -- and its buffer, in which is this
 abbrev pub send_buffer : LinkSizes → SendCall → Slot → List (ℕ × Slot)
-send_buffer z c y = (buffer_slot z.to_host.capacity (other c.who.end) c.buffer, y) ∷ send_slots c c.accepted
+send_buffer z c y = (buffer_slot z.to_host.capacity (other c.who.end) c.buffer, y) ∷ send_slots c
 
 -- a send is at a stage, with its side state alone
 abbrev pub IsSendAt : SendCall → SendStage → SeatState → Type 0
-IsSendAt c stage me = IsAt me (send_call c stage) (send_slots c c.accepted) × (c.accepted ≤ BOOK_MOST)
+IsSendAt c stage me = IsAt me (send_call c stage) (send_slots c) × IsCounted c
 
 -- or with its buffer too, in which is this
 abbrev pub IsFilledAt : LinkSizes → SendCall → SendStage → Slot → SeatState → Type 0
-IsFilledAt z c stage y me = IsAt me (send_call c stage) (send_buffer z c y) × (c.accepted ≤ BOOK_MOST)
+IsFilledAt z c stage y me = IsAt me (send_call c stage) (send_buffer z c y) × IsCounted c
 
 -- the live era of an incarnation
 abbrev pub live_era : ℕ → Era

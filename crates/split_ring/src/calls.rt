@@ -232,7 +232,7 @@ impl<D: Desk> SharedLink<D> {
                 )
             }
             SendStage::Entry => {
-                self.publish_message(seat, &call);
+                self.publish_message(seat, &call, &message);
                 (
                     Phase::LeavesSender(Answer::Sent(call.accepted)),
                     Progress::At(6),

@@ -2,6 +2,7 @@
 ghost use Rattle.std.specs.Prelude.{◌≡◌, ℕ, ◌+◌, ◌-◌, ◌*◌, ◌≤◌, ◌++◌, ◌∷◌, [], replicate, true, IfOk};
 ghost use Rattle.std.specs.List.{range_with_len};
 ghost use Rattle.rp_base.specs.Limits.{IsRingSize};
+ghost use Rattle.rp_base.specs.declared.limits.TheConstants.{BOOK_MOST};
 ghost use Rattle.ring_core.specs.Rings.{sizes_of};
 ghost use Rattle.link_words.specs.DeskSeats.{code_in, home_view};
 ghost use Rattle.link_words.specs.Fresh.{opened_slots};
@@ -11,7 +12,7 @@ ghost use Rattle.link_words.specs.declared.rule.Slot.TheVariants.{Buffer};
 ghost use Rattle.split_ring.specs.Openings.{first_words, opened_entries, opened_words, IsOpenable};
 
 use atomic_table::Badge;
-use link_words::{DeskView, LinkSizes, ReceiverState, SenderSide, Slot};
+use link_words::{DeskView, LinkSizes, ReceiverState, SenderState, Slot};
 use ring_core::RingSizes;
 use rp_base::{End, Message, NoMemory, ring_capacity};
 use std::alloc::Global;
@@ -99,16 +100,17 @@ pub(crate) fn new_slots(
     host: Badge<DeskView>,
     remote: Badge<DeskView>,
 ) -> Result<Vec<Slot>, NoMemory>
+    requires book { sizes.now.book ≤ BOOK_MOST }
     requires host { host.views ≡ home_view (code_in host.views) ∷ [] }
     requires remote { remote.views ≡ home_view (code_in remote.views) ∷ [] }
-    ensures { IfOk result (λ slots. slots.items ≡ opened_slots (record { end = side.Host; table = host.table_id; code = code_in host.views }) (record { end = side.Remote; table = remote.table_id; code = code_in remote.views })
+    ensures { IfOk result (λ slots. slots.items ≡ opened_slots sizes.now.book (record { end = side.Host; table = host.table_id; code = code_in host.views }) (record { end = side.Remote; table = remote.table_id; code = code_in remote.views })
         (replicate sizes.now.to_host.capacity []) (replicate sizes.now.to_remote.capacity [])) }
 {
     let mut slots = Vec::new(alloc);
-    slots.push(Slot::Sender(SenderSide { accepted: 0 }))?;
-    slots.push(Slot::Receiver(ReceiverState::make(alloc, End::Host, host)?))?;
-    slots.push(Slot::Sender(SenderSide { accepted: 0 }))?;
-    slots.push(Slot::Receiver(ReceiverState::make(alloc, End::Remote, remote)?))?;
+    slots.push(Slot::Sender(SenderState::make(alloc, sizes.book)?))?;
+    slots.push(Slot::Receiver(ReceiverState::make(alloc, sizes.book, End::Host, host)?))?;
+    slots.push(Slot::Sender(SenderState::make(alloc, sizes.book)?))?;
+    slots.push(Slot::Receiver(ReceiverState::make(alloc, sizes.book, End::Remote, remote)?))?;
     push_buffers(&mut slots, sizes.to_host.capacity)?;
     push_buffers(&mut slots, sizes.to_remote.capacity)?;
     Ok(slots)

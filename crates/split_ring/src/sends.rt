@@ -23,8 +23,8 @@ use crate::slots::{accept_in, accepted_in, fill};
 use crate::turns::{era_of, is_live_in, other};
 use lane_model::{Desk, LaneTurn};
 use link_words::{
-    EraUse, IndexUse, Intent, LinkSeat, Ring, load_entry, load_era, load_index, publish_index,
-    store_entry,
+    EraUse, IndexUse, Intent, LinkSeat, Ring, SenderState, load_entry, load_era, load_index,
+    publish_index, store_entry,
 };
 use ring_core::RingSizes;
 use rp_base::{CallerNo, End, Era, Message};
@@ -50,6 +50,8 @@ pub(crate) struct SendCall {
     pub who: CallerId,
     /// The message, for the proofs alone.
     pub message: Snapshot<Message>,
+    /// The sender's side state, for the proofs alone.
+    pub side: Snapshot<SenderState>,
     pub accepted: u64,
     pub buffer: u32,
 }
@@ -116,7 +118,7 @@ impl<D: Desk> SharedLink<D> {
         }
         call.buffer = self.take_free(seat, &call);
         self.store_message(seat, &call, message);
-        self.publish_message(seat, &call);
+        self.publish_message(seat, &call, message);
         Ok(call.accepted)
     }
 
@@ -134,10 +136,12 @@ impl<D: Desk> SharedLink<D> {
         ensures still { HasDone D.row.coded D.meaning [] same_hands seat.old.me seat.new.me }
     {
         let slot = sender_slot(other(who.end));
+        let (accepted, side) = accepted_in(seat.slot_mut(&self.table.shared, slot));
         SendCall {
             who,
             message: Snapshot::of(message),
-            accepted: accepted_in(seat.slot_mut(&self.table.shared, slot)),
+            side,
+            accepted,
             buffer: 0,
         }
     }
@@ -242,8 +246,9 @@ impl<D: Desk> SharedLink<D> {
     }
 
     /// Step 6 of a send: the message is accepted, and the buffer at home.
-    pub(crate) fn publish_message(&self, seat: &mut LinkSeat, call: &SendCall)
+    pub(crate) fn publish_message(&self, seat: &mut LinkSeat, call: &SendCall, message: &Message)
         requires seat { IsSeatOf self.now.table.shared.table_id self.now.sizes seat.old.table_id seat.old.me }
+        requires message { call.now.message.value ≡ message.now }
         requires call { IsFilledAt self.now.sizes call.now stage.Entry (Buffer call.now.message.value) seat.old.me }
         ensures seat { IsSeatOf self.now.table.shared.table_id self.now.sizes seat.new.table_id seat.new.me }
         ensures published { IsLeaving lane_turn.Sender (other call.now.who.end) seat.new.me }
@@ -251,9 +256,9 @@ impl<D: Desk> SharedLink<D> {
     {
         let lane = other(call.who.end);
         let table = &self.table.shared;
-        let accepted = call.accepted + 1;
-        publish_index(table, seat, lane, Ring::Forward, accepted);
-        accept_in(seat.slot_mut(table, sender_slot(lane)), accepted);
+        publish_index(table, seat, lane, Ring::Forward, call.accepted + 1);
+        let side = seat.slot_mut(table, sender_slot(lane));
+        accept_in(side, call.who.number, message);
     }
 }
 

@@ -6,28 +6,32 @@ ghost use Rattle.ring_core.specs.RingSteps.{held_buffer, hands_without};
 ghost use Rattle.link_words.specs.declared.rule.ReceiverSide.{ReceiverSide};
 ghost use Rattle.link_words.specs.declared.rule.SenderSide.{SenderSide};
 ghost use Rattle.link_words.specs.declared.rule.Slot.TheVariants.{Buffer, Receiver, Sender};
-ghost use Rattle.link_words.specs.Steps.{handed_side};
+ghost use Rattle.link_words.specs.Steps.{accepted_side, handed_side};
 
 use lane_model::Desk;
-use link_words::{DeskTable, ReceiverState, SenderSide, Slot};
+use link_words::{DeskTable, ReceiverState, SenderState, Slot};
 use rp_base::{CallerNo, End, Message, Verdict};
+use std::snapshot::Snapshot;
 
-/// How many messages were accepted, by the sender's side state.
-pub(crate) fn accepted_in(slot: &Slot) -> u64
+/// How many messages were accepted, by the sender's side state, which is told for the proofs alone.
+pub(crate) fn accepted_in(slot: &Slot) -> (u64, Snapshot<SenderState>)
     requires { (x : SenderSide) × (slot.now ≡ Sender x) }
-    ensures { (x : SenderSide) → slot.now ≡ Sender x → result ≡ x.accepted }
+    ensures { (x : SenderSide) → slot.now ≡ Sender x → (result.0 ≡ x.accepted) × (result.1.value ≡ x) }
 {
     match slot {
-        Slot::Sender(side) => side.accepted,
-        _ => 0,
+        Slot::Sender(side) => (side.accepted(), Snapshot::of(side)),
+        _ => unreachable!(),
     }
 }
 
-/// So many messages are accepted.
-pub(crate) fn accept_in(slot: &mut Slot, accepted: u64)
-    ensures { slot.new ≡ Sender (record { accepted = accepted }) }
+/// The message is accepted, from this caller.
+pub(crate) fn accept_in(slot: &mut Slot, caller: CallerNo, message: &Message)
+    requires { (x : SenderSide) × (slot.old ≡ Sender x) × (x.accepted < x.room) }
+    ensures { (x : SenderSide) → slot.old ≡ Sender x → slot.new ≡ Sender (accepted_side x caller message.now) }
 {
-    *slot = Slot::Sender(SenderSide { accepted });
+    if let Slot::Sender(side) = slot {
+        side.accept(caller, message);
+    }
 }
 
 /// The message is in the buffer. It writes as many bytes as the message has.

@@ -240,7 +240,7 @@ impl<D: Desk> SharedLink<D> {
 
     /// The desk judges the next message, which is in the caller's hands then.
     fn judge(&self, slot: &mut Slot, caller: CallerNo, buffer: u32, message: &Message) -> Verdict
-        requires side { (x : ReceiverSide) × (slot.old ≡ Receiver x) × (x.handed ≤ BOOK_MOST) × (length x.hands < CAPACITY_MOST) × (x.desk.table ≡ table_at self.now.sizes.desks x.desk.end) }
+        requires side { (x : ReceiverSide) × (slot.old ≡ Receiver x) × (x.handed < x.room) × (length x.hands < CAPACITY_MOST) × (x.desk.table ≡ table_at self.now.sizes.desks x.desk.end) }
         ensures judged { (x : ReceiverSide) (desk : D) → slot.old ≡ Receiver x → x.desk.code ≡ D.row.coded.code desk
             → (result ≡ D.meaning.verdict desk x.handed message.now) × (slot.new ≡ Receiver (handed_side D.row.coded D.meaning desk x caller buffer message.now)) }
     {

@@ -13,6 +13,7 @@ into_badge-requires g c = ap (λ (m : Me _ DeskView). m.1) (c.shut.ensures.desk 
 pub invariant_of-self : goal.invariant_of-self
 invariant_of-self g c = (
   c.self.invariant.0,
+  c.self.invariant.1,
   home c.into_badge.result.views c.shut.new.seat.me.0 (g.row.D.coded.code c.unbind-answer.new.self) c.into_badge.ensures.2
       (ap (λ (m : Me _ DeskView). m.0) (c.shut.ensures.desk c.unbind-answer.new.self (held c.open.new.seat.me c.into_seat-seat.result.me c.open.ensures.desk.0 c.unbind-answer.new.self c.open.ensures.desk.2))),
 )

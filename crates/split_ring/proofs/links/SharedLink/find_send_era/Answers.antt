@@ -8,7 +8,7 @@ use Rattle.split_ring.proofs.links.SharedLink.find_send_era.Goals as goal
 
 pub load_era-requires-clause-call : goal.load_era-requires-clause-call
 load_era-requires-clause-call g c =
-    let me = c.args.seat.now.me in let call = c.args.call.now in let at = c.requires.call.0 in (other call.who.end, send_at me call stage.Turn (send_slots call call.accepted) at (alone me call stage.Turn at))
+    let me = c.args.seat.now.me in let call = c.args.call.now in let at = c.requires.call.0 in (other call.who.end, send_at me call stage.Turn (send_slots call) at (alone me call stage.Turn at))
 
 pub returns-then-is_live_in-clause-live : goal.returns-then-is_live_in-clause-live
 returns-then-is_live_in-clause-live g c =

@@ -78,7 +78,7 @@ judge-verdict-requires g c =
     let me2 = c.load_era.new.seat.me in let n = c.load_era.result in let step = finds coded meaning me1 me2 16 n c.load_era.ensures.step in
     let h : Handed coded meaning z call x b m me1 me2 = hands_live coded meaning z me1 me2 call n b m c.era_of-era.result c.requires.seat.told out1 c.load_era.ensures.told step c.era_of-era.ensures (sym c.is_live_in.ensures ∙ c.if-is_live_in.true) in
     let after : Call = Receives who.end (turn.Leaving who.number (end.Took x.handed (meaning.verdict h.desk x.handed m))) (handed_side coded meaning h.desk x who.number b m) b m in
-    record { side = (x, inside me2 after (receiver_slot who.end) c.receiver_slot.result (Receiver x) c.slot_mut-side.result.now [] h.at c.slot_mut-side.ensures.value, subst (λ (i : ℕ). i ≤ BOOK_MOST) (sym out.handed) out.most, h.room, h.right.table) }
+    record { side = (x, inside me2 after (receiver_slot who.end) c.receiver_slot.result (Receiver x) c.slot_mut-side.result.now [] h.at c.slot_mut-side.ensures.value, h.takers, h.room, h.right.table) }
 
 pub returns-then-is_live_in-clause-left : goal.returns-then-is_live_in-clause-left
 returns-then-is_live_in-clause-left g c =

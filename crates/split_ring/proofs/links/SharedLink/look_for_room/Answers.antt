@@ -15,7 +15,7 @@ use Rattle.split_ring.proofs.links.SharedLink.look_for_room.Goals as goal
 pub load_index-index-requires-clause-call : goal.load_index-index-requires-clause-call
 load_index-index-requires-clause-call g c =
     let me = c.args.seat.now.me in let call = c.args.call.now in let at = c.requires.call.0 in
-    subst (λ (e : End). SendAt me e stage.Era) (sym c.other-lane.ensures) (send_at me call stage.Era (send_slots call call.accepted) at (alone me call stage.Era at))
+    subst (λ (e : End). SendAt me e stage.Era) (sym c.other-lane.ensures) (send_at me call stage.Era (send_slots call) at (alone me call stage.Era at))
 
 pub returns-then-free-eq0-clause-none : goal.returns-then-free-eq0-clause-none
 returns-then-free-eq0-clause-none g c =

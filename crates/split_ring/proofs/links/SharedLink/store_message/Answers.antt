@@ -23,7 +23,7 @@ store_entry-requires-clause-call g c =
     let me = c.args.seat.now.me in let call = c.args.call.now in let z = c.args.self.now.sizes in let q = c.requires.call in let w = c.fill.new.slot in let lane = other call.who.end in
     let me1 : SeatState = (me.0, (c.buffer_slot-slot.result, w) ∷ rest me.1) in
     let slot : c.buffer_slot-slot.result ≡ buffer_slot z.to_host.capacity lane call.buffer = c.buffer_slot-slot.ensures ∙ ap (λ (e : End). buffer_slot z.to_host.capacity e call.buffer) c.other-lane.ensures in
-    let filled : IsFilledAt z call stage.Buffer w me1 = (rewritten me (send_call call stage.Buffer) (buffer_slot z.to_host.capacity lane call.buffer) c.buffer_slot-slot.result q.0 w (send_slots call call.accepted) q.1.0 slot, q.1.1) in
+    let filled : IsFilledAt z call stage.Buffer w me1 = (rewritten me (send_call call stage.Buffer) (buffer_slot z.to_host.capacity lane call.buffer) c.buffer_slot-slot.result q.0 w (send_slots call) q.1.0 slot, q.1.1) in
     let whole = c.sizes_of.ensures.sizes ∙ ap (sizes_at z) c.other-lane.ensures in
     let len : c.entry_length.result ≡ entry_length (sizes_at z lane) (length call.message.value) = c.entry_length.ensures ∙ ((λ i. entry_length (whole i) (length c.args.message.now)) ∙ (λ i. entry_length (sizes_at z lane) (length (sym c.requires.message i)))) in
     let entry : UsedWord = record { id = call.buffer; len = c.entry_length.result } in
@@ -35,7 +35,7 @@ returns-clause-stored g c =
     let me = c.args.seat.now.me in let call = c.args.call.now in let z = c.args.self.now.sizes in let q = c.requires.call in let w = c.fill.new.slot in let lane = other call.who.end in
     let me1 : SeatState = (me.0, (c.buffer_slot-slot.result, w) ∷ rest me.1) in
     let slot : c.buffer_slot-slot.result ≡ buffer_slot z.to_host.capacity lane call.buffer = c.buffer_slot-slot.ensures ∙ ap (λ (e : End). buffer_slot z.to_host.capacity e call.buffer) c.other-lane.ensures in
-    let filled : IsFilledAt z call stage.Buffer w me1 = (rewritten me (send_call call stage.Buffer) (buffer_slot z.to_host.capacity lane call.buffer) c.buffer_slot-slot.result q.0 w (send_slots call call.accepted) q.1.0 slot, q.1.1) in
+    let filled : IsFilledAt z call stage.Buffer w me1 = (rewritten me (send_call call stage.Buffer) (buffer_slot z.to_host.capacity lane call.buffer) c.buffer_slot-slot.result q.0 w (send_slots call) q.1.0 slot, q.1.1) in
     let me' = c.store_entry.new.seat.me in
     let all = stores_entry g.row.D.coded g.D.Desk.meaning z me1 me' call w filled c.store_entry.ensures.told (stores g.row.D.coded g.D.Desk.meaning me1 me' (place_in (entry_number z c.other-lane.result ring.Forward call.accepted)) (call.buffer + c.entry_length.result * 4294967296) c.store_entry.ensures.step) in
     subst (λ (x : Slot). IsFilledAt z call stage.Entry x me') c.fill.ensures all.0
@@ -45,7 +45,7 @@ returns-clause-done g c =
     let me = c.args.seat.now.me in let call = c.args.call.now in let z = c.args.self.now.sizes in let q = c.requires.call in let w = c.fill.new.slot in let lane = other call.who.end in
     let me1 : SeatState = (me.0, (c.buffer_slot-slot.result, w) ∷ rest me.1) in
     let slot : c.buffer_slot-slot.result ≡ buffer_slot z.to_host.capacity lane call.buffer = c.buffer_slot-slot.ensures ∙ ap (λ (e : End). buffer_slot z.to_host.capacity e call.buffer) c.other-lane.ensures in
-    let filled : IsFilledAt z call stage.Buffer w me1 = (rewritten me (send_call call stage.Buffer) (buffer_slot z.to_host.capacity lane call.buffer) c.buffer_slot-slot.result q.0 w (send_slots call call.accepted) q.1.0 slot, q.1.1) in
+    let filled : IsFilledAt z call stage.Buffer w me1 = (rewritten me (send_call call stage.Buffer) (buffer_slot z.to_host.capacity lane call.buffer) c.buffer_slot-slot.result q.0 w (send_slots call) q.1.0 slot, q.1.1) in
     let me' = c.store_entry.new.seat.me in
     let all = stores_entry g.row.D.coded g.D.Desk.meaning z me1 me' call w filled c.store_entry.ensures.told (stores g.row.D.coded g.D.Desk.meaning me1 me' (place_in (entry_number z c.other-lane.result ring.Forward call.accepted)) (call.buffer + c.entry_length.result * 4294967296) c.store_entry.ensures.step) in
     done_then g.row.D.coded g.D.Desk.meaning (Step made.Entry ∷ []) [] same_hands same_hands me me1 me' (still g.row.D.coded g.D.Desk.meaning me me1 refl) all.1

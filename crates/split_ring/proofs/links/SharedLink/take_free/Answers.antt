@@ -15,7 +15,7 @@ pub load_index-requires-clause-call : goal.load_index-requires-clause-call
 load_index-requires-clause-call g c =
     let me = c.args.seat.now.me in let call = c.args.call.now in let at = c.requires.call in let z = c.args.self.now.sizes in
     let own : c.from-own.result ≡ (sizes_at z (other call.who.end)).own = c.from-own.ensures ∙ ap (λ (s : RingSizes). s.own) (c.sizes_of.ensures.sizes ∙ ap (sizes_at z) c.other-lane.ensures) in (
-      subst (λ (e : End). SendAt me e stage.Look) (sym c.other-lane.ensures) (send_at me call stage.Look (send_slots call call.accepted) at.0 (alone me call stage.Look at.0)),
+      subst (λ (e : End). SendAt me e stage.Look) (sym c.other-lane.ensures) (send_at me call stage.Look (send_slots call) at.0 (alone me call stage.Look at.0)),
       own_next z me call c.requires.seat.told at (subst (λ (k : ℕ). call.accepted < k) own c.if-call-own.true),
     )
 
@@ -34,7 +34,7 @@ load_entry-entry-requires-clause-call g c =
     let me = c.args.seat.now.me in let call = c.args.call.now in let at = c.requires.call in let z = c.args.self.now.sizes in
     let own : c.from-own.result ≡ (sizes_at z (other call.who.end)).own = c.from-own.ensures ∙ ap (λ (s : RingSizes). s.own) (c.sizes_of.ensures.sizes ∙ ap (sizes_at z) c.other-lane.ensures) in
     let above = c.if-call-own.false in let count : call.accepted ≡ c.from-own.result + (call.accepted - c.from-own.result) = omega arith in (
-      subst (λ (e : End). SendAt me e stage.Look) (sym c.other-lane.ensures) (send_at me call stage.Look (send_slots call call.accepted) at.0 (alone me call stage.Look at.0)),
+      subst (λ (e : End). SendAt me e stage.Look) (sym c.other-lane.ensures) (send_at me call stage.Look (send_slots call) at.0 (alone me call stage.Look at.0)),
       entry_next z me call (call.accepted - c.from-own.result) c.requires.seat.told at (count ∙ ap (λ (k : ℕ). k + (call.accepted - c.from-own.result)) own),
     )
 
