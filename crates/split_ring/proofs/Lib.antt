@@ -13,3 +13,5 @@ pub mod CallEnds
 pub mod Makes
 pub mod Crosses
 pub mod CloseSteps
+pub mod EndSteps
+pub mod PartSteps

@@ -8,5 +8,7 @@ pub mod Receives
 pub mod Binds
 pub mod Calls
 pub mod Closes
+pub mod Reclaims
 pub mod Callers
 pub mod Forms
+pub mod PartsOf
