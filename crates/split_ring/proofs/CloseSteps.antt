@@ -32,18 +32,16 @@ use Rattle.link_words.specs.declared.rule.LinkSizes.{LinkSizes}
 use Rattle.link_words.specs.declared.rule.Made.{Made}
 use Rattle.link_words.specs.declared.rule.Pass.{Pass}
 use Rattle.link_words.specs.declared.rule.Slot.{Slot}
-use Rattle.link_words.specs.declared.rule.View.{View}
 use Rattle.link_words.specs.Calls.{SeatState, Notes, noted, with_pass_at}
 use Rattle.link_words.specs.Passes.{Manages, HasNumber, place_of_number}
 use Rattle.split_ring.specs.declared.callers.Caller.{Caller}
 use Rattle.split_ring.specs.declared.callers.CallerId.{CallerId}
 use Rattle.split_ring.specs.declared.calls.Phase.{Phase}
 use Rattle.split_ring.specs.declared.calls.Phase.TheVariants as phase
-use Rattle.split_ring.specs.declared.calls.RingCall.{RingCall}
 use Rattle.split_ring.specs.declared.links.SharedLink.{SharedLink}
 use Rattle.split_ring.specs.declared.sends.SendCall.{SendCall}
 use Rattle.split_ring.specs.declared.takes.TakeCall.{TakeCall}
-use Rattle.split_ring.specs.Callers.{IsCallerOf, IsUserOf, IsWhereItWas, MayAdvance}
+use Rattle.split_ring.specs.Callers.{IsUserOf, IsWhereItWas}
 use Rattle.split_ring.specs.Calls.{SendStands, TakeStands, GiveStands, IsOwnAsk, IsInPhase}
 use Rattle.split_ring.specs.Receives.{IsHeldBy}
 use Rattle.split_ring.specs.Seats.{IsAt, IsSeatOf, pass_in, first_pass}
@@ -68,12 +66,22 @@ noted_once made n me me' one number told =
       slots = ap (λ (s : SeatState). s.1) told;
     }
 
-module _ (made : Made) (me me' : SeatState) (n : IsNoted made me me') where
-  at_noted : (call : Call) (slots : List (ℕ × Slot)) → IsAt me call slots → IsAt me' call slots
-  at_noted call slots at = record { one = n.one; in_call = ap (λ (p : Pass). p.call) n.pass ∙ at.in_call; out = n.slots ∙ at.out }
+-- the one pass is in the same call and has the same in hand, with the same slots
+pub record IsLike (me me' : SeatState) : Type 0 where
+  pub one : me'.0.passes ≡ pass_in me' ∷ []
+  pub in_call : (pass_in me').call ≡ (pass_in me).call
+  pub in_hand : (pass_in me').hands ≡ (pass_in me).hands
+  pub slots : me'.1 ≡ me.1
 
-  held_noted : (who : CallerId) (held : HeldBuffer) → IsHeldBy who held me → IsHeldBy who held me'
-  held_noted who held has = record { lane = has.lane; caller = has.caller; numbered = subst (λ (p : Pass). HasNumber p.hands held.number) (sym n.pass) has.numbered }
+pub noted_like : (made : Made) (me me' : SeatState) → IsNoted made me me' → IsLike me me'
+noted_like made me me' n = record { one = n.one; in_call = ap (λ (p : Pass). p.call) n.pass; in_hand = ap (λ (p : Pass). p.hands) n.pass; slots = n.slots }
+
+module _ (me me' : SeatState) (n : IsLike me me') where
+  pub at_noted : (call : Call) (slots : List (ℕ × Slot)) → IsAt me call slots → IsAt me' call slots
+  at_noted call slots at = record { one = n.one; in_call = n.in_call ∙ at.in_call; out = n.slots ∙ at.out }
+
+  pub held_noted : (who : CallerId) (held : HeldBuffer) → IsHeldBy who held me → IsHeldBy who held me'
+  held_noted who held has = record { lane = has.lane; caller = has.caller; numbered = subst (λ (l : List ℕ). HasNumber l held.number) (sym n.in_hand) has.numbered }
 
   send_noted : (z : LinkSizes) (c : SendCall) (s : SendStage) → SendStands z c s me → SendStands z c s me'
   send_noted z c stage.Turn has = (at_noted _ _ has.0, has.1)
@@ -124,8 +132,8 @@ where_it_was link before after made id table n user =
     let low = subst (λ (i : CallerId). i.number < 64) (sym id) user.low in record {
       id = id;
       user = record { seat = seat; one = n.one; number = number; low = low };
-      rests = λ was. record { seat = seat; rests = subst (λ (i : CallerId). IsAt after.seat.me (Rests i.end) []) (sym id) (at_noted made before.seat.me after.seat.me n _ _ was.rests); number = number; low = low };
-      in_call = λ call was. record { seat = seat; number = number; low = low; stands = subst (λ (i : CallerId). IsInPhase link.sizes i call.phase after.seat.me) (sym id) (phase_noted made before.seat.me after.seat.me n link.sizes before.id call.phase was.stands) };
+      rests = λ was. record { seat = seat; rests = subst (λ (i : CallerId). IsAt after.seat.me (Rests i.end) []) (sym id) (at_noted before.seat.me after.seat.me (noted_like made before.seat.me after.seat.me n) _ _ was.rests); number = number; low = low };
+      in_call = λ call was. record { seat = seat; number = number; low = low; stands = subst (λ (i : CallerId). IsInPhase link.sizes i call.phase after.seat.me) (sym id) (phase_noted before.seat.me after.seat.me (noted_like made before.seat.me after.seat.me n) link.sizes before.id call.phase was.stands) };
     }
 
 -- the manager's seat has its own pass still

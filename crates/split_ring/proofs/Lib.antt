@@ -15,3 +15,5 @@ pub mod CallSeen
 pub mod Makes
 pub mod Crosses
 pub mod CloseSteps
+pub mod EndSteps
+pub mod PartSteps

@@ -10,5 +10,7 @@ pub mod Calls
 pub mod Closes
 pub mod NotBelow
 pub mod Waits
+pub mod Reclaims
 pub mod Callers
 pub mod Forms
+pub mod PartsOf

@@ -7,6 +7,7 @@ ghost use Rattle.link_words.specs.declared.rule.ReceiverSide.{ReceiverSide};
 ghost use Rattle.link_words.specs.declared.rule.SenderSide.{SenderSide};
 ghost use Rattle.link_words.specs.declared.rule.Slot.TheVariants.{Buffer, Receiver, Sender};
 ghost use Rattle.link_words.specs.Steps.{accepted_side, handed_side};
+ghost use Rattle.link_words.specs.Reclaims.{without_hands};
 
 use lane_model::Desk;
 use link_words::{DeskTable, ReceiverState, SenderState, Slot};
@@ -85,5 +86,15 @@ pub(crate) fn give_back_in(slot: &mut Slot, number: u64)
 {
     if let Slot::Receiver(side) = slot {
         side.give_back(number);
+    }
+}
+
+/// What this caller has in hand is in no hand any more.
+pub(crate) fn put_aside_in(slot: &mut Slot, caller: CallerNo)
+    requires { (x : ReceiverSide) × (slot.old ≡ Receiver x) }
+    ensures { (x : ReceiverSide) → slot.old ≡ Receiver x → slot.new ≡ Receiver (without_hands x caller) }
+{
+    if let Slot::Receiver(side) = slot {
+        side.put_aside(caller);
     }
 }

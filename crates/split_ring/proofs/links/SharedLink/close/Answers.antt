@@ -1,4 +1,4 @@
-use Rattle.std.proofs.Common.{◌≡◌, List, ◌∷◌, refl, ap}
+use Rattle.std.proofs.Common.{refl, ap}
 use Rattle.link_words.specs.declared.rule.Made.TheVariants as made
 use Rattle.link_words.specs.declared.rule.Pass.{Pass}
 use Rattle.split_ring.proofs.CloseSteps.{noted_once, where_it_was}

@@ -1,0 +1,44 @@
+use mathlib.Core.Option.{some}
+use lib.ListN.{get_elem?}
+use Rattle.lane_model.specs.HeldBuffers.{HeldBuffer}
+use Rattle.std.proofs.Common.{◌≡◌, ◌⊎◌, List, [], true, false, refl, sym, ap, ◌∙◌, subst}
+use Rattle.rp_base.specs.declared.kinds.Era.{Era}
+use Rattle.split_ring.specs.declared.ends.TurnHeld.{TurnHeld}
+use Rattle.split_ring.specs.declared.reclaims.Parts.{Parts}
+use Rattle.split_ring.specs.PartsOf.{AreSame}
+use Rattle.split_ring.specs.Reclaims.{IsAnothers, lacks_receiver}
+use Rattle.split_ring.proofs.PartSteps.{holds_nothing, holds_some, all_same, manager_read, open_is, busy_is}
+use Rattle.split_ring.proofs.links.SharedLink.reclaim.Goals as goal
+
+pub end_call-requires-clause-hands : goal.end_call-requires-clause-hands
+end_call-requires-clause-hands g c none = holds_nothing c.args.self.now c.args.parts c.requires.parts c.call_has-turn.result.1 c.call_has-turn.ensures.1 (subst (λ (l : List HeldBuffer). (c.call_has-turn.result.1 ≡ false) × (l ≡ [])) c.deref.ensures.value (c.is_holding-is_holding.ensures.nothing none))
+
+pub returns-in-Err-StillOpen-clause-manager : goal.returns-in-Err-StillOpen-clause-manager
+returns-in-Err-StillOpen-clause-manager g c =
+    let t = c.learn_era.ensures.told in manager_read _ _ _ _ _ t.0 c.args.manager.now.seat.me c.learn_era.new.manager.me c.learn_era.ensures.same.0 t.3 c.requires.manager
+
+pub returns-in-Err-Busy-clause-manager : goal.returns-in-Err-Busy-clause-manager
+returns-in-Err-Busy-clause-manager g c =
+    let t = c.learn_era.ensures.told in manager_read _ _ _ _ _ t.0 c.args.manager.now.seat.me c.learn_era.new.manager.me c.learn_era.ensures.same.0 t.3 c.requires.manager
+
+pub returns-in-Err-StillOpen-clause-refused : goal.returns-in-Err-StillOpen-clause-refused
+returns-in-Err-StillOpen-clause-refused g c =
+    let coded = g.row.D.coded in let meaning = g.D.Desk.meaning in let t = c.learn_era.ensures.told in let q = c.in-Err-StillOpen.ensures in let x = c.in-Err-StillOpen in let parts = c.args.parts in
+    let back : Parts _ = record { caller = record { id = parts.caller.id; seat = c.end_call.new.seat }; call = parts.call; held = parts.held } in
+    let same : AreSame parts back = record { id = refl; call = refl; held = refl; table = q.seat.at_table ∙ sym c.requires.parts.user.seat.at_table; seat = q.refused.0 } in
+    (ap (λ (e : Era). e.is_live) x.era-is ∙ open_is coded meaning parts.caller.id c.call_has-turn.result.0 c.is_holding-is_holding.result x.field-0 x.era x.field-0-is q.refused.1, same, all_same c.args.self.now parts back same c.requires.parts, refl, (t.0, t.3))
+
+pub returns-in-Err-Busy-clause-refused : goal.returns-in-Err-Busy-clause-refused
+returns-in-Err-Busy-clause-refused g c =
+    let coded = g.row.D.coded in let meaning = g.D.Desk.meaning in let t = c.learn_era.ensures.told in let q = c.in-Err-Busy.ensures in let x = c.in-Err-Busy in let parts = c.args.parts in
+    let back : Parts _ = record { caller = record { id = parts.caller.id; seat = c.end_call.new.seat }; call = parts.call; held = parts.held } in
+    let same : AreSame parts back = record { id = refl; call = refl; held = refl; table = q.seat.at_table ∙ sym c.requires.parts.user.seat.at_table; seat = q.refused.0 } in
+    let why = busy_is coded meaning parts.caller.id c.call_has-turn.result.0 c.is_holding-is_holding.result x.field-0 x.holder x.field-0-is q.refused.1 in
+    let read : c.era_of-era.result ≡ t.0 = c.era_of-era.ensures t.0 t.1 t.2 in (
+      subst (IsAnothers coded meaning parts.caller.id) (sym x.holder-is) why.0,
+      holds_some c.args.self.now parts c.requires.parts c.call_has-turn.result.1 c.call_has-turn.ensures.1 (subst (λ (l : List HeldBuffer). (c.call_has-turn.result.1 ≡ true) ⊎ ((buffer : HeldBuffer) × (get_elem? l 0 ≡ some buffer))) c.deref.ensures.value (c.is_holding-is_holding.ensures.some why.1)) (subst (λ (u : TurnHeld). lacks_receiver u ≡ true) c.call_has-turn.ensures.0 why.2),
+      same,
+      all_same c.args.self.now parts back same c.requires.parts,
+      refl,
+      (t.0, sym (ap (λ (e : Era). e.is_live) read) ∙ c.if-era.false, t.3),
+    )

@@ -1,0 +1,135 @@
+//! The reclaim of a caller that is in any phase of a call, or in none, with all that it has.
+ghost use Rattle.std.specs.Prelude.{◌≡◌, ◌⊎◌, [], true, false, IfOk, IfErr};
+ghost use lib.ListN.{get_elem?};
+ghost use mathlib.Core.Option.{some};
+ghost use Rattle.lane_model.specs.HeldBuffers.{HeldBuffer};
+ghost use Rattle.split_ring.specs.Callers.{IsManagerOf};
+ghost use Rattle.split_ring.specs.PartsOf.{IsAllOf, IsReclaimed, IsRefusal};
+ghost use Rattle.split_ring.specs.Reclaims.{has_buffer, phase_of, turn_in};
+
+use crate::callers::{Caller, Manager};
+use crate::calls::{Phase, RingCall};
+use crate::ends::{EndFault, TurnHeld};
+use crate::links::SharedLink;
+use crate::turns::era_of;
+use lane_model::{Ask, Desk, Held, SendStage, TakeStage};
+use link_words::{join, learn_era};
+use rp_base::{CallerNo, Era};
+
+/// All that a caller has: itself, the call that it is in, where it is in one, and the buffers in its
+/// hands but for one that its call gives back.
+#[derive(Drop)]
+pub struct Parts<D: Desk> {
+    pub caller: Caller,
+    pub call: Option<RingCall<D>>,
+    pub held: Vec<Held>,
+}
+
+/// Why a caller was not reclaimed, with its parts as they came.
+#[derive(Drop)]
+pub enum ReclaimFault<D: Desk> {
+    /// The era is live.
+    StillOpen(Era, Parts<D>),
+    /// This one has the receiver's turn, which is needed for what the caller holds.
+    Busy(CallerNo, Parts<D>),
+}
+
+/// Which turn a call has.
+fn turn_in(phase: &Phase) -> TurnHeld
+    ensures { result ≡ turn_in phase.now }
+{
+    match phase {
+        Phase::Asked(_) | Phase::Ended => TurnHeld::Neither,
+        Phase::Sends(stage, _, _) => match stage {
+            SendStage::Turn | SendStage::Era | SendStage::Look => TurnHeld::Sender,
+            SendStage::Buffer | SendStage::Entry => TurnHeld::SenderAndBuffer,
+        },
+        Phase::Takes(stage, _, _) => match stage {
+            TakeStage::Turn | TakeStage::Era | TakeStage::Look => TurnHeld::Receiver,
+            TakeStage::Buffer => TurnHeld::ReceiverAndBuffer,
+        },
+        Phase::LeavesSender(_) => TurnHeld::Sender,
+        Phase::Gives(_, _, _) | Phase::Asks(_) | Phase::LeavesReceiver(_) => TurnHeld::Receiver,
+    }
+}
+
+/// Whether a call gives a buffer back that is in its caller's hands still.
+fn has_buffer(phase: &Phase) -> bool
+    ensures { result ≡ has_buffer phase.now }
+{
+    match phase {
+        Phase::Asked(ask) => matches!(ask, Ask::Give(_)),
+        Phase::Gives(_, _, _) => true,
+        Phase::Sends(_, _, _)
+        | Phase::Takes(_, _, _)
+        | Phase::Asks(_)
+        | Phase::LeavesSender(_)
+        | Phase::LeavesReceiver(_)
+        | Phase::Ended => false,
+    }
+}
+
+/// The turn that a caller's call has, and whether the call gives a buffer back.
+fn call_has<D: Desk>(call: &Option<RingCall<D>>) -> (TurnHeld, bool)
+    ensures { (result.0 ≡ turn_in (phase_of call.now)) × (result.1 ≡ has_buffer (phase_of call.now)) }
+{
+    match call {
+        Some(call) => (turn_in(&call.phase), has_buffer(&call.phase)),
+        None => (TurnHeld::Neither, false),
+    }
+}
+
+/// Whether a caller holds something: the buffer that its call gives back, or one of these.
+fn is_holding(is_giving: bool, held: &[Held]) -> bool
+    ensures nothing { result ≡ false → (is_giving ≡ false) × (held.now ≡ []) }
+    ensures some { result ≡ true → (is_giving ≡ true) ⊎ ((buffer : HeldBuffer) × (get_elem? held.now 0 ≡ some buffer)) }
+{
+    match held.first() {
+        Some(_) => true,
+        None => is_giving,
+    }
+}
+
+impl<D: Desk> SharedLink<D> {
+    /// Ends a caller, in any phase of its call, in a closed era: its number is free again. Nothing is
+    /// accepted or handed over by it, and it takes neither memory nor waits.
+    ///
+    /// Errors: `StillOpen` exactly where the era was found live; `Busy` exactly where another has the
+    /// receiver's turn of the caller's end, the caller holds a buffer, and its call does not have that turn.
+    /// All parts come back then as they were.
+    pub fn reclaim(&self, manager: &mut Manager, parts: Parts<D>) -> Result<(), ReclaimFault<D>>
+        requires manager { IsManagerOf self.now manager.old }
+        requires parts { IsAllOf self.now parts }
+        ensures manager { IsManagerOf self.now manager.new }
+        ensures reclaimed { IfOk result (λ _. IsReclaimed manager.old parts manager.new) }
+        ensures refused { IfErr result (λ fault. IsRefusal D.row.coded D.meaning self.now manager.old parts fault manager.new) }
+    {
+        let era = era_of(learn_era(&self.table.shared, &mut manager.seat));
+        if era.is_live {
+            return Err(ReclaimFault::StillOpen(era, parts));
+        }
+        let Parts {
+            mut caller,
+            call,
+            held,
+        } = parts;
+        let who = caller.id;
+        let (turn, is_giving) = call_has(&call);
+        let is_holding = is_holding(is_giving, &held);
+        match self.end_call(&mut caller.seat, who, turn, is_holding) {
+            Ok(()) => {
+                join(&self.table.shared, &mut manager.seat, caller.seat);
+                manager.users[who.number as usize] = None;
+                Ok(())
+            }
+            Err(EndFault::StillOpen(era)) => {
+                let parts = Parts { caller, call, held };
+                Err(ReclaimFault::StillOpen(era, parts))
+            }
+            Err(EndFault::Busy(holder)) => {
+                let parts = Parts { caller, call, held };
+                Err(ReclaimFault::Busy(holder, parts))
+            }
+        }
+    }
+}
