@@ -13,7 +13,7 @@ use Rattle.lane_model.specs.declared.stages.Sending.{Sending}
 use Rattle.lane_model.specs.declared.stages.Turn.{Turn}
 use Rattle.lane_model.specs.Desks.{DeskMeaning}
 use Rattle.link_words.specs.declared.rule.Call.{Call}
-use Rattle.link_words.specs.declared.rule.Call.TheVariants.{Idle, Rests, Sends, Receives, EndsSend, EndsBoth, EndsReceive, EndsHeld, Reclaims, Reopens, HoldsAll}
+use Rattle.link_words.specs.declared.rule.Call.TheVariants.{Idle, Rests, Sends, Receives, EndsSend, EndsBoth, EndsReceive, EndsHeld, Reclaims, Reopens, Gathers}
 use Rattle.link_words.specs.declared.rule.LinkSizes.{LinkSizes}
 use Rattle.link_words.specs.declared.rule.Pass.{Pass}
 use Rattle.link_words.specs.declared.rule.ReceiverSide.{ReceiverSide}
@@ -158,8 +158,8 @@ holds_leave who me slots h out = go (pass_in me).call refl h.emptied
     go (EndsBoth e t x b y) is has = absurd has
     go (Receives e t x b m) is has = absurd has
     go (Reclaims e x) is has = absurd has
-    go (Reopens p inc) is has = absurd has
-    go (HoldsAll x y) is has = absurd has
+    go (Reopens p inc a b) is has = absurd has
+    go (Gathers x y) is has = absurd has
 
 -- what is in the slot that was taken last
 abbrev pub first_slot : Slot → List (ℕ × Slot) → Slot
@@ -199,8 +199,8 @@ holds_left who me slots h out me' now = go (pass_in me).call refl h.emptied
     go (EndsBoth e t x b y) is has = absurd has
     go (Receives e t x b m) is has = absurd has
     go (Reclaims e x) is has = absurd has
-    go (Reopens p inc) is has = absurd has
-    go (HoldsAll x y) is has = absurd has
+    go (Reopens p inc a b) is has = absurd has
+    go (Gathers x y) is has = absurd has
 
 -- an ended seat behind a seat that has another call of the same pass
 pub ended_then : (who : CallerId) (call : Call) (slots : List (ℕ × Slot)) (p q : Pass) (me me1 me2 : SeatState) → q ≡ with_call p call → me1.0.sizes ≡ me.0.sizes → IsNow (ended_of who q) [] me1 me2 → IsNow (ended_of who p) [] me me2
