@@ -2,11 +2,9 @@
 use crate::codes::{DeskRight, DeskTables};
 use crate::copies::LinkCopy;
 use crate::intents::Intent;
-use crate::sides::ReceiverState;
+use crate::sides::{ReceiverState, ReceiverState, SenderState};
 use atomic_table::{Seat, Shared, TableRule};
-use lane_model::{Desk, Receiving, Sending, Turn};
-use crate::sides::{ReceiverState, SenderState};
-use lane_model::{BookEntry, Desk, Receiving, Sending, Turn, Wish};
+use lane_model::{BookEntry, Desk, Desk, Receiving, Receiving, Sending, Sending, Turn, Turn, Wish};
 use ring_core::{Hand, RingSizes};
 use rp_base::{CallerNo, End, Era, Inc, Message};
 use std::collections::LinkedList;
