@@ -28,7 +28,7 @@ use Rattle.link_words.specs.declared.rule.View.{View}
 use Rattle.link_words.specs.Words.{lane_to, era_word, shelf_to}
 use Rattle.link_words.specs.Histories.{IsCurrent, IsCurrentTake, IsOfNow}
 use Rattle.link_words.proofs.Books.{history_shut, none_shut}
-use Rattle.link_words.specs.Deeds.{Closes, Deed, after_deed, MayDo, IsStill, AreManagers, IsSoundState}
+use Rattle.link_words.specs.Deeds.{Closes, Deed, after_deed, MayDo, IsStill, IsSoundState}
 use Rattle.link_words.specs.Rule.{IsCallOf, HasCall, HistoryOf, HandsOf, Shows, WordsRule, LatestOf}
 use Rattle.link_words.specs.Parts.{has_for_manager, HoldsBuffers}
 use Rattle.link_words.specs.Codes.{copied}

@@ -24,7 +24,7 @@ use Rattle.link_words.specs.declared.rule.SenderSide.{SenderSide}
 use Rattle.link_words.specs.declared.rule.Slot.{Slot}
 use Rattle.link_words.specs.declared.rule.Slot.TheVariants.{Sender, Receiver}
 use Rattle.link_words.specs.Calls.{SeatState, place_of, call_at, number_at}
-use Rattle.link_words.specs.Deeds.{Deed, Nothing, EndsCall, TakesReceiver}
+use Rattle.link_words.specs.Deeds.{Deed, Nothing, EndsCall, ManagerTakes}
 use Rattle.link_words.specs.Layouts.{place_in}
 use Rattle.link_words.specs.Passes.{Mover, with_call, with_pass, place_of_number}
 use Rattle.link_words.specs.Reclaims.{StandsIn, doomed_call, HasTurn, FindsClosed, IsUnclaimed, claimed_call, spared_call, ClaimsTurn, without_hands, MayEnd, HasSlots, HasFilledSlots, ended_pass, slots_left, ending_of, LeavesEnded}
@@ -108,20 +108,20 @@ module _ {B : Type 0} {kc : Coded B} {kz : DeskTables} (cd : Coded (PlacedDesk k
   )
 
   claims_by : (end : End) (caller place : ℕ) (o : Mover me.0) → o.place ≡ place_of_number caller me.0.passes → (call : Call) → o.pass.call ≡ call → place ≡ place_in (receiver_word end)
-      → Allows (WordsRule cd desk z) n id me (receiver_word end) (λ y. either (eqb y 0) 65 y) (λ y me'. ClaimsBy me o end (λ x. claimed_call x call) (spared_call call) y me' × (y ≤ 65) × StepBy cd desk (ReadsAt (receiver_word end) y) me o (TakesReceiver end) me')
-      → Allows (PlacedRule cd desk z) n id me place (λ y. either (eqb y 0) 65 y) (λ y me'. ClaimsTurn end caller me y me' × (y ≤ 65) × Does (place_of_number caller me.0.passes) (HasWord place y) (TakesReceiver end) me')
+      → Allows (WordsRule cd desk z) n id me (receiver_word end) (λ y. either (eqb y 0) 65 y) (λ y me'. ClaimsBy me o end (λ x. claimed_call x call) (spared_call call) y me' × (y ≤ 65) × StepBy cd desk (ReadsAt (receiver_word end) y) me o (ManagerTakes lane_turn.Receiver end) me')
+      → Allows (PlacedRule cd desk z) n id me place (λ y. either (eqb y 0) 65 y) (λ y me'. ClaimsTurn end caller me y me' × (y ≤ 65) × Does (place_of_number caller me.0.passes) (HasWord place y) (ManagerTakes lane_turn.Receiver end) me')
   claims_by end caller place o here call is at allows = let k = place_of_number caller me.0.passes in let i = receiver_word end in let f : ℕ → ℕ = λ y. either (eqb y 0) 65 y in
-      apart cd desk z n id me i place f (λ y me'. ClaimsTurn end caller me y me' × (y ≤ 65) × Does k (HasWord place y) (TakesReceiver end) me') at
-      (weaken (WordsRule cd desk z) n id me i f (λ y me'. ClaimsBy me o end (λ x. claimed_call x call) (spared_call call) y me' × (y ≤ 65) × StepBy cd desk (ReadsAt i y) me o (TakesReceiver end) me')
-      (λ y me'. ClaimsTurn end caller me y me' × (y ≤ 65) × Does k (HasWord place y) (TakesReceiver end) me')
-      (λ y me' t. let told = claims_told end caller o here call is y me' (t.0, t.1) in (told.0, told.1, read_there cd desk i place y at _ _ _ _ me me' (step_told me o k here cd desk (ReadsAt i y) (λ _. TakesReceiver end) me' t.2))) allows)
+      apart cd desk z n id me i place f (λ y me'. ClaimsTurn end caller me y me' × (y ≤ 65) × Does k (HasWord place y) (ManagerTakes lane_turn.Receiver end) me') at
+      (weaken (WordsRule cd desk z) n id me i f (λ y me'. ClaimsBy me o end (λ x. claimed_call x call) (spared_call call) y me' × (y ≤ 65) × StepBy cd desk (ReadsAt i y) me o (ManagerTakes lane_turn.Receiver end) me')
+      (λ y me'. ClaimsTurn end caller me y me' × (y ≤ 65) × Does k (HasWord place y) (ManagerTakes lane_turn.Receiver end) me')
+      (λ y me' t. let told = claims_told end caller o here call is y me' (t.0, t.1) in (told.0, told.1, read_there cd desk i place y at _ _ _ _ me me' (step_told me o k here cd desk (ReadsAt i y) (λ _. ManagerTakes lane_turn.Receiver end) me' t.2))) allows)
 
   pub claims_all : (end : End) (caller place : ℕ) (o : Mover me.0) → o.place ≡ place_of_number caller me.0.passes → place ≡ place_in (receiver_word end) → (call : Call) → o.pass.call ≡ call → IsUnclaimed end call
-      → Allows (PlacedRule cd desk z) n id me place (λ y. either (eqb y 0) 65 y) (λ y me'. ClaimsTurn end caller me y me' × (y ≤ 65) × Does (place_of_number caller me.0.passes) (HasWord place y) (TakesReceiver end) me')
+      → Allows (PlacedRule cd desk z) n id me place (λ y. either (eqb y 0) 65 y) (λ y me'. ClaimsTurn end caller me y me' × (y ≤ 65) × Does (place_of_number caller me.0.passes) (HasWord place y) (ManagerTakes lane_turn.Receiver end) me')
   claims_all end caller place o here at (Rests e) is un = claims_by end caller place o here (Rests e) is at
-      (subst (λ (i : End). Allows (WordsRule cd desk z) n id me (receiver_word i) (λ y. either (eqb y 0) 65 y) (λ y me'. ClaimsBy me o i (λ x. Reclaims e x) (Rests e) y me' × (y ≤ 65) × StepBy cd desk (ReadsAt (receiver_word i) y) me o (TakesReceiver i) me')) un (claims cd desk z n id me o e is))
+      (subst (λ (i : End). Allows (WordsRule cd desk z) n id me (receiver_word i) (λ y. either (eqb y 0) 65 y) (λ y me'. ClaimsBy me o i (λ x. Reclaims e x) (Rests e) y me' × (y ≤ 65) × StepBy cd desk (ReadsAt (receiver_word i) y) me o (ManagerTakes lane_turn.Receiver i) me')) un (claims cd desk z n id me o e is))
   claims_all end caller place o here at (EndsSend e t x b) is un = claims_by end caller place o here (EndsSend e t x b) is at
-      (subst (λ (i : End). Allows (WordsRule cd desk z) n id me (receiver_word i) (λ y. either (eqb y 0) 65 y) (λ y me'. ClaimsBy me o i (λ w. EndsBoth e t x b w) (Sends e t x b) y me' × (y ≤ 65) × StepBy cd desk (ReadsAt (receiver_word i) y) me o (TakesReceiver i) me')) un.0 (claims_beside cd desk z n id me o e t x b is un.1))
+      (subst (λ (i : End). Allows (WordsRule cd desk z) n id me (receiver_word i) (λ y. either (eqb y 0) 65 y) (λ y me'. ClaimsBy me o i (λ w. EndsBoth e t x b w) (Sends e t x b) y me' × (y ≤ 65) × StepBy cd desk (ReadsAt (receiver_word i) y) me o (ManagerTakes lane_turn.Receiver i) me')) un.0 (claims_beside cd desk z n id me o e t x b is un.1))
   claims_all end caller place o here at Idle is un = absurd un
   claims_all end caller place o here at (Sends e t x b) is un = absurd un
   claims_all end caller place o here at (EndsBoth e t x b y) is un = absurd un

@@ -1,5 +1,5 @@
 -- The side states that the manager has of a lane: they stand where the lane moves without them.
-use Rattle.std.proofs.Common.{◌≡◌, Bool, true, false, refl, sym, ap, ◌∙◌}
+use Rattle.std.proofs.Common.{◌≡◌, true, false, refl, sym, ap, ◌∙◌}
 use Rattle.std.specs.Prelude.{Option, Some, None}
 use Rattle.lane_model.specs.declared.stages.Turn.TheVariants as turn
 use Rattle.link_words.specs.declared.rule.LaneSides.{LaneSides}

@@ -1,6 +1,7 @@
 -- A reclaim of a caller that is in no call and holds buffers: the manager takes its receiver's turn with the caller's own seat, finds the era
 -- closed while it has it, and leaves it without what the caller held.
 use Rattle.link_words.proofs.Gathered.{there}
+use Rattle.lane_model.specs.declared.recoveries.LaneTurn.TheVariants as lane_turn
 use Rattle.link_words.specs.declared.codes.DeskTables.{DeskTables}
 use Rattle.link_words.specs.PlacedDesks.{PlacedDesk}
 use Rattle.std.proofs.Common.{◌≡◌, ◌≢◌, ℕ, ◌<◌, ◌≤◌, Bool, true, false, eqb, List, [], ◌∷◌, length, get_or, refl, sym, ap, ◌∙◌, subst, ⊎_elim, arith, suc-ne-zero, inl, inr}
@@ -39,7 +40,7 @@ use Rattle.link_words.specs.declared.rule.View.{View}
 use Rattle.link_words.specs.Words.{receiver_slot, other, lane_to, with_lane, era_word, turn_word, lane_words, words_at, LaneWords, LaneHomes, lane_homes, homes_at, home_if, words_of, shelf_to, receiver_side}
 use Rattle.link_words.specs.Turns.{is_manager}
 use Rattle.link_words.specs.Histories.{same_end}
-use Rattle.link_words.specs.Deeds.{TakesReceiver, ReleasesReceiver, LeavesTurn, Nothing, IsStill, after_deed}
+use Rattle.link_words.specs.Deeds.{ManagerTakes, ManagerLeaves, LeavesTurn, Nothing, IsStill, after_deed}
 use Rattle.link_words.specs.Rule.{IsCallOf, fresh_block, Shows, WordsRule}
 use Rattle.link_words.specs.Parts.{has_for_manager, HoldsBuffers}
 use Rattle.link_words.specs.Codes.{copied}
@@ -193,7 +194,7 @@ module _ {B : Type 0} {kc : Coded B} {kz : DeskTables} (cd : Coded (PlacedDesk k
     claims_free : (st : State Slot View) (m : LaneLink (RingState (PlacedDesk kc kz))) (r : Shows cd desk z st m 0) → get_elem? st.views id ≡ some me.0 → (lane_to m e).lane.receiver ≡ turn.Free
         → (w : View) × (a : Act Slot) × Valid st.homes me.1 a × WordsRule cd desk z (stepped st (receiver_word e) 65 id me.1 w a)
         × ((x : ReceiverSide) × Path (Me Slot View) (w, carried_after me.1 a) (with_pass me.0 o (with_call o.pass (next x)) w.copy, (receiver_slot e, Receiver x) ∷ me.1))
-        × StepBy cd desk (ReadsAt (receiver_word e) (get_or st.words (receiver_word e) 0)) me o (TakesReceiver e) (w, carried_after me.1 a)
+        × StepBy cd desk (ReadsAt (receiver_word e) (get_or st.words (receiver_word e) 0)) me o (ManagerTakes lane_turn.Receiver e) (w, carried_after me.1 a)
     claims_free st m r at free =
         let s₀ = lane_to m e in let s = with_receiver s₀ turn.Free in let is : s₀ ≡ s = λ k. with_receiver s₀ (free k) in let s' = with_receiver s₀ turn.Manager in
         let x = receiver_side s₀ in let w : Call = next x in let hb = lane_homes (lane_to m (other e)) (shelf_to r.shelves (other e)) in
@@ -201,7 +202,7 @@ module _ {B : Type 0} {kc : Coded B} {kz : DeskTables} (cd : Coded (PlacedDesk k
           _,
           takes (receiver_slot e) (Receiver x),
           ap (λ hs. get_elem? hs (receiver_slot e)) (homes_here cd desk z st m r e) ∙ (receiver_home e _ _ ∙ ap (λ (t : Turn Receiving). some (home_if t (Receiver x))) free),
-          lane_moves_by cd desk z st m r e s s' is (receiver_word e) 65 id me.1 me.0 o w o.pass.hands (takes (receiver_slot e) (Receiver x)) (TakesReceiver e) (shelf_to r.shelves e) at tt
+          lane_moves_by cd desk z st m r e s s' is (receiver_word e) 65 id me.1 me.0 o w o.pass.hands (takes (receiver_slot e) (Receiver x)) (ManagerTakes lane_turn.Receiver e) (shelf_to r.shelves e) at tt
               deed
               (receiver_turn_set e (era_word m.era) 65 (lane_words s) (lane_words (lane_to m (other e))))
               (receiver_side_set e none (lane_homes s (shelf_to r.shelves e)) hb)
@@ -213,18 +214,18 @@ module _ {B : Type 0} {kc : Coded B} {kz : DeskTables} (cd : Coded (PlacedDesk k
               (λ i held j l u there theirs. let same = minds x i held in free_for_all m e 0 free u.number u.call (minds_has e u.call (subst (λ (q : End). has_for_manager q u.call ≡ true) same theirs)) (r.turns.calls j l u there))
               r.turns.keepers),
           (x, refl),
-          read_by (receiver_word e) cd desk z st m r id me o (with_call o.pass w) (TakesReceiver e) (with_lane m e s') ((receiver_slot e, Receiver x) ∷ me.1) at tt deed has,
+          read_by (receiver_word e) cd desk z st m r id me o (with_call o.pass w) (ManagerTakes lane_turn.Receiver e) (with_lane m e s') ((receiver_slot e, Receiver x) ∷ me.1) at tt deed has,
         )
 
     -- where the turn is another's, the pass is in this call, and nothing has changed
     claims_from : (busy : Call) → ((m : LaneLink (RingState (PlacedDesk kc kz))) → IsCallOf m 0 o.pass.number o.pass.call → IsCallOf m 0 o.pass.number busy) → ((i : End) → has_for_manager i busy ≡ true → has_for_manager i o.pass.call ≡ true)
         → ((st : State Slot View) (m : LaneLink (RingState (PlacedDesk kc kz))) (p : ℕ) (r : Shows cd desk z st m p) → get_elem? st.views id ≡ some me.0 → IsCallOf m p o.pass.number busy × IsCallOf m 0 o.pass.number o.pass.call)
-        → Allows (WordsRule cd desk z) n id me (receiver_word e) (λ y. either (eqb y 0) 65 y) (λ y me'. ClaimsBy me o e next busy y me' × (y ≤ 65) × StepBy cd desk (ReadsAt (receiver_word e) y) me o (TakesReceiver e) me')
+        → Allows (WordsRule cd desk z) n id me (receiver_word e) (λ y. either (eqb y 0) 65 y) (λ y me'. ClaimsBy me o e next busy y me' × (y ≤ 65) × StepBy cd desk (ReadsAt (receiver_word e) y) me o (ManagerTakes lane_turn.Receiver e) me')
     claims_from busy goes_back quiet stands st (m, p, r₀) wide at _ =
         let y : ℕ = get_or st.words (receiver_word e) 0 in
         let found : y ≡ turn_word (lane_to m e).lane.receiver = ap (λ (ws : List ℕ). get_or ws (receiver_word e) 0) r₀.words_are ∙ seen_receiver m p e in
         let held : y ≤ 65 = subst (λ (k : ℕ). k ≤ 65) (sym found) (receiver_word_most desk m e r₀.numbers.many r₀.sound) in
-        exchanged y 0 65 (λ f. (w : View) × (a : Act Slot) × Valid st.homes me.1 a × WordsRule cd desk z (stepped st (receiver_word e) f id me.1 w a) × (ClaimsBy me o e next busy y (w, carried_after me.1 a) × (y ≤ 65) × StepBy cd desk (ReadsAt (receiver_word e) y) me o (TakesReceiver e) (w, carried_after me.1 a)))
+        exchanged y 0 65 (λ f. (w : View) × (a : Act Slot) × Valid st.homes me.1 a × WordsRule cd desk z (stepped st (receiver_word e) f id me.1 w a) × (ClaimsBy me o e next busy y (w, carried_after me.1 a) × (y ≤ 65) × StepBy cd desk (ReadsAt (receiver_word e) y) me o (ManagerTakes lane_turn.Receiver e) (w, carried_after me.1 a)))
         (λ hit.
         let free : (lane_to m e).lane.receiver ≡ turn.Free = free_if (lane_to m e).lane.receiver (sym found ∙ hit) in
         let r : Shows cd desk z st m 0 = ⊎_elim (λ (none_reset : p ≡ 0). subst (Shows cd desk z st m) none_reset r₀)
@@ -232,22 +233,22 @@ module _ {B : Type 0} {kc : Coded B} {kz : DeskTables} (cd : Coded (PlacedDesk k
         let all = claims_free st m r at free in
         (all.0, all.1, all.2, all.3, (((λ _. all.4), λ never. absurd (never hit)), held, all.5)))
         (λ miss.
-        let same : m ≡ after_deed desk m (TakesReceiver e) = sym (same_lane m e) ∙ ap (λ (t : Turn Receiving). with_lane m e (with_receiver (lane_to m e) t)) (sym (takes_none (lane_to m e).lane.receiver (λ none. miss (found ∙ none)))) in
+        let same : m ≡ after_deed desk m (ManagerTakes lane_turn.Receiver e) = sym (same_lane m e) ∙ ap (λ (t : Turn Receiving). with_lane m e (with_receiver (lane_to m e) t)) (sym (takes_none (lane_to m e).lane.receiver (λ none. miss (found ∙ none)))) in
         let is = stands st m p r₀ at in (
           _,
           keeps,
           tt,
-          stays_at cd desk z st m p r₀ (receiver_word e) y id me.1 me.0 o busy (TakesReceiver e) at refl tt same is.0 quiet,
+          stays_at cd desk z st m p r₀ (receiver_word e) y id me.1 me.0 o busy (ManagerTakes lane_turn.Receiver e) at refl tt same is.0 quiet,
           (
             ((λ hit. absurd (miss hit)), λ _. refl),
             held,
-            step_found cd desk z st m p r₀ id (receiver_word e) me o (with_call o.pass busy) (TakesReceiver e) me.1 (found ∙ receiver_of m e) at tt same is.1 (goes_back m is.1),
+            step_found cd desk z st m p r₀ id (receiver_word e) me o (with_call o.pass busy) (ManagerTakes lane_turn.Receiver e) me.1 (found ∙ receiver_of m e) at tt same is.1 (goes_back m is.1),
           ),
         ))
 
   -- of a caller between its calls
   pub claims : (n id : ℕ) (me : SeatState) (o : Mover me.0) (e : End) → o.pass.call ≡ Rests e
-      → Allows (WordsRule cd desk z) n id me (receiver_word e) (λ y. either (eqb y 0) 65 y) (λ y me'. ClaimsBy me o e (Reclaims e) (Rests e) y me' × (y ≤ 65) × StepBy cd desk (ReadsAt (receiver_word e) y) me o (TakesReceiver e) me')
+      → Allows (WordsRule cd desk z) n id me (receiver_word e) (λ y. either (eqb y 0) 65 y) (λ y me'. ClaimsBy me o e (Reclaims e) (Rests e) y me' × (y ≤ 65) × StepBy cd desk (ReadsAt (receiver_word e) y) me o (ManagerTakes lane_turn.Receiver e) me')
   claims n id me o e call =
       claims_from n id me o e (Reclaims e) (λ x i. same_end_is i e)
       (λ m has. let rests : IsCallOf m 0 o.pass.number (Rests e) = subst (IsCallOf m 0 o.pass.number) call has in minded m e (with_receiver (lane_to m e) turn.Manager) o.pass.number rests.0 refl rests.1)
@@ -261,7 +262,7 @@ module _ {B : Type 0} {kc : Coded B} {kz : DeskTables} (cd : Coded (PlacedDesk k
 
   -- and of one whose send has found the era closed, which goes on where the turn is another's
   pub claims_beside : (n id : ℕ) (me : SeatState) (o : Mover me.0) (i : End) (t : Turn Sending) (x : SenderSide) (b : ℕ) → o.pass.call ≡ EndsSend i t x b → is_manager t ≡ false
-      → Allows (WordsRule cd desk z) n id me (receiver_word (other i)) (λ y. either (eqb y 0) 65 y) (λ y me'. ClaimsBy me o (other i) (EndsBoth i t x b) (Sends i t x b) y me' × (y ≤ 65) × StepBy cd desk (ReadsAt (receiver_word (other i)) y) me o (TakesReceiver (other i)) me')
+      → Allows (WordsRule cd desk z) n id me (receiver_word (other i)) (λ y. either (eqb y 0) 65 y) (λ y me'. ClaimsBy me o (other i) (EndsBoth i t x b) (Sends i t x b) y me' × (y ≤ 65) × StepBy cd desk (ReadsAt (receiver_word (other i)) y) me o (ManagerTakes lane_turn.Receiver (other i)) me')
   claims_beside n id me o i t x b call bare =
       claims_from n id me o (other i) (EndsBoth i t x b) (λ y j. same_end_is j (other i))
       (λ m has. both_minded m i o.pass.number t x b (subst (IsCallOf m 0 o.pass.number) call has))
@@ -277,7 +278,7 @@ module _ {B : Type 0} {kc : Coded B} {kz : DeskTables} (cd : Coded (PlacedDesk k
 
   -- where it was found live, the turn is left again
   pub releases : (n id : ℕ) (me : SeatState) (o : Mover me.0) (e : End) (x : ReceiverSide) → o.pass.call ≡ Reclaims e x → me.1 ≡ (receiver_slot e, Receiver x) ∷ rest me.1
-      → Allows (WordsRule cd desk z) n id me (receiver_word e) (λ _. 0) (λ _ me'. LeavesTo me o (Rests e) (rest me.1) me' × StepBy cd desk (WritesAt (receiver_word e) 0) me o (ReleasesReceiver e) me')
+      → Allows (WordsRule cd desk z) n id me (receiver_word e) (λ _. 0) (λ _ me'. LeavesTo me o (Rests e) (rest me.1) me' × StepBy cd desk (WritesAt (receiver_word e) 0) me o (ManagerLeaves lane_turn.Receiver e) me')
   releases n id me o e x call has_slot st (m, p, r₀) wide at _ =
       let h : IsCallOf m p o.pass.number (Reclaims e x) = subst (IsCallOf m p o.pass.number) call (r₀.turns.calls id o.place o.pass (me.0, at, o.here)) in
       let c = o.pass.number in let s₀ = lane_to m e in let r : Shows cd desk z st m 0 = subst (Shows cd desk z st m) h.3 r₀ in
@@ -288,8 +289,8 @@ module _ {B : Type 0} {kc : Coded B} {kz : DeskTables} (cd : Coded (PlacedDesk k
         _,
         gives,
         tt,
-        lane_moves_by cd desk z st m r e s s' is (receiver_word e) 0 id me.1 me.0 o (Rests e) o.pass.hands gives (ReleasesReceiver e) (shelf_to r.shelves e) at
-            h.1
+        lane_moves_by cd desk z st m r e s s' is (receiver_word e) 0 id me.1 me.0 o (Rests e) o.pass.hands gives (ManagerLeaves lane_turn.Receiver e) (shelf_to r.shelves e) at
+            tt
             deed
             (receiver_turn_set e (era_word m.era) 0 (lane_words s) (lane_words (lane_to m (other e))))
             (ap (λ (cs : List (ℕ × Slot)). homes_after (homes_at e ha hb) cs gives) has_slot
@@ -299,7 +300,7 @@ module _ {B : Type 0} {kc : Coded B} {kz : DeskTables} (cd : Coded (PlacedDesk k
             (λ j l u there apart. others_beside desk m e s' refl refl refl u.number refl u.call (λ having had. alone st m r e id me.0 o at minds h.1 j l u there apart having had))
             refl refl refl refl (r.histories.latest id o.place o.pass (me.0, at, o.here)) (hands_kept desk m e s' o.pass (λ was. was) (r.histories.hands id o.place o.pass (me.0, at, o.here))) (λ u apart. hands_kept desk m e s' u (λ was. was))
             (keepers_set st.views id me.0 (with_pass me.0 o (with_call o.pass (Rests e)) (Some (copied cd (with_lane m e s')))) o (with_call o.pass (Rests e)) at refl refl (λ i k. absurd (true-false (sym k))) r.turns.keepers),
-        (refl, write_by (receiver_word e) 0 cd desk z st m r id me o (with_call o.pass (Rests e)) (ReleasesReceiver e) (with_lane m e s') (rest me.1) (receiver_in m e s') at h.1 deed mine),
+        (refl, write_by (receiver_word e) 0 cd desk z st m r id me o (with_call o.pass (Rests e)) (ManagerLeaves lane_turn.Receiver e) (with_lane m e s') (rest me.1) (receiver_in m e s') at tt deed mine),
       )
 
   -- part 4: the turn is left, and the caller holds nothing

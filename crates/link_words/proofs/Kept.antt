@@ -30,7 +30,7 @@ use Rattle.lane_laws.specs.SoundRingLinks.{HasSoundRings}
 use Rattle.lane_laws.proofs.RingLinks.{link_kept, close_kept, reopen_kept}
 use Rattle.ring_core.proofs.Reclaims.{send_ended_sound, receive_ended_sound}
 use Rattle.link_words.specs.Words.{other, lane_to, with_lane}
-use Rattle.link_words.specs.Deeds.{Deed, Steps, Closes, EndsCall, Opens, TakesReceiver, ReleasesReceiver, LeavesTurn, Enlists, Frees, Nothing, after_leave_without, after_deed, MayDo, lanes_after_end, IsSoundState, ManagerTakes, ManagerLeaves}
+use Rattle.link_words.specs.Deeds.{Deed, Steps, Closes, EndsCall, Opens, LeavesTurn, Enlists, Frees, Nothing, after_leave_without, after_deed, MayDo, lanes_after_end, IsSoundState, ManagerTakes, ManagerLeaves}
 
 true-false : true ≡ false → ⊥
 true-false e = absurd (cc)
@@ -187,23 +187,6 @@ freed_rings s lane_turn.Receiver q = record {
 free_has : {C : Type 0} (P : ℕ → C → Type 0) (t : Turn C) → t ≡ turn.Manager → OfCall (manager_leaves t) P
 free_has P t is = subst (λ u. OfCall (manager_leaves u) P) (sym is) tt
 
--- a lane whose receiver's turn the manager leaves
-released_rings : {D : Type 0} (s : RingState D) → s.lane.receiver ≡ turn.Manager → IsSoundRings s → IsSoundRings (record s { lane = without_manager s.lane lane_turn.Receiver })
-released_rings s is q = record {
-  sized = q.sized;
-  counted = q.counted;
-  forward_index = q.forward_index;
-  return_index = q.return_index;
-  owned = q.owned;
-  apart = q.apart;
-  holdings = q.holdings;
-  filled = q.filled;
-  room = q.room;
-  fit = free_has _ s.lane.receiver is;
-  source = q.source;
-  work = free_has _ s.lane.receiver is;
-}
-
 left_rings : {D : Type 0} (desk : DeskMeaning D) (s : RingState D) (caller : ℕ) → s.lane.receiver ≡ turn.Manager → IsSoundRings s → IsSoundRings (after_leave_without desk s caller)
 left_rings desk s caller is sound = let q = receive_ended_sound desk s caller sound in record {
   sized = q.sized;
@@ -244,21 +227,6 @@ deed_kept desk m (Frees side.Remote caller) may k = record {
   sound = part_sound (link_of (ring_form desk) m) side.Remote caller part.FreesNumber may.0 may.1 may.2 k.sound;
 }
 deed_kept desk m Nothing may k = k
-deed_kept desk m (TakesReceiver side.Host) may k = record {
-  rings = record { to_host = taken_rings m.to_host k.rings.to_host; to_remote = k.rings.to_remote };
-  sound = (manager_takes_sound (link_of (ring_form desk) m) lane_turn.Receiver k.sound).0;
-}
-deed_kept desk m (TakesReceiver side.Remote) may k = record {
-  rings = record { to_host = k.rings.to_host; to_remote = taken_rings m.to_remote k.rings.to_remote };
-  sound = (manager_takes_sound (link_of (ring_form desk) m) lane_turn.Receiver k.sound).1;
-}
-deed_kept desk m (ReleasesReceiver side.Host) may k = record {
-  rings = record { to_host = released_rings m.to_host may k.rings.to_host; to_remote = k.rings.to_remote };
-  sound = (manager_leaves_sound (link_of (ring_form desk) m) lane_turn.Receiver k.sound).0;
-}
-deed_kept desk m (ReleasesReceiver side.Remote) may k = record {
-  rings = record { to_host = k.rings.to_host; to_remote = released_rings m.to_remote may k.rings.to_remote };
-  sound = (manager_leaves_sound (link_of (ring_form desk) m) lane_turn.Receiver k.sound).1;
 deed_kept desk m (ManagerTakes which side.Host) may k = record {
   rings = record { to_host = managed_rings m.to_host which k.rings.to_host; to_remote = k.rings.to_remote };
   sound = (manager_takes_sound (link_of (ring_form desk) m) which k.sound).0;

@@ -1,5 +1,5 @@
 -- What the steps of the manager tell, by the place of its own pass, on the words of the table.
-use Rattle.std.proofs.Common.{◌≡◌, ◌≢◌, ℕ, ◌+◌, ◌*◌, ◌-◌, ◌<◌, ◌≤◌, zero, suc, eqb, false, true, List, [], ◌∷◌, length, refl, sym, ap, ◌∙◌, subst, arith}
+use Rattle.std.proofs.Common.{◌≡◌, ℕ, ◌+◌, ◌*◌, ◌-◌, ◌<◌, ◌≤◌, zero, suc, eqb, false, List, [], ◌∷◌, length, refl, sym, ap, ◌∙◌, subst, arith}
 use Rattle.std.specs.Prelude.{Option, Some, None}
 use mathlib.Core.Path.{Path}
 use mathlib.Core.Option.{some}
@@ -22,13 +22,11 @@ use Rattle.link_words.specs.declared.rule.LaneSides.{LaneSides}
 use Rattle.link_words.specs.declared.rule.LinkSizes.{LinkSizes}
 use Rattle.link_words.specs.declared.rule.Pass.{Pass}
 use Rattle.link_words.specs.declared.rule.ReceiverSide.{ReceiverSide}
-use Rattle.link_words.specs.declared.rule.SenderSide.{SenderSide}
 use Rattle.link_words.specs.declared.rule.Slot.{Slot}
 use Rattle.link_words.specs.declared.rule.Slot.TheVariants.{Receiver, Sender}
 use Rattle.link_words.specs.PlacedDesks.{PlacedDesk, placed_meaning, right_at, right_to, table_at, IsRightTo}
-use Rattle.link_words.specs.Words.{era_word, sender_slot, receiver_slot, sender_word, receiver_word}
+use Rattle.link_words.specs.Words.{sender_slot, receiver_slot, sender_word, receiver_word}
 use Rattle.link_words.specs.Layouts.{place_in}
-use Rattle.link_words.specs.Sides.{sides_at}
 use Rattle.link_words.specs.Passes.{Mover, with_call, with_pass}
 use Rattle.link_words.specs.Fresh.{fresh_of}
 use Rattle.link_words.specs.Deeds.{Deed, ManagerTakes, ManagerLeaves}
@@ -36,7 +34,7 @@ use Rattle.link_words.specs.Rule.{WordsRule, PlacedRule}
 use Rattle.link_words.specs.Calls.{SeatState, Becomes, call_at, number_at, with_pass_at}
 use Rattle.link_words.specs.declared.copies.LinkCopy.{LinkCopy}
 use Rattle.link_words.specs.Steps.{IsStepOf, HasWord, StoresWord, turn_number}
-use Rattle.link_words.specs.Reopens.{gathers_or, reopens_or, sides_of, manager_place, manager_call, ManagerAt, both_sides, gathered, with_gathered, ManagerTakesSender, ManagerTakesReceiver, ManagerLeavesSender, ManagerLeavesReceiver, ManagerTakesTurn, ManagerLeavesTurn, MayGather, MayLeaveSender, MayLeaveReceiver, MayLeaveTurn, MayBegin, AreBooksOf, books_by, BeginsReopening, MayReset, ResetsWord, MayOpen, right_by, opened_sides, opened_view, OpensEra, IsOpeningOf}
+use Rattle.link_words.specs.Reopens.{gathers_or, reopens_or, sides_of, manager_place, manager_call, ManagerAt, both_sides, gathered, ManagerTakesSender, ManagerTakesReceiver, ManagerLeavesSender, ManagerLeavesReceiver, ManagerTakesTurn, ManagerLeavesTurn, MayGather, MayLeaveTurn, MayBegin, AreBooksOf, books_by, BeginsReopening, MayReset, ResetsWord, MayOpen, right_by, opened_sides, opened_view, OpensEra, IsOpeningOf}
 use Rattle.link_words.proofs.Apart.{apart, entry_place_is, sender_low, receiver_low}
 use Rattle.link_words.proofs.Exact.{StepBy, ReadsAt, WritesAt, becomes, passes_at, call_is, step_told, read_there, written_there}
 use Rattle.link_words.proofs.ManagerTurns.{TakesSenderBy, takes_sender, leaves_sender_turn, TakesReceiverBy, takes_receiver, leaves_receiver_turn}

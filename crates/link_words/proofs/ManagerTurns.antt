@@ -1,5 +1,5 @@
 -- The manager takes and leaves the turns of a link, one by one, with its own seat.
-use Rattle.std.proofs.Common.{◌≡◌, ◌≢◌, ◌≤◌, ℕ, Bool, true, false, eqb, List, [], ◌∷◌, get_or, refl, sym, ap, ◌∙◌, subst, ⊎_elim, inl, inr}
+use Rattle.std.proofs.Common.{◌≡◌, ◌≢◌, ◌≤◌, ℕ, true, eqb, List, ◌∷◌, get_or, refl, sym, ap, ◌∙◌, subst, ⊎_elim, inl, inr}
 use Rattle.std.specs.Prelude.{◌⊎◌, Option, Some, None}
 use mathlib.Core.Option.{some, none}
 use mathlib.Core.Path.{Path}
@@ -31,10 +31,10 @@ use Rattle.link_words.specs.declared.rule.Slot.{Slot}
 use Rattle.link_words.specs.declared.rule.Slot.TheVariants.{Receiver, Sender}
 use Rattle.link_words.specs.declared.rule.View.{View}
 use Rattle.link_words.specs.PlacedDesks.{PlacedDesk}
-use Rattle.link_words.specs.Words.{other, lane_to, with_lane, era_word, turn_word, lane_words, words_of, lane_homes, homes_at, home_if, shelf_to, sender_side, receiver_side, sender_word, receiver_word, sender_slot, receiver_slot, with_turn}
-use Rattle.link_words.specs.Turns.{LaneTurns, turns_of}
+use Rattle.link_words.specs.Words.{other, lane_to, with_lane, era_word, turn_word, lane_words, lane_homes, homes_at, home_if, shelf_to, sender_side, receiver_side, sender_word, receiver_word, sender_slot, receiver_slot, with_turn}
+use Rattle.link_words.specs.Turns.{turns_of}
 use Rattle.link_words.specs.Sides.{is_there, sides_at}
-use Rattle.link_words.specs.Deeds.{Deed, ManagerTakes, ManagerLeaves, MayDo, after_deed, IsStill}
+use Rattle.link_words.specs.Deeds.{Deed, ManagerTakes, ManagerLeaves, MayDo, after_deed}
 use Rattle.link_words.specs.Rule.{IsCallOf, Shows, WordsRule}
 use Rattle.link_words.specs.Parts.{has_for_manager, HasGathered, HoldsBuffers}
 use Rattle.link_words.specs.Codes.{copied}
@@ -46,11 +46,12 @@ use Rattle.link_words.proofs.Closes.{stays}
 use Rattle.link_words.proofs.Exact.{StepBy, ReadsAt, WritesAt, read_by, write_by, call_at_is}
 use Rattle.link_words.proofs.Frames.{turn_set, side_found, side_set, same_lane, keepers_set, keepers_more, sender_in, receiver_in}
 use Rattle.link_words.proofs.Gathered.{gathered_sender, left_sender, gathered_receiver, left_receiver}
-use Rattle.link_words.proofs.Held.{free_if, is_free, free_for_all, minds_has, receiver_home, same_end_is, seen_receiver, shelved_receiver, alone}
+use Rattle.link_words.proofs.Held.{free_if, free_for_all, minds_has, receiver_home, seen_receiver, shelved_receiver, alone}
 use Rattle.link_words.proofs.LaneSteps.{others_send, others_free_send, hands_kept, lane_moves, lane_moves_by}
 use Rattle.link_words.proofs.Parts.{state_in, buffers_in}
 use Rattle.link_words.proofs.Sends.{shelved_turn, true-false}
-use Rattle.link_words.proofs.Starts.{seen_sender, sender_word_most, receiver_word_most}
+use Rattle.link_words.proofs.Starts.{seen_sender}
+use Rattle.link_words.proofs.TurnWords.{sender_word_most, receiver_word_most}
 use Rattle.link_words.proofs.Takes.{with_receiver, receiver_turn_set, receiver_side_set, others_beside}
 
 -- a turn that is not free stays when the manager takes it

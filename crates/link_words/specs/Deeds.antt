@@ -11,7 +11,6 @@ use Rattle.lane_model.specs.Conditions.{MayStep}
 use Rattle.lane_model.specs.Recoveries.{link_after_close, link_after_reopen}
 use Rattle.lane_laws.specs.Parts.{with_manager, without_manager, turn_left_without, MayPart}
 use Rattle.lane_model.specs.declared.recoveries.LaneTurn.{LaneTurn}
-use Rattle.lane_model.specs.declared.recoveries.LaneTurn.TheVariants as lane_turn
 use Rattle.lane_model.specs.declared.recoveries.ReclaimPart.TheVariants as part
 use Rattle.link_words.specs.Words.{lane_to, with_lane}
 use Rattle.link_words.specs.Turns.{HasFourTurns}
@@ -30,11 +29,8 @@ pub data Deed : Type 0 where
   EndsCall : End → ℕ → Deed
   -- the opening of the next incarnation
   Opens : Deed
-  -- parts 2 and 4 of a reclaim: the manager has this receiver's turn, and leaves it without what this caller holds
-  TakesReceiver : End → Deed
+  -- part 4 of a reclaim: the manager leaves this receiver's turn without what this caller holds
   LeavesTurn : End → ℕ → Deed
-  -- the manager leaves this receiver's turn, and nothing else changes
-  ReleasesReceiver : End → Deed
   -- the manager takes this turn of the lane to this end, where it is free, or leaves it, and nothing else changes
   ManagerTakes : LaneTurn → End → Deed
   ManagerLeaves : LaneTurn → End → Deed
@@ -81,8 +77,6 @@ module _ {D : Type 0} (desk : DeskMeaning D) where
   after_deed m (Closes inc) = link_after_close m inc
   after_deed m (EndsCall end caller) = with_lanes m end (lanes_after_end (lanes_of m end) caller)
   after_deed m Opens = link_after_opening m
-  after_deed m (TakesReceiver e) = with_lane m e (record (lane_to m e) { lane = with_manager (lane_to m e).lane lane_turn.Receiver })
-  after_deed m (ReleasesReceiver e) = with_lane m e (record (lane_to m e) { lane = without_manager (lane_to m e).lane lane_turn.Receiver })
   after_deed m (ManagerTakes which e) = with_lane m e (record (lane_to m e) { lane = with_manager (lane_to m e).lane which })
   after_deed m (ManagerLeaves which e) = with_lane m e (record (lane_to m e) { lane = without_manager (lane_to m e).lane which })
   after_deed m (LeavesTurn e caller) = with_lane m e (after_leave_without (lane_to m e) caller)
@@ -96,8 +90,6 @@ module _ {D : Type 0} (desk : DeskMeaning D) where
   MayDo m (Closes inc) = Unit {0}
   MayDo m (EndsCall end caller) = (m.era.is_live ≡ false) × (end_of m.callers caller ≡ Some end)
   MayDo m Opens = IsStill m × HoldsNothing m
-  MayDo m (TakesReceiver e) = Unit {0}
-  MayDo m (ReleasesReceiver e) = (lane_to m e).lane.receiver ≡ turn.Manager
   MayDo m (ManagerTakes which e) = Unit {0}
   MayDo m (ManagerLeaves which e) = Unit {0}
   MayDo m (LeavesTurn e caller) = (m.era.is_live ≡ false) × (end_of m.callers caller ≡ Some e) × ((lane_to m e).lane.receiver ≡ turn.Manager)

@@ -19,7 +19,7 @@ use Rattle.link_words.specs.declared.rule.ReceiverSide.{ReceiverSide}
 use Rattle.link_words.specs.declared.rule.Slot.{Slot}
 use Rattle.link_words.specs.declared.rule.Slot.TheVariants.{Sender, Receiver, Buffer}
 use Rattle.link_words.specs.Calls.{SeatState, place_of, call_at, number_at, Becomes}
-use Rattle.link_words.specs.Deeds.{Deed, Nothing, EndsCall, TakesReceiver, ReleasesReceiver, LeavesTurn}
+use Rattle.link_words.specs.Deeds.{Deed, Nothing, EndsCall, ManagerTakes, ManagerLeaves, LeavesTurn}
 use Rattle.link_words.specs.Passes.{Mover, with_call, with_call_and_hands, place_of_number}
 use Rattle.link_words.specs.PlacedDesks.{PlacedDesk, placed_coded, placed_meaning}
 use Rattle.link_words.specs.Steps.{IsStepOf, HasWord, StoresWord}
@@ -179,7 +179,7 @@ ending_of (EndsSend e t x b) caller = EndsCall (other e) caller
 ending_of (EndsBoth e t x b y) caller = EndsCall (other e) caller
 ending_of (Receives e t x b message) caller = Nothing
 ending_of (EndsReceive e t x b message) caller = EndsCall e caller
-ending_of (Reclaims e x) caller = ReleasesReceiver e
+ending_of (Reclaims e x) caller = ManagerLeaves lane_turn.Receiver e
 ending_of (EndsHeld e x) caller = LeavesTurn e caller
 ending_of (Reopens q inc a b) caller = Nothing
 ending_of (Gathers x y) caller = Nothing
@@ -190,7 +190,7 @@ LeavesEnded me me' = let k = place_of me in Becomes (λ p. ended_pass p p.call) 
 
 -- the two steps as the table tells them
 abbrev pub ClaimsAs : {D : Type 0} → Coded D → DeskMeaning D → End → ℕ → ℕ → SeatState → ℕ → SeatState → Type 0
-ClaimsAs coded meaning end caller place me n me' = ClaimsTurn end caller me n me' × (n ≤ 65) × DoesAt coded meaning (place_of_number caller me.0.passes) me (HasWord place n) (TakesReceiver end) me'
+ClaimsAs coded meaning end caller place me n me' = ClaimsTurn end caller me n me' × (n ≤ 65) × DoesAt coded meaning (place_of_number caller me.0.passes) me (HasWord place n) (ManagerTakes lane_turn.Receiver end) me'
 
 abbrev pub LeavesAs : {D : Type 0} → Coded D → DeskMeaning D → ℕ → SeatState → ℕ → SeatState → Type 0
 LeavesAs coded meaning place me n me' = let k = place_of me in

@@ -21,11 +21,9 @@ use Rattle.link_words.specs.declared.codes.DeskTables.{DeskTables}
 use Rattle.link_words.specs.declared.rule.Call.{Call}
 use Rattle.link_words.specs.declared.rule.Call.TheVariants.{Idle, Sends, Rests, Reclaims, EndsHeld, Receives, EndsReceive, EndsSend, EndsBoth, Reopens, Gathers}
 use Rattle.link_words.specs.declared.rule.LaneSides.{LaneSides}
-use Rattle.link_words.specs.declared.rule.LinkSizes.{LinkSizes}
 use Rattle.link_words.specs.declared.rule.Pass.{Pass}
 use Rattle.link_words.specs.declared.rule.ReceiverSide.{ReceiverSide}
 use Rattle.link_words.specs.declared.rule.SenderSide.{SenderSide}
-use Rattle.link_words.specs.declared.rule.Slot.{Slot}
 use Rattle.link_words.specs.declared.rule.Slot.TheVariants.{Receiver, Sender}
 use Rattle.link_words.specs.declared.rule.View.{View}
 use Rattle.link_words.specs.PlacedDesks.{PlacedDesk, placed_coded, placed_meaning, no_right, IsRightTo}

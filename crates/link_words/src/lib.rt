@@ -16,7 +16,6 @@ mod reopens;
 mod rule;
 mod seats;
 mod sides;
-mod slots;
 mod stores;
 mod turns;
 
@@ -37,6 +36,5 @@ pub use seats::{
     close_era, end_carried, enlist_carried, join, learn_era, let_go, settle, split, take_in,
 };
 pub use sides::{ReceiverState, SenderState};
-pub use slots::copy_message;
 pub use stores::{publish_index, store_entry};
 pub use turns::{leave_turn, take_turn};

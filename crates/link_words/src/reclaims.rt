@@ -1,7 +1,8 @@
 //! The steps of a reclaim that are made with the seat of the caller that is reclaimed. They are the manager's, and none of them is noted in the caller's list.
 ghost use Rattle.std.specs.Prelude.{◌≡◌, ◌≤◌, ◌<◌};
+ghost use Rattle.lane_model.specs.declared.recoveries.LaneTurn.TheVariants as lane_turn;
 ghost use Rattle.link_words.specs.Calls.{place_of, number_at, call_at};
-ghost use Rattle.link_words.specs.Deeds.{Nothing, TakesReceiver};
+ghost use Rattle.link_words.specs.Deeds.{Nothing, ManagerTakes};
 ghost use Rattle.link_words.specs.Passes.{place_of_number};
 ghost use Rattle.link_words.specs.Reclaims.{DoesAt, MayFindClosed, FindsClosed, MayClaim, ClaimsTurn, MayLeaveEnded, LeavesEnded, ending_of};
 ghost use Rattle.link_words.specs.Steps.{HasWord, StoresWord, turn_number};
@@ -94,7 +95,7 @@ pub fn claim_turn<D: Desk>(
     ensures same { (seat.new.table_id ≡ seat.old.table_id) × (seat.new.id ≡ seat.old.id) }
     ensures told { ClaimsTurn end caller seat.old.me result seat.new.me }
     ensures holder { result ≤ 65 }
-    ensures step { DoesAt D.row.coded D.meaning (place_of_number caller seat.old.me.0.passes) seat.old.me (HasWord (place_in (receiver_word end)) result) (TakesReceiver end) seat.new.me }
+    ensures step { DoesAt D.row.coded D.meaning (place_of_number caller seat.old.me.0.passes) seat.old.me (HasWord (place_in (receiver_word end)) result) (ManagerTakes lane_turn.Receiver end) seat.new.me }
 {
     let word = receiver_place(end);
     let said = Slot::Caller(caller);

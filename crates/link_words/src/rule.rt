@@ -2,9 +2,9 @@
 use crate::codes::{DeskRight, DeskTables};
 use crate::copies::LinkCopy;
 use crate::intents::Intent;
-use crate::sides::{ReceiverState, ReceiverState, SenderState};
+use crate::sides::{ReceiverState, SenderState};
 use atomic_table::{Seat, Shared, TableRule};
-use lane_model::{BookEntry, Desk, Desk, Receiving, Receiving, Sending, Sending, Turn, Turn, Wish};
+use lane_model::{BookEntry, Desk, Receiving, Sending, Turn};
 use ring_core::{Hand, RingSizes};
 use rp_base::{CallerNo, End, Era, Inc, Message};
 use std::collections::LinkedList;

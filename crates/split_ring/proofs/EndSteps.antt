@@ -22,7 +22,7 @@ use Rattle.link_words.specs.declared.rule.Slot.{Slot}
 use Rattle.link_words.specs.declared.rule.View.{View}
 use Rattle.link_words.specs.declared.rule.Slot.TheVariants.{Buffer, Receiver, Sender}
 use Rattle.link_words.specs.Calls.{SeatState, Becomes, has_side, first_side, place_of, place_with, with_pass_at, call_at}
-use Rattle.link_words.specs.Deeds.{TakesReceiver}
+use Rattle.link_words.specs.Deeds.{ManagerTakes}
 use Rattle.link_words.specs.Layouts.{place_in}
 use Rattle.link_words.specs.Passes.{with_call, with_call_and_hands, place_of_number}
 use Rattle.link_words.specs.Reclaims.{StandsIn, DoesAt, HasTurn, MayFindClosed, FindsClosed, IsUnclaimed, MayClaim, ClaimsTurn, MayEnd, HasSlots, HasFilledSlots, MayLeaveEnded, LeavesEnded, doomed_call, claimed_call, spared_call, ended_pass, slots_left, without_hands}
@@ -81,11 +81,11 @@ pub spared_now : (me me' : SeatState) (who : CallerId) (n : ℕ) → me.0.passes
 spared_now me me' who n one number told busy = becomes_now (λ p. with_call p (spared_call p.call)) me.1 (place_of_number who.number me.0.passes) me me' (number_place me who.number one number) one (told.1 busy)
 
 pub anothers : {D : Type 0} (coded : Coded D) (meaning : DeskMeaning D) (me me' : SeatState) (who : CallerId) (n holder : ℕ) → n ≡ holder + 1
-    → DoesAt coded meaning (place_of_number who.number me.0.passes) me (HasWord (place_in (receiver_word who.end)) n) (TakesReceiver who.end) me' → IsAnothers coded meaning who holder
+    → DoesAt coded meaning (place_of_number who.number me.0.passes) me (HasWord (place_in (receiver_word who.end)) n) (ManagerTakes lane_turn.Receiver who.end) me' → IsAnothers coded meaning who holder
 anothers coded meaning me me' who n holder is step = record {
   before = me;
   after = me';
-  step = subst (λ (k : ℕ). DoesAt coded meaning (place_of_number who.number me.0.passes) me (HasWord (place_in (receiver_word who.end)) k) (TakesReceiver who.end) me') is step;
+  step = subst (λ (k : ℕ). DoesAt coded meaning (place_of_number who.number me.0.passes) me (HasWord (place_in (receiver_word who.end)) k) (ManagerTakes lane_turn.Receiver who.end) me') is step;
 }
 
 -- a leave

@@ -1,5 +1,6 @@
 -- A reclaim: the parts that a caller has, how its seat stands, and what it leaves (own).
 use Rattle.std.specs.Prelude.{◌≡◌, ◌+◌, ℕ, Bool, true, false, List, [], ◌∷◌, Option, Some, None}
+use Rattle.lane_model.specs.declared.recoveries.LaneTurn.TheVariants as lane_turn
 use base.Stored.{Coded}
 use Rattle.rp_base.specs.declared.kinds.End.{End}
 use Rattle.rp_base.specs.declared.kinds.Era.{Era}
@@ -23,7 +24,7 @@ use Rattle.link_words.specs.declared.rule.SenderSide.{SenderSide}
 use Rattle.link_words.specs.declared.rule.Slot.{Slot}
 use Rattle.link_words.specs.declared.rule.Slot.TheVariants.{Buffer, Receiver, Sender}
 use Rattle.link_words.specs.Calls.{SeatState, has_side, first_side}
-use Rattle.link_words.specs.Deeds.{TakesReceiver}
+use Rattle.link_words.specs.Deeds.{ManagerTakes}
 use Rattle.link_words.specs.Layouts.{place_in}
 use Rattle.link_words.specs.Passes.{with_call_and_hands, after_end_with, place_of_number, spent_view}
 use Rattle.link_words.specs.Reclaims.{DoesAt}
@@ -187,7 +188,7 @@ ended_of who p = with_call_and_hands p (Rests who.end) []
 pub record IsAnothers {D : Type 0} (coded : Coded D) (meaning : DeskMeaning D) (who : CallerId) (holder : ℕ) : Type 0 where
   pub before : SeatState
   pub after : SeatState
-  pub step : DoesAt coded meaning (place_of_number who.number before.0.passes) before (HasWord (place_in (receiver_word who.end)) (holder + 1)) (TakesReceiver who.end) after
+  pub step : DoesAt coded meaning (place_of_number who.number before.0.passes) before (HasWord (place_in (receiver_word who.end)) (holder + 1)) (ManagerTakes lane_turn.Receiver who.end) after
 
 -- why a call is not ended: the era was found live; or another has the receiver's turn, and the caller holds something, and its call has another turn or none
 abbrev pub lacks_receiver : TurnHeld → Bool

@@ -1,8 +1,9 @@
 use Rattle.std.proofs.Common.{◌≡◌, ℕ, eqb, arith, sym, ◌∙◌, subst}
+use Rattle.lane_model.specs.declared.recoveries.LaneTurn.TheVariants as lane_turn
 use prog.Atomic.{either}
 use Rattle.rp_base.specs.declared.kinds.End.{End}
 use Rattle.link_words.specs.Calls.{SeatState}
-use Rattle.link_words.specs.Deeds.{TakesReceiver}
+use Rattle.link_words.specs.Deeds.{ManagerTakes}
 use Rattle.link_words.specs.Layouts.{place_in}
 use Rattle.link_words.specs.Passes.{place_of_number}
 use Rattle.link_words.specs.PlacedDesks.{placed_coded, placed_meaning}
@@ -32,4 +33,4 @@ compare_exchange_with-requires g c =
 pub returns-clause-step : goal.returns-clause-step
 returns-clause-step g c =
     let me = c.args.seat.now.me in let me' = c.compare_exchange_with.new.seat.me in let t = c.compare_exchange_with.ensures.2 c.args.end c.receiver_place-word.ensures in
-    subst (λ (p : ℕ). DoesAt g.row.D.coded g.D.Desk.meaning (place_of_number c.args.caller me.0.passes) me (HasWord p c.compare_exchange_with.result) (TakesReceiver c.args.end) me') c.receiver_place-word.ensures t.2
+    subst (λ (p : ℕ). DoesAt g.row.D.coded g.D.Desk.meaning (place_of_number c.args.caller me.0.passes) me (HasWord p c.compare_exchange_with.result) (ManagerTakes lane_turn.Receiver c.args.end) me') c.receiver_place-word.ensures t.2

@@ -1,4 +1,4 @@
-use Rattle.std.proofs.Common.{◌≡◌, ℕ, arith, refl, subst, sym, ◌∙◌}
+use Rattle.std.proofs.Common.{◌≡◌, ℕ, arith, subst, sym, ◌∙◌}
 use Rattle.rp_base.specs.declared.kinds.End.{End}
 use Rattle.lane_model.specs.declared.recoveries.LaneTurn.{LaneTurn}
 use Rattle.link_words.specs.Calls.{SeatState}

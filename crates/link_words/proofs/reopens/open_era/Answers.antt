@@ -1,7 +1,5 @@
-use Rattle.std.proofs.Common.{◌≡◌, ℕ, ◌+◌, ◌*◌, arith, refl, subst}
-use Rattle.atomic_table.specs.Table.{Allows}
-use Rattle.link_words.specs.Calls.{SeatState}
-use Rattle.link_words.specs.PlacedDesks.{placed_coded, placed_meaning}
+use Rattle.std.proofs.Common.{◌+◌, ◌*◌, arith, refl}
+use Rattle.link_words.specs.PlacedDesks.{placed_coded}
 use Rattle.link_words.specs.Reopens.{OpensEra, OpensLink}
 use Rattle.link_words.proofs.ManagerTold.{opens_told}
 use Rattle.link_words.proofs.Told.{by_first}

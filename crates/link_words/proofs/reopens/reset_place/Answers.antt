@@ -1,5 +1,3 @@
-use Rattle.std.proofs.Common.{◌≡◌, ◌<◌, ◌≤◌, ℕ, zero, suc, ◌+◌, ◌*◌, ◌-◌, refl, sym, ap, ◌∙◌, arith}
-use Rattle.link_words.specs.Layouts.{place_in}
 use Rattle.link_words.proofs.ManagerTold.{index_place_is, entry_reset_is}
 use Rattle.link_words.proofs.reopens.reset_place.Goals as goal
 
