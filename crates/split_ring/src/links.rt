@@ -119,7 +119,7 @@ impl<D: Desk> SharedLink<D> {
         requires { IsManagerOf self.now manager.old }
         ensures manager { IsManagerOf self.now manager.new }
         ensures some { IfSome result (λ caller. (free_number manager.old.users ≡ Some caller.id.number) × (caller.id.end ≡ end) × (caller.id.follows ≡ self.now.sizes.first)
-            × IsCallerOf self.now caller × ((pass_in caller.seat.me).own ≡ [])) }
+            × IsCallerOf self.now caller × ((pass_in caller.seat.me).own ≡ []) × ((pass_in caller.seat.me).hands ≡ [])) }
         ensures none { IfNone result (free_number manager.old.users ≡ None) }
     {
         let number = least_free(&manager.users)?;

@@ -38,4 +38,5 @@ returns-clause-some g c =
         low = c.in_ok-number.ensures.within;
       },
       ap (λ (p : Pass). p.own) pass,
+      ap (λ (p : Pass). p.hands) pass,
     )
