@@ -300,7 +300,7 @@ send_rest : (first b : ℕ) (e : End) (x : Slot) (out : Bool) (slots more : List
 send_rest first b e x true slots more (y, is) = ap (λ (l : List (ℕ × Slot)). rest (rest (l ++ more))) is
 send_rest first b e x false slots more is = ap (λ (l : List (ℕ × Slot)). rest (l ++ more)) is
 
-none_behind : {A : Type 0} (l : List A) → l ≡ l ++ []
+pub none_behind : {A : Type 0} (l : List A) → l ≡ l ++ []
 none_behind [] = refl
 none_behind (x ∷ xs) = ap (λ (l : List _). x ∷ l) (none_behind xs)
 

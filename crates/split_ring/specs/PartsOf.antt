@@ -19,12 +19,13 @@ use Rattle.split_ring.specs.Seats.{pass_in}
 
 module _ {D : Type 0} where
   -- the parts are all that this caller of the link has: it is in its call, or in none; each buffer is in its hands, and each that is in its hands is one of
-  -- these, or the one that its call gives back
+  -- these, or the one that its call gives back or was handed
   pub record IsAllOf (link : SharedLink D) (parts : Parts D) : Type 0 where
     pub user : IsUserOf link parts.caller
     pub stands : StandsIn link.sizes parts.caller.id (phase_of parts.call) parts.caller.seat.me
     pub held : (place : ℕ) (buffer : HeldBuffer) → get_elem? parts.held.items place ≡ some buffer → IsHeldBy parts.caller.id buffer parts.caller.seat.me
     pub all : (number : ℕ) → HasNumber (pass_in parts.caller.seat.me).hands number → HasNumber (buffer_in (phase_of parts.call) ++ map (λ buffer. buffer.number) parts.held.items) number
+    pub own : (number : ℕ) → HasNumber (buffer_in (phase_of parts.call)) number → HasNumber (pass_in parts.caller.seat.me).hands number
 
   -- the parts that come back are those that came
   pub record AreSame (before after : Parts D) : Type 0 where

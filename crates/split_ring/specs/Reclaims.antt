@@ -4,6 +4,8 @@ use Rattle.lane_model.specs.declared.recoveries.LaneTurn.TheVariants as lane_tur
 use base.Stored.{Coded}
 use Rattle.rp_base.specs.declared.kinds.End.{End}
 use Rattle.rp_base.specs.declared.kinds.Era.{Era}
+use Rattle.lane_model.specs.declared.calls.Answer.{Answer}
+use Rattle.lane_model.specs.declared.calls.Answer.TheVariants as answer
 use Rattle.lane_model.specs.declared.calls.Ask.{Ask}
 use Rattle.lane_model.specs.declared.calls.Ask.TheVariants as ask
 use Rattle.lane_model.specs.declared.stages.SendStage.{SendStage}
@@ -67,7 +69,7 @@ turn_in (phase.LeavesSender answer) = held.Sender
 turn_in (phase.LeavesReceiver answer) = held.Receiver
 turn_in phase.Ended = held.Neither
 
--- the buffer that a call is to give back
+-- the buffer that a call is to give back, or that it was handed
 abbrev pub asked_buffer : Ask → List ℕ
 asked_buffer (ask.Send message) = []
 asked_buffer ask.Take = []
@@ -75,14 +77,28 @@ asked_buffer (ask.Give given) = given.number ∷ []
 asked_buffer (ask.Bind address) = []
 asked_buffer (ask.Unbind address) = []
 
+abbrev pub taken_buffer : Answer → List ℕ
+taken_buffer (answer.Sent number) = []
+taken_buffer (answer.Took held verdict) = held.number ∷ []
+taken_buffer (answer.Gave number) = []
+taken_buffer (answer.Bound endpoint) = []
+taken_buffer (answer.Unbound endpoint) = []
+taken_buffer (answer.Busy holder) = []
+taken_buffer (answer.GiveBusy holder held) = []
+taken_buffer (answer.Dead era) = []
+taken_buffer (answer.NoBuffer accepted returned) = []
+taken_buffer (answer.BookFull accepted) = []
+taken_buffer (answer.Empty accepted) = []
+taken_buffer (answer.Refused fault) = []
+
 abbrev pub buffer_in : Phase → List ℕ
 buffer_in (phase.Asked asked) = asked_buffer asked
 buffer_in (phase.Sends s c message) = []
 buffer_in (phase.Takes s c buffer) = []
 buffer_in (phase.Gives s given returned) = given.number ∷ []
 buffer_in (phase.Asks asked) = []
-buffer_in (phase.LeavesSender answer) = []
-buffer_in (phase.LeavesReceiver answer) = []
+buffer_in (phase.LeavesSender said) = taken_buffer said
+buffer_in (phase.LeavesReceiver said) = taken_buffer said
 buffer_in phase.Ended = []
 
 abbrev pub is_give : Ask → Bool
@@ -92,14 +108,28 @@ is_give (ask.Give given) = true
 is_give (ask.Bind address) = false
 is_give (ask.Unbind address) = false
 
+abbrev pub is_taken : Answer → Bool
+is_taken (answer.Sent number) = false
+is_taken (answer.Took held verdict) = true
+is_taken (answer.Gave number) = false
+is_taken (answer.Bound endpoint) = false
+is_taken (answer.Unbound endpoint) = false
+is_taken (answer.Busy holder) = false
+is_taken (answer.GiveBusy holder held) = false
+is_taken (answer.Dead era) = false
+is_taken (answer.NoBuffer accepted returned) = false
+is_taken (answer.BookFull accepted) = false
+is_taken (answer.Empty accepted) = false
+is_taken (answer.Refused fault) = false
+
 abbrev pub has_buffer : Phase → Bool
 has_buffer (phase.Asked asked) = is_give asked
 has_buffer (phase.Sends s c message) = false
 has_buffer (phase.Takes s c buffer) = false
 has_buffer (phase.Gives s given returned) = true
 has_buffer (phase.Asks asked) = false
-has_buffer (phase.LeavesSender answer) = false
-has_buffer (phase.LeavesReceiver answer) = false
+has_buffer (phase.LeavesSender said) = is_taken said
+has_buffer (phase.LeavesReceiver said) = is_taken said
 has_buffer phase.Ended = false
 
 -- the phase of a caller's call; a caller in none is where an ended call leaves it

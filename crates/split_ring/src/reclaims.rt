@@ -12,12 +12,12 @@ use crate::calls::{Phase, RingCall};
 use crate::ends::{EndFault, TurnHeld};
 use crate::links::SharedLink;
 use crate::turns::era_of;
-use lane_model::{Ask, Desk, Held, SendStage, TakeStage};
+use lane_model::{Answer, Ask, Desk, Held, SendStage, TakeStage};
 use link_words::{join, learn_era};
 use rp_base::{CallerNo, Era};
 
 /// All that a caller has: itself, the call that it is in, where it is in one, and the buffers in its
-/// hands but for one that its call gives back.
+/// hands but for one that its call gives back or was handed.
 #[derive(Drop)]
 pub struct Parts<D: Desk> {
     pub caller: Caller,
@@ -53,23 +53,21 @@ fn turn_in(phase: &Phase) -> TurnHeld
     }
 }
 
-/// Whether a call gives a buffer back that is in its caller's hands still.
+/// Whether a call gives a buffer back that is in its caller's hands still, or was handed one.
 fn has_buffer(phase: &Phase) -> bool
     ensures { result ≡ has_buffer phase.now }
 {
     match phase {
         Phase::Asked(ask) => matches!(ask, Ask::Give(_)),
         Phase::Gives(_, _, _) => true,
-        Phase::Sends(_, _, _)
-        | Phase::Takes(_, _, _)
-        | Phase::Asks(_)
-        | Phase::LeavesSender(_)
-        | Phase::LeavesReceiver(_)
-        | Phase::Ended => false,
+        Phase::LeavesSender(answer) | Phase::LeavesReceiver(answer) => {
+            matches!(answer, Answer::Took(_, _))
+        }
+        Phase::Sends(_, _, _) | Phase::Takes(_, _, _) | Phase::Asks(_) | Phase::Ended => false,
     }
 }
 
-/// The turn that a caller's call has, and whether the call gives a buffer back.
+/// The turn that a caller's call has, and whether a buffer is in it that is in its caller's hands.
 fn call_has<D: Desk>(call: &Option<RingCall<D>>) -> (TurnHeld, bool)
     ensures { (result.0 ≡ turn_in (phase_of call.now)) × (result.1 ≡ has_buffer (phase_of call.now)) }
 {
@@ -79,7 +77,7 @@ fn call_has<D: Desk>(call: &Option<RingCall<D>>) -> (TurnHeld, bool)
     }
 }
 
-/// Whether a caller holds something: the buffer that its call gives back, or one of these.
+/// Whether a caller holds something: the buffer that is in its call, or one of these.
 fn is_holding(is_giving: bool, held: &[Held]) -> bool
     ensures nothing { result ≡ false → (is_giving ≡ false) × (held.now ≡ []) }
     ensures some { result ≡ true → (is_giving ≡ true) ⊎ ((buffer : HeldBuffer) × (get_elem? held.now 0 ≡ some buffer)) }
