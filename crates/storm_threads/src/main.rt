@@ -55,14 +55,14 @@ fn many<R: Threads + Wait + Sync>(rt: &R, alloc: Global) -> Result<Vec<Look>, No
     let config = LinkConfig {
         num0: 8,
         num1: 8,
-        book: 10_000,
+        book: 2500,
         first: 1,
         base: 0,
     };
     let plan = Plan {
         hosts: 3,
         remotes: 5,
-        count: 2000,
+        count: 500,
         num: 8,
     };
     storm(rt, alloc, config, plan, &FreeGate)
