@@ -44,7 +44,7 @@ use prog.Atomic.{either}
 use Rattle.atomic_table.proofs.Lists.{exchanged}
 use Rattle.std.proofs.Common.{eqb}
 use Rattle.link_words.specs.Passes.{place_of_number}
-use Rattle.link_words.specs.Seats.{with_era, EndsCaller}
+use Rattle.link_words.specs.Seats.{with_era, EndsCaller, LearnsEra}
 use Rattle.link_words.proofs.Moving.{with_views, rebuilt, recast}
 use Rattle.link_words.proofs.Users.{end_else, call_with, history_with, hands_with}
 
@@ -195,7 +195,7 @@ module _ {B : Type 0} {kc : Coded B} {kz : DeskTables} (cd : Coded (PlacedDesk k
   shut_is true is = absurd (false-true is)
   shut_is false is = refl
 
-  pub learns_shut : (slots id : ℕ) (me : SeatState) → Manages me.0 → Allows (WordsRule cd desk z) slots id me 1 (λ y. y) (λ y me'. (era : Era) × (y ≡ era_word era) × (me' ≡ (with_era me.0 era, me.1)))
+  pub learns_shut : (slots id : ℕ) (me : SeatState) → Manages me.0 → Allows (WordsRule cd desk z) slots id me 1 (λ y. y) (λ y me'. LearnsEra me y me')
   learns_shut slots id me manages st (m, p, r) wide at _ =
       let u = with_era me.0 m.era in let views = set st.views id u in let known = r.numbers.manager id me.0 at manages in
       let before : (j l : ℕ) (a : Pass) → PassAt views j l a → PassAt st.views j l a = λ j l a here. ⊎_elim
@@ -217,7 +217,7 @@ module _ {B : Type 0} {kc : Coded B} {kz : DeskTables} (cd : Coded (PlacedDesk k
             }))
             (λ (x : (i ≢ id) × (get_elem? st.views i ≡ some y)). absurd (x.0 (one_manager st.views r.numbers.places i id y me.0 x.1 manages_y at manages)))
             (at_set st.views id i u y ey))),
-        (m.era, ap (λ (ws : List ℕ). get_or ws 1 0) r.words_are, refl),
+        (m.era, ap (λ (ws : List ℕ). get_or ws 1 0) r.words_are, r.numbers.short, refl, sym known.inc),
       )
 
   -- the idle word is read by an exchange of 0 for 0, which names the caller
