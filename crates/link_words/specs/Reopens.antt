@@ -1,5 +1,6 @@
 -- What the steps tell by which the manager takes the turns of a link, leaves them, and opens the next incarnation (own).
-use Rattle.std.specs.Prelude.{◌≡◌, ◌≢◌, ◌<◌, ◌≤◌, ◌+◌, ℕ, suc, true, false, List, [], ◌∷◌, length, map, Option, Some, None}
+use Rattle.std.specs.Option.{option_map_or}
+use Rattle.std.specs.Prelude.{nat_lt, fold, if◌then◌else◌, ◌≡◌, ◌≢◌, ◌<◌, ◌≤◌, ◌+◌, ℕ, suc, true, false, List, [], ◌∷◌, length, map, Option, Some, None}
 use mathlib.Core.Option.{some}
 use lib.ListN.{get_elem?}
 use base.Stored.{Coded}
@@ -142,6 +143,13 @@ pub record MayLeaveReceiver (e : End) (me : SeatState) : Type 0 where
 abbrev pub MayLeaveTurn : LaneTurn → End → SeatState → Type 0
 MayLeaveTurn lane_turn.Sender e me = MayLeaveSender e me
 MayLeaveTurn lane_turn.Receiver e me = MayLeaveReceiver e me
+
+-- the hand that has the message of the lesser number, and of the least
+abbrev pub lesser_hand : Option Hand → Hand → Option Hand
+lesser_hand least h = option_map_or (λ found. if nat_lt h.number found.number then Some h else Some found) least (Some h)
+
+abbrev pub least_hand : List Hand → Option Hand
+least_hand hands = fold lesser_hand None hands
 
 -- the manager has all side states, and nothing is held by them
 pub record MayBegin (me : SeatState) : Type 0 where

@@ -35,7 +35,7 @@ abbrev pub with_era : View → Era → View
 with_era v era = record v { is_closed = not era.is_live }
 
 abbrev pub LearnsEra : SeatState → ℕ → SeatState → Type 0
-LearnsEra me n me' = (era : Era) × (n ≡ era_word era) × (era.inc < 4294967296) × (me' ≡ (with_era me.0 era, me.1))
+LearnsEra me n me' = (era : Era) × (n ≡ era_word era) × (era.inc < 4294967296) × (me' ≡ (with_era me.0 era, me.1)) × (era.inc ≡ me.0.inc)
 
 -- those that were out have come back, and the view has a copy again
 abbrev pub Settles : SeatState → SeatState → Type 0

@@ -3,6 +3,7 @@ ghost use Rattle.std.specs.Prelude.{◌≡◌, ◌+◌, ◌<◌, ◌≤◌, ◌^
 ghost use Rattle.ring_core.specs.RingSteps.{held_buffer, hands_of_others, hands_without};
 ghost use Rattle.rp_base.specs.declared.limits.TheConstants.{BOOK_MOST};
 ghost use Rattle.link_words.specs.Fresh.{opened_sender};
+ghost use Rattle.link_words.specs.Reopens.{lesser_hand, least_hand};
 ghost use Rattle.link_words.specs.Steps.{accepted_side};
 ghost use Rattle.rp_base.specs.declared.limits.TheConstants.{CAPACITY_MOST};
 
@@ -55,6 +56,14 @@ impl SenderState {
         ensures { self.new ≡ accepted_side self.old caller message.now }
     {
         self.book.push(caller, message.bytes());
+    }
+
+    /// The book alone.
+    pub fn into_book(self) -> Book
+        ensures { result.entries ≡ self.entries }
+    {
+        let SenderState { book } = self;
+        book
     }
 }
 
@@ -163,6 +172,55 @@ impl ReceiverState {
         answer
     }
 
+    /// A new incarnation begins: the desk is reset, and nothing is handed over. It takes the room for so many takers that is
+    /// given, and hands the takers back that it had.
+    pub fn reopen<D: Desk>(
+        &mut self,
+        desks: &DeskTable<D>,
+        room: u32,
+        takers: Vec<CallerNo>,
+    ) -> Vec<CallerNo>
+        requires desk { (self.old.desk.table ≡ desks.now.table_id) × (0 < desks.now.table_id.words) }
+        requires room { (takers.items ≡ []) × (room ≤ vec_capacity takers) }
+        ensures new { (d : D) → self.old.desk.code ≡ D.row.coded.code d → self.new ≡ opened_receiver room (record self.old.desk { code = D.row.coded.code (D.meaning.fresh d) }) }
+        ensures takers { result.items ≡ self.old.takers }
+    {
+        self.reset_desk(desks);
+        self.restart(room, takers)
+    }
+
+    /// Nothing is handed over, and there is room for other takers.
+    fn restart(&mut self, room: u32, takers: Vec<CallerNo>) -> Vec<CallerNo>
+        requires { (takers.items ≡ []) × (room ≤ vec_capacity takers) }
+        ensures new { self.new ≡ opened_receiver room self.old.desk }
+        ensures takers { result.items ≡ self.old.takers }
+    {
+        self.hands.clear();
+        self.returned = 0;
+        self.room = room;
+        mem::replace(&mut self.takers, takers)
+    }
+
+    /// The desk is as in a new incarnation.
+    fn reset_desk<D: Desk>(&mut self, desks: &DeskTable<D>)
+        requires { (self.old.desk.table ≡ desks.now.table_id) × (0 < desks.now.table_id.words) }
+        ensures new { (d : D) → self.old.desk.code ≡ D.row.coded.code d → self.new ≡ record self.old { desk = record self.old.desk { code = D.row.coded.code (D.meaning.fresh d) } } }
+        ensures takers { self.new.takers ≡ self.old.takers }
+    {
+        let mut seat = mem::replace(&mut self.desk, Badge::blank()).into_seat();
+        open(desks, &mut seat);
+        seat.slot_mut(desks, 0).reset();
+        shut(desks, &mut seat);
+        self.desk = seat.into_badge();
+    }
+
+    /// Who holds the message of the least number, if anybody holds one, and the number.
+    pub fn least_hand(&self) -> Option<Hand>
+        ensures { result ≡ least_hand self.now.hands }
+    {
+        least_hand(&self.hands)
+    }
+
     /// The end whose desk it has the right to.
     pub fn end(&self) -> End
         ensures { result ≡ self.now.desk.end }
@@ -219,6 +277,33 @@ impl ReceiverState {
         ensures { self.new ≡ record self.old { hands = hands_of_others self.old.hands caller } }
     {
         remove_hands_of(&mut self.hands, caller);
+    }
+}
+
+/// The hand of the least number.
+fn least_hand(hands: &[Hand]) -> Option<Hand>
+    ensures { result ≡ least_hand hands.now }
+{
+    let mut least = None;
+    for hand in hands {
+        least = lesser_hand(least, *hand);
+    }
+    least
+}
+
+/// The hand of the lesser number.
+fn lesser_hand(least: Option<Hand>, hand: Hand) -> Option<Hand>
+    ensures { result ≡ lesser_hand least hand }
+{
+    match least {
+        None => Some(hand),
+        Some(found) => {
+            if hand.number < found.number {
+                Some(hand)
+            } else {
+                Some(found)
+            }
+        }
     }
 }
 
