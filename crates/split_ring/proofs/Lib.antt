@@ -12,3 +12,5 @@ pub mod CallSteps
 pub mod CallEnds
 pub mod Makes
 pub mod Crosses
+pub mod Gathering
+pub mod Reopening

@@ -9,3 +9,5 @@ pub mod Binds
 pub mod Calls
 pub mod Callers
 pub mod Forms
+pub mod Gathers
+pub mod Reopens
