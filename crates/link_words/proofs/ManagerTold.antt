@@ -106,10 +106,18 @@ module _ {B : Type 0} {kc : Coded B} {kz : DeskTables} (cd : Coded (PlacedDesk k
       let g = both_sides b.host_sender b.host_receiver in let h = both_sides b.remote_sender b.remote_receiver in
       let here : manager_call me ≡ Gathers g h = call_here me (Gathers g h) b.at in
       weaken (PlacedRule cd desk z) n id me 16 (λ y. y) (BeginsReopeningBy me b.at.mover g h) (BeginsReopening me)
-      (λ y me' t. (t.0, t.1, t.2, t.3, t.4, (λ shut. let s = t.5 shut in (
-        called me (Gathers g h) b.at (λ c. gathers_or c (Reopens 0 t.0.inc) c) me.1 me' s.0,
-        subst (λ (c : Call). AreBooksOf me.0 (λ e. books_by (sides_of c e))) (sym here) s.1,
-      )), t.6))
+      (λ y me' t. (
+        t.0,
+        t.1,
+        t.2,
+        t.3,
+        t.4,
+        (λ shut. let s = t.5 shut in (
+          called me (Gathers g h) b.at (λ c. gathers_or c (Reopens 0 t.0.inc) c) me.1 me' s.0,
+          subst (λ (c : Call). AreBooksOf me.0 (λ e. books_by (sides_of c e))) (sym here) s.1,
+        )),
+        t.6,
+      ))
       (apart cd desk z n id me 1 16 (λ y. y) (BeginsReopeningBy me b.at.mover g h) refl
       (begins cd desk z n id me b.at.mover b.host_sender b.remote_sender b.host_receiver b.remote_receiver b.at.in_call b.none_held.0 b.none_held.1))
 
@@ -149,9 +157,8 @@ module _ {B : Type 0} (kc : Coded B) (kz : DeskTables) (cd : Coded (PlacedDesk k
       (weaken (WordsRule cd (placed_meaning kc kz meaning) z) n id me 1 (λ _. new) tells (λ _ me'. OpensEra kc meaning me me' × IsOpeningOf cd (placed_meaning kc kz meaning) me me')
       (λ _ me' t. (
         subst (λ (c : DeskRight × DeskRight). (to_host : B) × (to_remote : B) × IsRightTo kc me.0.sizes.desks c.0 to_host × IsRightTo kc me.0.sizes.desks c.1 to_remote
-        × (me' ≡ (opened_view me.0 place (record c.0 { code = kc.code (meaning.fresh to_host) }) (record c.1 { code = kc.code (meaning.fresh to_remote) }) me'.0.copy, me.1)))
-            (λ i. (right_by (sides_of (sym here i) side.Host).receiver, right_by (sides_of (sym here i) side.Remote).receiver))
-            (
+            × (me' ≡ (opened_view me.0 place (record c.0 { code = kc.code (meaning.fresh to_host) }) (record c.1 { code = kc.code (meaning.fresh to_remote) }) me'.0.copy, me.1)))
+            (λ i. (right_by (sides_of (sym here i) side.Host).receiver, right_by (sides_of (sym here i) side.Remote).receiver)) (
               t.0.0.desk,
               t.0.1.desk,
               subst (λ (k : DeskTables). IsRightTo kc k y.desk t.0.0.desk) (sym desks) (right_is y t.0.0 t.0.2),

@@ -152,9 +152,13 @@ module _ {B : Type 0} {kc : Coded B} {kz : DeskTables} (cd : Coded (PlacedDesk k
       × (TakesSenderBy me o e a b y (w, carried_after me.1 c) × StepBy cd desk (ReadsAt (sender_word e) y) me o (ManagerTakes lane_turn.Sender e) (w, carried_after me.1 c)))
       (λ hit. let all = gathers_sender id me o e a b call st m r at (free_if (lane_to m e).lane.sender (sym found ∙ hit)) in
       (all.0, all.1, all.2, all.3, (((λ _. all.4), (λ never. absurd (never hit)), most), all.5)))
-      (λ miss. let same : m ≡ after_deed desk m (ManagerTakes lane_turn.Sender e) = sym (ap (λ (t : Turn Sending). with_lane m e (with_turn (lane_to m e) t)) (still_taken (lane_to m e).lane.sender (λ none. miss (found ∙ none))) ∙ same_lane m e) in
-      (me.0, keeps, tt, stays cd desk z st m p r₀ (sender_word e) y id me.1 me.0 (ManagerTakes lane_turn.Sender e) at refl tt same,
-      (((λ hit. absurd (miss hit)), (λ _. refl), most), meets_by st m r id (sender_word e) me o (ManagerTakes lane_turn.Sender e) at tt same)))
+      (λ miss. let same : m ≡ after_deed desk m (ManagerTakes lane_turn.Sender e) = sym (ap (λ (t : Turn Sending). with_lane m e (with_turn (lane_to m e) t)) (still_taken (lane_to m e).lane.sender (λ none. miss (found ∙ none))) ∙ same_lane m e) in (
+        me.0,
+        keeps,
+        tt,
+        stays cd desk z st m p r₀ (sender_word e) y id me.1 me.0 (ManagerTakes lane_turn.Sender e) at refl tt same,
+        (((λ hit. absurd (miss hit)), (λ _. refl), most), meets_by st m r id (sender_word e) me o (ManagerTakes lane_turn.Sender e) at tt same),
+      ))
 
   -- the manager leaves it
   pub leaves_sender_turn : (n id : ℕ) (me : SeatState) (o : Mover me.0) (e : End) (a b : LaneSides) (x : SenderSide) → o.pass.call ≡ Gathers a b → (sides_at e a b).sender ≡ Some x → me.1 ≡ (sender_slot e, Sender x) ∷ rest me.1
@@ -230,9 +234,13 @@ module _ {B : Type 0} {kc : Coded B} {kz : DeskTables} (cd : Coded (PlacedDesk k
       × (TakesReceiverBy me o e a b y (w, carried_after me.1 c) × StepBy cd desk (ReadsAt (receiver_word e) y) me o (ManagerTakes lane_turn.Receiver e) (w, carried_after me.1 c)))
       (λ hit. let all = gathers_receiver id me o e a b call st m r at (free_if (lane_to m e).lane.receiver (sym found ∙ hit)) in
       (all.0, all.1, all.2, all.3, (((λ _. all.4), (λ never. absurd (never hit)), most), all.5)))
-      (λ miss. let same : m ≡ after_deed desk m (ManagerTakes lane_turn.Receiver e) = sym (ap (λ (t : Turn Receiving). with_lane m e (with_receiver (lane_to m e) t)) (still_taken (lane_to m e).lane.receiver (λ none. miss (found ∙ none))) ∙ same_lane m e) in
-      (me.0, keeps, tt, stays cd desk z st m p r₀ (receiver_word e) y id me.1 me.0 (ManagerTakes lane_turn.Receiver e) at refl tt same,
-      (((λ hit. absurd (miss hit)), (λ _. refl), most), meets_by st m r id (receiver_word e) me o (ManagerTakes lane_turn.Receiver e) at tt same)))
+      (λ miss. let same : m ≡ after_deed desk m (ManagerTakes lane_turn.Receiver e) = sym (ap (λ (t : Turn Receiving). with_lane m e (with_receiver (lane_to m e) t)) (still_taken (lane_to m e).lane.receiver (λ none. miss (found ∙ none))) ∙ same_lane m e) in (
+        me.0,
+        keeps,
+        tt,
+        stays cd desk z st m p r₀ (receiver_word e) y id me.1 me.0 (ManagerTakes lane_turn.Receiver e) at refl tt same,
+        (((λ hit. absurd (miss hit)), (λ _. refl), most), meets_by st m r id (receiver_word e) me o (ManagerTakes lane_turn.Receiver e) at tt same),
+      ))
 
   -- the manager leaves it
   pub leaves_receiver_turn : (n id : ℕ) (me : SeatState) (o : Mover me.0) (e : End) (a b : LaneSides) (x : ReceiverSide) → o.pass.call ≡ Gathers a b → (sides_at e a b).receiver ≡ Some x → me.1 ≡ (receiver_slot e, Receiver x) ∷ rest me.1

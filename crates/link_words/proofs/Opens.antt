@@ -204,16 +204,15 @@ module _ {B : Type 0} {kc : Coded B} {kz : DeskTables} (cd : Coded (PlacedDesk k
         _,
         keeps,
         tt,
-        stays_at cd desk z st m p r 1 (get_or st.words 1 0) id me.1 me.0 o (Reopens 0 m.era.inc (both_sides x y) (both_sides u v)) Nothing at refl tt refl
-            (
-              h.0,
-              sym h.1,
-              (shut, all_turns m x u y v h.2 h.3),
-              refl,
-              (sym r.to_host.rings.holdings ∙ ap (map holding_of) (sym (ap (λ (w : ReceiverSide). w.hands) (h.2.receiver y refl).1) ∙ bare_host), sym r.to_remote.rings.holdings ∙ ap (map holding_of) (sym (ap (λ (w : ReceiverSide). w.hands) (h.3.receiver v refl).1) ∙ bare_remote)),
-              h.2,
-              h.3,
-            )
+        stays_at cd desk z st m p r 1 (get_or st.words 1 0) id me.1 me.0 o (Reopens 0 m.era.inc (both_sides x y) (both_sides u v)) Nothing at refl tt refl (
+          h.0,
+          sym h.1,
+          (shut, all_turns m x u y v h.2 h.3),
+          refl,
+          (sym r.to_host.rings.holdings ∙ ap (map holding_of) (sym (ap (λ (w : ReceiverSide). w.hands) (h.2.receiver y refl).1) ∙ bare_host), sym r.to_remote.rings.holdings ∙ ap (map holding_of) (sym (ap (λ (w : ReceiverSide). w.hands) (h.3.receiver v refl).1) ∙ bare_remote)),
+          h.2,
+          h.3,
+        )
             (λ i k. ap (has_for_manager i) call ∙ minds x u y v i),
         (m.era, word, sym knows.inc, r.numbers.short, knows.closed, (λ _. (refl, told h knows)), λ live. absurd (true-false (sym live ∙ shut))),
       )
@@ -288,8 +287,7 @@ module _ {B : Type 0} {kc : Coded B} {kz : DeskTables} (cd : Coded (PlacedDesk k
               (deed_kept desk m Opens may (state_in r)) (told_in r) (opened_shelves m r.shelves (buffers_in r) a) (one_more desk m _ Opens r.reached may refl)
               (record {
                 calls = each (HasCall m p) (HasCall m' 0) r.numbers.places r.turns.calls
-                    (λ j l u there apart. still_call m m' p 0 a u.number (λ same. apart (h.0 ∙ same)) u.call (λ kept. apart (r.turns.keepers side.Host id o.place j l o.pass u (me.0, at, o.here) there (ap (has_for_manager side.Host) call) kept)) (λ kept. apart (r.turns.keepers side.Remote id o.place j l o.pass u (me.0, at, o.here) there (ap (has_for_manager side.Remote) call) kept)) refl (record { host_sender = refl; host_receiver = refl; remote_sender = refl; remote_receiver = refl }))
-                    (
+                    (λ j l u there apart. still_call m m' p 0 a u.number (λ same. apart (h.0 ∙ same)) u.call (λ kept. apart (r.turns.keepers side.Host id o.place j l o.pass u (me.0, at, o.here) there (ap (has_for_manager side.Host) call) kept)) (λ kept. apart (r.turns.keepers side.Remote id o.place j l o.pass u (me.0, at, o.here) there (ap (has_for_manager side.Remote) call) kept)) refl (record { host_sender = refl; host_receiver = refl; remote_sender = refl; remote_receiver = refl })) (
                       h.0,
                       refl,
                       gathered_both (turns_of m'.to_host) (opened_sender z.book) (opened_receiver z.book host) refl (ap opened_sender (sym r.to_host.book)) refl (ap (λ (k : ℕ). opened_receiver k host) (sym r.to_host.book)),

@@ -26,8 +26,8 @@ pub use reopens::{
     begin_reopening, leave_for_manager, open_era, reset_index, reset_place, take_for_manager,
 };
 pub use rule::{
-    Call, CallStart, Counted, Event, LaneSides, LinkSeat, LinkSizes, LinkTable, LinkWords, Made, Pass,
-    ReceiverSide, Ring, SenderSide, Slot, View,
+    Call, CallStart, Counted, Event, LaneSides, LinkSeat, LinkSizes, LinkTable, LinkWords, Made,
+    Pass, ReceiverSide, Ring, SenderSide, Slot, View,
 };
 pub use seats::{
     close_era, end_carried, enlist_carried, join, learn_era, let_go, settle, split, take_in,

@@ -84,12 +84,7 @@ pub fn begin_reopening<D: Desk>(table: &LinkTable<D>, manager: &mut LinkSeat) ->
 }
 
 /// A reopening stores what an index or an entry is in a new incarnation, behind so many others.
-pub fn reset_index<D: Desk>(
-    table: &LinkTable<D>,
-    manager: &mut LinkSeat,
-    number: u64,
-    new: u64,
-)
+pub fn reset_index<D: Desk>(table: &LinkTable<D>, manager: &mut LinkSeat, number: u64, new: u64)
     requires table { (manager.old.table_id ≡ table.now.table_id) × (words_in table.now.key ≤ table.now.table_id.words) × (manager.old.me.0.sizes ≡ table.now.key) }
     requires number { (number < 4294967296) × (place_in (6 + number) < table.now.table_id.words) }
     requires manager { MayReset number new manager.old.me }

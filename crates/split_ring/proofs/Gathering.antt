@@ -1,6 +1,6 @@
 -- The manager's own call over its steps.
 use Rattle.std.proofs.Common.{◌≡◌, ◌+◌, ℕ, zero, suc, eqb, cond, List, [], ◌∷◌, refl, sym, ap, ◌∙◌, subst}
-use Rattle.std.specs.Prelude.{Option, Some, None}
+use Rattle.std.specs.Prelude.{Some, None}
 use mathlib.Core.Option.{some, some-injective, some-ne-none}
 use lib.ListN.{get_elem?}
 use Rattle.atomic_table.specs.Table.{rest}
@@ -17,7 +17,7 @@ use Rattle.link_words.specs.declared.rule.Slot.{Slot}
 use Rattle.link_words.specs.declared.rule.Slot.TheVariants.{Empty, Receiver, Sender}
 use Rattle.link_words.specs.declared.rule.View.{View}
 use Rattle.link_words.specs.Calls.{SeatState, Becomes, with_pass_at}
-use Rattle.link_words.specs.Passes.{with_call, place_of_number, Manages}
+use Rattle.link_words.specs.Passes.{with_call, place_of_number}
 use Rattle.link_words.specs.Reopens.{ManagerDoes, both_sides, gathers_or, manager_place, ManagerAt, gathered, ManagerTakesSender, ManagerTakesReceiver, ManagerLeavesSender, ManagerLeavesReceiver, MayGather, MayLeaveSender, MayLeaveReceiver}
 use Rattle.link_words.specs.Sides.{sides_at}
 use Rattle.link_words.specs.Words.{sender_slot, receiver_slot}

@@ -1,5 +1,5 @@
 -- The parts of a reopening.
-use Rattle.std.proofs.Common.{◌≡◌, ◌+◌, ◌*◌, ◌-◌, ◌<◌, ◌≤◌, ℕ, zero, suc, cond, eqb, List, [], ◌∷◌, ◌++◌, map, length, get_or, replicate, append_assoc, append-nil, length-append, refl, sym, ap, ◌∙◌, subst, inl, inr, ⊎_elim, arith}
+use Rattle.std.proofs.Common.{◌≡◌, ◌+◌, ◌*◌, ◌-◌, ◌<◌, ◌≤◌, ℕ, zero, suc, cond, eqb, List, [], ◌∷◌, ◌++◌, map, length, get_or, replicate, append-nil, length-append, refl, sym, ap, ◌∙◌, subst, inl, inr, ⊎_elim, arith}
 use Rattle.std.specs.Option.{option_map, option_or}
 use Rattle.lane_model.specs.declared.recoveries.ReopenFault.{ReopenFault}
 use Rattle.lane_model.specs.declared.recoveries.ReopenFault.TheVariants as fault
@@ -16,7 +16,6 @@ use base.Stored.{Coded}
 use Rattle.rp_base.specs.declared.kinds.End.{End}
 use Rattle.rp_base.specs.declared.kinds.End.TheVariants as side
 use Rattle.ring_core.specs.Rings.{entry_of, opened_returns, return_count}
-use Rattle.link_words.specs.declared.copies.LinkCopy.{LinkCopy}
 use Rattle.link_words.specs.declared.rule.Call.{Call}
 use Rattle.link_words.specs.declared.rule.Call.TheVariants.{Gathers, Reopens}
 use Rattle.link_words.specs.declared.rule.LaneSides.{LaneSides}
@@ -41,7 +40,7 @@ use Rattle.link_words.specs.Words.{entry_word, era_word, words_in}
 use native.Mathlib.Decide.{dec_lt}
 use Rattle.link_words.proofs.Apart.{found_apart}
 use Rattle.link_words.proofs.ManagerTold.{index_place_is, entry_reset_is}
-use Rattle.split_ring.specs.Gathers.{called_view, IsCalling, lane_slots}
+use Rattle.split_ring.specs.Gathers.{called_view, IsCalling}
 use Rattle.split_ring.specs.Openings.{opened_entries, opened_words, IsOpenable}
 use Rattle.split_ring.specs.Reopens.{all_slots, HasNone, HasAll, next_view, unopened_from, IsReopening}
 use Rattle.split_ring.proofs.Apart.{lane_entries, entries_length}

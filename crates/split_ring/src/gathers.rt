@@ -18,9 +18,7 @@ use crate::links::SharedLink;
 use crate::sends::sender_slot;
 use crate::takes::receiver_slot;
 use lane_model::{Desk, LaneTurn};
-use link_words::{
-    LinkSeat, ReceiverState, SenderState, Slot, leave_for_manager, take_for_manager,
-};
+use link_words::{LinkSeat, ReceiverState, SenderState, Slot, leave_for_manager, take_for_manager};
 use rp_base::{CallerNo, End};
 
 /// The side states of a lane, out of their slots.
@@ -70,11 +68,7 @@ impl<D: Desk> SharedLink<D> {
         let table = &self.table.shared;
         let found = take_for_manager(table, seat, lane, LaneTurn::Sender);
         if found == 0 {
-            Ok(sender_of(table.exchange(
-                seat,
-                sender_slot(lane),
-                Slot::Empty,
-            )))
+            Ok(sender_of(table.exchange(seat, sender_slot(lane), Slot::Empty)))
         } else {
             Err((found - 1) as CallerNo)
         }
@@ -95,11 +89,7 @@ impl<D: Desk> SharedLink<D> {
         let table = &self.table.shared;
         let found = take_for_manager(table, seat, lane, LaneTurn::Receiver);
         if found == 0 {
-            Ok(receiver_of(table.exchange(
-                seat,
-                receiver_slot(lane),
-                Slot::Empty,
-            )))
+            Ok(receiver_of(table.exchange(seat, receiver_slot(lane), Slot::Empty)))
         } else {
             Err((found - 1) as CallerNo)
         }
@@ -132,11 +122,7 @@ impl<D: Desk> SharedLink<D> {
     /// One attempt of the manager to take both turns of a lane, the sender's first, of which it has none.
     ///
     /// Errors: the holder of a turn, exactly where one was another's. The manager has none of the two then.
-    pub(crate) fn take_lane(
-        &self,
-        seat: &mut LinkSeat,
-        lane: End,
-    ) -> Result<LaneStates, CallerNo>
+    pub(crate) fn take_lane(&self, seat: &mut LinkSeat, lane: End) -> Result<LaneStates, CallerNo>
         requires seat { IsSeatOf self.now.table.shared.table_id self.now.sizes seat.old.table_id seat.old.me }
         requires manager { (v : View) × (a : LaneSides) × (b : LaneSides) × (slots : List (ℕ × Slot)) × IsCalling v (Gathers a b) slots seat.old.me × (sides_at lane a b ≡ no_sides) }
         ensures seat { IsSeatOf self.now.table.shared.table_id self.now.sizes seat.new.table_id seat.new.me }

@@ -20,6 +20,7 @@ pub use binds::DeskFault;
 pub use callers::{Caller, CallerId, Manager};
 pub use calls::RingCall;
 pub use gives::GiveBusy;
+pub use lane_model::{Books, ReopenFault};
 pub use links::SharedLink;
 pub use sends::SendFault;
 pub use takes::{TakeFault, Taken};

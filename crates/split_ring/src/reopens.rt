@@ -245,7 +245,8 @@ impl<D: Desk> SharedLink<D> {
         ensures seat { IsSeatOf self.now.table.shared.table_id self.now.sizes seat.new.table_id seat.new.me }
         ensures all { (v : View) (inc : ℕ) (a b : LaneSides) (slots : List (ℕ × Slot)) → IsCalling v (Reopens 0 inc a b) slots seat.old.me → IsCalling v (Reopens (length (fresh_of self.now.sizes)) inc a b) slots seat.new.me }
     {
-        let entries = u64::from(self.sizes.to_host.entries) + u64::from(self.sizes.to_remote.entries);
+        let entries = u64::from(self.sizes.to_host.entries)
+            + u64::from(self.sizes.to_remote.entries);
         for number in 0..entries * 2 + 4 {
             let new = words[reset_place(number)];
             reset_index(&self.table.shared, seat, number, new);

@@ -1,5 +1,4 @@
-use Rattle.std.proofs.Common.{◌≡◌, ℕ, List, length, refl, sym, ap, ◌∙◌, subst}
-use Rattle.rp_base.specs.declared.kinds.End.{End}
+use Rattle.std.proofs.Common.{ℕ, List, length, sym, ap, ◌∙◌}
 use Rattle.link_words.specs.Calls.{SeatState}
 use Rattle.link_words.specs.Fresh.{fresh_of}
 use Rattle.link_words.specs.Reopens.{both_sides, opened_sides, books_by}
@@ -49,9 +48,11 @@ put_lanes-requires-clause-manager g c =
     let v = c.requires.manager.0 in let all = c.requires.manager.1 in let same = sym c.requires.manager.2 in
     let reset = was_reset z v inc c.begin_reopening.result x u y w me me1 me2 all closed same c.begin_reopening.ensures.told c.reset_words.ensures.all in
     let o = has_opened coded meaning z v (length (fresh_of z)) inc x u y w all_slots me2 me3 c.reset_words.ensures.seat.told reset c.open_era.ensures.told in
-    let h = c.next_states-next_host in let r = c.next_states-next_remote in
-    (next_view v, has_next (next_view v) z.book (record y.desk { code = coded.code (meaning.fresh o.0) }) (record w.desk { code = coded.code (meaning.fresh o.1) }) h.result.0.sender r.result.0.sender h.result.0.receiver r.result.0.receiver me3 o.4
-    (h.ensures.sender ∙ c.requires.host.0) (h.ensures.receiver o.0 o.2.code) (r.ensures.sender ∙ c.requires.remote.0) (r.ensures.receiver o.1 o.3.code))
+    let h = c.next_states-next_host in let r = c.next_states-next_remote in (
+      next_view v,
+      has_next (next_view v) z.book (record y.desk { code = coded.code (meaning.fresh o.0) }) (record w.desk { code = coded.code (meaning.fresh o.1) }) h.result.0.sender r.result.0.sender h.result.0.receiver r.result.0.receiver me3 o.4
+          (h.ensures.sender ∙ c.requires.host.0) (h.ensures.receiver o.0 o.2.code) (r.ensures.sender ∙ c.requires.remote.0) (r.ensures.receiver o.1 o.3.code),
+    )
 
 pub returns-clause-next : goal.returns-clause-next
 returns-clause-next g c = λ v all same.

@@ -1,10 +1,8 @@
-use Rattle.std.proofs.Common.{◌≡◌, ◌+◌, ◌*◌, ◌<◌, ◌≤◌, ℕ, List, length, refl, sym, ap, ◌∙◌, subst, arith}
+use Rattle.std.proofs.Common.{◌≡◌, ◌+◌, ◌*◌, ◌<◌, ℕ, List, length, refl, ap, ◌∙◌, subst, arith}
 use Rattle.link_words.specs.declared.rule.Call.TheVariants.{Reopens}
 use Rattle.link_words.specs.Calls.{SeatState}
 use Rattle.link_words.specs.Fresh.{fresh_of}
-use Rattle.link_words.specs.Layouts.{layout, place_in}
 use Rattle.split_ring.specs.Gathers.{IsCalling}
-use Rattle.split_ring.specs.Openings.{opened_words}
 use Rattle.split_ring.proofs.Apart.{words_many}
 use Rattle.split_ring.proofs.Reopening.{fresh_many, reset_low, reset_next, may_reset}
 use Rattle.split_ring.proofs.links.SharedLink.reset_words.Goals as goal
