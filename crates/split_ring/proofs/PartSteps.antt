@@ -28,7 +28,12 @@ use Rattle.lane_model.specs.HeldBuffers.{HeldBuffer}
 use Rattle.link_words.specs.declared.rule.LinkSizes.{LinkSizes}
 use Rattle.link_words.specs.declared.rule.Pass.{Pass}
 use Rattle.link_words.specs.Calls.{SeatState}
-use Rattle.link_words.specs.Passes.{HasNumber, Manages}
+use Rattle.link_words.specs.Passes.{HasNumber, Manages, after_end_with}
+use Rattle.link_words.specs.declared.rule.Call.{Call}
+use Rattle.link_words.specs.declared.rule.View.{View}
+use Rattle.link_words.specs.Reopens.{ManagerAt}
+use Rattle.link_words.specs.Seats.{with_era}
+use Rattle.split_ring.proofs.Makes.{rests_at}
 use Rattle.split_ring.specs.declared.callers.CallerId.{CallerId}
 use Rattle.split_ring.specs.declared.calls.Phase.{Phase}
 use Rattle.split_ring.specs.declared.calls.Phase.TheVariants as phase
@@ -181,10 +186,18 @@ pub manager_read : (table : TableId) (sizes : LinkSizes) (users : List (Option _
 manager_read table sizes users id id' era me me' same read m = record {
   at_table = same ∙ m.at_table;
   manages = subst (λ (s : SeatState). Manages s.0) (sym read) m.manages;
+  rests = rests_at (sym (ap (λ (s : SeatState). s.0.passes) read)) m.rests;
   knows = ap (λ (s : SeatState). s.0.users) read ∙ m.knows;
   told = ap (λ (s : SeatState). s.0.sizes) read ∙ m.told;
   empty = ap (λ (s : SeatState). s.1) read ∙ m.empty;
 }
+
+-- and has ended the caller of another seat
+pub rests_ended : (me me' me'' : SeatState) (call : Call) (era : Era) (other : View) → me' ≡ (with_era me.0 era, me.1) → me'' ≡ (after_end_with me'.0 other, me'.1) → ManagerAt me call → ManagerAt me'' call
+rests_ended me me' me'' call era other read ended at =
+    let joined : me'.0.passes ≡ me''.0.passes = sym (ap (λ (s : SeatState). s.0.passes) ended) in
+    let was : me.0.passes ≡ me'.0.passes = sym (ap (λ (s : SeatState). s.0.passes) read) in
+    rests_at {me = me'} {me' = me''} joined (rests_at {me = me} {me' = me'} was at)
 
 -- a list that is not empty has a first item
 pub first_item : {A : Type 0} (l : List A) → (l ≡ [] → ⊥) → (x : A) × (get_elem? l 0 ≡ some x)
