@@ -192,13 +192,6 @@ manager_read table sizes users id id' era me me' same read m = record {
   empty = ap (λ (s : SeatState). s.1) read ∙ m.empty;
 }
 
--- and has ended the caller of another seat
-pub rests_ended : (me me' me'' : SeatState) (call : Call) (era : Era) (other : View) → me' ≡ (with_era me.0 era, me.1) → me'' ≡ (after_end_with me'.0 other, me'.1) → ManagerAt me call → ManagerAt me'' call
-rests_ended me me' me'' call era other read ended at =
-    let joined : me'.0.passes ≡ me''.0.passes = sym (ap (λ (s : SeatState). s.0.passes) ended) in
-    let was : me.0.passes ≡ me'.0.passes = sym (ap (λ (s : SeatState). s.0.passes) read) in
-    rests_at {me = me'} {me' = me''} joined (rests_at {me = me} {me' = me'} was at)
-
 -- a list that is not empty has a first item
 pub first_item : {A : Type 0} (l : List A) → (l ≡ [] → ⊥) → (x : A) × (get_elem? l 0 ≡ some x)
 first_item [] some_there = absurd (some_there refl)

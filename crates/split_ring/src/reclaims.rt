@@ -95,7 +95,6 @@ impl<D: Desk> SharedLink<D> {
     /// Errors: `StillOpen` exactly where the era was found live; `Busy` exactly where another has the
     /// receiver's turn of the caller's end, the caller holds a buffer, and its call does not have that turn.
     /// All parts come back then as they were.
-    #[tactic(auto, using(crate::proofs::PartSteps::rests_ended))]
     pub fn reclaim(&self, manager: &mut Manager, parts: Parts<D>) -> Result<(), ReclaimFault<D>>
         requires manager { IsManagerOf self.now manager.old }
         requires parts { IsAllOf self.now parts }
