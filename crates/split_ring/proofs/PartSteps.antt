@@ -28,11 +28,7 @@ use Rattle.lane_model.specs.HeldBuffers.{HeldBuffer}
 use Rattle.link_words.specs.declared.rule.LinkSizes.{LinkSizes}
 use Rattle.link_words.specs.declared.rule.Pass.{Pass}
 use Rattle.link_words.specs.Calls.{SeatState}
-use Rattle.link_words.specs.Passes.{HasNumber, Manages, after_end_with}
-use Rattle.link_words.specs.declared.rule.Call.{Call}
-use Rattle.link_words.specs.declared.rule.View.{View}
-use Rattle.link_words.specs.Reopens.{ManagerAt}
-use Rattle.link_words.specs.Seats.{with_era}
+use Rattle.link_words.specs.Passes.{HasNumber, Manages}
 use Rattle.split_ring.proofs.Makes.{rests_at}
 use Rattle.split_ring.specs.declared.callers.CallerId.{CallerId}
 use Rattle.split_ring.specs.declared.calls.Phase.{Phase}

@@ -63,7 +63,7 @@ returns-in-Ok-clause-manager g c =
       manages = subst (λ (s : SeatState). Manages s.0) (sym j.2) m.manages;
       rests = rests_at (sym (ap (λ (s : SeatState). s.0.passes) j.2)) m.rests;
       knows = ap (λ (s : SeatState). s.0.users) j.2
-      ∙ (ap (λ (ps : List Pass). callers_without ps c.learn_era.new.manager.me.0.users) c.in-Ok.ensures.ended.one ∙ ap₂ (λ (users : List (Option End)) (n : ℕ). slice_set users n None) m.knows c.requires.parts.user.number);
+          ∙ (ap (λ (ps : List Pass). callers_without ps c.learn_era.new.manager.me.0.users) c.in-Ok.ensures.ended.one ∙ ap₂ (λ (users : List (Option End)) (n : ℕ). slice_set users n None) m.knows c.requires.parts.user.number);
       told = ap (λ (s : SeatState). s.0.sizes) j.2 ∙ m.told;
       empty = ap (λ (s : SeatState). s.1) j.2 ∙ m.empty;
     }
