@@ -65,7 +65,7 @@ apart_length : (xs : List ℕ) → length (words_apart 0 xs) ≡ 8 * length xs
 apart_length [] = refl
 apart_length (x ∷ xs) = let rest = apart_length xs in omega arith
 
-entries_length : (s : RingSizes) → s.capacity ≤ s.entries → length (opened_entries s) ≡ s.entries + s.entries
+pub entries_length : (s : RingSizes) → s.capacity ≤ s.entries → length (opened_entries s) ≡ s.entries + s.entries
 entries_length s low =
     length-append (replicate s.entries 0) (range_with_len s.own (s.capacity - s.own) ++ replicate (s.entries - (s.capacity - s.own)) 0)
     ∙ ((λ i. length-replicate s.entries 0 i + length-append (range_with_len s.own (s.capacity - s.own)) (replicate (s.entries - (s.capacity - s.own)) 0) i)
@@ -89,7 +89,7 @@ words_many z opens =
     let first : length (layout (first_words z)) ≡ 160 = refl in omega (arith, whole, outer, inner, host, remote, hosts, remotes, first)
 
 -- the entries of a new lane of the ring form
-lane_entries : (s : RingSizes) (more : List ℕ) → map entry_word (replicate s.entries (entry_of 0)) ++ (map entry_word (opened_returns s) ++ more) ≡ opened_entries s ++ more
+pub lane_entries : (s : RingSizes) (more : List ℕ) → map entry_word (replicate s.entries (entry_of 0)) ++ (map entry_word (opened_returns s) ++ more) ≡ opened_entries s ++ more
 lane_entries s more =
     let count = s.capacity - s.own in
     let returns = map_append entry_word (map entry_of (range_with_len s.own count)) (replicate (s.entries - count) (entry_of 0)) ∙ (λ i. number_words (range_with_len s.own count) i ++ blank_words (s.entries - count) i) in

@@ -17,3 +17,5 @@ pub mod Crosses
 pub mod CloseSteps
 pub mod EndSteps
 pub mod PartSteps
+pub mod Gathering
+pub mod Reopening

@@ -24,9 +24,12 @@ use Rattle.link_words.specs.declared.rule.View.{View}
 use Rattle.link_words.specs.DeskSeats.{code_in}
 use Rattle.link_words.specs.Fresh.{sizes_for, opened_slots}
 use Rattle.link_words.specs.Layouts.{layout}
-use Rattle.link_words.specs.Passes.{Manages, all_but_last, last_pass_only, new_pass, first_incarnation, only_new, with_new_caller, with_caller_as, without_new}
+use Rattle.link_words.specs.Passes.{Manages, place_of_number, all_but_last, last_pass_only, new_pass, first_incarnation, only_new, with_new_caller, with_caller_as, without_new}
 use Rattle.link_words.specs.PlacedDesks.{right_at}
 use Rattle.link_words.specs.Rule.{LinkRule, first_view}
+use Rattle.link_words.specs.declared.rule.Call.{Call}
+use Rattle.link_words.specs.Calls.{SeatState}
+use Rattle.link_words.specs.Reopens.{ManagerAt}
 use Rattle.link_words.specs.Words.{words_of}
 use Rattle.split_ring.specs.Links.{HasDeskSeat}
 use Rattle.split_ring.specs.Openings.{opened_words}
@@ -75,13 +78,22 @@ last_is [] p = refl
 last_is (q ∷ []) p = refl
 last_is (q ∷ r ∷ ps) p = last_is (r ∷ ps) p
 
-pub manager_after : (e : End) (v : View) (k : Option LinkCopy) (n : ℕ) → free_number v.users ≡ Some n → Manages v → Manages (without_new e v k) × ((without_new e v k).users ≡ slice_set v.users n (Some e)) × ((without_new e v k).sizes ≡ v.sizes)
+pub manager_after : (e : End) (v : View) (k : Option LinkCopy) (n : ℕ) → free_number v.users ≡ Some n → Manages v → Manages (without_new e v k) × ((without_new e v k).users ≡ slice_set v.users n (Some e)) × ((without_new e v k).sizes ≡ v.sizes) × ((without_new e v k).passes ≡ v.passes)
 manager_after e v k n free manages =
     let is : with_new_caller e v k ≡ with_caller_as e v k (Some n) = ap (with_caller_as e v k) free in
     let passes : (without_new e v k).passes ≡ v.passes = ap (λ (w : View). all_but_last w.passes) is ∙ gone v.passes (new_pass e n (first_incarnation n v)) in
-    ((manages.0, manages.1, ap (λ (ps : List Pass). get_elem? ps manages.0) passes ∙ manages.2, manages.3), ap (λ (w : View). w.users) is, ap (λ (w : View). w.sizes) is)
+    ((manages.0, manages.1, ap (λ (ps : List Pass). get_elem? ps manages.0) passes ∙ manages.2, manages.3), ap (λ (w : View). w.users) is, ap (λ (w : View). w.sizes) is, passes)
 
 pub caller_after : (e : End) (v : View) (n : ℕ) → free_number v.users ≡ Some n → ((only_new e v).passes ≡ new_pass e n (first_incarnation n v) ∷ []) × ((only_new e v).sizes ≡ v.sizes)
 caller_after e v n free =
     let is : with_new_caller e v None ≡ with_caller_as e v None (Some n) = ap (with_caller_as e v None) free in
     (ap (λ (w : View). last_pass_only w.passes) is ∙ last_is v.passes (new_pass e n (first_incarnation n v)), ap (λ (w : View). w.sizes) is)
+
+-- the manager's own pass is in its call where the passes are the same
+pub rests_at : {me me' : SeatState} {call : Call} → me.0.passes ≡ me'.0.passes → ManagerAt me call → ManagerAt me' call
+rests_at same at = record {
+  mover = record { place = at.mover.place; pass = at.mover.pass; here = ap (λ (ps : List Pass). get_elem? ps at.mover.place) (sym same) ∙ at.mover.here };
+  here = at.here ∙ ap (place_of_number 64) same;
+  number = at.number;
+  in_call = at.in_call;
+}

@@ -14,3 +14,5 @@ pub mod Reclaims
 pub mod Callers
 pub mod Forms
 pub mod PartsOf
+pub mod Gathers
+pub mod Reopens

@@ -57,7 +57,7 @@ pub(crate) struct SendCall {
 }
 
 /// The slot of the sender's side state of the lane to an end.
-fn sender_slot(lane: End) -> usize
+pub(crate) fn sender_slot(lane: End) -> usize
     ensures { result ≡ sender_slot lane }
 {
     match lane {

@@ -5,7 +5,7 @@ use Rattle.link_words.specs.declared.rule.Pass.{Pass}
 use Rattle.link_words.specs.Calls.{SeatState}
 use Rattle.link_words.specs.Passes.{Manages, new_pass, first_incarnation}
 use Rattle.split_ring.specs.Seats.{first_pass}
-use Rattle.split_ring.proofs.Makes.{manager_after, caller_after}
+use Rattle.split_ring.proofs.Makes.{rests_at, manager_after, caller_after}
 use Rattle.split_ring.proofs.links.SharedLink.caller.Goals as goal
 
 pub returns-clause-manager : goal.returns-clause-manager
@@ -16,6 +16,7 @@ returns-clause-manager g c =
     record {
       at_table = m.0 ∙ c.requires.at_table;
       manages = subst (λ (s : SeatState). Manages s.0) (sym m.2) after.0;
+      rests = rests_at (sym (ap (λ (s : SeatState). s.0.passes) m.2 ∙ after.3)) c.requires.rests;
       knows = ap (λ (s : SeatState). s.0.users) m.2 ∙ (after.1 ∙ ap (λ (l : List _). slice_set l n (Some c.args.end)) c.requires.knows);
       told = ap (λ (s : SeatState). s.0.sizes) m.2 ∙ (after.2 ∙ c.requires.told);
       empty = ap (λ (s : SeatState). s.1) m.2 ∙ c.requires.empty;

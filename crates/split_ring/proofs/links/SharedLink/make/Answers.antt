@@ -8,7 +8,10 @@ use Rattle.link_words.specs.Fresh.{sizes_for}
 use Rattle.link_words.specs.declared.rule.View.{View}
 use Rattle.link_words.specs.Calls.{SeatState}
 use Rattle.link_words.specs.Layouts.{layout}
+use Rattle.link_words.specs.declared.rule.Call.TheVariants.{Gathers}
 use Rattle.link_words.specs.Passes.{Manages}
+use Rattle.link_words.specs.Reopens.{ManagerAt}
+use Rattle.link_words.specs.Sides.{no_sides}
 use Rattle.link_words.specs.Words.{IsSized}
 use Rattle.split_ring.specs.Openings.{opened_words, IsOpenable}
 use Rattle.split_ring.proofs.Apart.{words_many}
@@ -56,6 +59,7 @@ returns-in-Ok-clause-manager g c =
     let ok = c.in-Ok.ensures.ok in let view = ap (λ (s : SeatState). s.0) ok.4 in record {
       at_table = ok.2;
       manages = subst Manages (sym view) (0, _, refl, refl);
+      rests = subst (λ (s : SeatState). ManagerAt s (Gathers no_sides no_sides)) (sym ok.4) (record { mover = record { place = 0; pass = _; here = refl }; here = refl; number = refl; in_call = refl });
       knows = ap (λ (v : View). v.users) view;
       told = ap (λ (v : View). v.sizes) view;
       empty = ap (λ (s : SeatState). s.1) ok.4;

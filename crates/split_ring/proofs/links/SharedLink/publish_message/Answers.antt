@@ -3,7 +3,6 @@ use Rattle.rp_base.specs.declared.kinds.End.{End}
 use Rattle.lane_model.specs.declared.calls.CallEnd.TheVariants as end
 use Rattle.link_words.specs.declared.rule.Event.TheVariants.{Publish}
 use Rattle.link_words.specs.declared.rule.Ring.TheVariants as ring
-use Rattle.link_words.specs.declared.rule.SenderSide.{SenderSide}
 use Rattle.link_words.specs.declared.rule.Slot.{Slot}
 use Rattle.link_words.specs.declared.rule.Slot.TheVariants.{Sender}
 use Rattle.link_words.specs.Calls.{SeatState}

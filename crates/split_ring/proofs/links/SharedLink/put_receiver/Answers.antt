@@ -1,0 +1,11 @@
+use Rattle.link_words.specs.declared.rule.Slot.TheVariants.{Receiver}
+use Rattle.split_ring.proofs.Gathering.{leave_receiver, put_receiver_is}
+use Rattle.split_ring.proofs.links.SharedLink.put_receiver.Goals as goal
+
+pub leave_for_manager-requires-clause-manager : goal.leave_for_manager-requires-clause-manager
+leave_for_manager-requires-clause-manager g c =
+    let q = c.requires.manager in
+    leave_receiver c.args.lane q.0 q.1 q.2 q.3 c.args.side c.receiver_slot.result c.args.seat.now.me c.exchange.new.seat.me q.4 q.5 c.receiver_slot.ensures c.exchange.ensures.3
+
+pub returns-clause-put : goal.returns-clause-put
+returns-clause-put g c = put_receiver_is c.args.lane c.receiver_slot.result (Receiver c.args.side) c.args.seat.now.me c.exchange.new.seat.me c.leave_for_manager.new.manager.me c.exchange.ensures.3 c.leave_for_manager.ensures.told

@@ -1,0 +1,75 @@
+use Rattle.std.proofs.Common.{◌+◌, ◌<◌, ℕ, refl, sym, ap, ◌∙◌, subst, true, false}
+use Rattle.link_words.specs.declared.rule.View.{View}
+use Rattle.link_words.specs.Reopens.{both_sides}
+use Rattle.split_ring.specs.Reopens.{next_view, unopened_from}
+use Rattle.split_ring.proofs.Reopening.{rests_none, none_view, manager_again, refused_is}
+use Rattle.split_ring.proofs.links.SharedLink.reopen.Goals as goal
+
+pub returns-in-Err-find_closed-clause-manager : goal.returns-in-Err-find_closed-clause-manager
+returns-in-Err-find_closed-clause-manager g c =
+    let me = c.args.manager.now.seat.me in let me1 = c.find_closed.new.seat.me in
+    manager_again _ _ _ _ (record me.0 { is_closed = false }) me1 c.find_closed.ensures.seat (rests_none me me1 false c.requires.rests c.requires.empty c.in-Err-find_closed.ensures.open.1) c.requires.knows
+
+pub take_lanes-requires-clause-manager : goal.take_lanes-requires-clause-manager
+take_lanes-requires-clause-manager g c =
+    let me = c.args.manager.now.seat.me in let me1 = c.find_closed.new.seat.me in let v : View = record me.0 { is_closed = true } in let closed = c.in-Ok-find_closed.ensures.closed in
+    let none = rests_none me me1 true c.requires.rests c.requires.empty closed.2 in (v, none)
+
+pub returns-in-Err-take_lanes-clause-manager : goal.returns-in-Err-take_lanes-clause-manager
+returns-in-Err-take_lanes-clause-manager g c =
+    let me = c.args.manager.now.seat.me in let me1 = c.find_closed.new.seat.me in let v : View = record me.0 { is_closed = true } in let closed = c.in-Ok-find_closed.ensures.closed in
+    let none = rests_none me me1 true c.requires.rests c.requires.empty closed.2 in
+    manager_again _ _ _ _ v c.take_lanes.new.seat.me c.take_lanes.ensures.seat (c.in-Err-take_lanes.ensures.met.0 v none) c.requires.knows
+
+pub returns-in-Err-take_lanes-clause-answer : goal.returns-in-Err-take_lanes-clause-answer
+returns-in-Err-take_lanes-clause-answer g c =
+    let me = c.args.manager.now.seat.me in let me1 = c.find_closed.new.seat.me in let v : View = record me.0 { is_closed = true } in let closed = c.in-Ok-find_closed.ensures.closed in
+    let none = rests_none me me1 true c.requires.rests c.requires.empty closed.2 in
+    let met = c.in-Err-take_lanes.ensures.met in (me1, none, met.1, none_view me v c.take_lanes.new.seat.me c.requires.rests refl (met.0 v none))
+
+pub put_lanes-requires-clause-manager : goal.put_lanes-requires-clause-manager
+put_lanes-requires-clause-manager g c =
+    let me = c.args.manager.now.seat.me in let me1 = c.find_closed.new.seat.me in let v : View = record me.0 { is_closed = true } in let closed = c.in-Ok-find_closed.ensures.closed in
+    let none = rests_none me me1 true c.requires.rests c.requires.empty closed.2 in (v, c.in-Ok-take_lanes.ensures.taken v none)
+
+pub open_next-requires-clause-manager : goal.open_next-requires-clause-manager
+open_next-requires-clause-manager g c =
+    let me = c.args.manager.now.seat.me in let me1 = c.find_closed.new.seat.me in let v : View = record me.0 { is_closed = true } in let closed = c.in-Ok-find_closed.ensures.closed in
+    let none = rests_none me me1 true c.requires.rests c.requires.empty closed.2 in (v, c.in-Ok-take_lanes.ensures.taken v none, closed.0, refl)
+
+pub returns-in-Some-clause-manager : goal.returns-in-Some-clause-manager
+returns-in-Some-clause-manager g c =
+    let me = c.args.manager.now.seat.me in let me1 = c.find_closed.new.seat.me in let v : View = record me.0 { is_closed = true } in let closed = c.in-Ok-find_closed.ensures.closed in
+    let none = rests_none me me1 true c.requires.rests c.requires.empty closed.2 in
+    let taken = c.in-Ok-take_lanes.ensures.taken v none in let h = c.in-Ok-take_lanes.lanes.0 in let r = c.in-Ok-take_lanes.lanes.1 in let me2 = c.take_lanes.new.seat.me in
+    manager_again _ _ _ _ v c.put_lanes.new.seat.me c.put_lanes.ensures.seat (c.put_lanes.ensures.put v (both_sides h.sender h.receiver) (both_sides r.sender r.receiver) taken) c.requires.knows
+
+pub returns-in-Some-clause-answer : goal.returns-in-Some-clause-answer
+returns-in-Some-clause-answer g c =
+    let me = c.args.manager.now.seat.me in let me1 = c.find_closed.new.seat.me in let v : View = record me.0 { is_closed = true } in let closed = c.in-Ok-find_closed.ensures.closed in
+    let none = rests_none me me1 true c.requires.rests c.requires.empty closed.2 in
+    let taken = c.in-Ok-take_lanes.ensures.taken v none in let h = c.in-Ok-take_lanes.lanes.0 in let r = c.in-Ok-take_lanes.lanes.1 in let me2 = c.take_lanes.new.seat.me in
+    let left = c.put_lanes.ensures.put v (both_sides h.sender h.receiver) (both_sides r.sender r.receiver) taken in
+    refused_is g.row.D.coded g.D.Desk.meaning me.0 h.sender r.sender h.receiver r.receiver me2 c.in-Some.fault c.put_lanes.new.seat.me.0 taken
+    (ap (λ (k : ℕ). unopened_from h.receiver.hands r.receiver.hands k) (sym closed.0) ∙ sym c.in-Some.ensures.fault) (none_view me v c.put_lanes.new.seat.me c.requires.rests refl left)
+
+pub returns-in-None-clause-manager : goal.returns-in-None-clause-manager
+returns-in-None-clause-manager g c =
+    let me = c.args.manager.now.seat.me in let me1 = c.find_closed.new.seat.me in let v : View = record me.0 { is_closed = true } in let closed = c.in-Ok-find_closed.ensures.closed in
+    let none = rests_none me me1 true c.requires.rests c.requires.empty closed.2 in
+    let taken = c.in-Ok-take_lanes.ensures.taken v none in let h = c.in-Ok-take_lanes.lanes.0 in let r = c.in-Ok-take_lanes.lanes.1 in let me2 = c.take_lanes.new.seat.me in
+    manager_again _ _ _ _ (next_view v) c.open_next.new.seat.me c.open_next.ensures.seat (c.open_next.ensures.next v taken (sym closed.0)) c.requires.knows
+
+pub returns-in-None-clause-answer : goal.returns-in-None-clause-answer
+returns-in-None-clause-answer g c =
+    let me = c.args.manager.now.seat.me in let me1 = c.find_closed.new.seat.me in let v : View = record me.0 { is_closed = true } in let closed = c.in-Ok-find_closed.ensures.closed in
+    let none = rests_none me me1 true c.requires.rests c.requires.empty closed.2 in
+    let taken = c.in-Ok-take_lanes.ensures.taken v none in let h = c.in-Ok-take_lanes.lanes.0 in let r = c.in-Ok-take_lanes.lanes.1 in let me2 = c.take_lanes.new.seat.me in
+    let next = c.open_next.ensures.next v taken (sym closed.0) in let t = c.open_next.ensures.books v taken (sym closed.0) refl in (
+      t.0,
+      record { own = t.1.own; unused = t.1.unused },
+      t.2,
+      c.open_next.ensures.inc ∙ closed.0,
+      subst (λ (k : ℕ). k + 1 < 4294967296) closed.0 c.in-None.ensures.none.2,
+      none_view me (next_view v) c.open_next.new.seat.me c.requires.rests refl next,
+    )

@@ -1,0 +1,32 @@
+use Rattle.std.proofs.Common.{◌∷◌, inl, inr, subst, sym}
+use Rattle.std.specs.Prelude.{Some}
+use Rattle.link_words.specs.declared.rule.Call.TheVariants.{Gathers}
+use Rattle.link_words.specs.Calls.{SeatState}
+use Rattle.link_words.specs.Words.{sender_slot}
+use Rattle.split_ring.specs.Gathers.{IsCalling, TakesSide}
+use Rattle.split_ring.proofs.Gathering.{may_gather, may_gather_at, takes_both, as_before, sender_held}
+use Rattle.split_ring.proofs.links.SharedLink.take_lane.Goals as goal
+
+pub take_sender-requires-clause-manager : goal.take_sender-requires-clause-manager
+take_sender-requires-clause-manager g c = let q = c.requires.manager in may_gather q.0 q.1 q.2 q.3 c.args.seat.now.me q.4
+
+pub take_receiver-requires-clause-manager : goal.take_receiver-requires-clause-manager
+take_receiver-requires-clause-manager g c = let q = c.requires.manager in
+    may_gather_at c.args.lane (λ s. record s { sender = Some c.in-Ok.side }) q.0 q.1 q.2 ((sender_slot c.args.lane, _) ∷ q.3) c.take_sender.new.seat.me (c.in-Ok.ensures.taken q.0 q.1 q.2 q.3 q.4)
+
+pub put_sender-requires-clause-manager : goal.put_sender-requires-clause-manager
+put_sender-requires-clause-manager g c = let q = c.requires.manager in let lane = c.args.lane in let me = c.args.seat.now.me in
+    sender_held lane c.in-Ok.side me c.take_receiver.new.seat.me q.0 q.1 q.2 q.3 q.4
+    (subst (λ (s : SeatState). TakesSide lane (λ w. record w { sender = Some c.in-Ok.side }) (sender_slot lane) me s) (sym c.in-Err-take_receiver.ensures.met.0) c.in-Ok.ensures.taken)
+
+pub returns-in-Err-clause-met : goal.returns-in-Err-clause-met
+returns-in-Err-clause-met g c = let met = c.in-Err.ensures.met in
+    ((λ v a b slots none was. subst (IsCalling v (Gathers a b) slots) (sym met.0) was), inl met.1)
+
+pub returns-in-Ok-take_receiver-clause-taken : goal.returns-in-Ok-take_receiver-clause-taken
+returns-in-Ok-take_receiver-clause-taken g c = takes_both c.args.lane c.in-Ok.side c.in-Ok-take_receiver.receiver c.args.seat.now.me c.take_sender.new.seat.me c.take_receiver.new.seat.me c.in-Ok.ensures.taken c.in-Ok-take_receiver.ensures.taken
+
+pub returns-in-Err-take_receiver-clause-met : goal.returns-in-Err-take_receiver-clause-met
+returns-in-Err-take_receiver-clause-met g c = let met = c.in-Err-take_receiver.ensures.met in let lane = c.args.lane in let me = c.args.seat.now.me in
+    let taken = c.in-Ok.ensures.taken in let still = subst (λ (s : SeatState). TakesSide lane (λ w. record w { sender = Some c.in-Ok.side }) (sender_slot lane) me s) (sym met.0) taken in
+    (as_before lane c.in-Ok.side me c.take_receiver.new.seat.me c.put_sender.new.seat.me still c.put_sender.ensures.put, inr (c.take_sender.new.seat.me, c.in-Ok.side, taken, met.1))

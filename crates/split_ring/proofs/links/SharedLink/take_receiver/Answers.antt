@@ -1,0 +1,21 @@
+use Rattle.std.proofs.Common.{◌≡◌, ◌+◌, ◌-◌, ◌∙◌, arith}
+use Rattle.lane_model.specs.declared.recoveries.LaneTurn.TheVariants as lane_turn
+use Rattle.link_words.specs.Words.{receiver_slot}
+use Rattle.link_words.specs.declared.rule.Slot.TheVariants.{Receiver}
+use Rattle.split_ring.proofs.Gathering.{receiver_out, lent_at, took_receiver, meets}
+use Rattle.split_ring.proofs.links.SharedLink.take_receiver.Goals as goal
+
+pub exchange-requires : goal.exchange-requires
+exchange-requires g c =
+    let me = c.args.seat.now.me in let me1 = c.take_for_manager-found.new.manager.me in let x = receiver_out c.args.lane c.take_for_manager-found.result me me1 c.if-found-eq0.true c.take_for_manager-found.ensures.told in
+    (c.take_for_manager-found.ensures.same.0 ∙ c.requires.seat.at_table, (Receiver x.0, lent_at (receiver_slot c.args.lane) c.receiver_slot.result (Receiver x.0) me1.1 me.1 x.1 c.receiver_slot.ensures))
+
+pub returns-then-found-eq0-clause-taken : goal.returns-then-found-eq0-clause-taken
+returns-then-found-eq0-clause-taken g c =
+    let me = c.args.seat.now.me in let me1 = c.take_for_manager-found.new.manager.me in let me2 = c.exchange.new.seat.me in
+    took_receiver c.args.lane c.take_for_manager-found.result c.receiver_slot.result c.exchange.result c.receiver_of.result me me1 me2 c.if-found-eq0.true c.take_for_manager-found.ensures.told c.receiver_slot.ensures c.exchange.ensures.2 c.exchange.ensures.3 c.receiver_of.ensures
+
+pub returns-else-found-eq0-clause-met : goal.returns-else-found-eq0-clause-met
+returns-else-found-eq0-clause-met g c =
+    let me = c.args.seat.now.me in let me1 = c.take_for_manager-found.new.manager.me in let n = c.take_for_manager-found.result in let busy = c.if-found-eq0.false in let is : n ≡ n - 1 + 1 = omega arith in
+    meets g.row.D.coded g.D.Desk.meaning lane_turn.Receiver c.args.lane n (n - 1) me me1 (c.take_for_manager-found.ensures.told.1 busy) is c.take_for_manager-found.ensures.step
