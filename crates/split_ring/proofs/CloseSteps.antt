@@ -10,6 +10,7 @@ use Rattle.link_words.specs.Steps.{ClosesLink}
 use Rattle.link_words.specs.Words.{era_word}
 use Rattle.split_ring.specs.Closes.{IsCloseAnswer, HasClosed}
 use Rattle.split_ring.proofs.Eras.{live_is, dead_is}
+use Rattle.std.specs.Prelude.{if◌then◌else◌, ◌==◌}
 use Rattle.std.proofs.Common.{◌≡◌, ◌<◌, true, false, ℕ, zero, suc, List, [], ◌∷◌, refl, sym, ap, ◌∙◌, subst}
 use mathlib.Core.Option.{some, some-injective, some-ne-none}
 use lib.ListN.{get_elem?}
@@ -29,7 +30,9 @@ use Rattle.rp_base.specs.declared.kinds.End.{End}
 use Rattle.link_words.specs.declared.rule.Call.{Call}
 use Rattle.link_words.specs.declared.rule.Call.TheVariants.{Rests}
 use Rattle.link_words.specs.declared.rule.LinkSizes.{LinkSizes}
+use Rattle.link_words.specs.declared.rule.Call.{Call}
 use Rattle.link_words.specs.declared.rule.Made.{Made}
+use Rattle.link_words.specs.Reopens.{ManagerAt}
 use Rattle.link_words.specs.declared.rule.Pass.{Pass}
 use Rattle.link_words.specs.declared.rule.Slot.{Slot}
 use Rattle.link_words.specs.Calls.{SeatState, Notes, noted, with_pass_at}
@@ -136,17 +139,33 @@ where_it_was link before after made id table n user =
       in_call = λ call was. record { seat = seat; number = number; low = low; stands = subst (λ (i : CallerId). IsInPhase link.sizes i call.phase after.seat.me) (sym id) (phase_noted before.seat.me after.seat.me (noted_like made before.seat.me after.seat.me n) link.sizes before.id call.phase was.stands) };
     }
 
--- the manager's seat has its own pass still
-number_stays : (made : Made) (k : ℕ) (ps : List Pass) (l : ℕ) (b : Pass) → get_elem? ps l ≡ some b → (c : Pass) × (get_elem? (with_pass_at (noted made) k ps) l ≡ some c) × (c.number ≡ b.number)
-number_stays made k [] l b at = absurd (some-ne-none b (sym at))
-number_stays made zero (p ∷ ps) zero b at = (noted made p, refl, ap (λ (q : Pass). q.number) (some-injective p b at))
-number_stays made zero (p ∷ ps) (suc l) b at = (b, at, refl)
-number_stays made (suc k) (p ∷ ps) zero b at = (b, at, refl)
-number_stays made (suc k) (p ∷ ps) (suc l) b at = number_stays made k ps l b at
+-- a pass is there still, with its number and its call
+pass_stays : (made : Made) (k : ℕ) (ps : List Pass) (l : ℕ) (b : Pass) → get_elem? ps l ≡ some b → (c : Pass) × (get_elem? (with_pass_at (noted made) k ps) l ≡ some c) × (c.number ≡ b.number) × (c.call ≡ b.call)
+pass_stays made k [] l b at = absurd (some-ne-none b (sym at))
+pass_stays made zero (p ∷ ps) zero b at = (noted made p, refl, ap (λ (q : Pass). q.number) (some-injective p b at), ap (λ (q : Pass). q.call) (some-injective p b at))
+pass_stays made zero (p ∷ ps) (suc l) b at = (b, at, refl, refl)
+pass_stays made (suc k) (p ∷ ps) zero b at = (b, at, refl, refl)
+pass_stays made (suc k) (p ∷ ps) (suc l) b at = pass_stays made k ps l b at
 
+place_stays : (made : Made) (k n : ℕ) (ps : List Pass) → place_of_number n (with_pass_at (noted made) k ps) ≡ place_of_number n ps
+place_stays made k n [] = refl
+place_stays made zero n (p ∷ ps) = refl
+place_stays made (suc k) n (p ∷ ps) = ap (λ (later : ℕ). if p.number == n then 0 else suc later) (place_stays made k n ps)
+
+-- the manager's seat has its own pass still, in the call that it was in
 pub manages_noted : (made : Made) (k : ℕ) (me me' : SeatState) → Notes made (λ p. p) k me.1 me me' → Manages me.0 → Manages me'.0
 manages_noted made k me me' told (l, b, at, is) =
-    let c = number_stays made k me.0.passes l b at in subst (λ (s : SeatState). Manages s.0) (sym told) (l, c.0, c.1, c.2 ∙ is)
+    let c = pass_stays made k me.0.passes l b at in subst (λ (s : SeatState). Manages s.0) (sym told) (l, c.0, c.1, c.2 ∙ is)
+
+pub rests_noted : (made : Made) (k : ℕ) (me me' : SeatState) (call : Call) → Notes made (λ p. p) k me.1 me me' → ManagerAt me call → ManagerAt me' call
+rests_noted made k me me' call told at =
+    let c = pass_stays made k me.0.passes at.mover.place at.mover.pass at.mover.here in
+    subst (λ (s : SeatState). ManagerAt s call) (sym told) (record {
+      mover = record { place = at.mover.place; pass = c.0; here = c.1 };
+      here = at.here ∙ sym (place_stays made k 64 me.0.passes);
+      number = c.2 ∙ at.number;
+      in_call = c.3 ∙ at.in_call;
+    })
 
 -- an attempt to close, by the era that was found
 module _ {D : Type 0} (coded : Coded D) (meaning : DeskMeaning D) (closer inc n : ℕ) (me me' : SeatState) (found : Era) (told : ClosesEra closer me n me') (read : (era : Era) → n ≡ era_word era → era.inc < 4294967296 → found ≡ era) (step : ClosesLink coded meaning inc n me me') where

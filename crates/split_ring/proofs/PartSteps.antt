@@ -29,6 +29,7 @@ use Rattle.link_words.specs.declared.rule.LinkSizes.{LinkSizes}
 use Rattle.link_words.specs.declared.rule.Pass.{Pass}
 use Rattle.link_words.specs.Calls.{SeatState}
 use Rattle.link_words.specs.Passes.{HasNumber, Manages}
+use Rattle.split_ring.proofs.Makes.{rests_at}
 use Rattle.split_ring.specs.declared.callers.CallerId.{CallerId}
 use Rattle.split_ring.specs.declared.calls.Phase.{Phase}
 use Rattle.split_ring.specs.declared.calls.Phase.TheVariants as phase
@@ -181,6 +182,7 @@ pub manager_read : (table : TableId) (sizes : LinkSizes) (users : List (Option _
 manager_read table sizes users id id' era me me' same read m = record {
   at_table = same ∙ m.at_table;
   manages = subst (λ (s : SeatState). Manages s.0) (sym read) m.manages;
+  rests = rests_at (sym (ap (λ (s : SeatState). s.0.passes) read)) m.rests;
   knows = ap (λ (s : SeatState). s.0.users) read ∙ m.knows;
   told = ap (λ (s : SeatState). s.0.sizes) read ∙ m.told;
   empty = ap (λ (s : SeatState). s.1) read ∙ m.empty;

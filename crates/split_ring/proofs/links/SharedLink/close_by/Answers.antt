@@ -2,7 +2,7 @@ use Rattle.std.proofs.Common.{◌∙◌, refl, ap}
 use Rattle.link_words.specs.declared.rule.Made.TheVariants as made
 use Rattle.link_words.specs.Calls.{SeatState}
 use Rattle.link_words.specs.Passes.{place_of_number}
-use Rattle.split_ring.proofs.CloseSteps.{manages_noted}
+use Rattle.split_ring.proofs.CloseSteps.{manages_noted, rests_noted}
 use Rattle.split_ring.proofs.links.SharedLink.close_by.Goals as goal
 
 pub close_once-requires-clause-pass : goal.close_once-requires-clause-pass
@@ -17,6 +17,7 @@ returns-clause-manager g c =
       record {
         at_table = c.close_once.ensures.same.0 ∙ q.at_table;
         manages = manages_noted (made.Close x.era) (place_of_number 64 me.0.passes) me me' x.noted q.manages;
+        rests = rests_noted (made.Close x.era) (place_of_number 64 me.0.passes) me me' _ x.noted q.rests;
         knows = ap (λ (s : SeatState). s.0.users) x.noted ∙ q.knows;
         told = ap (λ (s : SeatState). s.0.sizes) x.noted ∙ q.told;
         empty = ap (λ (s : SeatState). s.1) x.noted ∙ q.empty;

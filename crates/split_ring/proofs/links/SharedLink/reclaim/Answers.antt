@@ -8,6 +8,13 @@ use Rattle.split_ring.specs.declared.reclaims.Parts.{Parts}
 use Rattle.split_ring.specs.PartsOf.{AreSame}
 use Rattle.split_ring.specs.Reclaims.{IsAnothers, lacks_receiver}
 use Rattle.split_ring.proofs.PartSteps.{holds_nothing, holds_some, all_same, manager_read, open_is, busy_is}
+use Rattle.link_words.specs.Calls.{SeatState}
+use Rattle.std.specs.Prelude.{slice_set, ℕ, Option, None}
+use Rattle.std.proofs.Common.{ap₂}
+use Rattle.rp_base.specs.declared.kinds.End.{End}
+use Rattle.link_words.specs.declared.rule.Pass.{Pass}
+use Rattle.link_words.specs.Passes.{Manages, callers_without}
+use Rattle.split_ring.proofs.Makes.{rests_at}
 use Rattle.split_ring.proofs.links.SharedLink.reclaim.Goals as goal
 
 pub end_call-requires-clause-hands : goal.end_call-requires-clause-hands
@@ -42,3 +49,21 @@ returns-in-Err-Busy-clause-refused g c =
       refl,
       (t.0, sym (ap (λ (e : Era). e.is_live) read) ∙ c.if-era.false, t.3),
     )
+
+pub returns-then-era-clause-manager : goal.returns-then-era-clause-manager
+returns-then-era-clause-manager g c =
+    let t = c.learn_era.ensures.told in manager_read _ _ _ _ _ t.0 c.args.manager.now.seat.me c.learn_era.new.manager.me c.learn_era.ensures.same.0 t.3 c.requires.manager
+
+pub returns-in-Ok-clause-manager : goal.returns-in-Ok-clause-manager
+returns-in-Ok-clause-manager g c =
+    let t = c.learn_era.ensures.told in
+    let m = manager_read _ _ _ _ _ t.0 c.args.manager.now.seat.me c.learn_era.new.manager.me c.learn_era.ensures.same.0 t.3 c.requires.manager in
+    let j = c.join.ensures.manager in record {
+      at_table = j.0 ∙ m.at_table;
+      manages = subst (λ (s : SeatState). Manages s.0) (sym j.2) m.manages;
+      rests = rests_at (sym (ap (λ (s : SeatState). s.0.passes) j.2)) m.rests;
+      knows = ap (λ (s : SeatState). s.0.users) j.2
+          ∙ (ap (λ (ps : List Pass). callers_without ps c.learn_era.new.manager.me.0.users) c.in-Ok.ensures.ended.one ∙ ap₂ (λ (users : List (Option End)) (n : ℕ). slice_set users n None) m.knows c.requires.parts.user.number);
+      told = ap (λ (s : SeatState). s.0.sizes) j.2 ∙ m.told;
+      empty = ap (λ (s : SeatState). s.1) j.2 ∙ m.empty;
+    }
