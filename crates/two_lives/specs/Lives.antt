@@ -1,7 +1,6 @@
 -- What the callers of a life are left with, and what their own lists say (own).
 use Rattle.std.specs.Prelude.{◌≡◌, ℕ, List, [], ◌∷◌, ◌++◌, Option, Some, None}
 use Rattle.rp_base.specs.declared.kinds.End.{End}
-use Rattle.channel_bus.specs.declared.sides.Side.{Side}
 use Rattle.link_words.specs.declared.rule.Event.{Event}
 use Rattle.link_words.specs.declared.rule.Event.TheVariants.{Take}
 use Rattle.link_words.specs.Histories.{sends_in}
@@ -13,22 +12,23 @@ use Rattle.split_ring.specs.Callers.{IsCallerOf, IsUserOf, own_of}
 use Rattle.split_ring.specs.Reclaims.{StandsIn, buffer_in, phase_of}
 use Rattle.split_ring.specs.Seats.{pass_in}
 
--- a caller of this link that is in no call and has nothing in hand
-pub record IsFree (link : SharedLink Side) (caller : Caller) : Type 0 where
-  pub rests : IsCallerOf link caller
-  pub hands : (pass_in caller.seat.me).hands ≡ []
+module _ {D : Type 0} where
+  -- a caller of this link that is in no call and has nothing in hand
+  pub record IsFree (link : SharedLink D) (caller : Caller) : Type 0 where
+    pub rests : IsCallerOf link caller
+    pub hands : (pass_in caller.seat.me).hands ≡ []
 
--- and that has done nothing yet
-pub record IsNew (link : SharedLink Side) (caller : Caller) : Type 0 where
-  pub free : IsFree link caller
-  pub own : own_of caller ≡ []
+  -- and that has done nothing yet
+  pub record IsNew (link : SharedLink D) (caller : Caller) : Type 0 where
+    pub free : IsFree link caller
+    pub own : own_of caller ≡ []
 
--- a caller of this link that has stopped in this call, or in none, with nothing in hand
-pub record HasStopped (link : SharedLink Side) (caller : Caller) (call : Option (RingCall Side)) : Type 0 where
-  pub user : IsUserOf link caller
-  pub stands : StandsIn link.sizes caller.id (phase_of call) caller.seat.me
-  pub hands : (pass_in caller.seat.me).hands ≡ []
-  pub buffer : buffer_in (phase_of call) ≡ []
+  -- a caller of this link that has stopped in this call, or in none, with nothing in hand
+  pub record HasStopped (link : SharedLink D) (caller : Caller) (call : Option (RingCall D)) : Type 0 where
+    pub user : IsUserOf link caller
+    pub stands : StandsIn link.sizes caller.id (phase_of call) caller.seat.me
+    pub hands : (pass_in caller.seat.me).hands ≡ []
+    pub buffer : buffer_in (phase_of call) ≡ []
 
 -- the caller has done more
 pub record HasGrown (before after : Caller) : Type 0 where

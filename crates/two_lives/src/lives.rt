@@ -100,7 +100,7 @@ pub fn run<R: Threads + Sync>(rt: &R, alloc: Global) -> Result<Lives, Halt> {
     let Some(remote) = link.caller(&mut manager, End::Remote) else {
         return Err(Halt::NoCaller);
     };
-    let (stopped, taker) = first_life(rt, &link, host, remote);
+    let (taker, stopped) = first_life(rt, &link, host, remote);
     let Taker {
         caller: mut host,
         found,
@@ -124,29 +124,27 @@ fn first_life<R: Threads + Sync>(
     link: &SharedLink<Side>,
     host: Caller,
     remote: Caller,
-) -> (Stopped, Taker)
+) -> (Taker, Stopped<Side>)
     requires host { IsCallerOf link.now host }
     requires remote { IsNew link.now remote }
-    ensures stopped { HasStopped link.now result.0.caller result.0.call }
-    ensures host { IsCallerOf link.now result.1.caller }
-    ensures taken { IfSome result.1.found (λ found. HasTaken result.1.caller found.number found.message) }
+    ensures host { IsCallerOf link.now result.0.caller }
+    ensures taken { IfSome result.0.found (λ found. HasTaken result.0.caller found.number found.message) }
+    ensures stopped { HasStopped link.now result.1.caller result.1.call }
 {
-    let sending = move || -> Stopped
-        requires { IsNew link.now remote }
-        ensures { HasStopped link.now result.caller result.call }
-    {
-        send_and_stop(link, remote, &message_of(b"first"), message_of(b"half"))
-    };
     let taking = move || -> Taker
         requires { IsCallerOf link.now host }
-        ensures caller { IsCallerOf link.now result.caller }
+        ensures caller { IsCallerOf link.entry.now result.caller }
         ensures taken { IfSome result.found (λ found. HasTaken result.caller found.number found.message) }
     {
         let mut caller = host;
         let found = take_one(link, &mut caller);
         Taker { caller, found }
     };
-    thread::join(rt, sending, taking)
+    let sending = move || -> Stopped<Side>
+        requires { IsNew link.now remote }
+        ensures { HasStopped link.entry.now result.caller result.call }
+    { send_and_stop(link, remote, &message_of(b"first"), message_of(b"half")) };
+    thread::join(rt, taking, sending)
 }
 
 /// Between the lives: the manager closes the link, reclaims the sender that has stopped, and opens the next incarnation.
@@ -155,7 +153,7 @@ fn begin_again(
     alloc: Global,
     link: &SharedLink<Side>,
     manager: &mut Manager,
-    stopped: Stopped,
+    stopped: Stopped<Side>,
 ) -> Result<Books, Halt>
     requires manager { IsManagerOf link.now manager.old }
     requires stopped { HasStopped link.now stopped.caller stopped.call }

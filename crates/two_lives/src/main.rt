@@ -5,19 +5,20 @@
 mod lives;
 mod users;
 
-use crate::lives::Lives;
 use std::io;
 
 fn main(rt: HostRuntime) -> io::Result<()> {
     match lives::run(&rt, rt.alloc()) {
-        Ok(Lives {
-            first,
-            books,
-            second,
-        }) => {
-            println!(rt; "life 1: {}", first)?;
-            println!(rt; "incarnation {}: {} accepted, {} handed over", books.inc, books.to_host.len(), books.to_host_handed)?;
-            println!(rt; "life 2: {}", second)
+        Ok(lives) => {
+            println!(rt; "life 1: {}", lives.first)?;
+            let books = &lives.books;
+            println!(rt;
+                "incarnation {}: {} accepted, {} handed over",
+                books.inc,
+                books.to_host.len(),
+                books.to_host_handed
+            )?;
+            println!(rt; "life 2: {}", lives.second)
         }
         Err(halt) => println!(rt; "halted: {halt:?}"),
     }

@@ -3,8 +3,7 @@ ghost use Rattle.std.specs.Prelude.{◌≡◌, IfSome};
 ghost use Rattle.split_ring.specs.Callers.{Holds, IsAfterCall, IsCallerOf};
 ghost use Rattle.two_lives.specs.Lives.{HasGrown, HasPublishedNone, HasSentAlone, HasStopped, HasTaken, IsFree, IsNew};
 
-use channel_bus::Side;
-use lane_model::{Ask, Held, Progress};
+use lane_model::{Ask, Desk, Held, Progress};
 use rp_base::Message;
 use split_ring::{Caller, RingCall, SharedLink, Taken};
 use std::thread::yield_now;
@@ -24,21 +23,21 @@ pub struct Found {
 
 /// A sender that has stopped, with the call that it is in.
 #[derive(Drop)]
-pub struct Stopped {
+pub struct Stopped<D: Desk> {
     pub caller: Caller,
-    pub call: Option<RingCall<Side>>,
+    pub call: Option<RingCall<D>>,
     /// The number of the message that it has sent whole.
     pub sent: Option<u64>,
 }
 
 /// Sends one message whole, and stops in the middle of the next send. Whatever came of the two, by its own list the caller has sent
 /// the first message alone, or none where that was not accepted; and what it is left with can be reclaimed.
-pub fn send_and_stop(
-    link: &SharedLink<Side>,
+pub fn send_and_stop<D: Desk>(
+    link: &SharedLink<D>,
     caller: Caller,
     first: &Message,
     second: Message,
-) -> Stopped
+) -> Stopped<D>
     requires { IsNew link.now caller }
     ensures stopped { HasStopped link.now result.caller result.call }
     ensures sent { HasSentAlone result.caller result.sent first.now }
@@ -51,11 +50,11 @@ pub fn send_and_stop(
 
 /// Begins a send, makes five of its steps, and stops. The turn and a buffer are out then, and nothing was published; where another had
 /// the turn, or there was no room, the caller is in no call.
-fn stop_in_send(
-    link: &SharedLink<Side>,
+fn stop_in_send<D: Desk>(
+    link: &SharedLink<D>,
     caller: Caller,
     message: Message,
-) -> (Caller, Option<RingCall<Side>>)
+) -> (Caller, Option<RingCall<D>>)
     requires { IsFree link.now caller }
     ensures stopped { HasStopped link.now result.0 result.1 }
     ensures id { result.0.id ≡ caller.id }
@@ -63,9 +62,10 @@ fn stop_in_send(
 {
     let mut caller = caller;
     let mut call = link.begin_call(Ask::Send(message));
-    for _ in 0..STEPS {
-        if let Progress::Done(_) = link.advance_call(&mut caller, &mut call) {
-            return (caller, None);
+    for step in 0..STEPS {
+        match link.advance_call(&mut caller, &mut call) {
+            Progress::At(_) => {}
+            Progress::Done(_) => return (caller, None),
         }
     }
     (caller, Some(call))
@@ -73,7 +73,7 @@ fn stop_in_send(
 
 /// Takes until a message was handed over, and gives its buffer back. By its own list the caller has taken that message, under that
 /// number, in the incarnation that it follows.
-pub fn take_one(link: &SharedLink<Side>, caller: &mut Caller) -> Option<Found>
+pub fn take_one<D: Desk>(link: &SharedLink<D>, caller: &mut Caller) -> Option<Found>
     requires { IsCallerOf link.now caller.old }
     ensures caller { IsAfterCall link.now caller.old caller.new }
     ensures taken { IfSome result (λ found. HasTaken caller.new found.number found.message) }
@@ -88,7 +88,7 @@ pub fn take_one(link: &SharedLink<Side>, caller: &mut Caller) -> Option<Found>
 }
 
 /// Tries once.
-fn try_take_one(link: &SharedLink<Side>, caller: &mut Caller) -> Option<Found>
+fn try_take_one<D: Desk>(link: &SharedLink<D>, caller: &mut Caller) -> Option<Found>
     requires { IsCallerOf link.now caller.old }
     ensures caller { IsAfterCall link.now caller.old caller.new }
     ensures taken { IfSome result (λ found. HasTaken caller.new found.number found.message) }
@@ -103,7 +103,7 @@ fn try_take_one(link: &SharedLink<Side>, caller: &mut Caller) -> Option<Found>
 }
 
 /// Gives a buffer back.
-fn give_back(link: &SharedLink<Side>, caller: &mut Caller, held: Held)
+fn give_back<D: Desk>(link: &SharedLink<D>, caller: &mut Caller, held: Held)
     requires caller { IsCallerOf link.now caller.old }
     requires held { Holds caller.old held }
     ensures caller { IsAfterCall link.now caller.old caller.new }
