@@ -1,0 +1,4 @@
+pub mod Crosses
+pub mod Sends
+pub mod Stops
+pub mod Takes
