@@ -63,6 +63,8 @@ pub struct Lives {
     pub first: Life,
     pub books: Books,
     pub second: Life,
+    /// The host's caller has closed the second life.
+    pub is_closed: bool,
 }
 
 /// A host's caller, and what it was handed.
@@ -110,11 +112,14 @@ pub fn run<R: Threads + Sync>(rt: &R, alloc: Global) -> Result<Lives, Halt> {
         found,
     };
     let books = begin_again(alloc, &link, &mut manager, stopped)?;
-    let second = second_life(&link, &mut manager, &mut host, books.inc + 1)?;
+    let inc = books.inc + 1;
+    let second = second_life(&link, &mut manager, &mut host, inc)?;
+    let is_closed = link.close(&mut host, inc).is_ok();
     Ok(Lives {
         first,
         books,
         second,
+        is_closed,
     })
 }
 

@@ -18,7 +18,8 @@ fn main(rt: HostRuntime) -> io::Result<()> {
                 books.to_host.len(),
                 books.to_host_handed
             )?;
-            println!(rt; "life 2: {}", lives.second)
+            println!(rt; "life 2: {}", lives.second)?;
+            println!(rt; "closed by its caller: {}", lives.is_closed)
         }
         Err(halt) => println!(rt; "halted: {halt:?}"),
     }
