@@ -20,8 +20,8 @@ use Rattle.crash_recover.specs.Drives.{placed_map}
 use Rattle.demo_laws.proofs.BootBounds.{AreRoomy}
 use Rattle.demo_laws.proofs.DriveBounds.{IsProgram}
 use Rattle.script_run.specs.Demos.{accepted_from, counted_output, demo_output}
-use Rattle.script_run.specs.Runs.{new_run, run_of}
-use Rattle.script_run.specs.Stores.{held}
+use Rattle.command_run.specs.Runs.{new_run, run_of}
+use Rattle.command_run.specs.Stores.{held}
 use Rattle.image_maker.proofs.DemoSizes.{demo_is_said}
 use Rattle.script_run.proofs.DemoSums.{demo_is}
 use Rattle.demo_laws.proofs.DemoEnds.{AreBootable, demo_ends}

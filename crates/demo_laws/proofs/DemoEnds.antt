@@ -29,11 +29,11 @@ use Rattle.crash_recover.specs.declared.core_answers.Start.TheVariants as start
 use Rattle.link_bench.specs.BenchHolds.{caller_out}
 use Rattle.crash_recover.specs.Cores.{CoreOutcome, CoreState, driver_add_fault, refuse_or}
 use Rattle.crash_recover.specs.Drives.{drive_step, is_idle}
-use Rattle.script_run.specs.CoreDrives.{drive_effect, drive_steps, is_crashed, rest_event, rests_or, step_then}
-use Rattle.script_run.specs.CoreEffects.{CoreEffect, core_tells, core_tells_all, declared_effect, driver_effect}
-use Rattle.script_run.specs.CoreLives.{boot_effect, core_stops, found_image, found_or_told, image_bytes, leave_effect, may_step, shutdown_effect}
-use Rattle.script_run.specs.NamedCores.{NamedCoreState}
-use Rattle.script_run.specs.NamedImages.{ImageState}
+use Rattle.command_run.specs.CoreDrives.{drive_effect, drive_steps, is_crashed, rest_event, rests_or, step_then}
+use Rattle.command_run.specs.CoreEffects.{CoreEffect, core_tells, core_tells_all, declared_effect, driver_effect}
+use Rattle.command_run.specs.CoreLives.{boot_effect, core_stops, found_image, found_or_told, image_bytes, leave_effect, may_step, shutdown_effect}
+use Rattle.command_run.specs.NamedCores.{NamedCoreState}
+use Rattle.command_run.specs.NamedImages.{ImageState}
 use Rattle.std.proofs.Common.{◌-◌, not, bytes_eq, option_map, option_and_then, nat_le}
 use Rattle.std.specs.Prelude.{find}
 use Rattle.std.proofs.lemmas.Bool.{eqb-true, leb-true, ne_eqb}
@@ -50,19 +50,19 @@ use Rattle.proc_state.specs.declared.answers.Power.{Power}
 use Rattle.proc_state.specs.declared.answers.Power.TheVariants as power
 use Rattle.crash_recover.specs.declared.core_faults.AddFault.TheVariants as add
 use Rattle.image_maker.specs.Demo.{session_image}
-use Rattle.script_run.specs.declared.acts.CoreAct.TheVariants as act
-use Rattle.script_run.specs.declared.acts.Making.TheVariants as making
-use Rattle.script_run.specs.declared.acts.NamedAct.{NamedAct}
-use Rattle.script_run.specs.declared.acts.NamedAct.TheVariants as under
-use Rattle.script_run.specs.CoreCommands.{core_act_effect, core_effect}
-use Rattle.script_run.specs.CoreDrives.{step_events, told_before}
-use Rattle.script_run.specs.LinkCommands.{link_effect}
-use Rattle.script_run.specs.NamedLinks.{NamedLink}
-use Rattle.script_run.specs.Stores.{held}
+use Rattle.command_run.specs.declared.acts.CoreAct.TheVariants as act
+use Rattle.command_run.specs.declared.acts.Making.TheVariants as making
+use Rattle.command_run.specs.declared.acts.NamedAct.{NamedAct}
+use Rattle.command_run.specs.declared.acts.NamedAct.TheVariants as under
+use Rattle.command_run.specs.CoreCommands.{core_act_effect, core_effect}
+use Rattle.command_run.specs.CoreDrives.{step_events, told_before}
+use Rattle.command_run.specs.LinkCommands.{link_effect}
+use Rattle.command_run.specs.NamedLinks.{NamedLink}
+use Rattle.command_run.specs.Stores.{held}
 use Rattle.script_run.specs.Demos.{bare_effect}
-use Rattle.script_run.specs.Runs.{ObjectsState, Run, RunEffect, RunState, core_located_effect, core_made_effect, core_place, effect_of, found_core_effect, found_effect, has_image, image_effect, is_full, located_effect, name_effect, new_run, place_of, quiet_effect, run_from, run_of, run_tells, unnamed_effect, with_image, without_link_effect}
+use Rattle.command_run.specs.Runs.{ObjectsState, Run, RunEffect, RunState, core_located_effect, core_made_effect, core_place, effect_of, found_core_effect, found_effect, has_image, image_effect, is_full, located_effect, name_effect, new_run, place_of, quiet_effect, run_from, run_of, run_tells, unnamed_effect, with_image, without_link_effect}
 use Rattle.script_run.proofs.DemoSums.{bare_is, goes_on as goes_on_run, script_runnable}
-use Rattle.script_run.proofs.RunSteps.{run_none}
+use Rattle.command_run.proofs.RunSteps.{run_none}
 use Rattle.run_laws.proofs.RunWalks.{item_at}
 use Rattle.fw_load.specs.Loading.{Loads, load_fault}
 use Rattle.remote_core.specs.Workers.{WorkerState, new_worker}

@@ -3,9 +3,9 @@
 
 ghost use Rattle.std.specs.Prelude.{◌≡◌, ◌≤◌, ℕ, [], None};
 ghost use Rattle.image_maker.specs.Demo.{demo_commands};
-ghost use Rattle.script_run.specs.Stores.{held};
+ghost use Rattle.command_run.specs.Stores.{held};
 ghost use Rattle.script_run.specs.Demos.{accepted_from, counted_output, demo_output};
-ghost use Rattle.script_run.specs.Runs.{new_run, run_of};
+ghost use Rattle.command_run.specs.Runs.{new_run, run_of};
 
 /// The run of a demo of up to 500 sessions goes to its end, and never meets the limit of steps: the demo writes how much was accepted.
 pub fn demo_ends()

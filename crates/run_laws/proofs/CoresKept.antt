@@ -6,14 +6,14 @@ use Rattle.link_bench.specs.Benches.{BenchState}
 use Rattle.core_laws.specs.KeptCores.{IsKeptCore}
 use Rattle.core_laws.proofs.CoreActs.{core_act_kept}
 use Rattle.core_laws.proofs.KeptCores.{core_driven, kept_stays}
-use Rattle.script_run.specs.declared.acts.Line.{Line}
-use Rattle.script_run.specs.declared.acts.Line.TheVariants as line
-use Rattle.script_run.specs.declared.acts.NamedAct.{NamedAct}
-use Rattle.script_run.specs.declared.acts.NamedAct.TheVariants as under
+use Rattle.command_run.specs.declared.acts.Line.{Line}
+use Rattle.command_run.specs.declared.acts.Line.TheVariants as line
+use Rattle.command_run.specs.declared.acts.NamedAct.{NamedAct}
+use Rattle.command_run.specs.declared.acts.NamedAct.TheVariants as under
 use Rattle.script_lang.specs.declared.recipes.RecipeLine.{RecipeLine}
-use Rattle.script_run.specs.Acts.{line_of}
-use Rattle.script_run.specs.Runs.{RunState, effect_of, run_of}
-use Rattle.script_run.specs.Stores.{Answer, Told}
+use Rattle.command_run.specs.Acts.{line_of}
+use Rattle.command_run.specs.Runs.{RunState, effect_of, run_of}
+use Rattle.command_run.specs.Stores.{Answer, Told}
 use Rattle.run_laws.specs.Kept.{AreKept}
 use Rattle.run_laws.proofs.CoreWalks.{FitsNamed, KeepCores}
 use Rattle.run_laws.proofs.RunWalks.{AreFitting, FitsLine, KeepRuns, effect_keeps, runs_keep}

@@ -17,8 +17,8 @@ use Rattle.core_laws.proofs.KeptCores.{kept_stays}
 use Rattle.core_laws.proofs.Outcomes.{Stays}
 use Rattle.core_laws.proofs.PendingDrives.{drive_ready}
 use Rattle.core_laws.proofs.PendingOthers.{ready_stays}
-use Rattle.script_run.specs.Runs.{ObjectsState, RunState, effect_of, regions_of, run_of}
-use Rattle.script_run.specs.Stores.{Answer, Told}
+use Rattle.command_run.specs.Runs.{ObjectsState, RunState, effect_of, regions_of, run_of}
+use Rattle.command_run.specs.Stores.{Answer, Told}
 use Rattle.run_laws.specs.Kept.{AreKept, AreReady}
 use Rattle.run_laws.specs.Reached.{AreReached}
 use Rattle.run_laws.proofs.CoreWalks.{KeepCores}

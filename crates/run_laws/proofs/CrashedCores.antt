@@ -26,23 +26,23 @@ use Rattle.core_laws.proofs.ActMoves.{act_closed, closed_by}
 use Rattle.core_laws.proofs.LinkMoves.{comes_none}
 use Rattle.channel_bus.specs.Sides.{side_meaning}
 use Rattle.journal.specs.declared.events.Event.TheVariants as event
-use Rattle.script_run.specs.declared.acts.CoreAct.{CoreAct}
-use Rattle.script_run.specs.declared.acts.CoreAct.TheVariants as act
-use Rattle.script_run.specs.declared.acts.LinkView.{LinkView}
-use Rattle.script_run.specs.declared.acts.LinkView.TheVariants as view
-use Rattle.script_run.specs.declared.acts.NamedAct.{NamedAct}
-use Rattle.script_run.specs.declared.acts.NamedAct.TheVariants as under
-use Rattle.script_run.specs.Acts.{IsFitNamed}
-use Rattle.script_run.specs.CoreCommands.{core_act_effect, core_effect}
-use Rattle.script_run.specs.CoreDrives.{drive_effect, drive_steps}
-use Rattle.script_run.specs.CoreEffects.{CoreEffect, added_effect, core_tells, declared_effect, driver_effect, region_effect}
-use Rattle.script_run.specs.CoreLinks.{core_link_effect, core_ring_effect, core_shown_effect, core_turn_holder, core_view_effect, found_ring_effect, found_view_effect}
-use Rattle.script_run.specs.CoreLives.{boot_effect, crash_effect, detach_effect, found_image, handover_effect, may_step, shutdown_effect}
-use Rattle.script_run.specs.CoreViews.{loaded_table_effect, mem_effect, table_effect, trace_effect}
-use Rattle.script_run.specs.NamedCores.{NamedCoreState}
-use Rattle.script_run.specs.NamedImages.{ImageState}
-use Rattle.script_run.specs.Runs.{RunEffect, RunState, core_located_effect, found_core_effect, located_effect, name_effect, place_of, placed_core_effect, without_link_effect}
-use Rattle.script_run.specs.Stores.{Answer}
+use Rattle.command_run.specs.declared.acts.CoreAct.{CoreAct}
+use Rattle.command_run.specs.declared.acts.CoreAct.TheVariants as act
+use Rattle.command_run.specs.declared.acts.LinkView.{LinkView}
+use Rattle.command_run.specs.declared.acts.LinkView.TheVariants as view
+use Rattle.command_run.specs.declared.acts.NamedAct.{NamedAct}
+use Rattle.command_run.specs.declared.acts.NamedAct.TheVariants as under
+use Rattle.command_run.specs.Acts.{IsFitNamed}
+use Rattle.command_run.specs.CoreCommands.{core_act_effect, core_effect}
+use Rattle.command_run.specs.CoreDrives.{drive_effect, drive_steps}
+use Rattle.command_run.specs.CoreEffects.{CoreEffect, added_effect, core_tells, declared_effect, driver_effect, region_effect}
+use Rattle.command_run.specs.CoreLinks.{core_link_effect, core_ring_effect, core_shown_effect, core_turn_holder, core_view_effect, found_ring_effect, found_view_effect}
+use Rattle.command_run.specs.CoreLives.{boot_effect, crash_effect, detach_effect, found_image, handover_effect, may_step, shutdown_effect}
+use Rattle.command_run.specs.CoreViews.{loaded_table_effect, mem_effect, table_effect, trace_effect}
+use Rattle.command_run.specs.NamedCores.{NamedCoreState}
+use Rattle.command_run.specs.NamedImages.{ImageState}
+use Rattle.command_run.specs.Runs.{RunEffect, RunState, core_located_effect, found_core_effect, located_effect, name_effect, place_of, placed_core_effect, without_link_effect}
+use Rattle.command_run.specs.Stores.{Answer}
 use Rattle.run_laws.specs.CrashedCores.{LinkStaysClosed, StaysCrashed}
 use Rattle.run_laws.specs.Starts.{IsCoreAt, core_at}
 use Rattle.run_laws.proofs.StartsInRuns.{core_behind}

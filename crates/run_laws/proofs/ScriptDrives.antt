@@ -8,9 +8,9 @@ use Rattle.journal.specs.declared.events.Event.{Event}
 use Rattle.journal.specs.declared.events.Event.TheVariants as event
 use Rattle.crash_recover.specs.Cores.{CoreState}
 use Rattle.crash_recover.specs.Drives.{drive_step, is_idle}
-use Rattle.script_run.specs.CoreEffects.{CoreEffect, core_tells}
-use Rattle.script_run.specs.CoreDrives.{drive_steps, is_crashed, rest_event, rests_or, step_events, step_then}
-use Rattle.script_run.specs.CoreLives.{core_stops}
+use Rattle.command_run.specs.CoreEffects.{CoreEffect, core_tells}
+use Rattle.command_run.specs.CoreDrives.{drive_steps, is_crashed, rest_event, rests_or, step_events, step_then}
+use Rattle.command_run.specs.CoreLives.{core_stops}
 use Rattle.run_laws.specs.DriveEnds.{EndsWith, last_event}
 use Rattle.drive_laws.specs.Steps.{after_drive, after_steps, has_crashed, rests, steps_made}
 

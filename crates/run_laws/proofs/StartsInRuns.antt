@@ -5,15 +5,15 @@ use Rattle.rp_base.specs.declared.kinds.LifeState.{LifeState}
 use Rattle.rp_base.specs.declared.kinds.LifeState.TheVariants.{Offline, Running, Attached, Detached}
 use Rattle.proc_state.specs.Lives.{most}
 use Rattle.script_lang.specs.declared.commands.Command.TheVariants as command
-use Rattle.script_run.specs.declared.acts.CoreAct.{CoreAct}
-use Rattle.script_run.specs.declared.acts.CoreAct.TheVariants as core
-use Rattle.script_run.specs.declared.acts.NamedAct.TheVariants as under
-use Rattle.script_run.specs.NamedCores.{NamedCoreState}
-use Rattle.script_run.specs.CoreCommands.{core_act_effect, core_effect}
-use Rattle.script_run.specs.CoreEffects.{CoreEffect}
-use Rattle.script_run.specs.CoreLives.{boot_effect, booted_image, crash_effect, detach_effect, found_image, handover_effect, may_step, recover_effect, shutdown_effect}
-use Rattle.script_run.specs.Runs.{RunEffect, RunState, core_located_effect, effect_of, found_core_effect, located_effect, name_effect, placed_core_effect, without_link_effect}
-use Rattle.script_run.specs.Stores.{Answer}
+use Rattle.command_run.specs.declared.acts.CoreAct.{CoreAct}
+use Rattle.command_run.specs.declared.acts.CoreAct.TheVariants as core
+use Rattle.command_run.specs.declared.acts.NamedAct.TheVariants as under
+use Rattle.command_run.specs.NamedCores.{NamedCoreState}
+use Rattle.command_run.specs.CoreCommands.{core_act_effect, core_effect}
+use Rattle.command_run.specs.CoreEffects.{CoreEffect}
+use Rattle.command_run.specs.CoreLives.{boot_effect, booted_image, crash_effect, detach_effect, found_image, handover_effect, may_step, recover_effect, shutdown_effect}
+use Rattle.command_run.specs.Runs.{RunEffect, RunState, core_located_effect, effect_of, found_core_effect, located_effect, name_effect, placed_core_effect, without_link_effect}
+use Rattle.command_run.specs.Stores.{Answer}
 use Rattle.rp_base.specs.declared.kinds.CrashKind.{CrashKind}
 use Rattle.crash_recover.specs.CoreBoots.{boot_of, handover_of}
 use Rattle.crash_recover.specs.CoreCrashes.{report_of}

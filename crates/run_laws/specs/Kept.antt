@@ -2,8 +2,8 @@
 use Rattle.std.specs.Prelude.{All}
 use Rattle.core_laws.specs.KeptCores.{IsKeptCore}
 use Rattle.core_laws.specs.PendingCalls.{IsReadyCore}
-use Rattle.script_run.specs.NamedCores.{NamedCoreState}
-use Rattle.script_run.specs.Runs.{ObjectsState}
+use Rattle.command_run.specs.NamedCores.{NamedCoreState}
+use Rattle.command_run.specs.Runs.{ObjectsState}
 
 -- the link of each core of a run has the core's own callers in use, no turn that is the manager's, and the incarnation of the core's life, live exactly while the core is up
 abbrev pub AreKept : ObjectsState → Type 0

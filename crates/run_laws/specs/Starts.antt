@@ -2,8 +2,8 @@
 use Rattle.std.specs.Prelude.{◌≡◌, ℕ, List, Option, Some, None, option_map, slice_get}
 use Rattle.rp_base.specs.declared.kinds.LifeState.{LifeState}
 use Rattle.crash_recover.specs.Cores.{CoreState}
-use Rattle.script_run.specs.NamedCores.{NamedCoreState}
-use Rattle.script_run.specs.Runs.{RunState, core_place, place_of}
+use Rattle.command_run.specs.NamedCores.{NamedCoreState}
+use Rattle.command_run.specs.Runs.{RunState, core_place, place_of}
 
 -- no link has this name, and the core at this place of the run has it
 pub record IsCoreAt (run : RunState) (name : List ℕ) (place : ℕ) (on : NamedCoreState) : Type 0 where

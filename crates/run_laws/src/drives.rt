@@ -3,7 +3,7 @@
 ghost use Rattle.std.specs.Prelude.{◌≡◌, ◌≤◌, ℕ, ◌+◌, Bool, List, None};
 ghost use Rattle.rp_base.specs.declared.limits.TheConstants.{STEPS_MOST};
 ghost use Rattle.crash_recover.specs.Cores.{CoreState};
-ghost use Rattle.script_run.specs.CoreDrives.{drive_steps};
+ghost use Rattle.command_run.specs.CoreDrives.{drive_steps};
 ghost use Rattle.run_laws.specs.DriveEnds.{EndsWith, last_event};
 ghost use Rattle.drive_laws.specs.Steps.{steps_made, after_drive};
 

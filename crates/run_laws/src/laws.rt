@@ -11,14 +11,14 @@ ghost use Rattle.crash_recover.specs.CoreBoots.{boot_of, handover_of};
 ghost use Rattle.crash_recover.specs.CoreCrashes.{report_of};
 ghost use Rattle.crash_recover.specs.CoreLeaves.{detach_of, shutdown_of};
 ghost use Rattle.crash_recover.specs.CoreRecoveries.{recovery_of};
-ghost use Rattle.script_run.specs.CoreLives.{booted_image, found_image, may_step};
+ghost use Rattle.command_run.specs.CoreLives.{booted_image, found_image, may_step};
 ghost use Rattle.core_laws.specs.BenchMoves.{IsReachedBench};
 ghost use Rattle.core_laws.specs.BenchMoves.{IsReachedCore};
-ghost use Rattle.script_run.specs.declared.acts.CoreAct.TheVariants as core;
-ghost use Rattle.script_run.specs.declared.acts.NamedAct.{NamedAct};
-ghost use Rattle.script_run.specs.declared.acts.NamedAct.TheVariants as under;
-ghost use Rattle.script_run.specs.Acts.{IsFitNamed};
-ghost use Rattle.script_run.specs.Runs.{name_effect};
+ghost use Rattle.command_run.specs.declared.acts.CoreAct.TheVariants as core;
+ghost use Rattle.command_run.specs.declared.acts.NamedAct.{NamedAct};
+ghost use Rattle.command_run.specs.declared.acts.NamedAct.TheVariants as under;
+ghost use Rattle.command_run.specs.Acts.{IsFitNamed};
+ghost use Rattle.command_run.specs.Runs.{name_effect};
 ghost use Rattle.run_laws.specs.CrashedCores.{StaysCrashed};
 ghost use Rattle.run_laws.specs.ClosedLinks.{LeavesClosed, ReopensOther};
 ghost use Rattle.run_laws.specs.Starts.{IsCoreAt, core_at, state_at};
@@ -26,11 +26,11 @@ ghost use Rattle.script_lang.specs.Runnable.{AreRunnable, IsRunnable};
 ghost use Rattle.lane_model.specs.Soundness.{SoundLink};
 ghost use Rattle.link_bench.specs.Benches.{BenchState};
 ghost use Rattle.run_laws.specs.Kept.{AreKept, AreReady};
-ghost use Rattle.script_run.specs.NamedCores.{NamedCoreState};
-ghost use Rattle.script_run.specs.NamedLinks.{NamedLink};
+ghost use Rattle.command_run.specs.NamedCores.{NamedCoreState};
+ghost use Rattle.command_run.specs.NamedLinks.{NamedLink};
 ghost use Rattle.run_laws.specs.Reached.{AreReached, HandsInOrder};
-ghost use Rattle.script_run.specs.Stores.{Answer, IsHeld, Told, held};
-ghost use Rattle.script_run.specs.Runs.{RunState, effect_of, new_run, run_of};
+ghost use Rattle.command_run.specs.Stores.{Answer, IsHeld, Told, held};
+ghost use Rattle.command_run.specs.Runs.{RunState, effect_of, new_run, run_of};
 
 /// Over a store that tells its images and doesn't fail, a run is a function of the images and the commands.
 pub fn images_and_commands()

@@ -17,14 +17,14 @@ use Rattle.image_maker.proofs.DemoSizes.{demo_is_said}
 use Rattle.script_run.specs.declared.demos.Accepted.{Accepted}
 use Rattle.script_run.specs.declared.demos.DemoFault.{DemoFault}
 use Rattle.script_run.specs.declared.demos.DemoFault.TheVariants as fault
-use Rattle.script_run.specs.declared.statuses.Stop.{Stop}
-use Rattle.script_run.specs.Stores.{answer_for, held, later_told}
-use Rattle.script_run.specs.Logs.{HasRunEffect, LogState}
-use Rattle.script_run.specs.Runs.{ObjectsState, Run, RunState, asked_name, effect_of, new_run, run_from, run_of, run_on}
+use Rattle.command_run.specs.declared.stops.Stop.{Stop}
+use Rattle.command_run.specs.Stores.{answer_for, held, later_told}
+use Rattle.command_run.specs.Logs.{HasRunEffect, LogState}
+use Rattle.command_run.specs.Runs.{ObjectsState, Run, RunState, asked_name, effect_of, new_run, run_from, run_of, run_on}
 use Rattle.script_run.specs.Demos.{accepted_from, accepted_sum, bare_effect, counted_output, demo_output, drive_accepted, none_accepted, said_output}
 use Rattle.script_run.specs.DemoRuns.{IsCounted, IsDemoCount}
-use Rattle.script_run.proofs.RunSteps.{run_first, run_none}
-use Rattle.script_run.proofs.Shelves.{held_run}
+use Rattle.command_run.proofs.RunSteps.{run_first, run_none}
+use Rattle.command_run.proofs.Shelves.{held_run}
 
 -- an empty store has no image
 none_held : (asked : Option (List ℕ)) → answer_for (fetch_answer []) asked ≡ Err fetch_fault.Missing

@@ -24,17 +24,17 @@ use Rattle.script_run.specs.declared.demos.Accepted.{Accepted}
 use Rattle.script_run.specs.declared.statuses.Status.{Status}
 use Rattle.script_run.specs.declared.statuses.Status.TheVariants as status
 use Rattle.script_run.specs.Statuses.{status_number, status_of}
-use Rattle.script_run.specs.declared.statuses.Stop.{Stop}
-use Rattle.script_run.specs.declared.statuses.Stop.TheVariants as stop
+use Rattle.command_run.specs.declared.stops.Stop.{Stop}
+use Rattle.command_run.specs.declared.stops.Stop.TheVariants as stop
 use Rattle.script_run.specs.declared.runs.RunFault.TheVariants as run_fault
-use Rattle.script_run.specs.Stores.{IsHeld, IsTold, Told, held}
-use Rattle.script_run.specs.Runs.{new_run, run_of}
+use Rattle.command_run.specs.Stores.{IsHeld, IsTold, Told, held}
+use Rattle.command_run.specs.Runs.{new_run, run_of}
 use Rattle.script_run.specs.Outputs.{Form, other, run, check, demo, audit, Output, audit_output, fails_in, too_long_output, usage_output, run_output, script_output, stop_output, transcript_output, report_output, store_fault_output}
 use Rattle.script_run.specs.Reports.{check_report, fetched_report}
 use Rattle.script_run.specs.Demos.{accepted_from, counted_output, demo_output, said_output}
 use Rattle.script_run.specs.Told.{RunWrites}
-use Rattle.script_run.proofs.Handed.{front_of_none}
-use Rattle.script_run.proofs.Shelves.{any_held, any_told, held_failed, held_run}
+use Rattle.command_run.proofs.Handed.{front_of_none}
+use Rattle.command_run.proofs.Shelves.{any_held, any_told, held_failed, held_run}
 use Rattle.script_run.specs.Endings.{AuditEnds, Devices, IsAsked, IsAuditOutput, IsReadWell, IsFaultOutput, IsOutput, IsCourse, IsCutOutput, IsFinal, IsRunCourse, IsRunOutput, IsReportOutput, IsScriptOutput, IsStatusCourse, IsWellRun, OfSource, SourceAsksNone, TextAsksNone, EndsWell, RunEnds, Writes, Ends}
 
 -- the status of its number

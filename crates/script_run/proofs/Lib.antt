@@ -1,15 +1,7 @@
-pub mod Handed
 pub mod Ends
-pub mod RunSteps
-pub mod Driving
 pub mod FaultLines
-pub mod FoundDumps
-pub mod AskedNames
-pub mod Shelves
 pub mod SoFar
-pub mod Placing
 pub mod FetchedReports
-pub mod RingRows
 pub mod Matches
 pub mod Accepted
 pub mod DemoSums

@@ -9,21 +9,27 @@ use Rattle.script_lang.specs.declared.commands.Command.{Command}
 use Rattle.journal.specs.declared.events.Event.{Event}
 use Rattle.journal.specs.Lines.{transcript}
 use Rattle.script_run.specs.declared.statuses.Status.{Status}
-use Rattle.script_run.specs.declared.statuses.Stop.{Stop}
+use Rattle.command_run.specs.declared.stops.Stop.{Stop}
 use Rattle.script_run.specs.declared.runs.RunFault.{RunFault}
 use Rattle.script_run.specs.declared.runs.RunFault.TheVariants as run_fault
 use Rattle.rp_io.specs.declared.faults.FetchFault.TheVariants as fetch_fault
-use Rattle.script_run.specs.Stores.{IsHeld, IsShelf, Shelf, Told, answer_for}
-use Rattle.script_run.specs.declared.fetches.CommandFault.TheVariants as command_fault
-use Rattle.script_run.specs.Runs.{ObjectsState, RunEffect, RunState, Run, asked_name, run_from, run_of, new_run}
+use Rattle.command_run.specs.Stores.{IsHeld, IsShelf, Shelf, Told, answer_for}
+use Rattle.command_run.specs.declared.fetches.CommandFault.TheVariants as command_fault
+use Rattle.command_run.specs.Runs.{ObjectsState, RunEffect, RunState, Run, asked_name, run_from, run_of, new_run}
 use Rattle.script_run.specs.Outputs.{Output, end_output, stop_output, store_fault_output, transcript_output}
 use Rattle.script_run.specs.Endings.{IsFailedRun, IsWellRun}
-use Rattle.script_run.specs.Logs.{LogState, Hands, HandsRunEffect}
-use Rattle.script_run.specs.Fetches.{DidTold, IsToldCut}
+use Rattle.command_run.specs.Logs.{LogState, Hands, HandsRunEffect}
+use Rattle.command_run.specs.Fetches.{DidTold, IsToldCut}
 use Rattle.script_run.specs.Told.{AnswersStatus, EndsRun, IsResultCourse, RunWrites, Tells}
-use Rattle.script_run.proofs.Handed.{appends_more, appends_same, hands_nothing, hands_kept, hands_more, hands_front, hands_front_kept, front_of_all}
-use Rattle.script_run.proofs.RunSteps.{behind, effect_over, first_told, transcript-append, text_behind, left_at, run_behind, run_fails, run_rest}
-use Rattle.script_run.proofs.Shelves.{AreShelves, any_held, any_told, fault_next, fault_told, shelf_of, shelves_more, then_held, then_told, told_more, told_then}
+use Rattle.command_run.proofs.Handed.{appends_more, appends_same, hands_nothing, hands_kept, hands_more, hands_front, hands_front_kept, front_of_all}
+use Rattle.command_run.proofs.RunSteps.{behind, effect_over, first_told, transcript-append, left_at, run_behind, run_fails, run_rest}
+use Rattle.command_run.proofs.Shelves.{AreShelves, any_held, any_told, fault_next, fault_told, shelf_of, shelves_more, then_held, then_told, told_more, told_then}
+
+-- the text of a run behind these events begins with their lines
+text_behind : (events : List Event) (run : Run) → (transcript_output (behind events run)).text ≡ transcript events ++ (transcript_output run).text
+text_behind events run =
+    ap (λ lines. lines ++ (end_output run).text) (transcript-append events run.events)
+    ∙ append_assoc (transcript events) (transcript run.events) (end_output run).text
 
 -- what was told from the start is kept or handed on, over what the store told, and the rest of the run follows
 pub record SoFar (images : Option (List (List ℕ × List ℕ))) (commands : List Command) (from now : Option (List ℕ)) (lines : List ℕ) (rest : Told → Run) : Type 0 where

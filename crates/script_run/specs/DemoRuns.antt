@@ -4,8 +4,8 @@ use Rattle.script_lang.specs.declared.commands.Command.{Command}
 use Rattle.script_run.specs.declared.demos.Accepted.{Accepted}
 use Rattle.script_run.specs.declared.demos.DemoFault.{DemoFault}
 use Rattle.script_run.specs.declared.demos.DemoFault.TheVariants as fault
-use Rattle.script_run.specs.Stores.{held}
-use Rattle.script_run.specs.Runs.{new_run, run_of}
+use Rattle.command_run.specs.Stores.{held}
+use Rattle.command_run.specs.Runs.{new_run, run_of}
 use Rattle.script_run.specs.Outputs.{stop_output}
 use Rattle.script_run.specs.Demos.{accepted_from, counted_output, demo_output}
 

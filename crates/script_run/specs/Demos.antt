@@ -10,10 +10,10 @@ use Rattle.journal.specs.Notices.{report_text}
 use Rattle.link_bench.specs.Benches.{BenchState}
 use Rattle.script_run.specs.declared.demos.Accepted.{Accepted}
 use Rattle.script_run.specs.declared.statuses.Status.TheVariants as status
-use Rattle.script_run.specs.declared.statuses.Stop.{Stop}
-use Rattle.script_run.specs.Stores.{answer_for, held}
-use Rattle.script_run.specs.NamedCores.{NamedCoreState}
-use Rattle.script_run.specs.Runs.{ObjectsState, RunEffect, RunState, asked_name, core_named, effect_of, new_run, run_of}
+use Rattle.command_run.specs.declared.stops.Stop.{Stop}
+use Rattle.command_run.specs.Stores.{answer_for, held}
+use Rattle.command_run.specs.NamedCores.{NamedCoreState}
+use Rattle.command_run.specs.Runs.{ObjectsState, RunEffect, RunState, asked_name, core_named, effect_of, new_run, run_of}
 use Rattle.script_run.specs.Outputs.{Output, script_output, stop_output}
 
 -- no message

@@ -13,8 +13,8 @@ use Rattle.script_run.specs.declared.statuses.Status.{Status}
 use Rattle.script_run.specs.declared.statuses.Status.TheVariants as status
 use Rattle.script_lang.specs.declared.commands.Command.{Command}
 use Rattle.script_lang.specs.Grammar.{Refusal, script_of}
-use Rattle.script_run.specs.Runs.{AsksNone, new_run}
-use Rattle.script_run.specs.Stores.{IsAnswer, IsHeld, IsTold, Told, held}
+use Rattle.command_run.specs.Runs.{AsksNone, new_run}
+use Rattle.command_run.specs.Stores.{IsAnswer, IsHeld, IsTold, Told, held}
 use Rattle.script_run.specs.Outputs.{Form, other, run, check, demo, audit, Output, usage_output, run_output, script_output, fails_in, report_output, audit_output, too_long_output, read_fault_output, store_fault_output}
 use Rattle.script_run.specs.Reports.{fetched_report, check_report}
 use Rattle.script_run.specs.Demos.{demo_output}

@@ -12,10 +12,10 @@ use Rattle.journal.specs.declared.notices.Notice.TheVariants as notice
 use Rattle.journal.specs.Notices.{report_text}
 use Rattle.script_run.specs.declared.statuses.Status.{Status}
 use Rattle.script_run.specs.declared.statuses.Status.TheVariants as status
-use Rattle.script_run.specs.declared.statuses.Stop.{Stop}
-use Rattle.script_run.specs.declared.statuses.Stop.TheVariants as stop
-use Rattle.script_run.specs.Stores.{Told}
-use Rattle.script_run.specs.Runs.{Run, run_of}
+use Rattle.command_run.specs.declared.stops.Stop.{Stop}
+use Rattle.command_run.specs.declared.stops.Stop.TheVariants as stop
+use Rattle.command_run.specs.Stores.{Told}
+use Rattle.command_run.specs.Runs.{Run, run_of}
 use Rattle.image_report.specs.Reports.{Report}
 
 -- what the words ask for

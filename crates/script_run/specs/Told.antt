@@ -7,8 +7,8 @@ use Rattle.script_lang.specs.declared.commands.Command.{Command}
 use Rattle.script_run.specs.declared.statuses.Status.{Status}
 use Rattle.script_run.specs.declared.runs.RunFault.{RunFault}
 use Rattle.script_run.specs.declared.runs.RunFault.TheVariants as run_fault
-use Rattle.script_run.specs.Stores.{Told}
-use Rattle.script_run.specs.Runs.{run_of}
+use Rattle.command_run.specs.Stores.{Told}
+use Rattle.command_run.specs.Runs.{run_of}
 use Rattle.script_run.specs.Outputs.{Output, transcript_output}
 use Rattle.script_run.specs.Endings.{IsRunCourse, IsWellRun}
 

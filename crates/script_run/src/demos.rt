@@ -7,10 +7,8 @@ ghost use Rattle.script_run.specs.DemoRuns.{IsCounted, IsDemoCount};
 ghost use Rattle.script_run.specs.Endings.{Writes};
 
 use crate::endings::end_with;
-use crate::fetches::Fetched;
-use crate::logs::RunLog;
-use crate::objects::Objects;
-use crate::statuses::{Status, Stop};
+use crate::statuses::Status;
+use command_run::{Fetched, Objects, RunLog, Stop};
 use crash_recover::Core;
 use image_maker::{SESSIONS_MOST, demo_script};
 use journal::Notice;

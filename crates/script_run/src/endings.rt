@@ -4,9 +4,9 @@ ghost use Rattle.script_run.specs.declared.statuses.Status.TheVariants as ended;
 ghost use Rattle.script_run.specs.Endings.{IsFinal, Writes};
 ghost use Rattle.script_run.specs.Told.{Tells};
 
-use crate::logs::RunLog;
 use crate::runs::RunFault;
 use crate::statuses::Status;
+use command_run::RunLog;
 use journal::Notice;
 use rp_io::{Sink, write_whole};
 use std::alloc::Global;

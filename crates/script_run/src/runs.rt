@@ -1,15 +1,13 @@
 ghost use Rattle.std.specs.Prelude.{◌≡◌, ◌≢◌, Ok, Err};
 ghost use Rattle.script_lang.specs.Runnable.{AreRunnable};
-ghost use Rattle.script_run.specs.Runs.{AsksNone, new_run};
+ghost use Rattle.command_run.specs.Runs.{AsksNone, new_run};
 ghost use Rattle.script_run.specs.declared.runs.RunFault.TheVariants as fault;
 ghost use Rattle.script_run.specs.Outputs.{stop_output, store_fault_output};
 ghost use Rattle.script_run.specs.Endings.{RunEnds};
 ghost use Rattle.script_run.specs.Told.{EndsRun, RunWrites};
 
-use crate::fetches::{CommandFault, run_command};
-use crate::logs::RunLog;
-use crate::objects::Objects;
-use crate::statuses::{Status, Stop};
+use crate::statuses::Status;
+use command_run::{CommandFault, Objects, RunLog, Stop, run_command};
 use journal::Notice;
 use rp_base::NoMemory;
 use rp_io::{Failed, FirmwareStore, Sink, write_whole};

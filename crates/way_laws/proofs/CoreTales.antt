@@ -48,21 +48,21 @@ use Rattle.core_actors.specs.ActorEnds.{actors_after_end}
 use Rattle.crash_recover.specs.Drives.{drive_step}
 use Rattle.core_laws.specs.BenchMoves.{IsReachedBench, IsReachedCore}
 use Rattle.core_laws.proofs.CoreMoves.{core_driven}
-use Rattle.script_run.specs.declared.acts.CoreAct.{CoreAct}
-use Rattle.script_run.specs.declared.acts.CoreAct.TheVariants as act
-use Rattle.script_run.specs.declared.acts.LinkView.{LinkView}
-use Rattle.script_run.specs.declared.acts.LinkView.TheVariants as view
-use Rattle.script_run.specs.declared.acts.NamedAct.{NamedAct}
-use Rattle.script_run.specs.declared.acts.NamedAct.TheVariants as under
-use Rattle.script_run.specs.CoreCommands.{core_act_effect, core_effect}
-use Rattle.script_run.specs.CoreDrives.{drive_effect, drive_steps, rest_event, rests_or, step_then}
-use Rattle.script_run.specs.CoreEffects.{CoreEffect, added_effect, core_tells, declared_effect, driver_effect, region_effect}
-use Rattle.script_run.specs.CoreLinks.{core_link_effect, core_ring_effect, core_shown_effect, core_turn_holder, core_view_effect, found_ring_effect, found_view_effect}
-use Rattle.script_run.specs.CoreLives.{boot_effect, booted_image, core_stops, crash_effect, detach_effect, found_image, handover_effect, may_step, recover_effect, shutdown_effect}
-use Rattle.script_run.specs.CoreViews.{loaded_table_effect, mem_effect, table_effect, trace_effect}
-use Rattle.script_run.specs.NamedCores.{NamedCoreState}
-use Rattle.script_run.specs.NamedImages.{ImageState}
-use Rattle.script_run.specs.Stores.{Answer}
+use Rattle.command_run.specs.declared.acts.CoreAct.{CoreAct}
+use Rattle.command_run.specs.declared.acts.CoreAct.TheVariants as act
+use Rattle.command_run.specs.declared.acts.LinkView.{LinkView}
+use Rattle.command_run.specs.declared.acts.LinkView.TheVariants as view
+use Rattle.command_run.specs.declared.acts.NamedAct.{NamedAct}
+use Rattle.command_run.specs.declared.acts.NamedAct.TheVariants as under
+use Rattle.command_run.specs.CoreCommands.{core_act_effect, core_effect}
+use Rattle.command_run.specs.CoreDrives.{drive_effect, drive_steps, rest_event, rests_or, step_then}
+use Rattle.command_run.specs.CoreEffects.{CoreEffect, added_effect, core_tells, declared_effect, driver_effect, region_effect}
+use Rattle.command_run.specs.CoreLinks.{core_link_effect, core_ring_effect, core_shown_effect, core_turn_holder, core_view_effect, found_ring_effect, found_view_effect}
+use Rattle.command_run.specs.CoreLives.{boot_effect, booted_image, core_stops, crash_effect, detach_effect, found_image, handover_effect, may_step, recover_effect, shutdown_effect}
+use Rattle.command_run.specs.CoreViews.{loaded_table_effect, mem_effect, table_effect, trace_effect}
+use Rattle.command_run.specs.NamedCores.{NamedCoreState}
+use Rattle.command_run.specs.NamedImages.{ImageState}
+use Rattle.command_run.specs.Stores.{Answer}
 use Rattle.run_laws.proofs.CoreWalks.{FitsNamed}
 use Rattle.act_laws.specs.Accounts.{Account}
 use Rattle.way_laws.specs.CoreAccounts.{begun_account, core_account_after, core_act_deeds, deed_account, drive_account, left_account, life_account, ready_if, recovery_account, started_account, unless_some}

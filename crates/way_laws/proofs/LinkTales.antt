@@ -19,14 +19,14 @@ use Rattle.link_bench.specs.BenchCrashes.{after_close, after_reopen}
 use Rattle.link_bench.specs.Benches.{BenchState, new_bench_of}
 use Rattle.link_bench.specs.Watchers.{nobody_sees}
 use Rattle.core_laws.specs.BenchMoves.{IsReachedBench}
-use Rattle.script_run.specs.declared.acts.ManagerAct.TheVariants as manager
-use Rattle.script_run.specs.declared.acts.NamedAct.{NamedAct}
-use Rattle.script_run.specs.declared.acts.NamedAct.TheVariants as under
-use Rattle.script_run.specs.Effects.{Effect, tells}
-use Rattle.script_run.specs.LinkCommands.{link_effect}
-use Rattle.script_run.specs.NamedLinks.{NamedLink}
-use Rattle.script_run.specs.Recoveries.{close_effect, close_event, opened_effect, reopen_effect}
-use Rattle.script_run.specs.Runs.{new_end}
+use Rattle.command_run.specs.declared.acts.ManagerAct.TheVariants as manager
+use Rattle.command_run.specs.declared.acts.NamedAct.{NamedAct}
+use Rattle.command_run.specs.declared.acts.NamedAct.TheVariants as under
+use Rattle.command_run.specs.Effects.{Effect, tells}
+use Rattle.command_run.specs.LinkCommands.{link_effect}
+use Rattle.command_run.specs.NamedLinks.{NamedLink}
+use Rattle.command_run.specs.Recoveries.{close_effect, close_event, opened_effect, reopen_effect}
+use Rattle.command_run.specs.Runs.{new_end}
 use Rattle.run_laws.proofs.CoreWalks.{FitsNamed}
 use Rattle.act_laws.specs.Accounts.{Account, new_account, with_deeds}
 use Rattle.act_laws.specs.Deeds.{Deeds, act_deeds, no_deeds, one_move}

@@ -2,9 +2,9 @@
 use Rattle.std.proofs.Common.{List, [], ◌∷◌, Option, Some, None}
 use Rattle.script_lang.specs.declared.commands.Command.{Command}
 use Rattle.script_lang.specs.Runnable.{AreRunnable, IsRunnable}
-use Rattle.script_run.specs.declared.statuses.Stop.{Stop}
-use Rattle.script_run.specs.Runs.{Run, RunEffect, RunState, asked_name, effect_of, run_from, run_on, run_told}
-use Rattle.script_run.specs.Stores.{Answer, Told, later_told, told_answer}
+use Rattle.command_run.specs.declared.stops.Stop.{Stop}
+use Rattle.command_run.specs.Runs.{Run, RunEffect, RunState, asked_name, effect_of, run_from, run_on, run_told}
+use Rattle.command_run.specs.Stores.{Answer, Told, later_told, told_answer}
 use Rattle.way_laws.specs.Notes.{Noting, noted_from, noted_on, noted_told}
 
 module _ {A : Type 0} (note : Noting A) (P : RunState → A → Type 0)

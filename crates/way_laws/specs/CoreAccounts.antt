@@ -17,19 +17,19 @@ use Rattle.crash_recover.specs.Cores.{CoreState}
 use Rattle.core_actors.specs.ActorEnds.{actors_after_end}
 use Rattle.crash_recover.specs.Drives.{drive_step}
 use Rattle.core_laws.specs.Beginnings.{begins_life}
-use Rattle.script_run.specs.declared.acts.CoreAct.{CoreAct}
-use Rattle.script_run.specs.declared.acts.CoreAct.TheVariants as core
-use Rattle.script_run.specs.declared.acts.Line.{Line}
-use Rattle.script_run.specs.declared.acts.Line.TheVariants as line
-use Rattle.script_run.specs.declared.acts.NamedAct.{NamedAct}
-use Rattle.script_run.specs.declared.acts.NamedAct.TheVariants as under
-use Rattle.script_run.specs.Acts.{line_of}
-use Rattle.script_run.specs.CoreDrives.{rest_event}
-use Rattle.script_run.specs.CoreLives.{booted_image, found_image, may_step}
-use Rattle.script_run.specs.NamedCores.{NamedCoreState}
-use Rattle.script_run.specs.NamedImages.{ImageState}
-use Rattle.script_run.specs.Runs.{RunState, core_place, new_run, place_of}
-use Rattle.script_run.specs.Stores.{Answer, Told}
+use Rattle.command_run.specs.declared.acts.CoreAct.{CoreAct}
+use Rattle.command_run.specs.declared.acts.CoreAct.TheVariants as core
+use Rattle.command_run.specs.declared.acts.Line.{Line}
+use Rattle.command_run.specs.declared.acts.Line.TheVariants as line
+use Rattle.command_run.specs.declared.acts.NamedAct.{NamedAct}
+use Rattle.command_run.specs.declared.acts.NamedAct.TheVariants as under
+use Rattle.command_run.specs.Acts.{line_of}
+use Rattle.command_run.specs.CoreDrives.{rest_event}
+use Rattle.command_run.specs.CoreLives.{booted_image, found_image, may_step}
+use Rattle.command_run.specs.NamedCores.{NamedCoreState}
+use Rattle.command_run.specs.NamedImages.{ImageState}
+use Rattle.command_run.specs.Runs.{RunState, core_place, new_run, place_of}
+use Rattle.command_run.specs.Stores.{Answer, Told}
 use Rattle.act_laws.specs.Accounts.{Account, new_account, with_deeds}
 use Rattle.act_laws.specs.CoreDeeds.{drive_deeds, ready_deeds, reported_deeds}
 use Rattle.act_laws.specs.Deeds.{Deeds, act_deeds, no_deeds}

@@ -1,9 +1,9 @@
 -- What is noted beside a run, command by command (own).
 use Rattle.std.specs.Prelude.{List, [], ◌∷◌, Option, Some, None}
 use Rattle.script_lang.specs.declared.commands.Command.{Command}
-use Rattle.script_run.specs.declared.statuses.Stop.{Stop}
-use Rattle.script_run.specs.Runs.{RunState, asked_name, effect_of}
-use Rattle.script_run.specs.Stores.{Answer, Told, later_told, told_answer}
+use Rattle.command_run.specs.declared.stops.Stop.{Stop}
+use Rattle.command_run.specs.Runs.{RunState, asked_name, effect_of}
+use Rattle.command_run.specs.Stores.{Answer, Told, later_told, told_answer}
 
 -- what a command adds to a note: what the store tells it, the run before it, the command, the run that it left
 abbrev pub Noting : Type 0 → Type 0

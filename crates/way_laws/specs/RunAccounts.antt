@@ -10,15 +10,15 @@ use Rattle.script_lang.specs.declared.recipes.RecipeLine.{RecipeLine}
 use Rattle.link_bench.specs.BenchCrashes.{after_reopen}
 use Rattle.link_bench.specs.Benches.{BenchState}
 use Rattle.link_bench.specs.Watchers.{nobody_sees}
-use Rattle.script_run.specs.declared.acts.Line.{Line}
-use Rattle.script_run.specs.declared.acts.Line.TheVariants as line
-use Rattle.script_run.specs.declared.acts.ManagerAct.TheVariants as manager
-use Rattle.script_run.specs.declared.acts.NamedAct.{NamedAct}
-use Rattle.script_run.specs.declared.acts.NamedAct.TheVariants as under
-use Rattle.script_run.specs.Acts.{line_of}
-use Rattle.script_run.specs.NamedLinks.{NamedLink}
-use Rattle.script_run.specs.Runs.{RunState, new_run, place_of}
-use Rattle.script_run.specs.Stores.{Told}
+use Rattle.command_run.specs.declared.acts.Line.{Line}
+use Rattle.command_run.specs.declared.acts.Line.TheVariants as line
+use Rattle.command_run.specs.declared.acts.ManagerAct.TheVariants as manager
+use Rattle.command_run.specs.declared.acts.NamedAct.{NamedAct}
+use Rattle.command_run.specs.declared.acts.NamedAct.TheVariants as under
+use Rattle.command_run.specs.Acts.{line_of}
+use Rattle.command_run.specs.NamedLinks.{NamedLink}
+use Rattle.command_run.specs.Runs.{RunState, new_run, place_of}
+use Rattle.command_run.specs.Stores.{Told}
 use Rattle.act_laws.specs.Accounts.{Account, new_account, with_deeds}
 use Rattle.act_laws.specs.Deeds.{Deeds, act_deeds, no_deeds, one_move}
 use Rattle.way_laws.specs.Notes.{Noting, noted_from}

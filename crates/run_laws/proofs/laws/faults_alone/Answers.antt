@@ -1,5 +1,5 @@
-use Rattle.script_run.specs.Runs.{new_run}
-use Rattle.script_run.proofs.Shelves.{held_failed}
+use Rattle.command_run.specs.Runs.{new_run}
+use Rattle.command_run.proofs.Shelves.{held_failed}
 use Rattle.run_laws.proofs.laws.faults_alone.Goals as goal
 
 pub returns : goal.returns

@@ -1,9 +1,9 @@
 use Rattle.std.proofs.Common.{◌+◌, drop, sym, ap, subst, ◌∙◌}
 use Rattle.script_run.specs.declared.demos.Accepted.{Accepted}
-use Rattle.script_run.specs.Logs.{LogState}
-use Rattle.script_run.specs.Runs.{ObjectsState, new_run}
+use Rattle.command_run.specs.Logs.{LogState}
+use Rattle.command_run.specs.Runs.{ObjectsState, new_run}
 use Rattle.script_run.specs.Demos.{accepted_sum}
-use Rattle.script_run.proofs.RunSteps.{left_at, runnable_first}
+use Rattle.command_run.proofs.RunSteps.{left_at, runnable_first}
 use Rattle.script_run.proofs.DemoSums.{CountsSoFar, counts_after, counts_all, counts_none, counts_until, IsOfBooks, sum_fits}
 use Rattle.std.proofs.Math.ListN.{drop_of_length-le}
 use Rattle.script_run.proofs.demos.count_accepted.Goals as goal

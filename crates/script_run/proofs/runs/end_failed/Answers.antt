@@ -3,7 +3,7 @@ use Rattle.std.specs.Io.KnownBytes.{Appends}
 use Rattle.rp_io.specs.Causes.{Rose}
 use Rattle.rp_io.specs.Contents.{AppendsFront}
 use Rattle.script_run.specs.Outputs.{Output, store_fault_output}
-use Rattle.script_run.proofs.Handed.{appends_more, front_after, front_of_more}
+use Rattle.command_run.proofs.Handed.{appends_more, front_after, front_of_more}
 use Rattle.script_run.proofs.FaultLines.{sink_failed, store_fault_line}
 use Rattle.script_run.proofs.runs.end_failed.Goals as goal
 

@@ -4,14 +4,14 @@ use Rattle.std.proofs.lemmas.Result.{err_from_is_err_and}
 use Rattle.rp_io.specs.Causes.{Rose}
 use Rattle.script_run.specs.declared.runs.RunFault.{RunFault}
 use Rattle.script_run.specs.declared.statuses.Status.{Status}
-use Rattle.script_run.specs.declared.fetches.CommandFault.{CommandFault}
-use Rattle.script_run.specs.Stores.{Told}
-use Rattle.script_run.specs.Logs.{LogState}
-use Rattle.script_run.specs.Fetches.{DidTold, RunsTold}
+use Rattle.command_run.specs.declared.fetches.CommandFault.{CommandFault}
+use Rattle.command_run.specs.Stores.{Told}
+use Rattle.command_run.specs.Logs.{LogState}
+use Rattle.command_run.specs.Fetches.{DidTold, RunsTold}
 use Rattle.script_run.specs.Outputs.{end_output, store_fault_output}
 use Rattle.script_run.specs.Told.{EndsRun, RunWrites}
-use Rattle.script_run.specs.Runs.{AsksNone, ObjectsState, Run, RunState, asked_name, run_from}
-use Rattle.script_run.proofs.RunSteps.{asks_first, asks_later, left_at, run_none, runnable_first}
+use Rattle.command_run.specs.Runs.{AsksNone, ObjectsState, Run, RunState, asked_name, run_from}
+use Rattle.command_run.proofs.RunSteps.{asks_first, asks_later, left_at, run_none, runnable_first}
 use Rattle.script_run.proofs.SoFar.{SoFar, asked_some, so_far_none, so_far_ends, so_far_fails, so_far_memory_cut, so_far_write_cut, so_far_write_fault, so_far_handed, so_far_after, so_far_until}
 use Rattle.script_run.proofs.runs.tell_commands.Goals as goal
 

@@ -1,0 +1,201 @@
+-- A drive, step by step.
+use Rattle.std.proofs.Common.{◌≡◌, ◌⊎◌, inl, inr, ℕ, zero, suc, ◌+◌, ◌==◌, Bool, true, false, cond, not, ◌||◌, List, [], ◌++◌, Option, Some, None, is_some, unwrap_or, refl, sym, ap, subst, ◌∙◌, true≢false, suc-ne-zero, ne_eqb, append-nil, append_assoc}
+use Rattle.rp_base.specs.declared.limits.TheConstants.{STEPS_MOST}
+use Rattle.journal.specs.Lines.{transcript}
+use Rattle.journal.specs.declared.events.Event.{Event}
+use Rattle.journal.specs.declared.events.Event.TheVariants as event
+use Rattle.crash_recover.specs.Cores.{CoreState}
+use Rattle.core_actors.specs.declared.progress.Driven.TheVariants as driven
+use Rattle.crash_recover.specs.Drives.{DriveStep, acting, actor_step, drive_step, is_idle, with_turn_after}
+use Rattle.command_run.specs.declared.stops.Stop.{Stop}
+use Rattle.rp_io.specs.Contents.{AppendsFront}
+use Rattle.command_run.specs.Logs.{DrivesHanding, DrivesOn, Hands, HandsCoreEffect, HasCoreEffect, Keeps, LogState}
+use Rattle.command_run.specs.CoreEffects.{CoreEffect, core_tells}
+use Rattle.command_run.specs.CoreLives.{core_stops}
+use Rattle.proc_state.specs.Lives.{is_up}
+use Rattle.command_run.specs.CoreDrives.{drive_effect, drive_end, drive_steps, is_crashed, is_over, rest_event, rests_or, step_events, step_then, told_before}
+use Rattle.command_run.proofs.Handed.{front_of_more, hands_front, hands_kept, hands_more}
+use Rattle.command_run.proofs.RunSteps.{transcript-append}
+
+module _ (name : List ℕ) (is_quiet : Bool) where
+  -- one step more
+  pub steps_more : (more : ℕ) (core : CoreState) (steps : ℕ) → rest_event name core ≡ None → (steps == STEPS_MOST) ≡ false
+      → drive_steps (suc more) name is_quiet core steps ≡ step_then name is_quiet (drive_step core) (λ next. drive_steps more name is_quiet next (steps + 1))
+  unfolding drive_steps
+  steps_more more core steps goes few =
+      ap (λ (e : Option Event). rests_or core steps e
+      (cond (steps == STEPS_MOST) (core_stops core steps) (step_then name is_quiet (drive_step core) (λ next. drive_steps more name is_quiet next (steps + 1))))) goes
+      ∙ ap (λ (b : Bool). cond b (core_stops core steps) (step_then name is_quiet (drive_step core) (λ next. drive_steps more name is_quiet next (steps + 1)))) few
+
+  -- a drive of which no step is left
+  ends_none : (rests : Option Event) (core : CoreState) (steps : ℕ)
+      → core_tells core steps (unwrap_or rests (event.Paused name)) ≡ rests_or core steps rests (core_tells core steps (event.Paused name))
+  ends_none None core steps = refl
+  ends_none (Some told) core steps = refl
+
+  -- a drive that is over
+  ends_over : (rests : Option Event) (most : Bool) (core : CoreState) (steps : ℕ) (later : CoreEffect) → (is_some rests || most) ≡ true
+      → rests_or core steps rests (cond most (core_stops core steps) later) ≡ rests_or core steps rests (core_stops core steps)
+  ends_over (Some told) most core steps later is = refl
+  ends_over None true core steps later is = refl
+  ends_over None false core steps later is = absurd (true≢false (sym is))
+
+  pub steps_end : (left : ℕ) (core : CoreState) (steps : ℕ) → (left ≡ 0) ⊎ (is_over name core steps ≡ true) → drive_steps left name is_quiet core steps ≡ drive_end left name core steps
+  unfolding drive_steps
+  steps_end zero core steps is = ends_none (rest_event name core) core steps
+  steps_end (suc more) core steps (inl none) = absurd (suc-ne-zero more none)
+  steps_end (suc more) core steps (inr over) =
+      ends_over (rest_event name core) (steps == STEPS_MOST) core steps (step_then name is_quiet (drive_step core) (λ next. drive_steps more name is_quiet next (steps + 1))) over
+      ∙ ap (λ (b : Bool). rests_or core steps (rest_event name core) (cond b (core_tells core steps (event.Paused name)) (core_stops core steps))) (sym (ne_eqb (suc more) 0 (suc-ne-zero more)))
+
+  -- a crash, or a run that has no step left, ends a drive
+  over_by : (crashed idle most : Bool) → (crashed || most) ≡ true → (is_some (cond crashed (Some (event.Stopped name)) (cond idle (Some (event.Idle name)) None)) || most) ≡ true
+  over_by true idle most is = refl
+  over_by false true most is = refl
+  over_by false false most is = is
+
+  pub crash_over : (core : CoreState) (steps : ℕ) → (is_crashed core.life.state || steps == STEPS_MOST) ≡ true → is_over name core steps ≡ true
+  crash_over core steps = over_by (is_crashed core.life.state) (is_idle core) (steps == STEPS_MOST)
+
+  -- actors that rest end it too
+  pub rest_over : (core : CoreState) (steps : ℕ) (told : Event) → rest_event name core ≡ Some told → is_over name core steps ≡ true
+  rest_over core steps told rests = ap (λ (e : Option Event). is_some e || steps == STEPS_MOST) rests
+
+  -- a drive that goes on where its actors have something to do
+  goes_by : (crashed idle most : Bool) → (crashed || most) ≡ false → true ≡ not idle
+      → (cond crashed (Some (event.Stopped name)) (cond idle (Some (event.Idle name)) None) ≡ None) × (most ≡ false)
+  goes_by true idle most over works = absurd (true≢false over)
+  goes_by false true most over works = absurd (true≢false works)
+  goes_by false false most over works = (refl, over)
+
+  pub steps_go : (core : CoreState) (steps : ℕ) → (is_crashed core.life.state || steps == STEPS_MOST) ≡ false → true ≡ not (is_idle core)
+      → (rest_event name core ≡ None) × ((steps == STEPS_MOST) ≡ false)
+  steps_go core steps = goes_by (is_crashed core.life.state) (is_idle core) (steps == STEPS_MOST)
+
+  -- actors that have nothing to do end the drive, and their step leaves all as it was
+  rests_by : (crashed idle most : Bool) → (crashed || most) ≡ false → false ≡ not idle
+      → (cond crashed (Some (event.Stopped name)) (cond idle (Some (event.Idle name)) None) ≡ Some (event.Idle name)) × (idle ≡ true)
+  rests_by true idle most over rests = absurd (true≢false over)
+  rests_by false true most over rests = (refl, refl)
+  rests_by false false most over rests = absurd (true≢false (sym rests))
+
+  idle_step : (core : CoreState) → is_idle core ≡ true → drive_step core ≡ record { core = core; driven = driven.Idle }
+  idle_step core idle = ap (λ (b : Bool). cond b (record { core = core; driven = driven.Idle }) (actor_step (acting core) (with_turn_after (acting core) core))) idle
+
+  pub steps_idle : (core next : CoreState) (steps : ℕ) (log after : LogState) → (is_crashed core.life.state || steps == STEPS_MOST) ≡ false → false ≡ not (is_idle core)
+      → next ≡ (drive_step core).core → Keeps log after (step_events name is_quiet (drive_step core))
+      → (rest_event name core ≡ Some (event.Idle name)) × ((next ≡ core) × (after ≡ log))
+  steps_idle core next steps log after over rests left keeps =
+      let did = rests_by (is_crashed core.life.state) (is_idle core) (steps == STEPS_MOST) over rests in
+      let step = idle_step core did.1 in (
+        did.0,
+        (
+          left ∙ ap (λ (s : DriveStep). s.core) step,
+          keeps ∙ ap (λ (s : DriveStep). record log { lines = log.lines ++ transcript (step_events name is_quiet s) }) step
+              ∙ ap (λ (l : List ℕ). record log { lines = l }) (append-nil log.lines),
+        ),
+      )
+
+-- a drive of a core that is up
+pub drive_up : (name : List ℕ) (is_quiet : Bool) (core : CoreState) (steps count : ℕ) → is_up core.life.state ≡ true → drive_effect name is_quiet core steps count ≡ drive_steps count name is_quiet core steps
+unfolding drive_effect
+drive_up name is_quiet core steps count up = ap (λ (b : Bool). cond b (drive_steps count name is_quiet core steps) (core_tells core steps (event.NotRunning name))) up
+
+-- what a command on a core did that handed on nothing
+pub kept_core : (effect : CoreEffect) (left : CoreState) (before after : LogState) (written : Option (List ℕ)) (answer : Option Stop)
+    → HasCoreEffect effect left before after answer → HandsCoreEffect effect left before after written written answer
+kept_core effect left before after written answer did = record {
+  core = did.core;
+  steps = did.steps;
+  hands = hands_kept written before.lines (transcript effect.events) after.lines did.lines;
+  ending = did.ending;
+}
+
+-- events before events
+told_twice : (first second : List Event) (effect : CoreEffect) → told_before first (told_before second effect) ≡ told_before (first ++ second) effect
+told_twice first second effect = ap (λ (events : List Event). record effect { events = events }) (sym (append_assoc first second effect.events))
+
+module _ (name : List ℕ) (is_quiet : Bool) (count : ℕ) (first : CoreState) (before : LogState) where
+  -- no step yet
+  pub drive_first : DrivesOn name is_quiet count first before count first before
+  drive_first = record { told = []; lines = sym (append-nil before.lines); rest = refl }
+
+  -- one step more
+  pub drive_goes_on : (left more : ℕ) (core next : CoreState) (log after : LogState) → left ≡ suc more → DrivesOn name is_quiet count first before left core log
+      → rest_event name core ≡ None → (log.steps == STEPS_MOST) ≡ false → next ≡ (drive_step core).core
+      → Keeps (record log { steps = log.steps + 1 }) after (step_events name is_quiet (drive_step core)) → DrivesOn name is_quiet count first before more next after
+  drive_goes_on left more core next log after one on goes few steps keeps =
+      let events = step_events name is_quiet (drive_step core) in
+      record {
+        told = on.told ++ events;
+        lines = ap (λ (l : LogState). l.lines) keeps ∙ ap (λ (l : List ℕ). l ++ transcript events) on.lines
+            ∙ append_assoc before.lines (transcript on.told) (transcript events) ∙ ap (λ (l : List ℕ). before.lines ++ l) (sym (transcript-append on.told events));
+        rest = on.rest
+            ∙ ap (λ (n : ℕ). told_before on.told (drive_steps n name is_quiet core log.steps)) one
+            ∙ ap (told_before on.told) (steps_more name is_quiet more core log.steps goes few)
+            ∙ ap (λ (n : CoreState). told_before on.told (told_before events (drive_steps more name is_quiet n (log.steps + 1)))) (sym steps)
+            ∙ ap (λ (s : ℕ). told_before on.told (told_before events (drive_steps more name is_quiet next s))) (sym (ap (λ (l : LogState). l.steps) keeps))
+            ∙ told_twice on.told events (drive_steps more name is_quiet next after.steps);
+      }
+
+  -- what is left of it does this, and so the drive ends
+  pub drive_ends : (left : ℕ) (core now : CoreState) (log after : LogState) (effect : CoreEffect) (answer : Option Stop) → DrivesOn name is_quiet count first before left core log
+      → drive_steps left name is_quiet core log.steps ≡ effect → HasCoreEffect effect now log after answer
+      → HasCoreEffect (drive_steps count name is_quiet first before.steps) now before after answer
+  drive_ends left core now log after effect answer on is did =
+      subst (λ (e : CoreEffect). HasCoreEffect e now before after answer) (sym (on.rest ∙ ap (told_before on.told) is))
+      (record {
+        core = did.core;
+        steps = did.steps;
+        lines = did.lines ∙ ap (λ (l : List ℕ). l ++ transcript effect.events) on.lines ∙ append_assoc before.lines (transcript on.told) (transcript effect.events)
+            ∙ ap (λ (l : List ℕ). before.lines ++ l) (sym (transcript-append on.told effect.events));
+        ending = did.ending;
+      })
+
+  -- all of it is told and kept, or handed on
+  pub handing_first : (written : Option (List ℕ)) → DrivesHanding name is_quiet count first before written count first before written
+  handing_first written = record { told = []; hands = hands_kept written before.lines [] before.lines (sym (append-nil before.lines)); rest = refl }
+
+  module _ (written : Option (List ℕ)) (left : ℕ) (core : CoreState) (log : LogState) (now : Option (List ℕ)) (h : DrivesHanding name is_quiet count first before written left core log now) where
+    -- some steps more
+    pub handing_on : (next_left : ℕ) (next : CoreState) (after : LogState) → DrivesOn name is_quiet left core log next_left next after
+        → DrivesHanding name is_quiet count first before written next_left next after now
+    handing_on next_left next after on = record {
+      told = h.told ++ on.told;
+      hands = subst (λ (bytes : List ℕ). Hands written before.lines now after.lines bytes) (sym (transcript-append h.told on.told))
+          (hands_more written now now before.lines log.lines after.lines (transcript h.told) (transcript on.told) h.hands (hands_kept now log.lines (transcript on.told) after.lines on.lines));
+      rest = h.rest ∙ ap (told_before h.told) on.rest ∙ told_twice h.told on.told (drive_steps next_left name is_quiet next after.steps);
+    }
+
+    -- what is kept is handed on, all of it or nothing
+    pub handing_handed : (new : Option (List ℕ)) (after : LogState) → Hands now log.lines new after.lines [] → after.steps ≡ log.steps
+        → DrivesHanding name is_quiet count first before written left core after new
+    handing_handed new after handed same = record {
+      told = h.told;
+      hands = subst (λ (bytes : List ℕ). Hands written before.lines new after.lines bytes) (append-nil (transcript h.told))
+          (hands_more written now new before.lines log.lines after.lines (transcript h.told) [] h.hands handed);
+      rest = h.rest ∙ ap (λ (steps : ℕ). told_before h.told (drive_steps left name is_quiet core steps)) (sym same);
+    }
+
+    -- what is left of it is done, and so the drive ends
+    pub handing_ends : (next : CoreState) (after : LogState) (answer : Option Stop) → HasCoreEffect (drive_steps left name is_quiet core log.steps) next log after answer
+        → HandsCoreEffect (drive_steps count name is_quiet first before.steps) next before after written now answer
+    handing_ends next after answer did =
+        let effect = drive_steps left name is_quiet core log.steps in
+        subst (λ (e : CoreEffect). HandsCoreEffect e next before after written now answer) (sym h.rest)
+        (record {
+          core = did.core;
+          steps = did.steps;
+          hands = subst (λ (bytes : List ℕ). Hands written before.lines now after.lines bytes) (sym (transcript-append h.told effect.events))
+              (hands_more written now now before.lines log.lines after.lines (transcript h.told) (transcript effect.events) h.hands (hands_kept now log.lines (transcript effect.events) after.lines did.lines));
+          ending = did.ending;
+        })
+
+    -- a front of what is kept is handed on, and no more
+    pub handing_cut : (new : Option (List ℕ)) → AppendsFront now new log.lines → AppendsFront written new (before.lines ++ transcript (drive_steps count name is_quiet first before.steps).events)
+    handing_cut new front =
+        let effect = drive_steps left name is_quiet core log.steps in
+        let more = transcript effect.events in
+        subst (λ (bytes : List ℕ). AppendsFront written new bytes)
+        (append_assoc before.lines (transcript h.told) more ∙ ap (λ (bytes : List ℕ). before.lines ++ bytes) (sym (transcript-append h.told effect.events) ∙ ap (λ (e : CoreEffect). transcript e.events) (sym h.rest)))
+        (hands_front written now new before.lines log.lines (transcript h.told) more h.hands (front_of_more now new log.lines more front))

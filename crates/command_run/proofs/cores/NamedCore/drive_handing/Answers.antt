@@ -1,0 +1,32 @@
+use Rattle.std.proofs.Common.{◌≡◌, ◌++◌, true, Option, IfErr, Result, Err, sym, ap, subst, ◌∙◌}
+use Rattle.std.proofs.lemmas.Result.{err_from_is_err_and}
+use Rattle.journal.specs.Lines.{transcript}
+use Rattle.proc_state.specs.Lives.{CoreLife, is_up}
+use Rattle.command_run.specs.NamedCores.{NamedCoreState}
+use Rattle.command_run.specs.declared.stops.Stop.{Stop}
+use Rattle.command_run.specs.declared.fetches.CommandFault.{CommandFault}
+use Rattle.command_run.specs.CoreEffects.{CoreEffect}
+use Rattle.command_run.specs.Fetches.{EndsCut}
+use Rattle.command_run.specs.CoreDrives.{drive_steps}
+use Rattle.command_run.proofs.Handed.{front_of_none}
+use Rattle.command_run.proofs.Driving.{drive_up, handing_cut}
+use Rattle.command_run.proofs.cores.NamedCore.drive_handing.Goals as goal
+
+pub returns-in_err-drive_running-clause-cut : goal.returns-in_err-drive_running-clause-cut
+returns-in_err-drive_running-clause-cut g c =
+    let sink = g.K.Sink in
+    let name = c.args.self.now.name in
+    let first = c.args.self.now.core in
+    let before = c.args.log.now in
+    let now = sink.written c.drive_pieces.new.out in
+    let found = err_from_is_err_and c.from_residual-in_err-drive_running.result c.from_residual-in_err-drive_running.ensures.1 in
+    let up : is_up first.life.state ≡ true =
+    ap (λ (s : NamedCoreState). is_up s.core.life.state) (sym c.self.view_is) ∙ ap (λ (l : CoreLife). is_up l.state) (sym c.life.ensures) ∙ sym c.if-not-is_up.ensures in
+    let cut : CoreEffect → Result (Option Stop) CommandFault → Type 0 =
+    λ e r. IfErr r (λ why. EndsCut why (before.lines ++ transcript e.events) (sink.written c.args.out.now) now (sink.faults c.args.out.now) (sink.faults c.drive_pieces.new.out)) in
+    subst (λ (e : CoreEffect). cut e c.from_residual-in_err-drive_running.result) (sym (drive_up name c.args.is_quiet first before.steps c.args.count up))
+    (subst (cut (drive_steps c.args.count name c.args.is_quiet first before.steps)) (sym (found.1 ∙ ap (λ (why : CommandFault). Err why) found.2)) (
+      handing_cut name c.args.is_quiet c.args.count first before (sink.written c.args.out.now) c.in_ok-left.left c.drive_pieces.new.self.core c.drive_pieces.new.log now c.in_ok-left.ensures.on now
+          (front_of_none now c.drive_pieces.new.log.lines),
+      c.in_ok-left.ensures.same,
+    ))

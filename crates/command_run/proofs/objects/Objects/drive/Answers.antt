@@ -1,0 +1,81 @@
+use Rattle.std.proofs.Common.{◌≡◌, ◌<◌, ◌++◌, List, Option, Some, None, Err, IfOk, IfErr, Result, length, slice_get, slice_set, refl, sym, ap, subst, ◌∙◌}
+use Rattle.std.proofs.lemmas.Option.{slice_get_read}
+use Rattle.std.proofs.lemmas.Result.{IfOk-weaker, err_from_is_err_and}
+use Rattle.rp_io.specs.declared.faults.FetchFault.TheVariants as fetch_fault
+use Rattle.journal.specs.declared.events.Event.{Event}
+use Rattle.journal.specs.Lines.{transcript}
+use Rattle.command_run.specs.declared.acts.CoreAct.TheVariants as core
+use Rattle.command_run.specs.declared.acts.NamedAct.TheVariants as under
+use Rattle.command_run.specs.declared.stops.Stop.{Stop}
+use Rattle.command_run.specs.declared.fetches.CommandFault.{CommandFault}
+use Rattle.command_run.specs.CoreDrives.{drive_effect}
+use Rattle.command_run.specs.Fetches.{EndsCut}
+use Rattle.command_run.specs.Logs.{HandsCoreEffect, HandsRunEffect}
+use Rattle.command_run.specs.Runs.{ObjectsState, RunEffect, RunState, core_place, name_effect, place_of}
+use Rattle.command_run.proofs.Handed.{front_of_none}
+use Rattle.command_run.proofs.Placing.{drive_placed, drive_run, kept_run}
+use Rattle.command_run.proofs.objects.Objects.drive.Goals as goal
+
+pub returns-in-Some-clause-effect : goal.returns-in-Some-clause-effect
+returns-in-Some-clause-effect g c =
+    let sink = g.K.Sink in
+    let items = c.self.inside.cores.items in
+    let links = c.self.inside.links.items in
+    let images = c.self.inside.images.items in
+    let is_quiet = c.self.inside.is_quiet in
+    let place = c.in-Some.place in
+    let named = c.index_mut.result.now in
+    let log = c.args.log.now in
+    let run : RunState = record { objects = record { links = links; cores = items; images = images; is_quiet = is_quiet }; steps = log.steps } in
+    let placed : Some place ≡ core_place items c.args.name =
+    c.in-Some.ensures.core ∙ ap (λ (o : ObjectsState). core_place o.cores c.bytes.result.now) (sym c.self.view_is) ∙ ap (core_place items) c.bytes.ensures.bytes in
+    let bare : None ≡ place_of links c.args.name =
+    c.in-Some.ensures.link ∙ ap (λ (o : ObjectsState). place_of o.links c.bytes.result.now) (sym c.self.view_is) ∙ ap (place_of links) c.bytes.ensures.bytes in
+    let found : slice_get items place ≡ Some named =
+    slice_get_read items (length items) place named refl (subst (λ (o : ObjectsState). place < length o.cores) (sym c.self.view_is) c.in-Some.ensures.within) c.index_mut.ensures.value in
+    let did : (objects : ObjectsState) → Option Stop → Type 0 = λ objects ending.
+    HandsRunEffect (name_effect (Err fetch_fault.Missing) (record { objects = objects; steps = log.steps }) c.args.name (under.Core (core.Drive c.args.count)))
+    (record { links = links; cores = slice_set items place c.drive_handing.new.self; images = images; is_quiet = is_quiet }) log c.drive_handing.new.log (sink.written c.args.out.now) (sink.written c.drive_handing.new.out) ending in
+    subst (λ (objects : ObjectsState). IfOk c.drive_handing.result (did objects)) c.self.view_is
+    (IfOk-weaker c.drive_handing.result
+    (λ ending. HandsCoreEffect (drive_effect named.name is_quiet named.core log.steps c.args.count) c.drive_handing.new.self.core log c.drive_handing.new.log (sink.written c.args.out.now) (sink.written c.drive_handing.new.out) ending)
+    (did run.objects)
+    (λ ending has. drive_run (Err fetch_fault.Missing) run c.args.name c.args.count place named bare placed found log c.drive_handing.new.log (sink.written c.args.out.now) (sink.written c.drive_handing.new.out)
+    ending c.drive_handing.new.self c.drive_handing.ensures.name has)
+    c.drive_handing.ensures.effect)
+
+pub returns-in-Some-clause-cut : goal.returns-in-Some-clause-cut
+returns-in-Some-clause-cut g c =
+    let sink = g.K.Sink in
+    let items = c.self.inside.cores.items in
+    let links = c.self.inside.links.items in
+    let images = c.self.inside.images.items in
+    let is_quiet = c.self.inside.is_quiet in
+    let place = c.in-Some.place in
+    let named = c.index_mut.result.now in
+    let log = c.args.log.now in
+    let run : RunState = record { objects = record { links = links; cores = items; images = images; is_quiet = is_quiet }; steps = log.steps } in
+    let placed : Some place ≡ core_place items c.args.name =
+    c.in-Some.ensures.core ∙ ap (λ (o : ObjectsState). core_place o.cores c.bytes.result.now) (sym c.self.view_is) ∙ ap (core_place items) c.bytes.ensures.bytes in
+    let bare : None ≡ place_of links c.args.name =
+    c.in-Some.ensures.link ∙ ap (λ (o : ObjectsState). place_of o.links c.bytes.result.now) (sym c.self.view_is) ∙ ap (place_of links) c.bytes.ensures.bytes in
+    let found : slice_get items place ≡ Some named =
+    slice_get_read items (length items) place named refl (subst (λ (o : ObjectsState). place < length o.cores) (sym c.self.view_is) c.in-Some.ensures.within) c.index_mut.ensures.value in
+    let cut : List Event → Type 0 = λ events. IfErr c.drive_handing.result (λ why. EndsCut why (log.lines ++ transcript events)
+    (sink.written c.args.out.now) (sink.written c.drive_handing.new.out) (sink.faults c.args.out.now) (sink.faults c.drive_handing.new.out)) in
+    subst (λ (objects : ObjectsState). cut (name_effect (Err fetch_fault.Missing) (record { objects = objects; steps = log.steps }) c.args.name (under.Core (core.Drive c.args.count))).events) c.self.view_is
+    (subst cut (sym (ap (λ (e : RunEffect). e.events) (drive_placed (Err fetch_fault.Missing) run c.args.name c.args.count place named bare placed found))) c.drive_handing.ensures.cut)
+
+pub returns-in_err-run_on_links-in-None-clause-cut : goal.returns-in_err-run_on_links-in-None-clause-cut
+returns-in_err-run_on_links-in-None-clause-cut g c =
+    let sink = g.K.Sink in
+    let now = sink.written c.args.out.now in
+    let found = err_from_is_err_and c.from_residual.result c.from_residual.ensures.1 in
+    let text = c.args.log.now.lines ++ transcript (name_effect (Err fetch_fault.Missing) (record { objects = c.args.self.now; steps = c.args.log.now.steps }) c.args.name (under.Core (core.Drive c.args.count))).events in
+    subst (λ (r : Result (Option Stop) CommandFault). IfErr r (λ why. EndsCut why text now now (sink.faults c.args.out.now) (sink.faults c.args.out.now)))
+    (sym (found.1 ∙ ap (λ (why : CommandFault). Err why) found.2)) (front_of_none now text, refl)
+
+pub returns-in_ok-run_on_links-in-None-clause-effect : goal.returns-in_ok-run_on_links-in-None-clause-effect
+returns-in_ok-run_on_links-in-None-clause-effect g c =
+    let effect = name_effect (Err fetch_fault.Missing) (record { objects = c.args.self.now; steps = c.args.log.now.steps }) c.args.name (under.Core (core.Drive c.args.count)) in
+    kept_run effect c.run_on_links.new.self c.args.log.now c.run_on_links.new.log (g.K.Sink.written c.args.out.now) c.in_ok-run_on_links-in-None.field-0 c.in_ok-run_on_links-in-None.ensures

@@ -1,0 +1,52 @@
+-- What is done on the link of a core (own).
+use Rattle.std.specs.Prelude.{ℕ, List, Option, Some, None}
+use Rattle.std.specs.Option.{option_and_then}
+use Rattle.journal.specs.declared.events.Event.TheVariants as event
+use Rattle.link_bench.specs.declared.acts.LinkAct.{LinkAct}
+use Rattle.link_bench.specs.Benches.{BenchState}
+use Rattle.link_bench.specs.BenchRings.{turn_holder}
+use Rattle.crash_recover.specs.CoreActs.{act_on_core, acted_core}
+use Rattle.crash_recover.specs.CoreRings.{core_ring}
+use Rattle.crash_recover.specs.Cores.{CoreState}
+use Rattle.command_run.specs.declared.acts.LinkView.{LinkView}
+use Rattle.command_run.specs.declared.acts.LinkView.TheVariants as view
+use Rattle.command_run.specs.CoreEffects.{CoreEffect, core_tells, core_tells_all}
+use Rattle.command_run.specs.Effects.{answer_ending, answer_events}
+use Rattle.command_run.specs.LinkCommands.{view_events}
+use Rattle.command_run.specs.RingDumps.{ring_events}
+
+-- an act for callers on the link that a core has or not
+unfoldable pub core_link_effect : List ℕ → CoreState → ℕ → LinkAct (List ℕ) → Option BenchState → CoreEffect
+core_link_effect name core steps act None = core_tells core steps (event.NoLink name)
+core_link_effect name core steps act (Some bench) =
+    let acted = act_on_core core bench steps act in
+    record { core = acted_core core acted; steps = acted.steps; events = answer_events name acted.bench.link acted.answer; ending = answer_ending acted.answer }
+
+-- who has the first turn of a core's link that is out
+abbrev pub core_turn_holder : CoreState → Option ℕ
+core_turn_holder core = option_and_then (λ (bench : BenchState). turn_holder bench.link) core.bench
+
+-- the bytes of a ring that a core has or not
+abbrev pub found_ring_effect : List ℕ → CoreState → ℕ → ℕ → Option (List ℕ) → CoreEffect
+found_ring_effect name core steps lane None = core_tells core steps (event.NoLink name)
+found_ring_effect name core steps lane (Some bytes) = core_tells_all core steps (ring_events name lane bytes)
+
+-- the bytes of a ring of a core no turn of whose link is out
+abbrev pub core_shown_effect : List ℕ → CoreState → ℕ → ℕ → Option ℕ → CoreEffect
+core_shown_effect name core steps lane (Some caller) = core_tells core steps (event.StillTurn name caller)
+core_shown_effect name core steps lane None = found_ring_effect name core steps lane (core_ring core lane)
+
+-- `ring X LANE` of a core
+unfoldable pub core_ring_effect : List ℕ → CoreState → ℕ → ℕ → CoreEffect
+core_ring_effect name core steps lane = core_shown_effect name core steps lane (core_turn_holder core)
+
+-- what the link shows that a core has or not
+abbrev pub found_view_effect : List ℕ → CoreState → ℕ → LinkView → Option BenchState → CoreEffect
+found_view_effect name core steps shown None = core_tells core steps (event.NoLink name)
+found_view_effect name core steps shown (Some bench) = core_tells_all core steps (view_events name bench shown)
+
+-- what the link of a core shows, its rings over the buffers that were placed
+abbrev pub core_view_effect : List ℕ → CoreState → ℕ → LinkView → CoreEffect
+core_view_effect name core steps (view.Ring lane) = core_ring_effect name core steps lane
+core_view_effect name core steps view.Books = found_view_effect name core steps view.Books core.bench
+core_view_effect name core steps view.Channels = found_view_effect name core steps view.Channels core.bench

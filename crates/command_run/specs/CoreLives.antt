@@ -1,0 +1,177 @@
+-- What a boot, a handover, a recovery, a shutdown, a detach and a crash report of a core leave of it and tell (own).
+use Rattle.std.specs.Prelude.{ℕ, ◌+◌, ◌==◌, Bool, not, nat_le, length, List, [], ◌∷◌, Option, Some, None, unwrap_or, find, bytes_eq, option_map, Result, Ok, Err, if◌then◌else◌}
+use Rattle.rp_base.specs.declared.limits.TheConstants.{IMAGE_MOST, STEPS_MOST}
+use Rattle.rp_base.specs.declared.kinds.CrashKind.{CrashKind}
+use Rattle.rp_io.specs.declared.faults.FetchFault.TheVariants as fetch
+use Rattle.fw_load.specs.declared.faults.LoadFault.{LoadFault}
+use Rattle.fw_load.specs.Faults.{load_fault_index, load_fault_number}
+use Rattle.proc_state.specs.declared.answers.LifeFault.{LifeFault}
+use Rattle.proc_state.specs.declared.answers.LifeFault.TheVariants as life
+use Rattle.proc_state.specs.Faults.{fault_number}
+use Rattle.journal.specs.declared.events.Event.{Event}
+use Rattle.journal.specs.declared.events.Event.TheVariants as event
+use Rattle.crash_recover.specs.declared.core_answers.Crash.{Crash}
+use Rattle.crash_recover.specs.declared.core_answers.Crash.TheVariants as crash
+use Rattle.crash_recover.specs.declared.core_answers.Leave.{Leave}
+use Rattle.crash_recover.specs.declared.core_answers.Leave.TheVariants as leave
+use Rattle.crash_recover.specs.declared.core_answers.Start.{Start}
+use Rattle.crash_recover.specs.declared.core_answers.Start.TheVariants as start
+use Rattle.crash_recover.specs.declared.core_faults.CoreFault.{CoreFault}
+use Rattle.crash_recover.specs.declared.core_faults.CoreFault.TheVariants as fault
+use Rattle.crash_recover.specs.declared.core_faults.TheConstants.{CALLER_OUT, RINGS_CHANGED}
+use Rattle.crash_recover.specs.Cores.{CoreOutcome, CoreState}
+use Rattle.crash_recover.specs.CoreBoots.{boot_of, handover_of}
+use Rattle.crash_recover.specs.CoreCrashes.{report_of}
+use Rattle.crash_recover.specs.CoreLeaves.{detach_of, shutdown_of}
+use Rattle.crash_recover.specs.CoreRecoveries.{recovery_of}
+use Rattle.command_run.specs.declared.stops.Stop.{Stop}
+use Rattle.command_run.specs.declared.stops.Stop.TheVariants as stop
+use Rattle.command_run.specs.NamedImages.{ImageState}
+use Rattle.command_run.specs.Stores.{Answer}
+use Rattle.command_run.specs.Recoveries.{reopen_events}
+use Rattle.command_run.specs.CoreEffects.{CoreEffect, core_tells_all}
+
+-- a fault by its number, and the number of what it is about, if it is about something
+abbrev pub fault_at : List ℕ → ℕ → Option ℕ → Event
+fault_at name number None = event.Fault name number
+fault_at name number (Some index) = event.FaultAt name number index
+
+-- why the life of a core refuses something
+abbrev pub life_fault_event : List ℕ → LifeFault → Event
+life_fault_event name life.IncarnationsSpent = event.IncarnationsSpent name
+life_fault_event name why = event.Fault name (fault_number why)
+
+-- why a core does not load an image
+abbrev pub load_fault_event : List ℕ → LoadFault → Event
+load_fault_event name why = fault_at name (unwrap_or (load_fault_number why) 0) (load_fault_index why)
+
+-- why the image of a name is not booted, or something else is refused (a store that fails and want of memory are told by no line of a core, and end the run)
+abbrev pub core_fault_events : List ℕ → List ℕ → CoreFault → List Event
+core_fault_events name image (fault.Fetch fetch.Missing) = event.Missing name image ∷ []
+core_fault_events name image (fault.Fetch (fetch.TooLarge bytes)) = event.TooLarge name image ∷ []
+core_fault_events name image (fault.Fetch fetch.Failed) = []
+core_fault_events name image (fault.Fetch fetch.NoMemory) = []
+core_fault_events name image (fault.Load why) = load_fault_event name why ∷ []
+core_fault_events name image (fault.Life why) = life_fault_event name why ∷ []
+core_fault_events name image fault.RingsChanged = event.Fault name RINGS_CHANGED ∷ []
+core_fault_events name image (fault.CallerOut caller) = event.FaultAt name CALLER_OUT caller ∷ []
+core_fault_events name image (fault.Reopen why) = reopen_events name why
+core_fault_events name image fault.NoMemory = []
+
+-- what a start of a core was
+abbrev pub start_event : List ℕ → Start → Event
+start_event name (start.Running inc) = event.Running name inc
+start_event name (start.Attached inc) = event.Attached name inc
+start_event name (start.Users users) = event.Users name users
+start_event name start.Detached = event.Detached name
+
+-- the same with an image of this name, or why there was none
+abbrev pub start_events : List ℕ → List ℕ → Result Start CoreFault → List Event
+start_events name image (Ok started) = start_event name started ∷ []
+start_events name image (Err why) = core_fault_events name image why
+
+abbrev pub start_effect : List ℕ → List ℕ → ℕ → CoreOutcome Start CoreFault → CoreEffect
+start_effect name image steps outcome = core_tells_all outcome.core steps (start_events name image outcome.answer)
+
+-- the bytes of the first image of this name
+abbrev pub image_bytes : List ImageState → List ℕ → Option (List ℕ)
+image_bytes images name = option_map (λ (image : ImageState). image.bytes) (find (λ image. bytes_eq image.name name) images)
+
+-- an image that the script made, unless it is longer than an image may be; or what the store tells
+abbrev pub found_or_told : Answer → Option (List ℕ) → Answer
+found_or_told answer (Some bytes) = if nat_le (length bytes) IMAGE_MOST then Ok bytes else Err (fetch.TooLarge (length bytes))
+found_or_told answer None = answer
+
+-- the image of this name: the script's, or else what the store tells
+abbrev pub found_image : List ImageState → Answer → List ℕ → Answer
+found_image images answer image = found_or_told answer (image_bytes images image)
+
+-- `boot X IMAGE`
+unfoldable pub boot_effect : List ImageState → Answer → List ℕ → CoreState → ℕ → List ℕ → CoreEffect
+boot_effect images answer name core steps image = start_effect name image steps (boot_of core image (found_image images answer image))
+
+-- `handover X IMAGE`
+unfoldable pub handover_effect : List ImageState → Answer → List ℕ → CoreState → ℕ → List ℕ → CoreEffect
+handover_effect images answer name core steps image = start_effect name image steps (handover_of core image (found_image images answer image))
+
+-- the name of the image that a core was booted or handed over with (one that has none is offline, and not recovered)
+abbrev pub booted_image : List ℕ → CoreState → List ℕ
+booted_image name core = unwrap_or core.image name
+
+-- `recover X`
+unfoldable pub recover_effect : List ImageState → Answer → List ℕ → CoreState → ℕ → CoreEffect
+recover_effect images answer name core steps =
+    let image = booted_image name core in
+    start_effect name image steps (recovery_of core (found_image images answer image))
+
+-- the run ends where a step more is asked than it may take
+abbrev pub core_stops : CoreState → ℕ → CoreEffect
+core_stops core steps = record { core = core; steps = steps; events = []; ending = Some stop.StepLimit }
+
+-- what the leave of a user tells, with this event where it was the last
+abbrev pub leave_events : List ℕ → Event → Result Leave CoreFault → List Event
+leave_events name last (Ok (leave.Users users)) = event.Users name users ∷ []
+leave_events name last (Ok (leave.Last None)) = last ∷ []
+leave_events name last (Ok (leave.Last (Some inc))) = event.Closed name inc ∷ last ∷ []
+leave_events name last (Ok leave.Limit) = []
+leave_events name last (Err why) = core_fault_events name name why
+
+-- how many steps were done then: the close of a link is one
+abbrev pub leave_steps : ℕ → Result Leave CoreFault → ℕ
+leave_steps steps (Ok (leave.Last (Some inc))) = steps + 1
+leave_steps steps other = steps
+
+-- whether the run ends there
+abbrev pub leave_ending : Result Leave CoreFault → Option Stop
+leave_ending (Ok leave.Limit) = Some stop.StepLimit
+leave_ending other = None
+
+abbrev pub leave_effect : List ℕ → Event → ℕ → CoreOutcome Leave CoreFault → CoreEffect
+leave_effect name last steps outcome = record {
+  core = outcome.core;
+  steps = leave_steps steps outcome.answer;
+  events = leave_events name last outcome.answer;
+  ending = leave_ending outcome.answer;
+}
+
+-- whether a run that has done so many steps may do one more
+abbrev pub may_step : ℕ → Bool
+may_step steps = not (steps == STEPS_MOST)
+
+-- `shutdown X`
+unfoldable pub shutdown_effect : List ℕ → CoreState → ℕ → CoreEffect
+shutdown_effect name core steps = leave_effect name (event.Offline name) steps (shutdown_of (may_step steps) core)
+
+-- `detach X`
+unfoldable pub detach_effect : List ℕ → CoreState → ℕ → CoreEffect
+detach_effect name core steps = leave_effect name (event.Detached name) steps (detach_of (may_step steps) core)
+
+-- what a crash report tells
+abbrev pub report_events : List ℕ → CrashKind → Result Crash LifeFault → List Event
+report_events name kind (Ok (crash.First None)) = event.Crashed name kind ∷ []
+report_events name kind (Ok (crash.First (Some inc))) = event.Closed name inc ∷ event.Crashed name kind ∷ []
+report_events name kind (Ok crash.Already) = event.AlreadyCrashed name ∷ []
+report_events name kind (Ok crash.Limit) = []
+report_events name kind (Err why) = life_fault_event name why ∷ []
+
+-- how many steps were done then: the close of a link is one
+abbrev pub report_steps : ℕ → Result Crash LifeFault → ℕ
+report_steps steps (Ok (crash.First (Some inc))) = steps + 1
+report_steps steps other = steps
+
+-- whether the run ends there
+abbrev pub report_ending : Result Crash LifeFault → Option Stop
+report_ending (Ok crash.Limit) = Some stop.StepLimit
+report_ending other = None
+
+abbrev pub report_effect : List ℕ → CrashKind → ℕ → CoreOutcome Crash LifeFault → CoreEffect
+report_effect name kind steps outcome = record {
+  core = outcome.core;
+  steps = report_steps steps outcome.answer;
+  events = report_events name kind outcome.answer;
+  ending = report_ending outcome.answer;
+}
+
+-- `crash X KIND`
+unfoldable pub crash_effect : List ℕ → CoreState → ℕ → CrashKind → CoreEffect
+crash_effect name core steps kind = report_effect name kind steps (report_of (may_step steps) core)

@@ -1,0 +1,45 @@
+-- What is told of a core's resource table, its traces and its memory (own).
+use Rattle.std.specs.Prelude.{ℕ, nat_lt, List, map, Option, Some, None, if◌then◌else◌}
+use Rattle.rp_base.specs.Texts.{text_before_zero}
+use Rattle.journal.specs.declared.events.Event.{Event}
+use Rattle.journal.specs.declared.events.Event.TheVariants as event
+use Rattle.journal.specs.declared.tables.TableLine.{TableLine}
+use Rattle.crash_recover.specs.Cores.{CoreState, LoadState, core_memory, core_trace}
+use Rattle.command_run.specs.CoreEffects.{CoreEffect, core_tells, core_tells_all}
+use Rattle.image_report.specs.TableRows.{table_rows}
+
+-- a line of a table
+abbrev pub table_event : List ℕ → TableLine → Event
+table_event name row = event.Table name row
+
+-- the lines of a table, or that there is none
+abbrev pub loaded_table_effect : List ℕ → CoreState → ℕ → Option LoadState → CoreEffect
+loaded_table_effect name core steps None = core_tells core steps (event.NotLoaded name)
+loaded_table_effect name core steps (Some loaded) =
+    core_tells_all core steps (map (table_event name) (table_rows loaded.table loaded.traces))
+
+-- `table X`
+unfoldable pub table_effect : List ℕ → CoreState → ℕ → CoreEffect
+table_effect name core steps = loaded_table_effect name core steps core.loaded
+
+-- the bytes of the trace of a number, of which a table has fewer than 65,536
+abbrev pub trace_bytes : CoreState → ℕ → Option (List ℕ)
+trace_bytes core index = if nat_lt index 65536 then core_trace core index else None
+
+-- the text of a trace, which ends before the first zero, or that there is none
+abbrev pub shown_trace_event : List ℕ → ℕ → Option (List ℕ) → Event
+shown_trace_event name index None = event.NoTrace name index
+shown_trace_event name index (Some bytes) = event.Trace name index (text_before_zero bytes)
+
+-- `trace X INDEX`
+unfoldable pub trace_effect : List ℕ → CoreState → ℕ → ℕ → CoreEffect
+trace_effect name core steps index = core_tells core steps (shown_trace_event name index (trace_bytes core index))
+
+-- bytes of memory, or that they are not all in one block
+abbrev pub shown_memory_event : List ℕ → ℕ → ℕ → Option (List ℕ) → Event
+shown_memory_event name da len None = event.Unmapped name da len
+shown_memory_event name da len (Some bytes) = event.Mem name da bytes
+
+-- `mem X DA LEN`
+unfoldable pub mem_effect : List ℕ → CoreState → ℕ → ℕ → ℕ → CoreEffect
+mem_effect name core steps da len = core_tells core steps (shown_memory_event name da len (core_memory core da len))

@@ -1,0 +1,66 @@
+-- What code was told of the image that a command asks for (own).
+use Rattle.std.specs.Prelude.{◌≡◌, ℕ, List, ◌++◌, Option, Some, None, is_some, IsTrue, Result, Ok, Err}
+use Rattle.rp_io.specs.declared.faults.FetchFault.TheVariants as fetch_fault
+use Rattle.rp_io.specs.Causes.{Rose}
+use Rattle.rp_io.specs.Contents.{AppendsFront}
+use Rattle.rp_io.specs.Images.{fetch_answer}
+use Rattle.script_lang.specs.declared.commands.Command.{Command}
+use Rattle.journal.specs.Lines.{transcript}
+use Rattle.command_run.specs.declared.fetches.CommandFault.{CommandFault}
+use Rattle.command_run.specs.declared.fetches.CommandFault.TheVariants as command_fault
+use Rattle.command_run.specs.declared.fetches.Fetched.{Fetched}
+use Rattle.command_run.specs.declared.fetches.Fetched.TheVariants as fetched
+use Rattle.command_run.specs.declared.stops.Stop.{Stop}
+use Rattle.command_run.specs.Stores.{Answer, IsAnswer, IsShelf, Shelf, answer_for}
+use Rattle.command_run.specs.Runs.{ObjectsState, RunState, asked_name, effect_of}
+use Rattle.command_run.specs.Logs.{HandsRunEffect, LogState}
+
+-- what was told
+abbrev pub answer_of : Fetched → Answer
+answer_of fetched.Missing = Err fetch_fault.Missing
+answer_of (fetched.TooLarge bytes) = Err (fetch_fault.TooLarge bytes)
+answer_of (fetched.Found image) = Ok image.items
+
+-- where told: what the store has under this name
+abbrev pub IsToldUnder : Option (List (List ℕ × List ℕ)) → List ℕ → Answer → Type 0
+IsToldUnder None name answer = IsAnswer answer
+IsToldUnder (Some images) name answer = answer ≡ fetch_answer images name
+
+-- what is told of the image that is asked for, if one is
+abbrev pub IsToldFor : Option (List (List ℕ × List ℕ)) → Option (List ℕ) → Answer → Type 0
+IsToldFor images None answer = answer ≡ Err fetch_fault.Missing
+IsToldFor images (Some name) answer = IsToldUnder images name answer
+
+-- why nothing was told, by the count of the store's faults
+abbrev pub IsFetchFault : CommandFault → ℕ → ℕ → Type 0
+IsFetchFault command_fault.Store before now = Rose before now
+IsFetchFault command_fault.Write before now = ⊥
+IsFetchFault command_fault.NoMemory before now = now ≡ before
+
+-- a command did what it does over what the store has, and some lines were handed on meanwhile
+pub record DidTold (images : Option (List (List ℕ × List ℕ))) (run : RunState) (command : Command) (left : ObjectsState) (before after : LogState) (written now : Option (List ℕ)) (answer : Option Stop) : Type 0 where
+  pub shelf : Shelf
+  pub is : IsShelf images shelf
+  pub did : HandsRunEffect (effect_of (answer_for shelf (asked_name run.objects command)) run command) left before after written now answer
+
+-- a text was cut off where the sink failed or memory ran out: a front of it is written
+abbrev pub EndsCut : CommandFault → List ℕ → Option (List ℕ) → Option (List ℕ) → ℕ → ℕ → Type 0
+EndsCut command_fault.Store text old new before now = ⊥
+EndsCut command_fault.Write text old new before now = AppendsFront old new text × Rose before now
+EndsCut command_fault.NoMemory text old new before now = AppendsFront old new text × (now ≡ before)
+
+-- what a command tells was cut off, whatever the store has
+abbrev pub IsToldCut : CommandFault → RunState → Command → LogState → Option (List ℕ) → Option (List ℕ) → ℕ → ℕ → Type 0
+IsToldCut why run command before old new faults now =
+    (shelf : Shelf) → EndsCut why (before.lines ++ transcript (effect_of (answer_for shelf (asked_name run.objects command)) run command).events) old new faults now
+
+-- a command was run, or it asked a store that failed and told nothing, or what it tells was cut off
+abbrev pub RunsTold : Result (Option Stop) CommandFault → Option (List (List ℕ × List ℕ)) → RunState → Command → ObjectsState → LogState → LogState → Option (List ℕ) → Option (List ℕ) → ℕ → ℕ → ℕ → ℕ → Type 0
+RunsTold (Ok answer) images run command left before after old new faults now was then =
+    DidTold images run command left before after old new answer × (now ≡ faults) × (then ≡ was)
+RunsTold (Err command_fault.Store) images run command left before after old new faults now was then =
+    IsTrue (is_some (asked_name run.objects command)) × (after ≡ before) × (new ≡ old) × (now ≡ faults) × Rose was then
+RunsTold (Err command_fault.Write) images run command left before after old new faults now was then =
+    IsToldCut command_fault.Write run command before old new faults now × (then ≡ was)
+RunsTold (Err command_fault.NoMemory) images run command left before after old new faults now was then =
+    IsToldCut command_fault.NoMemory run command before old new faults now × (then ≡ was)

@@ -1,0 +1,74 @@
+-- What a run keeps beside its links (own).
+use Rattle.std.specs.Prelude.{◌≡◌, ℕ, Bool, List, ◌++◌, Option}
+use Rattle.std.specs.Io.KnownBytes.{Appends}
+use Rattle.journal.specs.declared.events.Event.{Event}
+use Rattle.journal.specs.Lines.{transcript}
+use Rattle.command_run.specs.declared.stops.Stop.{Stop}
+use Rattle.link_bench.specs.Benches.{BenchState}
+use Rattle.crash_recover.specs.Cores.{CoreState}
+use Rattle.command_run.specs.Effects.{Effect}
+use Rattle.command_run.specs.CoreEffects.{CoreEffect}
+use Rattle.command_run.specs.CoreDrives.{drive_steps, told_before}
+use Rattle.command_run.specs.Runs.{ObjectsState, RunEffect}
+
+-- the lines that wait to be handed on, and how many steps were done
+pub record LogState : Type 0 where
+  pub lines : List ℕ
+  pub steps : ℕ
+
+-- these events are told, and no step is counted
+abbrev pub Keeps : LogState → LogState → List Event → Type 0
+Keeps before after told = after ≡ record before { lines = before.lines ++ transcript told }
+
+-- a command left of its bench, told and answered what this effect says
+pub record HasEffect (effect : Effect) (left : BenchState) (before after : LogState) (answer : Option Stop) : Type 0 where
+  pub bench : left ≡ effect.bench
+  pub steps : after.steps ≡ effect.steps
+  pub lines : after.lines ≡ before.lines ++ transcript effect.events
+  pub ending : answer ≡ effect.ending
+
+-- a command left of its core, told and answered what this effect says
+pub record HasCoreEffect (effect : CoreEffect) (left : CoreState) (before after : LogState) (answer : Option Stop) : Type 0 where
+  pub core : left ≡ effect.core
+  pub steps : after.steps ≡ effect.steps
+  pub lines : after.lines ≡ before.lines ++ transcript effect.events
+  pub ending : answer ≡ effect.ending
+
+-- where told: what was handed on meanwhile, and what is kept now, are what was kept before and these bytes
+pub record Hands (written : Option (List ℕ)) (kept : List ℕ) (now : Option (List ℕ)) (left bytes : List ℕ) : Type 0 where
+  pub handed : List ℕ
+  pub appended : Appends written now handed
+  pub rest : handed ++ left ≡ kept ++ bytes
+
+-- what is left of a drive: it told these events, and the steps that are left do the rest
+pub record DrivesOn (name : List ℕ) (is_quiet : Bool) (count : ℕ) (first : CoreState) (before : LogState) (left : ℕ) (core : CoreState) (log : LogState) : Type 0 where
+  pub told : List Event
+  pub lines : log.lines ≡ before.lines ++ transcript told
+  pub rest : drive_steps count name is_quiet first before.steps ≡ told_before told (drive_steps left name is_quiet core log.steps)
+
+-- the same of one of which some lines were handed on
+pub record DrivesHanding (name : List ℕ) (is_quiet : Bool) (count : ℕ) (first : CoreState) (before : LogState) (written : Option (List ℕ)) (left : ℕ) (core : CoreState) (log : LogState) (now : Option (List ℕ)) : Type 0 where
+  pub told : List Event
+  pub hands : Hands written before.lines now log.lines (transcript told)
+  pub rest : drive_steps count name is_quiet first before.steps ≡ told_before told (drive_steps left name is_quiet core log.steps)
+
+-- a command left of its core, told and answered what this effect says, and some lines were handed on meanwhile
+pub record HandsCoreEffect (effect : CoreEffect) (left : CoreState) (before after : LogState) (written now : Option (List ℕ)) (answer : Option Stop) : Type 0 where
+  pub core : left ≡ effect.core
+  pub steps : after.steps ≡ effect.steps
+  pub hands : Hands written before.lines now after.lines (transcript effect.events)
+  pub ending : answer ≡ effect.ending
+
+-- a command left of its run, told and answered what this effect says
+pub record HasRunEffect (effect : RunEffect) (left : ObjectsState) (before after : LogState) (answer : Option Stop) : Type 0 where
+  pub objects : left ≡ effect.run.objects
+  pub steps : after.steps ≡ effect.run.steps
+  pub lines : after.lines ≡ before.lines ++ transcript effect.events
+  pub ending : answer ≡ effect.ending
+
+-- the same, and some lines were handed on meanwhile
+pub record HandsRunEffect (effect : RunEffect) (left : ObjectsState) (before after : LogState) (written now : Option (List ℕ)) (answer : Option Stop) : Type 0 where
+  pub objects : left ≡ effect.run.objects
+  pub steps : after.steps ≡ effect.run.steps
+  pub hands : Hands written before.lines now after.lines (transcript effect.events)
+  pub ending : answer ≡ effect.ending

@@ -1,0 +1,260 @@
+ghost use Rattle.std.specs.Prelude.{◌≡◌, ◌==◌, ◌≤◌, ◌+◌, ◌||◌, ◌⊎◌, ◌∷◌, ◌++◌, not, true, IfOk, IfErr, OnOk};
+ghost use Rattle.journal.specs.declared.events.Event.TheVariants as event;
+ghost use Rattle.journal.specs.Lines.{transcript};
+ghost use Rattle.command_run.specs.Logs.{DrivesHanding, DrivesOn, HandsCoreEffect, HasCoreEffect, Keeps};
+ghost use Rattle.command_run.specs.Fetches.{EndsCut};
+ghost use Rattle.rp_base.specs.declared.limits.TheConstants.{STEPS_MOST};
+ghost use Rattle.core_actors.specs.ActorSteps.{driven_of};
+ghost use Rattle.crash_recover.specs.Drives.{drive_step, is_idle};
+ghost use Rattle.remote_code.specs.Faults.{fault_number};
+ghost use Rattle.rp_base.specs.declared.kinds.CrashKind.TheVariants as kind;
+ghost use Rattle.command_run.specs.CoreDrives.{actor_end_events, crash_events, drive_effect, drive_end, drive_steps, driven_events, is_crashed, is_over, rest_event, step_events};
+
+use crate::call_events::end_event;
+use crate::cores::NamedCore;
+use crate::fetches::CommandFault;
+use crate::logs::RunLog;
+use crate::stops::Stop;
+use crash_recover::DriveProgress;
+use journal::Event;
+use lane_model::CallEnd;
+use remote_code::WorkerFault;
+use rp_base::{CallerNo, CrashKind, LifeState, NoMemory, STEPS_MOST};
+use rp_io::Sink;
+
+/// After how many steps of a drive it is looked whether what is kept is a whole piece.
+const STRETCH: u64 = 1_024;
+
+impl NamedCore {
+    /// So many steps of the core's actors, fewer where it crashes or both have nothing to do before.
+    #[tactic(auto, unfolding(crate::specs::CoreDrives::drive_effect))]
+    pub(crate) fn drive(
+        &mut self,
+        count: u64,
+        is_quiet: bool,
+        log: &mut RunLog,
+    ) -> Result<Option<Stop>, NoMemory>
+        ensures name { self.new.name ≡ self.old.name }
+        ensures effect { IfOk result (λ ending. HasCoreEffect (drive_effect self.old.name is_quiet self.old.core log.old.steps count) self.new.core log.old log.new ending) }
+    {
+        if !self.core.life().is_up() {
+            return self.tell(&Event::NotRunning { name: self.name }, log);
+        }
+        self.drive_running(count, is_quiet, log)
+    }
+
+    /// The same of a core that is up.
+    fn drive_running(
+        &mut self,
+        count: u64,
+        is_quiet: bool,
+        log: &mut RunLog,
+    ) -> Result<Option<Stop>, NoMemory>
+        ensures name { self.new.name ≡ self.old.name }
+        ensures effect { IfOk result (λ ending. HasCoreEffect (drive_steps count self.old.name is_quiet self.old.core log.old.steps) self.new.core log.old log.new ending) }
+    {
+        let left = self.advance(count, count, is_quiet, log)?;
+        self.end_drive(left, log)
+    }
+
+    /// A drive that hands on what is told as it goes.
+    #[tactic(auto, unfolding(crate::specs::CoreDrives::drive_effect))]
+    pub(crate) fn drive_handing<K: Sink>(
+        &mut self,
+        count: u64,
+        is_quiet: bool,
+        log: &mut RunLog,
+        out: &mut K,
+    ) -> Result<Option<Stop>, CommandFault>
+        ensures name { self.new.name ≡ self.old.name }
+        ensures effect { IfOk result (λ ending. HandsCoreEffect (drive_effect self.old.name is_quiet self.old.core log.old.steps count) self.new.core log.old log.new (K.written out.old) (K.written out.new) ending) }
+        ensures same { OnOk result (K.faults out.new ≡ K.faults out.old) }
+        ensures cut { IfErr result (λ why. EndsCut why (log.old.lines ++ transcript (drive_effect self.old.name is_quiet self.old.core log.old.steps count).events)
+            (K.written out.old) (K.written out.new) (K.faults out.old) (K.faults out.new)) }
+    {
+        if !self.core.life().is_up() {
+            return Ok(self.drive(count, is_quiet, log)?);
+        }
+        let left = self.drive_pieces(count, is_quiet, log, out)?;
+        Ok(self.drive_running(left, is_quiet, log)?)
+    }
+
+    /// The steps of a drive that come before its last ones. What they tell is handed on as they go, and
+    /// the answer is how many steps of the drive are left.
+    fn drive_pieces<K: Sink>(
+        &mut self,
+        count: u64,
+        is_quiet: bool,
+        log: &mut RunLog,
+        out: &mut K,
+    ) -> Result<u64, CommandFault>
+        ensures name { self.new.name ≡ self.old.name }
+        ensures on { IfOk result (λ left. DrivesHanding self.old.name is_quiet count self.old.core log.old (K.written out.old) left self.new.core log.new (K.written out.new)) }
+        ensures same { OnOk result (K.faults out.new ≡ K.faults out.old) }
+        ensures cut { IfErr result (λ why. EndsCut why (log.old.lines ++ transcript (drive_steps count self.old.name is_quiet self.old.core log.old.steps).events)
+            (K.written out.old) (K.written out.new) (K.faults out.old) (K.faults out.new)) }
+    {
+        let mut left = count;
+        while left > STRETCH {
+            let before = left;
+            left = self.advance(before, STRETCH, is_quiet, log)?;
+            log.hand_on(out)?;
+            if before - left < STRETCH {
+                return Ok(left);
+            }
+        }
+        Ok(left)
+    }
+
+    /// The first `most` steps of a drive of `count` steps, fewer where it is over before. The answer is
+    /// how many of its steps are left.
+    #[inline(never)]
+    fn advance(
+        &mut self,
+        count: u64,
+        most: u64,
+        is_quiet: bool,
+        log: &mut RunLog,
+    ) -> Result<u64, NoMemory>
+        requires { most ≤ count }
+        ensures name { self.new.name ≡ self.old.name }
+        ensures on { IfOk result (λ left. DrivesOn self.old.name is_quiet count self.old.core log.old left self.new.core log.new) }
+        ensures within { IfOk result (λ left. left ≤ count) }
+        ensures over { IfOk result (λ left. (left + most ≡ count) ⊎ (is_over self.old.name self.new.core log.new.steps ≡ true)) }
+    {
+        let mut end = CallEnd::Gave(0);
+        let mut steps = log.steps();
+        for done in 0..most {
+            if self.is_over(steps) {
+                log.set_steps(steps);
+                return Ok(count - done);
+            }
+            if !self.drive_on(is_quiet, &mut end, log)? {
+                log.set_steps(steps);
+                return Ok(count - done);
+            }
+            steps += 1;
+        }
+        log.set_steps(steps);
+        Ok(count - most)
+    }
+
+    /// Whether a drive ends here whatever the actors have to do: the core crashed, or the run has no
+    /// step left.
+    #[inline(always)]
+    fn is_over(&self, steps: u64) -> bool
+        ensures { result ≡ (is_crashed self.now.core.life.state || steps == STEPS_MOST) }
+    {
+        self.core.life().state() == LifeState::Crashed || steps == STEPS_MOST
+    }
+
+    /// The end of a drive that is over, or of which no step is left.
+    fn end_drive(&mut self, left: u64, log: &mut RunLog) -> Result<Option<Stop>, NoMemory>
+        ensures same { self.new ≡ self.old }
+        ensures effect { IfOk result (λ ending. HasCoreEffect (drive_end left self.old.name self.old.core log.old.steps) self.new.core log.old log.new ending) }
+    {
+        match self.rest_event() {
+            Some(event) => self.tell(&event, log),
+            None if left == 0 => self.tell(&Event::Paused { name: self.name }, log),
+            None => Ok(Some(Stop::StepLimit)),
+        }
+    }
+
+    /// Why the actors of the core make no further step, if they don't.
+    fn rest_event(&self) -> Option<Event>
+        ensures { result ≡ rest_event self.now.name self.now.core }
+    {
+        if self.core.life().state() == LifeState::Crashed {
+            return Some(Event::Stopped { name: self.name });
+        }
+        if self.core.is_idle() {
+            Some(Event::Idle { name: self.name })
+        } else {
+            None
+        }
+    }
+
+    /// One step of the actors: tells what it was, and answers whether they had something to do. Where
+    /// it ends a call, `end` says how.
+    #[inline(always)]
+    fn drive_on(
+        &mut self,
+        is_quiet: bool,
+        end: &mut CallEnd,
+        log: &mut RunLog,
+    ) -> Result<bool, NoMemory>
+        ensures name { self.new.name ≡ self.old.name }
+        ensures steps { IfOk result (λ stepped. stepped ≡ not (is_idle self.old.core)) }
+        ensures core { IfOk result (λ _. self.new.core ≡ (drive_step self.old.core).core) }
+        ensures told { IfOk result (λ _. Keeps log.old log.new (step_events self.old.name is_quiet (drive_step self.old.core))) }
+    {
+        let progress = self.core.drive_on(log.alloc(), end)?;
+        self.tell_progress(progress, end, is_quiet, log)?;
+        Ok(!progress.is_rest())
+    }
+
+    /// Tells what a step of the actors was, of which `end` is the end of its call.
+    #[inline(always)]
+    fn tell_progress(
+        &self,
+        progress: DriveProgress,
+        end: &CallEnd,
+        is_quiet: bool,
+        log: &mut RunLog,
+    ) -> Result<(), NoMemory>
+        ensures { IfOk result (λ _. Keeps log.old log.new (driven_events self.now.name is_quiet self.now.core.bench (driven_of progress end.now))) }
+    {
+        match progress {
+            DriveProgress::Rest | DriveProgress::Nothing | DriveProgress::Stepped => Ok(()),
+            DriveProgress::Ended(_) if is_quiet => Ok(()),
+            DriveProgress::Ended(caller) => self.tell_end(caller, end, log),
+            DriveProgress::Worker(fault) => self.tell_fault(fault, log),
+            DriveProgress::Crashed(kind) => self.tell_crash(kind, log),
+        }
+    }
+
+    /// Tells a record that can't run, which crashed the core.
+    #[inline(never)]
+    fn tell_fault(&self, fault: WorkerFault, log: &mut RunLog) -> Result<(), NoMemory>
+        ensures { IfOk result (λ _. Keeps log.old log.new (event.WorkerFault self.now.name (fault_number fault) ∷ crash_events self.now.name kind.Fatal self.now.core.bench)) }
+    {
+        log.tell(&Event::WorkerFault {
+            name: self.name,
+            fault: u64::from(fault.number()),
+        })?;
+        self.tell_crash(CrashKind::Fatal, log)
+    }
+
+    /// Tells the end of a call of an actor.
+    #[inline(never)]
+    pub(crate) fn tell_end(
+        &self,
+        caller: CallerNo,
+        end: &CallEnd,
+        log: &mut RunLog,
+    ) -> Result<(), NoMemory>
+        ensures { IfOk result (λ _. Keeps log.old log.new (actor_end_events self.now.name caller end.now self.now.core.bench)) }
+    {
+        let Some(bench) = self.core.link() else {
+            return Ok(());
+        };
+        log.tell(&end_event(log.alloc(), self.name, bench, caller, *end)?)
+    }
+
+    /// Tells a crash of the core, whose link was closed by it.
+    #[inline(never)]
+    fn tell_crash(&self, kind: CrashKind, log: &mut RunLog) -> Result<(), NoMemory>
+        ensures { IfOk result (λ _. Keeps log.old log.new (crash_events self.now.name kind self.now.core.bench)) }
+    {
+        if let Some(bench) = self.core.link() {
+            log.tell(&Event::Closed {
+                name: self.name,
+                inc: u64::from(bench.era().inc),
+            })?;
+        }
+        log.tell(&Event::Crashed {
+            name: self.name,
+            kind,
+        })
+    }
+}

@@ -1,0 +1,104 @@
+ghost use Rattle.std.specs.Prelude.{◌≡◌, ◌≤◌, IfOk};
+ghost use Rattle.link_bench.specs.Acts.{IsFitAct, bare_act};
+ghost use Rattle.command_run.specs.Acts.{IsFitView};
+ghost use Rattle.command_run.specs.Logs.{HasCoreEffect};
+ghost use Rattle.command_run.specs.CoreLinks.{core_link_effect, core_ring_effect, core_turn_holder, core_view_effect, found_view_effect};
+
+use crate::act_events::tell_answer;
+use crate::acts::LinkView;
+use crate::cores::NamedCore;
+use crate::links::tell_view;
+use crate::logs::RunLog;
+use crate::rings::tell_bytes;
+use crate::stops::Stop;
+use crash_recover::{Core, LinkAct};
+use journal::Event;
+use rp_base::{CallerNo, NoMemory};
+
+impl NamedCore {
+    /// Does an act on the core's link for callers that are not the core's own.
+    #[tactic(auto, unfolding(crate::specs::CoreLinks::core_link_effect))]
+    pub(crate) fn act(
+        &mut self,
+        act: &LinkAct<&[u8]>,
+        log: &mut RunLog,
+    ) -> Result<Option<Stop>, NoMemory>
+        requires fit { IsFitAct (bare_act (λ bytes. bytes.now) act.now) }
+        ensures name { self.new.name ≡ self.old.name }
+        ensures effect { IfOk result (λ ending. HasCoreEffect (core_link_effect self.old.name self.old.core log.old.steps (bare_act (λ bytes. bytes.now) act.now) self.old.core.bench) self.new.core log.old log.new ending) }
+    {
+        let mut steps = log.steps();
+        match self.core.act(log.alloc(), act, &mut steps) {
+            Ok(Some(answer)) => {
+                log.set_steps(steps);
+                let Some(bench) = self.core.link() else {
+                    unreachable!()
+                };
+                tell_answer(self.name, bench, answer, log)
+            }
+            Ok(None) => self.tell(&Event::NoLink { name: self.name }, log),
+            Err(error) => Err(error),
+        }
+    }
+
+    /// Tells what the core's link shows.
+    pub(crate) fn show(
+        &mut self,
+        view: LinkView,
+        log: &mut RunLog,
+    ) -> Result<Option<Stop>, NoMemory>
+        requires { IsFitView view }
+        ensures same { self.new ≡ self.old }
+        ensures effect { IfOk result (λ ending. HasCoreEffect (core_view_effect self.old.name self.old.core log.old.steps view) self.new.core log.old log.new ending) }
+    {
+        match view {
+            LinkView::Ring { lane } => self.tell_ring(lane, log),
+            LinkView::Books | LinkView::Channels => self.show_link(view, log),
+        }
+    }
+
+    /// Tells what the core's link shows, as any link does.
+    fn show_link(&mut self, view: LinkView, log: &mut RunLog) -> Result<Option<Stop>, NoMemory>
+        requires { IsFitView view }
+        ensures same { self.new ≡ self.old }
+        ensures effect { IfOk result (λ ending. HasCoreEffect (found_view_effect self.old.name self.old.core log.old.steps view self.old.core.bench) self.new.core log.old log.new ending) }
+    {
+        let name = self.name;
+        let Some(bench) = self.core.link() else {
+            return self.tell(&Event::NoLink { name }, log);
+        };
+        tell_view(name, bench, view, log)?;
+        Ok(None)
+    }
+
+    /// Tells the bytes of a lane's ring of the core's link, unless one of its turns is out.
+    #[tactic(auto, unfolding(crate::specs::CoreLinks::core_ring_effect))]
+    fn tell_ring(&mut self, lane: u64, log: &mut RunLog) -> Result<Option<Stop>, NoMemory>
+        requires { lane ≤ 1 }
+        ensures same { self.new ≡ self.old }
+        ensures effect { IfOk result (λ ending. HasCoreEffect (core_ring_effect self.old.name self.old.core log.old.steps lane) self.new.core log.old log.new ending) }
+    {
+        let name = self.name;
+        if let Some(holder) = turn_holder(&self.core) {
+            return self.tell(
+                &Event::StillTurn {
+                    name,
+                    caller: u64::from(holder),
+                },
+                log,
+            );
+        }
+        let Some(bytes) = self.core.ring_bytes(log.alloc(), lane)? else {
+            return self.tell(&Event::NoLink { name }, log);
+        };
+        tell_bytes(name, lane, &bytes, log)?;
+        Ok(None)
+    }
+}
+
+/// Who has the first turn of a core's link that is out.
+fn turn_holder(core: &Core) -> Option<CallerNo>
+    ensures { result ≡ core_turn_holder core.now }
+{
+    core.link()?.turn_holder()
+}

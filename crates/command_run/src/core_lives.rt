@@ -1,0 +1,343 @@
+ghost use Rattle.std.specs.Prelude.{◌≡◌, ◌≢◌, ◌<◌, ◌+◌, ◌++◌, ℕ, IfOk, OnOk, Ok, Err, Some};
+ghost use Rattle.std.specs.Option.{option_copied};
+ghost use Rattle.std.specs.Result.{result_map_both};
+ghost use Rattle.rp_base.specs.declared.limits.TheConstants.{STEPS_MOST};
+ghost use Rattle.crash_recover.specs.declared.core_answers.Crash.TheVariants as crash;
+ghost use Rattle.crash_recover.specs.declared.core_answers.Leave.TheVariants as leave;
+ghost use Rattle.crash_recover.specs.declared.core_faults.CoreFault.TheVariants as core_fault;
+ghost use Rattle.journal.specs.Lines.{line};
+ghost use Rattle.journal.specs.declared.events.Event.TheVariants as event;
+ghost use Rattle.command_run.specs.Logs.{HasCoreEffect};
+ghost use Rattle.command_run.specs.CoreEffects.{core_tells_all};
+ghost use Rattle.command_run.specs.CoreLives.{boot_effect, booted_image, core_fault_events, crash_effect, detach_effect, found_image, handover_effect, image_bytes, leave_effect, life_fault_event, load_fault_event, may_step, recover_effect, report_effect, shutdown_effect, start_event, start_events};
+ghost use Rattle.command_run.specs.Fetches.{answer_of};
+
+use crate::cores::NamedCore;
+use crate::fetches::Fetched;
+use crate::logs::RunLog;
+use crate::objects::ScriptImage;
+use crate::stops::Stop;
+use crash_recover::{CALLER_OUT, CoreFault, Crash, Leave, RINGS_CHANGED, Start};
+use fw_load::LoadFault;
+use journal::Event;
+use lane_model::ReopenFault;
+use proc_state::LifeFault;
+use rp_base::{CrashKind, IMAGE_MOST, Inc, Name, NoMemory, STEPS_MOST};
+use rp_io::FetchFault;
+
+impl NamedCore {
+    /// Boots the core with the image of a name, attaches it, or adds a user. An image that the script
+    /// made comes before one of the store.
+    #[tactic(auto, unfolding(crate::specs::CoreLives::boot_effect))]
+    pub(crate) fn boot(
+        &mut self,
+        image: Name,
+        images: &[ScriptImage],
+        fetched: &Fetched,
+        log: &mut RunLog,
+    ) -> Result<Option<Stop>, NoMemory>
+        ensures name { self.new.name ≡ self.old.name }
+        ensures effect { IfOk result (λ ending. HasCoreEffect (boot_effect images.now (answer_of fetched.now) self.old.name self.old.core log.old.steps image) self.new.core log.old log.new ending) }
+    {
+        let found = find_image(images, fetched, image.bytes());
+        let started = self.core.boot_found(log.alloc(), image, found);
+        self.tell_start(image, started, log)
+    }
+
+    /// Hands the core over with the image of a name. An image that the script made comes before one of
+    /// the store.
+    #[tactic(auto, unfolding(crate::specs::CoreLives::handover_effect))]
+    pub(crate) fn handover(
+        &mut self,
+        image: Name,
+        images: &[ScriptImage],
+        fetched: &Fetched,
+        log: &mut RunLog,
+    ) -> Result<Option<Stop>, NoMemory>
+        ensures name { self.new.name ≡ self.old.name }
+        ensures effect { IfOk result (λ ending. HasCoreEffect (handover_effect images.now (answer_of fetched.now) self.old.name self.old.core log.old.steps image) self.new.core log.old log.new ending) }
+    {
+        let found = find_image(images, fetched, image.bytes());
+        let started = self.core.handover_found(log.alloc(), image, found);
+        self.tell_start(image, started, log)
+    }
+
+    /// Recovers a crashed core with the image that was booted or handed over. An image that the script
+    /// made comes before one of the store.
+    #[tactic(auto, unfolding(crate::specs::CoreLives::recover_effect))]
+    pub(crate) fn recover(
+        &mut self,
+        images: &[ScriptImage],
+        fetched: &Fetched,
+        log: &mut RunLog,
+    ) -> Result<Option<Stop>, NoMemory>
+        ensures name { self.new.name ≡ self.old.name }
+        ensures effect { IfOk result (λ ending. HasCoreEffect (recover_effect images.now (answer_of fetched.now) self.old.name self.old.core log.old.steps) self.new.core log.old log.new ending) }
+    {
+        let image = self.booted_image();
+        let found = find_image(images, fetched, image.bytes());
+        let started = self.core.recover_found(log.alloc(), found);
+        self.tell_start(image, started, log)
+    }
+
+    /// The name of the image that the core was booted or handed over with; of an offline core its own.
+    fn booted_image(&self) -> Name
+        ensures { result ≡ booted_image self.now.name self.now.core }
+    {
+        match self.core.image() {
+            Some(image) => *image,
+            None => self.name,
+        }
+    }
+
+    /// Tells what a start of the core with the image of a name was, or why it was refused.
+    fn tell_start(
+        &mut self,
+        image: Name,
+        started: Result<Start, CoreFault>,
+        log: &mut RunLog,
+    ) -> Result<Option<Stop>, NoMemory>
+        ensures same { self.new ≡ self.old }
+        ensures known { OnOk result (started ≢ Err core_fault.NoMemory) }
+        ensures effect { IfOk result (λ ending. HasCoreEffect (core_tells_all self.old.core log.old.steps (start_events self.old.name image started)) self.new.core log.old log.new ending) }
+    {
+        match started {
+            Ok(start) => {
+                let event = start_event(self.name, start);
+                self.tell(&event, log)
+            }
+            Err(fault) => self.refuse(image, &fault, log),
+        }
+    }
+
+    /// Tells why the image of a name is not booted, or why something else is refused.
+    fn refuse(
+        &mut self,
+        image: Name,
+        fault: &CoreFault,
+        log: &mut RunLog,
+    ) -> Result<Option<Stop>, NoMemory>
+        ensures same { self.new ≡ self.old }
+        ensures known { OnOk result (fault.now ≢ core_fault.NoMemory) }
+        ensures effect { IfOk result (λ ending. HasCoreEffect (core_tells_all self.old.core log.old.steps (core_fault_events self.old.name image fault.now)) self.new.core log.old log.new ending) }
+    {
+        let name = self.name;
+        let event = match fault {
+            CoreFault::Fetch(FetchFault::Missing) => Event::Missing { name, image },
+            CoreFault::Fetch(FetchFault::TooLarge(_)) => Event::TooLarge { name, image },
+            CoreFault::Load(fault) => load_fault_event(name, *fault),
+            CoreFault::Life(fault) => life_fault_event(name, *fault),
+            CoreFault::RingsChanged => Event::Fault {
+                name,
+                fault: u64::from(RINGS_CHANGED),
+            },
+            CoreFault::CallerOut(caller) => Event::FaultAt {
+                name,
+                fault: u64::from(CALLER_OUT),
+                index: u64::from(*caller),
+            },
+            CoreFault::Reopen(ReopenFault::StillOpen(era)) => {
+                Event::StillOpen {
+                    name,
+                    inc: u64::from(era.inc),
+                }
+            }
+            CoreFault::Reopen(ReopenFault::StillTurn(caller)) => {
+                Event::StillTurn {
+                    name,
+                    caller: u64::from(*caller),
+                }
+            }
+            CoreFault::Reopen(ReopenFault::StillHeld(caller, number)) => {
+                Event::StillHeld {
+                    name,
+                    caller: u64::from(*caller),
+                    number: *number,
+                }
+            }
+            CoreFault::Reopen(ReopenFault::IncarnationsSpent) => Event::IncarnationsSpent { name },
+            CoreFault::Reopen(ReopenFault::NoMemory)
+            | CoreFault::Fetch(FetchFault::Failed)
+            | CoreFault::Fetch(FetchFault::NoMemory)
+            | CoreFault::NoMemory => return Err(NoMemory),
+        };
+        self.tell(&event, log)
+    }
+
+    /// Takes a user away from the core, and shuts it down with the last.
+    #[tactic(auto, unfolding(crate::specs::CoreLives::shutdown_effect))]
+    pub(crate) fn shutdown(&mut self, log: &mut RunLog) -> Result<Option<Stop>, NoMemory>
+        ensures name { self.new.name ≡ self.old.name }
+        ensures effect { IfOk result (λ ending. HasCoreEffect (shutdown_effect self.old.name self.old.core log.old.steps) self.new.core log.old log.new ending) }
+    {
+        let left = self.core.shutdown_within(log.steps() != STEPS_MOST);
+        self.tell_leave(left, &Event::Offline { name: self.name }, log)
+    }
+
+    /// Takes a user away from an attached core, and detaches it with the last.
+    #[tactic(auto, unfolding(crate::specs::CoreLives::detach_effect))]
+    pub(crate) fn detach(&mut self, log: &mut RunLog) -> Result<Option<Stop>, NoMemory>
+        ensures name { self.new.name ≡ self.old.name }
+        ensures effect { IfOk result (λ ending. HasCoreEffect (detach_effect self.old.name self.old.core log.old.steps) self.new.core log.old log.new ending) }
+    {
+        let left = self.core.detach_within(log.steps() != STEPS_MOST);
+        self.tell_leave(left, &Event::Detached { name: self.name }, log)
+    }
+
+    /// Tells what the leave of a user was, with this event where it was the last, or why it was
+    /// refused. The close of a link is a step.
+    fn tell_leave(
+        &mut self,
+        left: Result<Leave, CoreFault>,
+        last: &Event,
+        log: &mut RunLog,
+    ) -> Result<Option<Stop>, NoMemory>
+        requires step { (inc : ℕ) → left ≡ Ok (leave.Last (Some inc)) → log.old.steps < STEPS_MOST }
+        ensures same { self.new ≡ self.old }
+        ensures effect { IfOk result (λ ending. HasCoreEffect (leave_effect self.old.name last.now log.old.steps (record { core = self.old.core; answer = left })) self.new.core log.old log.new ending) }
+    {
+        let name = self.name;
+        match left {
+            Ok(Leave::Users(users)) => {
+                let users = u64::from(users);
+                self.tell(&Event::Users { name, users }, log)
+            }
+            Ok(Leave::Last(None)) => self.tell(last, log),
+            Ok(Leave::Last(Some(inc))) => {
+                self.tell_closed(inc, log)?;
+                self.tell(last, log)
+            }
+            Ok(Leave::Limit) => Ok(Some(Stop::StepLimit)),
+            Err(fault) => self.refuse(name, &fault, log),
+        }
+    }
+
+    /// Reports a crash of the core.
+    #[tactic(auto, unfolding(crate::specs::CoreLives::crash_effect))]
+    pub(crate) fn crash(
+        &mut self,
+        kind: CrashKind,
+        log: &mut RunLog,
+    ) -> Result<Option<Stop>, NoMemory>
+        ensures name { self.new.name ≡ self.old.name }
+        ensures effect { IfOk result (λ ending. HasCoreEffect (crash_effect self.old.name self.old.core log.old.steps kind) self.new.core log.old log.new ending) }
+    {
+        let report = self.core.report_within(kind, log.steps() != STEPS_MOST);
+        self.tell_report(report, kind, log)
+    }
+
+    /// Tells what a crash report was, or why it was refused. The close of a link is a step.
+    fn tell_report(
+        &mut self,
+        report: Result<Crash, LifeFault>,
+        kind: CrashKind,
+        log: &mut RunLog,
+    ) -> Result<Option<Stop>, NoMemory>
+        requires step { (inc : ℕ) → report ≡ Ok (crash.First (Some inc)) → log.old.steps < STEPS_MOST }
+        ensures same { self.new ≡ self.old }
+        ensures effect { IfOk result (λ ending. HasCoreEffect (report_effect self.old.name kind log.old.steps (record { core = self.old.core; answer = report })) self.new.core log.old log.new ending) }
+    {
+        let name = self.name;
+        match report {
+            Ok(Crash::First(None)) => self.tell(&Event::Crashed { name, kind }, log),
+            Ok(Crash::First(Some(inc))) => {
+                self.tell_closed(inc, log)?;
+                self.tell(&Event::Crashed { name, kind }, log)
+            }
+            Ok(Crash::Already) => self.tell(&Event::AlreadyCrashed { name }, log),
+            Ok(Crash::Limit) => Ok(Some(Stop::StepLimit)),
+            Err(fault) => self.tell(&life_fault_event(name, fault), log),
+        }
+    }
+
+    /// Counts the step that closed an incarnation of the core's link, and tells it.
+    fn tell_closed(&self, inc: Inc, log: &mut RunLog) -> Result<(), NoMemory>
+        requires { log.old.steps < STEPS_MOST }
+        ensures { OnOk result (log.new ≡ record { lines = log.old.lines ++ line (event.Closed self.now.name inc); steps = log.old.steps + 1 }) }
+    {
+        log.set_steps(log.steps() + 1);
+        log.tell(&Event::Closed {
+            name: self.name,
+            inc: u64::from(inc),
+        })
+    }
+}
+
+/// What a start of a core was.
+fn start_event(name: Name, start: Start) -> Event
+    ensures { result ≡ start_event name start }
+{
+    match start {
+        Start::Running(inc) => Event::Running {
+            name,
+            inc: u64::from(inc),
+        },
+        Start::Attached(inc) => Event::Attached {
+            name,
+            inc: u64::from(inc),
+        },
+        Start::Users(users) => Event::Users {
+            name,
+            users: u64::from(users),
+        },
+        Start::Detached => Event::Detached { name },
+    }
+}
+
+/// The image of a name: the first that the script made, or what was told of it.
+fn find_image<'a>(
+    images: &'a [ScriptImage],
+    fetched: &'a Fetched,
+    name: &[u8],
+) -> Result<&'a [u8], FetchFault>
+    ensures { result_map_both (λ bytes. bytes.now) (λ why. why) result ≡ found_image images.now (answer_of fetched.now) name.now }
+{
+    match image_bytes(images, name) {
+        Some(bytes) if bytes.len() > IMAGE_MOST => Err(FetchFault::TooLarge(bytes.len() as u64)),
+        Some(bytes) => Ok(bytes),
+        None => match fetched {
+            Fetched::Found(bytes) => Ok(bytes),
+            Fetched::TooLarge(len) => Err(FetchFault::TooLarge(*len)),
+            Fetched::Missing => Err(FetchFault::Missing),
+        },
+    }
+}
+
+/// The bytes of the first image of this name.
+fn image_bytes<'a>(images: &'a [ScriptImage], name: &[u8]) -> Option<&'a [u8]>
+    ensures { option_copied result ≡ image_bytes images.now name.now }
+{
+    let image = images.iter().find(|image| image.name() == name)?;
+    Some(image.bytes())
+}
+
+/// Why the life of a core refuses something.
+fn life_fault_event(name: Name, fault: LifeFault) -> Event
+    ensures { result ≡ life_fault_event name fault }
+{
+    match fault {
+        LifeFault::IncarnationsSpent => Event::IncarnationsSpent { name },
+        _ => Event::Fault {
+            name,
+            fault: u64::from(fault.number()),
+        },
+    }
+}
+
+/// Why a core doesn't load an image.
+fn load_fault_event(name: Name, fault: LoadFault) -> Event
+    ensures { result ≡ load_fault_event name fault }
+{
+    let number = u64::from(fault.number().unwrap_or(0));
+    match fault.index() {
+        Some(index) => Event::FaultAt {
+            name,
+            fault: number,
+            index: u64::from(index),
+        },
+        None => Event::Fault {
+            name,
+            fault: number,
+        },
+    }
+}

@@ -1,0 +1,191 @@
+ghost use Rattle.std.specs.Prelude.{◌≡◌, IfOk};
+ghost use Rattle.command_run.specs.Acts.{IsFitCore, IsFitNamed, bare_named};
+ghost use Rattle.command_run.specs.Logs.{HasCoreEffect};
+ghost use Rattle.command_run.specs.CoreEffects.{core_tells, driver_effect, is_on, recovery_effect, region_effect, state_effect};
+ghost use Rattle.command_run.specs.CoreCommands.{core_act_effect, core_effect};
+ghost use Rattle.command_run.specs.Fetches.{answer_of};
+
+use crate::acts::{CoreAct, NamedAct};
+use crate::fetches::Fetched;
+use crate::logs::RunLog;
+use crate::objects::ScriptImage;
+use crate::stops::Stop;
+use crash_recover::{AddFault, Core};
+use journal::Event;
+use memory_pool::Region;
+use rp_base::{DriverKind, Name, NoMemory, Switch};
+use std::marker::Model;
+
+/// A core of a script, with its name.
+#[derive(Drop)]
+pub struct NamedCore {
+    pub name: Name,
+    pub core: Core,
+}
+
+impl Model for NamedCore {
+    ghost use Rattle.command_run.specs.NamedCores.{NamedCoreState};
+
+    ghost Value = { NamedCoreState };
+
+    ghost view = { λ n. record { name = n.name; core = n.core } };
+}
+
+impl NamedCore {
+    /// Does what is asked under the name of this core, over the images that the script made, what was
+    /// told of the one that is asked for, and whether drives are quiet: tells what came of it, and
+    /// answers why the run stops in its midst, if it does.
+    #[tactic(auto, unfolding(crate::specs::CoreCommands::core_effect))]
+    pub(crate) fn run(
+        &mut self,
+        act: &NamedAct<&[u8]>,
+        images: &[ScriptImage],
+        fetched: &Fetched,
+        is_quiet: bool,
+        log: &mut RunLog,
+    ) -> Result<Option<Stop>, NoMemory>
+        requires fit { IsFitNamed (bare_named (λ bytes. bytes.now) act.now) }
+        ensures name { self.new.name ≡ self.old.name }
+        ensures effect { IfOk result (λ ending. HasCoreEffect (core_effect images.now (answer_of fetched.now) is_quiet self.old log.old.steps (bare_named (λ bytes. bytes.now) act.now)) self.new.core log.old log.new ending) }
+    {
+        match act {
+            NamedAct::Make(_) => self.tell(&Event::Exists { name: self.name }, log),
+            NamedAct::Link(act) => self.act(act, log),
+            NamedAct::Manage(_) => self.tell(&Event::Unknown { name: self.name }, log),
+            NamedAct::Show(view) => self.show(*view, log),
+            NamedAct::Core(act) => self.run_core(*act, images, fetched, is_quiet, log),
+        }
+    }
+
+    /// Does an act on the core.
+    #[tactic(auto, unfolding(crate::specs::CoreCommands::core_act_effect))]
+    fn run_core(
+        &mut self,
+        act: CoreAct,
+        images: &[ScriptImage],
+        fetched: &Fetched,
+        is_quiet: bool,
+        log: &mut RunLog,
+    ) -> Result<Option<Stop>, NoMemory>
+        requires fit { IsFitCore act }
+        ensures name { self.new.name ≡ self.old.name }
+        ensures effect { IfOk result (λ ending. HasCoreEffect (core_act_effect images.now (answer_of fetched.now) is_quiet self.old log.old.steps act) self.new.core log.old log.new ending) }
+    {
+        match act {
+            CoreAct::Region(region) => self.add_region(region, log),
+            CoreAct::Driver { channel, kind } => self.add_driver(channel, kind, log),
+            CoreAct::Boot { image } => self.boot(image, images, fetched, log),
+            CoreAct::Handover { image } => self.handover(image, images, fetched, log),
+            CoreAct::Shutdown => self.shutdown(log),
+            CoreAct::Detach => self.detach(log),
+            CoreAct::State => self.tell_state(log),
+            CoreAct::Table => self.tell_table(log),
+            CoreAct::Trace { trace } => self.tell_trace(trace, log),
+            CoreAct::Mem { da, len } => self.tell_memory(da, len, log),
+            CoreAct::Crash { kind } => self.crash(kind, log),
+            CoreAct::Recover => self.recover(images, fetched, log),
+            CoreAct::Recovery { switch } => self.set_recovery(switch, log),
+            CoreAct::Drive { count } => self.drive(count, is_quiet, log),
+        }
+    }
+
+    /// Tells one event, and leaves the core as it is.
+    pub(crate) fn tell(&mut self, event: &Event, log: &mut RunLog) -> Result<Option<Stop>, NoMemory>
+        ensures same { self.new ≡ self.old }
+        ensures effect { IfOk result (λ ending. HasCoreEffect (core_tells self.old.core log.old.steps event.now) self.new.core log.old log.new ending) }
+    {
+        log.tell(event)?;
+        Ok(None)
+    }
+
+    /// Adds a region behind the others.
+    #[tactic(auto, unfolding(crate::specs::CoreEffects::region_effect))]
+    fn add_region(&mut self, region: Region, log: &mut RunLog) -> Result<Option<Stop>, NoMemory>
+        ensures name { self.new.name ≡ self.old.name }
+        ensures effect { IfOk result (λ ending. HasCoreEffect (region_effect self.old.name self.old.core log.old.steps region) self.new.core log.old log.new ending) }
+    {
+        let name = self.name;
+        let event = match self.core.add_region(log.alloc(), region) {
+            Ok(index) => Event::Region {
+                name,
+                region: u64::from(index),
+            },
+            Err(AddFault::NotOffline) => Event::NotOffline { name },
+            Err(AddFault::Region(fault)) => {
+                Event::Fault {
+                    name,
+                    fault: u64::from(fault.number().unwrap_or(0)),
+                }
+            }
+            Err(AddFault::DriverTaken | AddFault::DriversFull) => unreachable!(),
+            Err(AddFault::NoMemory) => return Err(NoMemory),
+        };
+        self.tell(&event, log)
+    }
+
+    /// Declares a driver for the channels of a name.
+    #[tactic(auto, unfolding(crate::specs::CoreEffects::driver_effect))]
+    fn add_driver(
+        &mut self,
+        channel: Name,
+        kind: DriverKind,
+        log: &mut RunLog,
+    ) -> Result<Option<Stop>, NoMemory>
+        ensures name { self.new.name ≡ self.old.name }
+        ensures effect { IfOk result (λ ending. HasCoreEffect (driver_effect self.old.name self.old.core log.old.steps channel kind) self.new.core log.old log.new ending) }
+    {
+        let name = self.name;
+        let event = match self.core.add_driver(log.alloc(), channel, kind) {
+            Ok(()) => Event::Driver {
+                name,
+                channel,
+                kind,
+            },
+            Err(AddFault::NotOffline) => Event::NotOffline { name },
+            Err(AddFault::DriverTaken) => Event::DriverTaken { name, channel },
+            Err(AddFault::DriversFull) => Event::DriversFull { name },
+            Err(AddFault::Region(_)) => unreachable!(),
+            Err(AddFault::NoMemory) => return Err(NoMemory),
+        };
+        self.tell(&event, log)
+    }
+
+    /// Tells the state of the core, its users and its incarnation.
+    fn tell_state(&mut self, log: &mut RunLog) -> Result<Option<Stop>, NoMemory>
+        ensures same { self.new ≡ self.old }
+        ensures effect { IfOk result (λ ending. HasCoreEffect (state_effect self.old.name self.old.core log.old.steps) self.new.core log.old log.new ending) }
+    {
+        let life = self.core.life();
+        let users = u64::from(life.users());
+        let inc = u64::from(life.incarnation());
+        let event = Event::State {
+            name: self.name,
+            state: life.state(),
+            users,
+            inc,
+        };
+        self.tell(&event, log)
+    }
+
+    /// Sets whether the core is recovered when it has crashed.
+    fn set_recovery(&mut self, switch: Switch, log: &mut RunLog) -> Result<Option<Stop>, NoMemory>
+        ensures name { self.new.name ≡ self.old.name }
+        ensures effect { IfOk result (λ ending. HasCoreEffect (recovery_effect self.old.name self.old.core log.old.steps switch) self.new.core log.old log.new ending) }
+    {
+        self.core.set_recovery(is_on(switch));
+        self.tell(
+            &Event::Recovery {
+                name: self.name,
+                switch,
+            },
+            log,
+        )
+    }
+}
+
+/// Whether a switch is on.
+pub(crate) fn is_on(switch: Switch) -> bool
+    ensures { result ≡ is_on switch }
+{
+    matches!(switch, Switch::On)
+}

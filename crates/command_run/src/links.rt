@@ -1,0 +1,130 @@
+ghost use Rattle.std.specs.Prelude.{◌≡◌, ◌++◌, IfOk, OnOk};
+ghost use Rattle.journal.specs.Lines.{transcript};
+ghost use Rattle.journal.specs.declared.events.Event.TheVariants as event;
+ghost use Rattle.link_bench.specs.Acts.{IsFitAct, bare_act};
+ghost use Rattle.command_run.specs.Acts.{IsFitNamed, IsFitView, bare_named};
+ghost use Rattle.command_run.specs.Effects.{act_effect, tells};
+ghost use Rattle.command_run.specs.LinkCommands.{link_effect, manager_effect, view_events};
+ghost use Rattle.command_run.specs.Logs.{HasEffect};
+
+use crate::act_events::tell_answer;
+use crate::acts::{LinkView, ManagerAct, NamedAct};
+use crate::channel_lists::tell_channels;
+use crate::logs::RunLog;
+use crate::rings::tell_ring;
+use crate::stops::Stop;
+use crash_recover::{Bench, LinkAct, Nobody};
+use journal::Event;
+use rp_base::{Name, NoMemory};
+use std::marker::Model;
+
+/// A link of a script, with its name.
+#[derive(Drop)]
+pub struct NamedBench {
+    pub name: Name,
+    pub bench: Bench,
+}
+
+impl Model for NamedBench {
+    ghost use Rattle.command_run.specs.NamedLinks.{NamedLink};
+
+    ghost Value = { NamedLink };
+
+    ghost view = { λ n. record { name = n.name; bench = n.bench } };
+}
+
+impl NamedBench {
+    /// Does what is asked under the name of this link: tells what came of it, and answers why the run
+    /// stops in its midst, if it does.
+    #[tactic(auto, unfolding(crate::specs::LinkCommands::link_effect))]
+    pub(crate) fn run(
+        &mut self,
+        act: &NamedAct<&[u8]>,
+        log: &mut RunLog,
+    ) -> Result<Option<Stop>, NoMemory>
+        requires fit { IsFitNamed (bare_named (λ bytes. bytes.now) act.now) }
+        ensures name { self.new.name ≡ self.old.name }
+        ensures effect { IfOk result (λ ending. HasEffect (link_effect self.old log.old.steps (bare_named (λ bytes. bytes.now) act.now)) self.new.bench log.old log.new ending) }
+    {
+        match act {
+            NamedAct::Make(_) => self.tell(&Event::Exists { name: self.name }, log),
+            NamedAct::Link(act) => self.act(act, log),
+            NamedAct::Manage(act) => self.manage(*act, log),
+            NamedAct::Show(view) => {
+                tell_view(self.name, &self.bench, *view, log)?;
+                Ok(None)
+            }
+            NamedAct::Core(_) => self.tell(&Event::Unknown { name: self.name }, log),
+        }
+    }
+
+    /// Does an act on the link for its callers.
+    fn act(&mut self, act: &LinkAct<&[u8]>, log: &mut RunLog) -> Result<Option<Stop>, NoMemory>
+        requires fit { IsFitAct (bare_act (λ bytes. bytes.now) act.now) }
+        ensures name { self.new.name ≡ self.old.name }
+        ensures effect { IfOk result (λ ending. HasEffect (act_effect self.old.name self.old.bench log.old.steps (bare_act (λ bytes. bytes.now) act.now)) self.new.bench log.old log.new ending) }
+    {
+        let mut steps = log.steps();
+        match self.bench.act(0, &mut Nobody, act, &mut steps) {
+            Ok(answer) => {
+                log.set_steps(steps);
+                tell_answer(self.name, &self.bench, answer, log)
+            }
+            Err(error) => Err(error),
+        }
+    }
+
+    /// Closes the link or opens it again.
+    fn manage(&mut self, act: ManagerAct, log: &mut RunLog) -> Result<Option<Stop>, NoMemory>
+        ensures name { self.new.name ≡ self.old.name }
+        ensures effect { IfOk result (λ ending. HasEffect (manager_effect self.old.name self.old.bench log.old.steps act) self.new.bench log.old log.new ending) }
+    {
+        match act {
+            ManagerAct::Close => self.close(log),
+            ManagerAct::Reopen => self.reopen(log),
+        }
+    }
+
+    /// Tells one event, and leaves the link as it is.
+    pub(crate) fn tell(&mut self, event: &Event, log: &mut RunLog) -> Result<Option<Stop>, NoMemory>
+        ensures same { self.new ≡ self.old }
+        ensures effect { IfOk result (λ ending. HasEffect (tells self.old.bench log.old.steps event.now) self.new.bench log.old log.new ending) }
+    {
+        log.tell(event)?;
+        Ok(None)
+    }
+}
+
+/// Tells what a link shows.
+#[tactic(auto, unfolding(crate::specs::LinkCommands::view_events))]
+pub(crate) fn tell_view(
+    name: Name,
+    bench: &Bench,
+    view: LinkView,
+    log: &mut RunLog,
+) -> Result<(), NoMemory>
+    requires { IsFitView view }
+    ensures { OnOk result (log.new ≡ record log.old { lines = log.old.lines ++ transcript (view_events name bench.now view) }) }
+{
+    match view {
+        LinkView::Books => {
+            log.tell(&lane_event(name, 0, bench.counts(0)))?;
+            log.tell(&lane_event(name, 1, bench.counts(1)))
+        }
+        LinkView::Ring { lane } => tell_ring(name, bench, lane, log),
+        LinkView::Channels => tell_channels(name, bench, log),
+    }
+}
+
+/// The counts of a lane: messages accepted and handed over, buffers given back.
+fn lane_event(name: Name, lane: u64, counts: (u64, u64, u64)) -> Event
+    ensures { result ≡ event.LaneAcceptedHandedReturned name lane counts.0 counts.1 counts.2 }
+{
+    Event::LaneAcceptedHandedReturned {
+        name,
+        lane,
+        accepted: counts.0,
+        handed: counts.1,
+        returned: counts.2,
+    }
+}

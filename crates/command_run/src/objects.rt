@@ -1,0 +1,412 @@
+ghost use Rattle.std.specs.Prelude.{◌≡◌, ◌<◌, ◌++◌, Some, None, Err, IfOk, IfErr, OnOk, IfSome, false, length};
+ghost use Rattle.std.specs.Option.{option_copied};
+ghost use Rattle.lane_model.specs.Conditions.{IsConfig};
+ghost use Rattle.script_lang.specs.Runnable.{IsBook, IsRunnable};
+ghost use Rattle.command_run.specs.Acts.{IsFitNamed, bare_named};
+ghost use Rattle.rp_io.specs.declared.faults.FetchFault.TheVariants as fetch_fault;
+ghost use Rattle.journal.specs.Lines.{transcript};
+ghost use Rattle.command_run.specs.declared.acts.CoreAct.TheVariants as core;
+ghost use Rattle.command_run.specs.declared.acts.NamedAct.TheVariants as under;
+ghost use Rattle.command_run.specs.Logs.{HandsRunEffect, HasRunEffect};
+ghost use Rattle.command_run.specs.Runs.{core_made_effect, core_place, without_link_effect, is_full, regions_of, asked_name, core_named, find_core, outside_image, effect_of, has_image, image_effect, image_place, made_effect, name_effect, new_run, place_of, quiet_effect, unnamed_effect};
+ghost use Rattle.command_run.specs.Fetches.{EndsCut, answer_of};
+
+use crate::acts::{CoreAct, Line, Making, NamedAct, line_of};
+use crate::cores::{NamedCore, is_on};
+use crate::fetches::{CommandFault, Fetched};
+use crate::links::NamedBench;
+use crate::logs::RunLog;
+use crate::stops::Stop;
+use channel_bus::Side;
+use crash_recover::{Bench, Core};
+use journal::Event;
+use lane_model::LinkConfig;
+use memory_pool::Regions;
+use rp_base::{LifeState, Name, NoMemory, OBJECTS_MOST, Switch};
+use rp_io::Sink;
+use script_lang::{Command, Recipe, RegionSet};
+use std::alloc::Global;
+use std::marker::Model;
+
+/// What a script made: its links, its cores and its images, each in the order in which they were made;
+/// and whether its drives are quiet.
+#[derive(Drop)]
+pub struct Objects {
+    pub(crate) alloc: Global,
+    pub(crate) links: Vec<NamedBench>,
+    pub(crate) cores: Vec<NamedCore>,
+    pub(crate) images: Vec<ScriptImage>,
+    pub(crate) is_quiet: bool,
+}
+
+impl Model for Objects {
+    ghost use Rattle.command_run.specs.Runs.{ObjectsState};
+
+    ghost Value = { ObjectsState };
+
+    ghost view = { λ o. record { links = o.links.items; cores = o.cores.items; images = o.images.items; is_quiet = o.is_quiet } };
+}
+
+impl Objects {
+    /// Nothing is made, and drives are not quiet.
+    pub fn new(alloc: Global) -> Objects
+        ensures { result ≡ new_run.objects }
+    {
+        Objects {
+            alloc,
+            links: Vec::new(alloc),
+            cores: Vec::new(alloc),
+            images: Vec::new(alloc),
+            is_quiet: false,
+        }
+    }
+
+    /// Runs one command over what was told of the image that it asks for, tells its events, and
+    /// answers why the run stops in its midst, if it does.
+    #[tactic(auto, unfolding(crate::specs::Runs::effect_of))]
+    pub fn run(
+        &mut self,
+        command: &Command,
+        fetched: &Fetched,
+        log: &mut RunLog,
+    ) -> Result<Option<Stop>, NoMemory>
+        requires { IsRunnable command.now }
+        ensures { IfOk result (λ ending. HasRunEffect (effect_of (answer_of fetched.now) (record { objects = self.old; steps = log.old.steps }) command.now) self.new log.old log.new ending) }
+    {
+        match line_of(command) {
+            Line::Image { name, recipe } => self.make_image(name, recipe, log),
+            Line::Quiet { switch } => self.set_quiet(switch, log),
+            Line::Dump { name, image } => self.dump(name, image, log),
+            Line::On { name, act } => self.run_on_links(name, &act, fetched, log),
+        }
+    }
+
+    /// Has drives write no lines of their calls from now on, or write them.
+    #[tactic(auto, unfolding(crate::specs::Runs::quiet_effect))]
+    fn set_quiet(&mut self, switch: Switch, log: &mut RunLog) -> Result<Option<Stop>, NoMemory>
+        ensures { IfOk result (λ ending. HasRunEffect (quiet_effect (record { objects = self.old; steps = log.old.steps }) switch) self.new log.old log.new ending) }
+    {
+        let _ = log.steps();
+        self.is_quiet = is_on(switch);
+        Ok(None)
+    }
+
+    /// The name of the image for which a command asks the store: one that a core needs, and that the
+    /// script didn't make.
+    pub(crate) fn asked_name<'a>(&'a self, command: &'a Command) -> Option<&'a str>
+        ensures { option_copied result ≡ asked_name self.now command.now }
+    {
+        match command {
+            Command::Boot { name, image } => {
+                let named = self.core_named(name.bytes())?;
+                if named.core.needs_image() {
+                    outside_image(self.images.as_slice(), image.bytes())
+                } else {
+                    None
+                }
+            }
+            Command::Handover { name, image } => {
+                let named = self.core_named(name.bytes())?;
+                if named.core.life().state() == LifeState::Offline {
+                    outside_image(self.images.as_slice(), image.bytes())
+                } else {
+                    None
+                }
+            }
+            Command::Recover { name } => {
+                let named = self.core_named(name.bytes())?;
+                match named.core.recovery_fault() {
+                    Some(_) => None,
+                    None => outside_image(self.images.as_slice(), named.core.image()?.bytes()),
+                }
+            }
+            _ => None,
+        }
+    }
+
+    /// The core of this name, which no link has.
+    pub fn core_named(&self, name: &[u8]) -> Option<&NamedCore>
+        ensures { option_copied result ≡ core_named self.now name.now }
+    {
+        match place_of(self.links.as_slice(), name) {
+            Some(_) => None,
+            None => find_core(self.cores.as_slice(), name),
+        }
+    }
+
+    /// Does what is asked under a name.
+    fn run_on_links(
+        &mut self,
+        name: Name,
+        act: &NamedAct<&[u8]>,
+        fetched: &Fetched,
+        log: &mut RunLog,
+    ) -> Result<Option<Stop>, NoMemory>
+        requires fit { IsFitNamed (bare_named (λ bytes. bytes.now) act.now) }
+        ensures { IfOk result (λ ending. HasRunEffect (name_effect (answer_of fetched.now) (record { objects = self.old; steps = log.old.steps }) name (bare_named (λ bytes. bytes.now) act.now)) self.new log.old log.new ending) }
+    {
+        match place_of(self.links.as_slice(), name.bytes()) {
+            Some(place) => self.links[place].run(act, log),
+            None => self.run_on_cores(name, act, fetched, log),
+        }
+    }
+
+    /// Drives the core of this name, and hands on what is told as it goes. Under the name of a link, or
+    /// of nothing, that there is no such core is all that is told.
+    pub(crate) fn drive<K: Sink>(
+        &mut self,
+        name: Name,
+        count: u64,
+        log: &mut RunLog,
+        out: &mut K,
+    ) -> Result<Option<Stop>, CommandFault>
+        ensures effect { IfOk result (λ ending. HandsRunEffect (name_effect (Err fetch_fault.Missing) (record { objects = self.old; steps = log.old.steps }) name (under.Core (core.Drive count)))
+            self.new log.old log.new (K.written out.old) (K.written out.new) ending) }
+        ensures same { OnOk result (K.faults out.new ≡ K.faults out.old) }
+        ensures cut { IfErr result (λ why. EndsCut why (log.old.lines ++ transcript (name_effect (Err fetch_fault.Missing) (record { objects = self.old; steps = log.old.steps }) name (under.Core (core.Drive count))).events)
+            (K.written out.old) (K.written out.new) (K.faults out.old) (K.faults out.new)) }
+    {
+        match self.place_without_link(name.bytes()) {
+            Some(place) => {
+                let is_quiet = self.is_quiet;
+                self.cores[place].drive_handing(count, is_quiet, log, out)
+            }
+            None => {
+                let act = NamedAct::Core(CoreAct::Drive { count });
+                Ok(self.run_on_links(name, &act, &Fetched::Missing, log)?)
+            }
+        }
+    }
+
+    /// The place of the core of this name, which no link has.
+    fn place_without_link(&self, name: &[u8]) -> Option<usize>
+        ensures core { IfSome result (λ place. Some place ≡ core_place self.now.cores name.now) }
+        ensures link { IfSome result (λ _. None ≡ place_of self.now.links name.now) }
+        ensures within { IfSome result (λ place. place < length self.now.cores) }
+    {
+        match place_of(self.links.as_slice(), name) {
+            Some(_) => None,
+            None => core_place(self.cores.as_slice(), name),
+        }
+    }
+
+    /// Does what is asked under a name that no link has.
+    fn run_on_cores(
+        &mut self,
+        name: Name,
+        act: &NamedAct<&[u8]>,
+        fetched: &Fetched,
+        log: &mut RunLog,
+    ) -> Result<Option<Stop>, NoMemory>
+        requires fit { IsFitNamed (bare_named (λ bytes. bytes.now) act.now) }
+        ensures { IfOk result (λ ending. HasRunEffect (without_link_effect (answer_of fetched.now) (record { objects = self.old; steps = log.old.steps }) name (bare_named (λ bytes. bytes.now) act.now)) self.new log.old log.new ending) }
+    {
+        match core_place(self.cores.as_slice(), name.bytes()) {
+            Some(place) => {
+                let images = self.images.as_slice();
+                self.cores[place].run(act, images, fetched, self.is_quiet, log)
+            }
+            None => self.run_unnamed(name, act, log),
+        }
+    }
+
+    /// Does what is asked under a name that no link and no core has.
+    #[tactic(auto, unfolding(crate::specs::Runs::unnamed_effect))]
+    fn run_unnamed(
+        &mut self,
+        name: Name,
+        act: &NamedAct<&[u8]>,
+        log: &mut RunLog,
+    ) -> Result<Option<Stop>, NoMemory>
+        requires fit { IsFitNamed (bare_named (λ bytes. bytes.now) act.now) }
+        ensures { IfOk result (λ ending. HasRunEffect (unnamed_effect (record { objects = self.old; steps = log.old.steps }) name (bare_named (λ bytes. bytes.now) act.now)) self.new log.old log.new ending) }
+    {
+        match act {
+            NamedAct::Make(
+                Making::Link {
+                    config,
+                    has_service,
+                },
+            ) => self.make_link(name, *config, *has_service, log),
+            NamedAct::Make(Making::Core { regions, book }) => {
+                self.make_core(name, *regions, *book, log)
+            }
+            NamedAct::Link(_) | NamedAct::Manage(_) | NamedAct::Show(_) | NamedAct::Core(_) => {
+                log.tell(&Event::Unknown { name })?;
+                Ok(None)
+            }
+        }
+    }
+
+    /// Makes a link of a new name, unless there are as many as there may be. Where `has_service` is
+    /// set, its host end has the name service.
+    #[tactic(auto, unfolding(crate::specs::Runs::made_effect))]
+    fn make_link(
+        &mut self,
+        name: Name,
+        config: LinkConfig,
+        has_service: bool,
+        log: &mut RunLog,
+    ) -> Result<Option<Stop>, NoMemory>
+        requires config { IsConfig config }
+        ensures { IfOk result (λ ending. HasRunEffect (made_effect (record { objects = self.old; steps = log.old.steps }) name config has_service) self.new log.old log.new ending) }
+    {
+        if self.is_full() {
+            log.tell(&Event::ObjectsFull)?;
+            return Ok(None);
+        }
+        let host = Side::new(self.alloc, has_service, Vec::new(self.alloc))?;
+        let remote = Side::new(self.alloc, false, Vec::new(self.alloc))?;
+        let bench = Bench::new(self.alloc, config, host, remote)?;
+        self.links.push(NamedBench { name, bench })?;
+        log.tell(&Event::Open { name, inc: 1 })?;
+        Ok(None)
+    }
+
+    /// Makes a core of a new name, unless there are as many objects as there may be.
+    #[tactic(auto, unfolding(crate::specs::Runs::core_made_effect))]
+    fn make_core(
+        &mut self,
+        name: Name,
+        regions: RegionSet,
+        book: u32,
+        log: &mut RunLog,
+    ) -> Result<Option<Stop>, NoMemory>
+        requires book { IsBook book }
+        ensures { IfOk result (λ ending. HasRunEffect (core_made_effect (record { objects = self.old; steps = log.old.steps }) name regions book) self.new log.old log.new ending) }
+    {
+        if self.is_full() {
+            log.tell(&Event::ObjectsFull)?;
+            return Ok(None);
+        }
+        let regions = regions_of(self.alloc, regions)?;
+        let core = Core::new(self.alloc, regions, Vec::new(self.alloc), book)?;
+        self.cores.push(NamedCore { name, core })?;
+        log.tell(&Event::Offline { name })?;
+        Ok(None)
+    }
+
+    /// Whether there are as many links and cores as there may be.
+    fn is_full(&self) -> bool
+        ensures { result ≡ is_full self.now }
+    {
+        self.links.len() + self.cores.len() >= OBJECTS_MOST
+    }
+
+    /// Makes an image of a new name by its recipe.
+    #[tactic(auto, unfolding(crate::specs::Runs::image_effect))]
+    fn make_image(
+        &mut self,
+        name: Name,
+        recipe: &Recipe,
+        log: &mut RunLog,
+    ) -> Result<Option<Stop>, NoMemory>
+        ensures { IfOk result (λ ending. HasRunEffect (image_effect (record { objects = self.old; steps = log.old.steps }) name recipe.now) self.new log.old log.new ending) }
+    {
+        if has_image(self.images.as_slice(), name.bytes()) {
+            log.tell(&Event::ImageExists { name })?;
+            return Ok(None);
+        }
+        let bytes = image_maker::build(self.alloc, recipe)?;
+        let len = bytes.len() as u64;
+        self.images.push(ScriptImage {
+            name,
+            bytes,
+            is_dump: false,
+        })?;
+        log.tell(&Event::Image { name, len })?;
+        Ok(None)
+    }
+}
+
+/// An image that a script made, under its name: by a recipe, or as the dump of a core.
+#[derive(Drop)]
+pub struct ScriptImage {
+    pub(crate) name: Name,
+    pub(crate) bytes: Vec<u8>,
+    pub(crate) is_dump: bool,
+}
+
+impl Model for ScriptImage {
+    ghost use Rattle.command_run.specs.NamedImages.{ImageState};
+
+    ghost Value = { ImageState };
+
+    ghost view = { λ i. record { name = i.name; bytes = i.bytes.items; is_dump = i.is_dump } };
+}
+
+impl ScriptImage {
+    /// The bytes of its name.
+    pub(crate) fn name(&self) -> &[u8]
+        ensures { result.now ≡ self.now.name }
+    {
+        self.name.bytes()
+    }
+
+    /// Its bytes.
+    pub(crate) fn bytes(&self) -> &[u8]
+        ensures { result.now ≡ self.now.bytes }
+    {
+        &self.bytes
+    }
+}
+
+/// The regions that a core begins with.
+fn regions_of(alloc: Global, set: RegionSet) -> Result<Regions, NoMemory>
+    ensures { IfOk result (λ regions. regions ≡ regions_of set) }
+{
+    match set {
+        RegionSet::Standard => Regions::standard(alloc),
+        RegionSet::Bare => Regions::new(alloc),
+    }
+}
+
+/// The name of an image that the script didn't make.
+fn outside_image<'a>(images: &[ScriptImage], name: &'a [u8]) -> Option<&'a str>
+    ensures { option_copied result ≡ outside_image images.now name.now }
+{
+    if has_image(images, name) {
+        return None;
+    }
+    match str::from_utf8(name) {
+        Ok(text) => Some(text),
+        Err(_) => None,
+    }
+}
+
+/// Whether an image of this name was made.
+pub(crate) fn has_image(images: &[ScriptImage], name: &[u8]) -> bool
+    ensures { result ≡ has_image images.now name.now }
+{
+    image_place(images, name).is_some()
+}
+
+/// The place of the image of this name.
+fn image_place(images: &[ScriptImage], name: &[u8]) -> Option<usize>
+    ensures { result ≡ image_place images.now name.now }
+{
+    images.iter().position(|image| image.name() == name)
+}
+
+/// The place of the link of this name.
+fn place_of(links: &[NamedBench], name: &[u8]) -> Option<usize>
+    ensures place { result ≡ place_of links.now name.now }
+    ensures within { IfSome result (λ place. place < length links.now) }
+{
+    links.iter().position(|named| named.name.bytes() == name)
+}
+
+/// The core of this name.
+fn find_core<'a>(cores: &'a [NamedCore], name: &[u8]) -> Option<&'a NamedCore>
+    ensures { option_copied result ≡ find_core cores.now name.now }
+{
+    cores.iter().find(|named| named.name.bytes() == name)
+}
+
+/// The place of the core of this name.
+fn core_place(cores: &[NamedCore], name: &[u8]) -> Option<usize>
+    ensures place { result ≡ core_place cores.now name.now }
+    ensures within { IfSome result (λ place. place < length cores.now) }
+{
+    cores.iter().position(|named| named.name.bytes() == name)
+}

@@ -1,0 +1,75 @@
+ghost use Rattle.std.specs.Prelude.{◌≡◌, IfOk};
+ghost use Rattle.command_run.specs.Logs.{HasEffect};
+ghost use Rattle.command_run.specs.Recoveries.{close_effect, reopen_effect};
+
+use crate::links::NamedBench;
+use crate::logs::RunLog;
+use crate::stops::Stop;
+use journal::Event;
+use lane_model::{Already, ReopenFault};
+use rp_base::{NoMemory, STEPS_MOST};
+
+impl NamedBench {
+    /// Closes the link, in one step.
+    #[tactic(auto, unfolding(crate::specs::Recoveries::close_effect))]
+    pub(crate) fn close(&mut self, log: &mut RunLog) -> Result<Option<Stop>, NoMemory>
+        ensures name { self.new.name ≡ self.old.name }
+        ensures effect { IfOk result (λ ending. HasEffect (close_effect self.old.name self.old.bench log.old.steps) self.new.bench log.old log.new ending) }
+    {
+        let steps = log.steps();
+        if steps == STEPS_MOST {
+            return Ok(Some(Stop::StepLimit));
+        }
+        log.set_steps(steps + 1);
+        let inc = u64::from(self.bench.era().inc);
+        match self.bench.close() {
+            Ok(()) => self.tell(
+                &Event::Closed {
+                    name: self.name,
+                    inc,
+                },
+                log,
+            ),
+            Err(Already(era)) => self.tell(
+                &Event::Already {
+                    name: self.name,
+                    era,
+                },
+                log,
+            ),
+        }
+    }
+
+    /// Opens a closed link again, in its next incarnation.
+    #[tactic(auto, unfolding(crate::specs::Recoveries::reopen_effect))]
+    pub(crate) fn reopen(&mut self, log: &mut RunLog) -> Result<Option<Stop>, NoMemory>
+        ensures name { self.new.name ≡ self.old.name }
+        ensures effect { IfOk result (λ ending. HasEffect (reopen_effect self.old.name self.old.bench log.old.steps) self.new.bench log.old log.new ending) }
+    {
+        let name = self.name;
+        let event = match self.bench.reopen(log.alloc()) {
+            Ok(books) => Event::Open {
+                name,
+                inc: u64::from(books.inc) + 1,
+            },
+            Err(ReopenFault::StillOpen(era)) => Event::StillOpen {
+                name,
+                inc: u64::from(era.inc),
+            },
+            Err(ReopenFault::StillTurn(caller)) => Event::StillTurn {
+                name,
+                caller: u64::from(caller),
+            },
+            Err(ReopenFault::StillHeld(caller, number)) => {
+                Event::StillHeld {
+                    name,
+                    caller: u64::from(caller),
+                    number,
+                }
+            }
+            Err(ReopenFault::IncarnationsSpent) => Event::IncarnationsSpent { name },
+            Err(ReopenFault::NoMemory) => return Err(NoMemory),
+        };
+        self.tell(&event, log)
+    }
+}
