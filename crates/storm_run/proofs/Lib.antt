@@ -1,2 +1,5 @@
+pub mod Entries
+pub mod LineTexts
 pub mod Lists
 pub mod Moves
+pub mod Ranges
