@@ -1,5 +1,12 @@
+pub mod BookSums
 pub mod Entries
 pub mod LineTexts
 pub mod Lists
+pub mod Looks
 pub mod Moves
 pub mod Ranges
+pub mod Reclaimed
+pub mod Takers
+pub mod Told
+pub mod UsedNumbers
+pub mod Works

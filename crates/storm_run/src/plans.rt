@@ -1,5 +1,5 @@
 //! What a storm is made of.
-ghost use Rattle.std.specs.Prelude.{◌≡◌, ◌<◌, IfOk, OnOk};
+ghost use Rattle.std.specs.Prelude.{◌≡◌, ◌+◌, IfOk, OnOk};
 ghost use Rattle.lane_model.specs.Conditions.{IsConfig};
 ghost use Rattle.split_ring.specs.Callers.{IsManagerOf};
 ghost use Rattle.storm_run.specs.Managers.{AreNewCallers, HasMade, end_at};
@@ -70,7 +70,7 @@ impl Plan {
         requires manager { IsManagerOf link.now manager.old }
         requires new { HasMade self.now 0 manager.old }
         requires first { link.now.sizes.first ≡ FIRST }
-        ensures callers { IfOk result (λ callers. AreNewCallers link.now self.now callers.items) }
+        ensures callers { IfOk result (λ callers. AreNewCallers link.now self.now (self.now.hosts + self.now.remotes) callers.items) }
         ensures manager { IsManagerOf link.now manager.new }
         ensures made { OnOk result (HasMade self.now (self.now.hosts + self.now.remotes) manager.new) }
     {

@@ -1,6 +1,16 @@
 //! A whole storm, from a new link to the report that is made from its books.
-ghost use Rattle.std.specs.Prelude.{◌≡◌, IfOk};
+ghost use Rattle.std.specs.Prelude.{◌≡◌, ℕ, true, length, slice_set, IfOk, None};
+ghost use Rattle.lane_model.specs.Links.{end_of};
+ghost use Rattle.link_words.specs.Histories.{LaneBooks};
+ghost use Rattle.link_words.specs.Reopens.{AreBooksOf};
+ghost use Rattle.rp_base.specs.declared.kinds.End.{End};
+ghost use Rattle.split_ring.specs.Callers.{IsManagerOf};
+ghost use Rattle.split_ring.specs.Reclaims.{HasRetired};
+ghost use Rattle.split_ring.specs.Reopens.{AreTold};
+ghost use Rattle.split_ring.specs.Seats.{pass_in};
 ghost use Rattle.storm_run.specs.Counts.{AreStormBooks};
+ghost use Rattle.storm_run.specs.Managers.{AreNumbered, HasEnded};
+ghost use Rattle.storm_run.specs.Rounds.{IsFree};
 ghost use Rattle.storm_run.specs.Storms.{IsPlan, storm_text};
 
 use crate::gates::Gate;
@@ -49,20 +59,66 @@ fn storm_books<R: Threads + Wait + Sync, G: Gate + Sync>(
     let Ok(round) = round(rt, alloc, &link, callers, plan.count, gate) else {
         return Err(NoMemory);
     };
-    closing_books(alloc, &link, &mut manager, round.callers)
+    // Either way the link is closed then.
+    let _ = link.close_by(&mut manager, FIRST);
+    reclaim_all(alloc, &link, &mut manager, round.callers);
+    next_incarnation(alloc, &link, &mut manager)
 }
 
-/// Closes a link, reclaims its callers, of which none is in a call or holds anything, and opens the next incarnation: the
-/// books of the one that was closed.
-fn closing_books(
+/// Reclaims all callers of a closed link, of which none is in a call or holds anything.
+fn reclaim_all(
     alloc: Global,
     link: &SharedLink<Side>,
     manager: &mut Manager,
     callers: Vec<Caller>,
-) -> Result<Books, NoMemory> {
-    // Either way it is closed then.
-    let _ = link.close_by(manager, FIRST);
-    reclaim_all(alloc, link, manager, callers);
+)
+    requires manager { IsManagerOf link.now manager.old }
+    requires none { HasEnded callers.items 0 manager.old }
+    requires callers { AreNumbered link.now callers.items }
+    ensures manager { IsManagerOf link.now manager.new }
+    ensures all { HasEnded callers.items (length callers.items) manager.new }
+{
+    for caller in callers {
+        reclaim_free(alloc, link, manager, caller);
+    }
+}
+
+/// Reclaims a caller of a closed link that is in no call and holds nothing.
+fn reclaim_free(
+    alloc: Global,
+    link: &SharedLink<Side>,
+    manager: &mut Manager,
+    caller: Caller,
+)
+    requires manager { IsManagerOf link.now manager.old }
+    requires closed { manager.old.seat.me.0.is_closed ≡ true }
+    requires free { IsFree link.now caller }
+    ensures manager { IsManagerOf link.now manager.new }
+    ensures retired { HasRetired caller.id (pass_in caller.seat.me) manager.old.seat.me manager.new.seat.me }
+    ensures users { manager.new.users ≡ slice_set manager.old.users caller.id.number None }
+{
+    let parts = Parts {
+        caller,
+        call: None,
+        held: Vec::new(alloc),
+    };
+    match link.reclaim(manager, parts) {
+        Ok(()) => (),
+        Err(_) => unreachable!(),
+    }
+}
+
+/// Opens the next incarnation of a closed link that has no caller: the books of the one that was closed.
+fn next_incarnation(
+    alloc: Global,
+    link: &SharedLink<Side>,
+    manager: &mut Manager,
+) -> Result<Books, NoMemory>
+    requires manager { IsManagerOf link.now manager.old }
+    requires closed { (manager.old.seat.me.0.is_closed ≡ true) × (manager.old.seat.me.0.inc ≡ FIRST) }
+    requires unused { (number : ℕ) → end_of manager.old.users number ≡ None }
+    ensures { IfOk result (λ books. (told : End → LaneBooks) × AreBooksOf manager.old.seat.me.0 told × AreTold books told) }
+{
     match link.reopen(alloc, manager) {
         Ok(books) => Ok(books),
         Err(ReopenFault::NoMemory) => Err(NoMemory),
@@ -72,25 +128,5 @@ fn closing_books(
             | ReopenFault::StillHeld(_, _)
             | ReopenFault::IncarnationsSpent,
         ) => unreachable!(),
-    }
-}
-
-/// Reclaims callers of a closed link, of which none is in a call or holds anything.
-fn reclaim_all(
-    alloc: Global,
-    link: &SharedLink<Side>,
-    manager: &mut Manager,
-    callers: Vec<Caller>,
-) {
-    for caller in callers {
-        let parts = Parts {
-            caller,
-            call: None,
-            held: Vec::new(alloc),
-        };
-        match link.reclaim(manager, parts) {
-            Ok(()) => (),
-            Err(_) => unreachable!(),
-        }
     }
 }
