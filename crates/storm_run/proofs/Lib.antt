@@ -3,6 +3,7 @@ pub mod Entries
 pub mod LineTexts
 pub mod Lists
 pub mod Looks
+pub mod Made
 pub mod Moves
 pub mod Ranges
 pub mod Reclaimed
