@@ -40,7 +40,7 @@ use Rattle.link_words.specs.Parts.{has_for_manager, HasGathered, HoldsBuffers}
 use Rattle.link_words.specs.Codes.{copied}
 use Rattle.link_words.specs.Passes.{Mover, with_pass, with_call}
 use Rattle.link_words.specs.Calls.{SeatState, call_at}
-use Rattle.link_words.specs.Reopens.{gathered, IsHoldersWord}
+use Rattle.link_words.specs.Reopens.{gathered, IsHoldersWord, AreInUse}
 use Rattle.link_words.proofs.Buffers.{homes_here}
 use Rattle.link_words.proofs.Closes.{stays}
 use Rattle.link_words.proofs.Exact.{StepBy, ReadsAt, WritesAt, read_by, write_by, call_at_is}
@@ -48,10 +48,10 @@ use Rattle.link_words.proofs.Frames.{turn_set, side_found, side_set, same_lane, 
 use Rattle.link_words.proofs.Gathered.{gathered_sender, left_sender, gathered_receiver, left_receiver}
 use Rattle.link_words.proofs.Held.{free_if, free_for_all, minds_has, receiver_home, seen_receiver, shelved_receiver, alone}
 use Rattle.link_words.proofs.LaneSteps.{others_send, others_free_send, hands_kept, lane_moves, lane_moves_by}
-use Rattle.link_words.proofs.Parts.{state_in, buffers_in}
+use Rattle.link_words.proofs.Parts.{state_in, buffers_in, rings_at}
 use Rattle.link_words.proofs.Sends.{shelved_turn, true-false}
 use Rattle.link_words.proofs.Starts.{seen_sender}
-use Rattle.link_words.proofs.TurnWords.{sender_word_most, receiver_word_most, sender_word_held, receiver_word_held}
+use Rattle.link_words.proofs.TurnWords.{sender_word_most, receiver_word_most, sender_word_held, receiver_word_held, hands_in_use}
 use Rattle.link_words.proofs.Takes.{with_receiver, receiver_turn_set, receiver_side_set, others_beside}
 
 -- a turn that is not free stays when the manager takes it
@@ -191,11 +191,11 @@ module _ {B : Type 0} {kc : Coded B} {kz : DeskTables} (cd : Coded (PlacedDesk k
 
   -- the manager takes a receiver's turn
   abbrev pub TakesReceiverBy : (me : SeatState) → Mover me.0 → End → LaneSides → LaneSides → ℕ → SeatState → Type 0
-  TakesReceiverBy me o e a b n me' = (n ≡ 0 → (x : ReceiverSide) × (me' ≡ (with_pass me.0 o (with_call o.pass (gathered e (λ g. record g { receiver = Some x }) a b)) me'.0.copy, (receiver_slot e, Receiver x) ∷ me.1))) × (n ≢ 0 → me' ≡ me) × (n ≤ 65) × (n ≢ 0 → IsHoldersWord me.0 e n)
+  TakesReceiverBy me o e a b n me' = (n ≡ 0 → (x : ReceiverSide) × (me' ≡ (with_pass me.0 o (with_call o.pass (gathered e (λ g. record g { receiver = Some x }) a b)) me'.0.copy, (receiver_slot e, Receiver x) ∷ me.1)) × AreInUse me.0 e x.hands) × (n ≢ 0 → me' ≡ me) × (n ≤ 65) × (n ≢ 0 → IsHoldersWord me.0 e n)
 
   gathers_receiver : (id : ℕ) (me : SeatState) (o : Mover me.0) (e : End) (a b : LaneSides) → o.pass.call ≡ Gathers a b → (st : State Slot View) (m : LaneLink (RingState (PlacedDesk kc kz))) (r : Shows cd desk z st m 0) → get_elem? st.views id ≡ some me.0 → (lane_to m e).lane.receiver ≡ turn.Free
       → (w : View) × (c : Act Slot) × Valid st.homes me.1 c × WordsRule cd desk z (stepped st (receiver_word e) 65 id me.1 w c)
-      × ((x : ReceiverSide) × Path (Me Slot View) (w, carried_after me.1 c) (with_pass me.0 o (with_call o.pass (gathered e (λ g. record g { receiver = Some x }) a b)) w.copy, (receiver_slot e, Receiver x) ∷ me.1))
+      × ((x : ReceiverSide) × Path (Me Slot View) (w, carried_after me.1 c) (with_pass me.0 o (with_call o.pass (gathered e (λ g. record g { receiver = Some x }) a b)) w.copy, (receiver_slot e, Receiver x) ∷ me.1) × AreInUse me.0 e x.hands)
       × StepBy cd desk (ReadsAt (receiver_word e) (get_or st.words (receiver_word e) 0)) me o (ManagerTakes lane_turn.Receiver e) (w, carried_after me.1 c)
   gathers_receiver id me o e a b call st m r at free =
       let h : IsCallOf m 0 o.pass.number (Gathers a b) = subst (IsCallOf m 0 o.pass.number) call (r.turns.calls id o.place o.pass (me.0, at, o.here)) in
@@ -220,7 +220,7 @@ module _ {B : Type 0} {kc : Coded B} {kz : DeskTables} (cd : Coded (PlacedDesk k
             (λ (same : i ≡ e). absurd (free_for_all cd desk z m e 0 free u.number u.call (minds_has cd desk z e u.call (subst (λ (q : End). has_for_manager q u.call ≡ true) same theirs)) (r.turns.calls j l u there)))
             (more_minds e x a b i mine))
             r.turns.keepers),
-        (x, refl),
+        (x, refl, hands_in_use desk m e me.0.users (r.numbers.manager id me.0 at (o.place, o.pass, o.here, h.0)).users r.sound (rings_at r e)),
         read_by (receiver_word e) cd desk z st m r id me o (with_call o.pass w) (ManagerTakes lane_turn.Receiver e) (with_lane m e s') ((receiver_slot e, Receiver x) ∷ me.1) at tt deed mine,
       )
 

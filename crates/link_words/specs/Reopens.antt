@@ -101,13 +101,17 @@ with_gathered e f p = with_call p (gathers_or p.call (gathered e f) p.call)
 abbrev pub IsHoldersWord : View → End → ℕ → Type 0
 IsHoldersWord v end n = (n ≡ 65) ⊎ (end_of v.users (n - 1) ≡ Some end)
 
+-- who has a buffer in hand is in use on this end
+abbrev pub AreInUse : View → End → List Hand → Type 0
+AreInUse v end hands = (k : ℕ) (h : Hand) → get_elem? hands k ≡ some h → end_of v.users h.caller ≡ Some end
+
 -- one attempt of the manager at the sender's turn of a lane: where it was free, its side state is out; else it was the one's whose number and 1 is the word
 abbrev pub ManagerTakesSender : End → SeatState → ℕ → SeatState → Type 0
 ManagerTakesSender e me n me' = (n ≡ 0 → (x : SenderSide) × Becomes (with_gathered e (λ g. record g { sender = Some x })) (manager_place me) ((sender_slot e, Sender x) ∷ me.1) me me') × (n ≢ 0 → me' ≡ me) × (n ≤ 65) × (n ≢ 0 → IsHoldersWord me.0 (other e) n)
 
 -- the same at the receiver's turn
 abbrev pub ManagerTakesReceiver : End → SeatState → ℕ → SeatState → Type 0
-ManagerTakesReceiver e me n me' = (n ≡ 0 → (x : ReceiverSide) × Becomes (with_gathered e (λ g. record g { receiver = Some x })) (manager_place me) ((receiver_slot e, Receiver x) ∷ me.1) me me') × (n ≢ 0 → me' ≡ me) × (n ≤ 65) × (n ≢ 0 → IsHoldersWord me.0 e n)
+ManagerTakesReceiver e me n me' = (n ≡ 0 → (x : ReceiverSide) × Becomes (with_gathered e (λ g. record g { receiver = Some x })) (manager_place me) ((receiver_slot e, Receiver x) ∷ me.1) me me' × AreInUse me.0 e x.hands) × (n ≢ 0 → me' ≡ me) × (n ≤ 65) × (n ≢ 0 → IsHoldersWord me.0 e n)
 
 -- the manager leaves the sender's turn, and its side state is at home; the same of the receiver's
 abbrev pub ManagerLeavesSender : End → SeatState → SeatState → Type 0
