@@ -216,7 +216,7 @@ module _ {B : Type 0} {kc : Coded B} {kz : DeskTables} (cd : Coded (PlacedDesk k
             }))
             (λ (x : (i ≢ id) × (get_elem? st.views i ≡ some y)). absurd (x.0 (one_manager st.views r.numbers.places i id y me.0 x.1 manages_y at manages)))
             (at_set st.views id i u y ey))),
-        (m.era, ap (λ (ws : List ℕ). get_or ws 1 0) r.words_are, r.numbers.short, refl, sym known.inc),
+        (m.era, ap (λ (ws : List ℕ). get_or ws 1 0) r.words_are, r.numbers.short, refl, sym known.inc, known.closed),
       )
 
   -- the idle word is read by an exchange of 0 for 0, which names the caller

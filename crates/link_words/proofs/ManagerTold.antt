@@ -79,11 +79,11 @@ module _ {B : Type 0} {kc : Coded B} {kz : DeskTables} (cd : Coded (PlacedDesk k
   manager_takes_turn lane_turn.Sender e place g is =
       exchanges (sender_word e) place (λ y. either (eqb y 0) 65 y) g.at.mover g.at.here (ManagerTakes lane_turn.Sender e) (TakesSenderBy cd desk z me g.at.mover e g.to_host g.to_remote) (ManagerTakesSender e me) is
       (takes_sender cd desk z n id me g.at.mover e g.to_host g.to_remote g.at.in_call)
-      (λ y me' t. ((λ hit. let h = t.0 hit in (h.0, called me (Gathers g.to_host g.to_remote) g.at (λ c. gathers_or c (gathered e (λ s. record s { sender = Some h.0 })) c) ((sender_slot e, Sender h.0) ∷ me.1) me' h.1)), t.1, t.2))
+      (λ y me' t. ((λ hit. let h = t.0 hit in (h.0, called me (Gathers g.to_host g.to_remote) g.at (λ c. gathers_or c (gathered e (λ s. record s { sender = Some h.0 })) c) ((sender_slot e, Sender h.0) ∷ me.1) me' h.1)), t.1, t.2, t.3))
   manager_takes_turn lane_turn.Receiver e place g is =
       exchanges (receiver_word e) place (λ y. either (eqb y 0) 65 y) g.at.mover g.at.here (ManagerTakes lane_turn.Receiver e) (TakesReceiverBy cd desk z me g.at.mover e g.to_host g.to_remote) (ManagerTakesReceiver e me) is
       (takes_receiver cd desk z n id me g.at.mover e g.to_host g.to_remote g.at.in_call)
-      (λ y me' t. ((λ hit. let h = t.0 hit in (h.0, called me (Gathers g.to_host g.to_remote) g.at (λ c. gathers_or c (gathered e (λ s. record s { receiver = Some h.0 })) c) ((receiver_slot e, Receiver h.0) ∷ me.1) me' h.1)), t.1, t.2))
+      (λ y me' t. ((λ hit. let h = t.0 hit in (h.0, called me (Gathers g.to_host g.to_remote) g.at (λ c. gathers_or c (gathered e (λ s. record s { receiver = Some h.0 })) c) ((receiver_slot e, Receiver h.0) ∷ me.1) me' h.1, h.2)), t.1, t.2, t.3))
 
   pub manager_leaves_turn : (which : LaneTurn) (e : End) (place : ℕ) → MayLeaveTurn which e me → place ≡ place_in (turn_number which e)
       → Allows (PlacedRule cd desk z) n id me place (λ _. 0) (λ _ me'. ManagerLeavesTurn which e me me' × Does (StoresWord place 0) (ManagerLeaves which e) me')
