@@ -1,5 +1,6 @@
 pub mod BookSums
 pub mod Entries
+pub mod Faults
 pub mod LineTexts
 pub mod Lists
 pub mod Looks
