@@ -1,8 +1,9 @@
 -- What the reclaims and the reopening of a storm don't answer.
-use Rattle.std.proofs.Common.{◌≡◌, ◌⊎◌, ◌∙◌, ℕ, Bool, true, false, List, sym, ap, ⊎_elim, arith, Some, None, Ok, Err}
+use Rattle.std.proofs.Common.{◌≡◌, ◌⊎◌, ◌∙◌, ℕ, Bool, true, false, List, refl, sym, ap, ⊎_elim, arith, Some, None, Ok, Err}
+use Rattle.std.specs.Option.{option_map, option_or}
 use Rattle.std.specs.Prelude.{Option}
 use Rattle.std.proofs.lemmas.Bool.{false≢true, true≢false}
-use Rattle.std.proofs.lemmas.Option.{none-some}
+use Rattle.std.proofs.lemmas.Option.{none-some, same_Some}
 use base.Stored.{Coded}
 use Rattle.channel_bus.specs.declared.sides.Side.{Side}
 use Rattle.rp_base.specs.declared.kinds.End.{End}
@@ -10,10 +11,12 @@ use Rattle.lane_model.specs.Desks.{DeskMeaning}
 use Rattle.lane_model.specs.Links.{end_of}
 use Rattle.lane_model.specs.declared.recoveries.ReopenFault.{ReopenFault}
 use Rattle.lane_model.specs.declared.recoveries.ReopenFault.TheVariants as fault
+use Rattle.link_words.specs.Reopens.{least_hand}
 use Rattle.link_words.specs.declared.rule.View.{View}
+use Rattle.ring_core.specs.declared.states.Hand.{Hand}
 use Rattle.split_ring.specs.PartsOf.{IsRefusal}
 use Rattle.split_ring.specs.Reclaims.{is_turn, phase_of, turn_in}
-use Rattle.split_ring.specs.Reopens.{IsReopening}
+use Rattle.split_ring.specs.Reopens.{IsReopening, spent_by, unopened_from}
 use Rattle.split_ring.specs.declared.calls.RingCall.{RingCall}
 use Rattle.split_ring.specs.declared.callers.Manager.{Manager}
 use Rattle.split_ring.specs.declared.links.SharedLink.{SharedLink}
@@ -23,6 +26,21 @@ use Rattle.split_ring.specs.declared.reclaims.ReclaimFault.TheVariants as reclai
 use Rattle.storm_run.specs.Rounds.{IsFree}
 use Rattle.storm_run.proofs.Reclaimed.{needs_none}
 
+abbrev is_held : ReopenFault → Bool
+is_held (fault.StillOpen era) = false
+is_held (fault.StillTurn holder) = false
+is_held (fault.StillHeld caller number) = true
+is_held fault.IncarnationsSpent = false
+is_held fault.NoMemory = false
+
+held_spent : {caller number : ℕ} → fault.StillHeld caller number ≡ fault.IncarnationsSpent → ⊥
+held_spent is = true≢false (ap is_held is)
+
+-- a buffer that is held is named first, and the first incarnation is not the last
+unspent : (least : Option Hand) → option_or (option_map (λ (h : Hand). fault.StillHeld h.caller h.number) least) (spent_by 1) ≡ Some fault.IncarnationsSpent → ⊥
+unspent None is = none-some fault.IncarnationsSpent is
+unspent (Some h) is = held_spent (same_Some (fault.StillHeld h.caller h.number) fault.IncarnationsSpent is)
+
 module _ (coded : Coded Side) (meaning : DeskMeaning Side) where
   -- a free caller is not refused where the manager knows that the link is closed
   pub no_refusal : (link : SharedLink Side) (before after : Manager) (parts : Parts Side) (why : ReclaimFault Side) → IsFree link parts.caller → parts.call ≡ None → before.seat.me.0.is_closed ≡ true
@@ -31,3 +49,12 @@ module _ (coded : Coded Side) (meaning : DeskMeaning Side) where
       ⊎_elim (λ (turn : is_turn (turn_in (phase_of parts.call)) ≡ true). false≢true (sym (ap (λ (call : Option (RingCall Side)). is_turn (turn_in (phase_of call))) none) ∙ turn))
       (λ held. needs_none link parts.caller held.0 free held.1) (refused.5 closed)
   no_refusal link before after parts (reclaim_fault.Busy holder back) free none closed refused = needs_none link parts.caller refused.1.number free refused.1.holds
+
+  -- a reopening wants for nothing but memory where the manager knows that the link is closed and has no caller, and this is not the last incarnation
+  pub no_fault : (v v' : View) (why : ReopenFault) → (why ≡ fault.NoMemory → ⊥) → v.is_closed ≡ true → v.inc ≡ 1 → ((number : ℕ) → end_of v.users number ≡ None) → IsReopening coded meaning v (Err why) v' → ⊥
+  no_fault v v' fault.NoMemory other closed first unused told = other refl
+  no_fault v v' (fault.StillOpen era) other closed first unused told = true≢false (sym closed ∙ told.2)
+  no_fault v v' (fault.StillTurn holder) other closed first unused told = ?
+  no_fault v v' (fault.StillHeld caller number) other closed first unused told = none-some told.8.0 (sym (unused caller) ∙ told.8.1)
+  no_fault v v' fault.IncarnationsSpent other closed first unused told =
+      unspent (option_or (least_hand told.1.hands) (least_hand told.3.hands)) (ap (λ (inc : ℕ). unopened_from told.1.hands told.3.hands inc) (sym first) ∙ told.6)

@@ -1,15 +1,17 @@
 -- What the manager of a storm knows as it makes its callers.
-use Rattle.std.proofs.Common.{◌≡◌, ◌⊎◌, ◌+◌, ◌≤◌, ◌<◌, ◌∙◌, ◌++◌, ℕ, List, [], ◌∷◌, cond, length, get_or, refl, sym, ap, subst, ⊎_elim, arith, Some, None}
+use Rattle.std.proofs.Common.{◌≡◌, ◌⊎◌, ◌+◌, ◌≤◌, ◌<◌, ◌∙◌, ◌++◌, ℕ, zero, suc, replicate, List, [], ◌∷◌, cond, length, get_or, refl, sym, ap, subst, ⊎_elim, arith, Some, None}
 use Rattle.std.specs.Prelude.{Option, slice_set}
 use Rattle.std.proofs.lemmas.Bool.{cases_eq}
-use Rattle.std.proofs.lemmas.List.{get_or_append_left, get_or_push, length-set, length_push}
+use Rattle.std.proofs.lemmas.List.{get_or_append_left, get_or_push, length-replicate, length-set, length_push}
 use Rattle.std.proofs.lemmas.Option.{same_Some}
 use Rattle.channel_bus.specs.declared.sides.Side.{Side}
 use Rattle.rp_base.specs.declared.kinds.End.{End}
 use Rattle.lane_model.specs.Links.{end_of, free_number}
 use Rattle.link_words.specs.Calls.{SeatState}
 use Rattle.link_words.specs.Passes.{first_incarnation, is_listed, only_new, with_caller_as, with_new_caller, without_last, without_new}
+use Rattle.link_words.specs.Rule.{first_view}
 use Rattle.link_words.specs.declared.copies.LinkCopy.{LinkCopy}
+use Rattle.link_words.specs.declared.rule.LinkSizes.{LinkSizes}
 use Rattle.link_words.specs.declared.rule.Pass.{Pass}
 use Rattle.link_words.specs.declared.rule.View.{View}
 use Rattle.link_words.proofs.Users.{end_else, end_here}
@@ -22,7 +24,24 @@ use Rattle.split_ring.specs.declared.links.SharedLink.{SharedLink}
 use Rattle.storm_run.specs.declared.plans.Plan.{Plan}
 use Rattle.storm_run.specs.declared.plans.TheConstants.{FIRST}
 use Rattle.storm_run.specs.Managers.{AreNewCallers, HasMade, IsNewCaller, end_at}
+use Rattle.storm_run.specs.Rounds.{MayBegin}
 use Rattle.storm_run.proofs.UsedNumbers.{free_first}
+
+none_in : (n k : ℕ) → end_of (replicate n None) k ≡ None
+none_in zero k = refl
+none_in (suc n) zero = refl
+none_in (suc n) (suc k) = none_in n k
+
+-- of a new link none is made
+pub made_none : (plan : Plan) (sizes : LinkSizes) (manager : Manager) → manager.seat.me ≡ (first_view sizes 64, []) → sizes.first ≡ FIRST → manager.seat.me.0.users ≡ manager.users → HasMade plan 0 manager
+made_none plan sizes manager new first knows =
+    let users : manager.users ≡ replicate 64 None = sym knows ∙ ap (λ (s : SeatState). s.0.users) new in record {
+      inc = ap (λ (s : SeatState). s.0.inc) new ∙ first;
+      many = ap length users ∙ length-replicate 64 None;
+      used = λ number below. absurd (omega (arith, below));
+      unused = λ number above. ap (λ (l : List (Option End)). end_of l number) users ∙ none_in 64 number;
+      none_ended = ap (λ (s : SeatState). s.0.reclaims) new;
+    }
 
 -- the next caller gets the next number
 pub next_number : (plan : Plan) (made : ℕ) (manager : Manager) → made < 64 → HasMade plan made manager → free_number manager.users ≡ Some made
@@ -106,3 +125,9 @@ more_new link plan made callers caller are new = record {
       subst (λ (c : Caller). IsNewCaller link plan number c) (sym (get_or_append_left callers (caller ∷ []) d number (omega (arith, less, many)))) (are.each number d less))
       (cases_eq made number);
 }
+
+-- new callers may begin a round
+pub may_begin : (link : SharedLink Side) (plan : Plan) (made : ℕ) (callers : List Caller) → AreNewCallers link plan made callers → MayBegin link callers
+may_begin link plan made callers are =
+    let within : (k : ℕ) → k < length callers → k < made = λ k below. subst (λ (n : ℕ). k < n) are.many below in
+    ((λ k d below. (are.each k d (within k below)).free), (FIRST, λ k d below. (are.each k d (within k below)).follows))

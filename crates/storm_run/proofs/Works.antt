@@ -16,7 +16,7 @@ use Rattle.split_ring.specs.declared.callers.CallerId.{CallerId}
 use Rattle.split_ring.specs.declared.links.SharedLink.{SharedLink}
 use Rattle.storm_run.specs.declared.plans.Plan.{Plan}
 use Rattle.storm_run.specs.declared.plans.TheConstants.{FIRST}
-use Rattle.storm_run.specs.Managers.{AreDoneCallers, AreNewCallers, HasSentAll, IsDoneCaller, IsNewCaller, callers_on, end_at}
+use Rattle.storm_run.specs.Managers.{AreDoneCallers, AreNewCallers, AreNumbered, HasSentAll, IsDoneCaller, IsNewCaller, callers_on, end_at}
 use Rattle.storm_run.specs.Rounds.{HasFoundAll, HasWorked, IsWholeRound, count_on, empty_walk, storm_messages}
 use Rattle.storm_run.proofs.Looks.{seen_look, seen_more}
 
@@ -117,3 +117,7 @@ round_done link plan before after new round = record {
       is_done link plan plan.count (plan.count * count_on (other caller.id.end) before) number caller (slice_index_or after number d) is (round.each number d here)
       (plan.count * callers_on plan (other (end_at plan number))) refl (ap (λ (n : ℕ). plan.count * n) on) product;
 }
+
+-- they are the callers of the first numbers, and free
+pub are_numbered : (link : SharedLink Side) (plan : Plan) (callers : List Caller) → AreDoneCallers link plan callers → AreNumbered link callers
+are_numbered link plan callers are = λ number d below. let is = are.each number d (subst (λ (n : ℕ). number < n) are.many below) in (is.free, is.numbered)

@@ -122,11 +122,6 @@ fn next_incarnation(
     match link.reopen(alloc, manager) {
         Ok(books) => Ok(books),
         Err(ReopenFault::NoMemory) => Err(NoMemory),
-        Err(
-            ReopenFault::StillOpen(_)
-            | ReopenFault::StillTurn(_)
-            | ReopenFault::StillHeld(_, _)
-            | ReopenFault::IncarnationsSpent,
-        ) => unreachable!(),
+        Err(_) => unreachable!(),
     }
 }
