@@ -39,6 +39,7 @@ use Rattle.link_words.proofs.Tells.{ClosesEraBy}
 use Rattle.link_words.specs.Seats.{is_closed_behind}
 use Rattle.link_words.proofs.Frames.{some_copy, each_set, numbers_set, keepers_set, manager_set}
 use Rattle.link_words.proofs.Kept.{deed_kept}
+use Rattle.link_words.proofs.Quiet.{ended_by}
 use Rattle.link_words.proofs.Parts.{state_in, told_in, buffers_in, put_together, one_more}
 
 -- an era can be read off its word
@@ -123,7 +124,7 @@ module _ {B : Type 0} {kc : Coded B} {kz : DeskTables} (cd : Coded (PlacedDesk k
             })
             (record {
               places = numbers_set st.views id v u o w at refl refl r.numbers.places;
-              manager = manager_set st.views id v u o w at refl cd m m refl refl refl refl (λ old. old) (λ j y apart there manages. refl) (λ n none was not. was not) (λ n none Q was not. was not) (λ old. old) (λ j y apart there manages old. old) (λ k same _. sym (some_copy (copied cd m) k same)) r.numbers.manager;
+              manager = manager_set st.views id v u o w at refl cd m m refl refl refl refl (λ old. old) (λ j y apart there manages. refl) (λ n none was not. was not) (λ n none Q was not. was not) (λ old. old) (λ j y apart there manages old. old) (λ k same _. sym (some_copy (copied cd m) k same)) (λ old. old) (λ j y apart there manages p has. has) r.numbers.manager;
               many = r.numbers.many;
               short = r.numbers.short;
             }),
@@ -178,7 +179,7 @@ module _ {B : Type 0} {kc : Coded B} {kz : DeskTables} (cd : Coded (PlacedDesk k
             })
             (record {
               places = numbers_set st.views id v u o o.pass at again refl r.numbers.places;
-              manager = manager_set st.views id v u o o.pass at again cd m m refl refl refl refl (λ old. old) (λ j y apart there manages. refl) (λ n none was not. was not) (λ n none Q was not. was not) (λ old. shut) (λ j y apart there manages old. old) (λ k same _. sym (some_copy (copied cd m) k same)) r.numbers.manager;
+              manager = manager_set st.views id v u o o.pass at again cd m m refl refl refl refl (λ old. old) (λ j y apart there manages. refl) (λ n none was not. was not) (λ n none Q was not. was not) (λ old. shut) (λ j y apart there manages old. old) (λ k same _. sym (some_copy (copied cd m) k same)) (λ old. old) (λ j y apart there manages p has. has) r.numbers.manager;
               many = r.numbers.many;
               short = r.numbers.short;
             }),
@@ -216,7 +217,7 @@ module _ {B : Type 0} {kc : Coded B} {kz : DeskTables} (cd : Coded (PlacedDesk k
               })
               (record {
                 places = numbers_set st.views id me.0 u o o.pass at again refl r.numbers.places;
-                manager = manager_set st.views id me.0 u o o.pass at again cd m m' refl refl refl refl (λ old. old ∙ ap (λ (x : Era). x.inc) era) (λ j y apart there manages. ap (λ (x : Era). x.inc) (sym era)) (λ n none was not. none_shut m inc n (was not)) (λ n none Q was not. none_shut m inc n (was not)) (λ old _. refl) (λ j y apart there manages old. refl) (λ k same _. sym (some_copy (copied cd m') k same)) r.numbers.manager;
+                manager = manager_set st.views id me.0 u o o.pass at again cd m m' refl refl refl refl (λ old. old ∙ ap (λ (x : Era). x.inc) era) (λ j y apart there manages. ap (λ (x : Era). x.inc) (sym era)) (λ n none was not. none_shut m inc n (was not)) (λ n none Q was not. none_shut m inc n (was not)) (λ old _. refl) (λ j y apart there manages old. refl) (λ k same _. sym (some_copy (copied cd m') k same)) (λ old i p has. ended_by desk m m' (Closes inc) deed (λ _. refl) p (old i p has)) (λ j y apart there manages. ended_by desk m m' (Closes inc) deed (λ _. refl)) r.numbers.manager;
                 many = r.numbers.many;
                 short = subst (λ (x : Era). x.inc < 4294967296) era r.numbers.short;
               }),
