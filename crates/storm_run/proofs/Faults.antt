@@ -50,11 +50,11 @@ module _ (coded : Coded Side) (meaning : DeskMeaning Side) where
       (λ held. needs_none link parts.caller held.0 free held.1) (refused.5 closed)
   no_refusal link before after parts (reclaim_fault.Busy holder back) free none closed refused = needs_none link parts.caller refused.1.number free refused.1.holds
 
-  -- a reopening wants for nothing but memory where the manager knows that the link is closed and has no caller, and this is not the last incarnation
-  pub no_fault : (v v' : View) (why : ReopenFault) → (why ≡ fault.NoMemory → ⊥) → v.is_closed ≡ true → v.inc ≡ 1 → ((number : ℕ) → end_of v.users number ≡ None) → IsReopening coded meaning v (Err why) v' → ⊥
-  no_fault v v' fault.NoMemory other closed first unused told = other refl
-  no_fault v v' (fault.StillOpen era) other closed first unused told = true≢false (sym closed ∙ told.2)
-  no_fault v v' (fault.StillTurn holder) other closed first unused told = ?
-  no_fault v v' (fault.StillHeld caller number) other closed first unused told = none-some told.8.0 (sym (unused caller) ∙ told.8.1)
-  no_fault v v' fault.IncarnationsSpent other closed first unused told =
+  -- a reopening wants for nothing but memory and a turn where the manager knows that the link is closed and has no caller, and this is not the last incarnation
+  pub no_fault : (v v' : View) (why : ReopenFault) → (why ≡ fault.NoMemory → ⊥) → ((holder : ℕ) → why ≡ fault.StillTurn holder → ⊥) → v.is_closed ≡ true → v.inc ≡ 1 → ((number : ℕ) → end_of v.users number ≡ None) → IsReopening coded meaning v (Err why) v' → ⊥
+  no_fault v v' fault.NoMemory no_memory turn closed first unused told = no_memory refl
+  no_fault v v' (fault.StillOpen era) no_memory turn closed first unused told = true≢false (sym closed ∙ told.2)
+  no_fault v v' (fault.StillTurn holder) no_memory turn closed first unused told = turn holder refl
+  no_fault v v' (fault.StillHeld caller number) no_memory turn closed first unused told = none-some told.8.0 (sym (unused caller) ∙ told.8.1)
+  no_fault v v' fault.IncarnationsSpent no_memory turn closed first unused told =
       unspent (option_or (least_hand told.1.hands) (least_hand told.3.hands)) (ap (λ (inc : ℕ). unopened_from told.1.hands told.3.hands inc) (sym first) ∙ told.6)

@@ -8,6 +8,7 @@ pub mod Made
 pub mod Moves
 pub mod Ranges
 pub mod Reclaimed
+pub mod StormBooks
 pub mod Takers
 pub mod Told
 pub mod UsedNumbers

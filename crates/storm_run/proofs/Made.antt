@@ -37,10 +37,10 @@ pub made_none : (plan : Plan) (sizes : LinkSizes) (manager : Manager) → manage
 made_none plan sizes manager new first knows =
     let users : manager.users ≡ replicate 64 None = sym knows ∙ ap (λ (s : SeatState). s.0.users) new in record {
       inc = ap (λ (s : SeatState). s.0.inc) new ∙ first;
-      many = ap length users ∙ length-replicate 64 None;
+      many = ap length users ∙ length-replicate {A = Option End} 64 None;
       used = λ number below. absurd (omega (arith, below));
       unused = λ number above. ap (λ (l : List (Option End)). end_of l number) users ∙ none_in 64 number;
-      none_ended = ap (λ (s : SeatState). s.0.reclaims) new;
+      none_freed = ap (λ (s : SeatState). s.0.reclaims) new;
     }
 
 -- the next caller gets the next number
@@ -95,14 +95,14 @@ module _ (link : SharedLink Side) (plan : Plan) (made : ℕ) (end : End) (before
     many = ap length users ∙ (length-set before.users made (Some end) ∙ had.many);
     used = used_at;
     unused = λ k above. ap (λ (l : List (Option End)). end_of l k) users ∙ (end_else before.users made k (Some end) (λ same. omega (arith, above, same)) ∙ had.unused k (omega (arith, above)));
-    none_ended = ap (λ (v : View). v.reclaims) view ∙ had.none_ended;
+    none_freed = ap (λ (v : View). v.reclaims) view ∙ had.none_freed;
   }
 
   first_is : (pass_in caller.seat.me).first ≡ FIRST
   first_is =
       ap (λ (s : SeatState). (pass_in s).first) making.seat
       ∙ (ap (λ (ps : List Pass). (first_pass ps).first) (caller_after end before.seat.me.0 made known).0
-      ∙ (ap (λ (ns : List ℕ). cond (is_listed made ns) (before.seat.me.0.inc + 1) before.seat.me.0.inc) had.none_ended ∙ had.inc))
+      ∙ (ap (λ (ns : List ℕ). cond (is_listed made ns) (before.seat.me.0.inc + 1) before.seat.me.0.inc) had.none_freed ∙ had.inc))
 
   pub new_one : IsNewCaller link plan made caller
   new_one = record {

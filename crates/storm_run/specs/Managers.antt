@@ -7,6 +7,7 @@ use Rattle.lane_model.specs.Links.{end_of}
 use Rattle.rp_base.specs.declared.kinds.End.{End}
 use Rattle.rp_base.specs.declared.kinds.End.TheVariants as side
 use Rattle.link_words.specs.declared.rule.Event.{Event}
+use Rattle.link_words.specs.declared.rule.Pass.{Pass}
 use Rattle.link_words.specs.Histories.{seen, sends_in}
 use Rattle.link_words.specs.Passes.{HasNumber}
 use Rattle.link_words.specs.Words.{other}
@@ -67,16 +68,26 @@ pub record HasMade (plan : Plan) (made : ℕ) (manager : Manager) : Type 0 where
   pub many : length manager.users ≡ 64
   pub used : (number : ℕ) → number < made → end_of manager.users number ≡ Some (end_at plan number)
   pub unused : (number : ℕ) → made ≤ number → end_of manager.users number ≡ None
-  pub none_ended : manager.seat.me.0.reclaims ≡ []
+  pub none_freed : manager.seat.me.0.reclaims ≡ []
 
 -- these are the callers of the first numbers, and each is free
 abbrev pub AreNumbered : SharedLink Side → List Caller → Type 0
 AreNumbered link callers = (number : ℕ) (d : Caller) → number < length callers → IsFree link (slice_index_or callers number d) × ((slice_index_or callers number d).id.number ≡ number)
 
--- it knows that the link is closed, and has reclaimed the first ones of its callers
-pub record HasEnded (callers : List Caller) (ended : ℕ) (manager : Manager) : Type 0 where
+-- one of these passes is that of this caller, as far as the books tell of it
+pub record HasPassOf (caller : Caller) (passes : List Pass) : Type 0 where
+  pub place : ℕ
+  pub pass : Pass
+  pub here : get_elem? passes place ≡ some pass
+  pub number : pass.number ≡ caller.id.number
+  pub first : pass.first ≡ (pass_in caller.seat.me).first
+  pub own : pass.own ≡ own_of caller
+
+-- the manager knows that the link is closed, and has reclaimed so many of its callers, the first ones, whose passes it has kept
+pub record HasReclaimed (callers : List Caller) (reclaimed : ℕ) (manager : Manager) : Type 0 where
   pub inc : manager.seat.me.0.inc ≡ FIRST
   pub closed : manager.seat.me.0.is_closed ≡ true
   pub many : length manager.users ≡ 64
-  pub unused : (number : ℕ) → (ended ≤ number → number < length callers → ⊥) → end_of manager.users number ≡ None
-  pub reclaims : (number : ℕ) → HasNumber manager.seat.me.0.reclaims number → number < length callers
+  pub unused : (number : ℕ) → (reclaimed ≤ number → number < length callers → ⊥) → end_of manager.users number ≡ None
+  pub freed : (number : ℕ) → HasNumber manager.seat.me.0.reclaims number → number < length callers
+  pub kept : (number : ℕ) (d : Caller) → number < reclaimed → HasPassOf (slice_index_or callers number d) manager.seat.me.0.ended

@@ -9,7 +9,7 @@ ghost use Rattle.split_ring.specs.Reclaims.{HasRetired};
 ghost use Rattle.split_ring.specs.Reopens.{AreTold};
 ghost use Rattle.split_ring.specs.Seats.{pass_in};
 ghost use Rattle.storm_run.specs.Counts.{AreStormBooks};
-ghost use Rattle.storm_run.specs.Managers.{AreNumbered, HasEnded};
+ghost use Rattle.storm_run.specs.Managers.{AreNumbered, HasReclaimed};
 ghost use Rattle.storm_run.specs.Rounds.{IsFree};
 ghost use Rattle.storm_run.specs.Storms.{IsPlan, storm_text};
 
@@ -20,7 +20,7 @@ use crate::rounds::round;
 use channel_bus::Side;
 use lane_model::{Books, ReopenFault};
 use rp_base::NoMemory;
-use split_ring::{Caller, Manager, Parts, SharedLink};
+use split_ring::{Caller, Manager, Parts, Pauses, SharedLink};
 use std::alloc::Global;
 use std::sync::Wait;
 use std::thread::Threads;
@@ -62,7 +62,7 @@ fn storm_books<R: Threads + Wait + Sync, G: Gate + Sync>(
     // Either way the link is closed then.
     let _ = link.close_by(&mut manager, FIRST);
     reclaim_all(alloc, &link, &mut manager, round.callers);
-    next_incarnation(alloc, &link, &mut manager)
+    next_incarnation(rt, alloc, &link, &mut manager)
 }
 
 /// Reclaims all callers of a closed link, of which none is in a call or holds anything.
@@ -73,10 +73,10 @@ fn reclaim_all(
     callers: Vec<Caller>,
 )
     requires manager { IsManagerOf link.now manager.old }
-    requires none { HasEnded callers.items 0 manager.old }
+    requires none { HasReclaimed callers.items 0 manager.old }
     requires callers { AreNumbered link.now callers.items }
     ensures manager { IsManagerOf link.now manager.new }
-    ensures all { HasEnded callers.items (length callers.items) manager.new }
+    ensures all { HasReclaimed callers.items (length callers.items) manager.new }
 {
     for caller in callers {
         reclaim_free(alloc, link, manager, caller);
@@ -108,8 +108,10 @@ fn reclaim_free(
     }
 }
 
-/// Opens the next incarnation of a closed link that has no caller: the books of the one that was closed.
-fn next_incarnation(
+/// Opens the next incarnation of a closed link that has no caller: the books of the one that was closed. It tries again while a
+/// turn is not free.
+fn next_incarnation<R: Wait>(
+    rt: &R,
     alloc: Global,
     link: &SharedLink<Side>,
     manager: &mut Manager,
@@ -119,9 +121,14 @@ fn next_incarnation(
     requires unused { (number : ℕ) → end_of manager.old.users number ≡ None }
     ensures { IfOk result (λ books. (told : End → LaneBooks) × AreBooksOf manager.old.seat.me.0 told × AreTold books told) }
 {
-    match link.reopen(alloc, manager) {
-        Ok(books) => Ok(books),
-        Err(ReopenFault::NoMemory) => Err(NoMemory),
-        Err(_) => unreachable!(),
+    let mut pauses = Pauses::new();
+    for _ in rt.forever() {
+        match link.reopen(alloc, manager) {
+            Ok(books) => return Ok(books),
+            Err(ReopenFault::NoMemory) => return Err(NoMemory),
+            Err(ReopenFault::StillTurn(_)) => pauses.pause(),
+            Err(_) => unreachable!(),
+        }
     }
+    unreachable!()
 }

@@ -2,7 +2,7 @@ use Rattle.std.proofs.Common.{◌≡◌, ◌<◌, ◌∙◌, ◌+◌, ℕ, lengt
 use Rattle.std.proofs.lemmas.Iterator.Adapters.{YieldsList-from_vec}
 use Rattle.std.proofs.lemmas.Iterator.Consumers.{YieldsList-turn}
 use Rattle.std.proofs.lemmas.List.{length_push}
-use Rattle.storm_run.specs.Managers.{HasEnded}
+use Rattle.storm_run.specs.Managers.{HasReclaimed}
 use Rattle.storm_run.proofs.Reclaimed.{at_place, reclaimed_one}
 use Rattle.storm_run.proofs.storms.reclaim_all.Goals as goal
 
@@ -22,6 +22,6 @@ loop-caller-preserved c =
       goes_on = tt;
       ends = tt;
       manager = c.reclaim_free.ensures.manager;
-      ended = subst (λ (k : ℕ). HasEnded c.args.callers.items k c.reclaim_free.new.manager) (sym (length_push c.loop-caller.yielded c.in-Some.caller))
-          (reclaimed_one c.args.link.now c.args.callers.items (length c.loop-caller.yielded) c.loop-caller.manager c.reclaim_free.new.manager c.in-Some.caller c.requires.callers taken c.loop-caller.invariant.ended c.reclaim_free.ensures.retired c.reclaim_free.ensures.users);
+      reclaimed = subst (λ (k : ℕ). HasReclaimed c.args.callers.items k c.reclaim_free.new.manager) (sym (length_push c.loop-caller.yielded c.in-Some.caller))
+          (reclaimed_one c.args.link.now c.args.callers.items (length c.loop-caller.yielded) c.loop-caller.manager c.reclaim_free.new.manager c.in-Some.caller c.requires.callers taken c.loop-caller.invariant.reclaimed c.reclaim_free.ensures.retired c.reclaim_free.ensures.users);
     }
