@@ -41,7 +41,7 @@ append_none [] = refl
 append_none {A = A} (x ∷ xs) = ap (λ (l : List A). x ∷ l) (append_none xs)
 
 -- an entry of another caller
-entries_other : (caller number : ℕ) (bs : List BookEntry) (b : BookEntry) → b.caller ≢ caller → entries_by caller number (bs ++ b ∷ []) ≡ entries_by caller number bs
+pub entries_other : (caller number : ℕ) (bs : List BookEntry) (b : BookEntry) → b.caller ≢ caller → entries_by caller number (bs ++ b ∷ []) ≡ entries_by caller number bs
 entries_other caller number bs b apart = entries_push caller number bs b
     ∙ (ap (λ (y : Bool). entries_by caller number bs ++ cond y ((number + length bs, b.message) ∷ []) []) (ne_eqb b.caller caller apart) ∙ append_none (entries_by caller number bs))
 
@@ -86,7 +86,7 @@ grows_kept : {D : Type 0} (s old : RingState D) → s.lane.lane.accepted ≡ old
 grows_kept s old book handed back = let a = ap length book in let h = ap length handed in record { accepted = omega (arith, a); handed = omega (arith, h); returned = back }
 
 -- an entry more leaves what was read
-read_push : (e : End) (inc : ℕ) (book : List BookEntry) (entry : BookEntry) (own : List Event) → ReadsIn e inc book own → ReadsIn e inc (book ++ entry ∷ []) own
+pub read_push : (e : End) (inc : ℕ) (book : List BookEntry) (entry : BookEntry) (own : List Event) → ReadsIn e inc book own → ReadsIn e inc (book ++ entry ∷ []) own
 read_push e inc book entry [] has = tt
 read_push e inc book entry (Step made ∷ own) has = read_push e inc book entry own has
 read_push e inc book entry (Count lane i counts ∷ own) has = read_push e inc book entry own has

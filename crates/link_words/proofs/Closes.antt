@@ -1,4 +1,5 @@
 -- The close is that of the ring form, made by any seat.
+use Rattle.std.proofs.lemmas.Bool.{eqb-true}
 use Rattle.link_words.specs.Steps.{IsCloseOf}
 use Rattle.link_words.specs.declared.codes.DeskTables.{DeskTables}
 use Rattle.link_words.specs.PlacedDesks.{PlacedDesk}
@@ -35,8 +36,10 @@ use Rattle.link_words.specs.Codes.{copied}
 use Rattle.link_words.specs.Passes.{Mover, with_pass, with_call}
 use Rattle.link_words.specs.Calls.{SeatState}
 use Rattle.link_words.proofs.Tells.{ClosesEraBy}
+use Rattle.link_words.specs.Seats.{is_closed_behind}
 use Rattle.link_words.proofs.Frames.{some_copy, each_set, numbers_set, keepers_set, manager_set}
 use Rattle.link_words.proofs.Kept.{deed_kept}
+use Rattle.link_words.proofs.Quiet.{ended_by}
 use Rattle.link_words.proofs.Parts.{state_in, told_in, buffers_in, put_together, one_more}
 
 -- an era can be read off its word
@@ -62,6 +65,11 @@ and_false false = refl
 not_live_in : (inc found : ℕ) (live : Bool) → ((found ≡ inc) → live ≡ true → ⊥) → is_live_in (record { inc = found; is_live = live }) inc ≡ false
 not_live_in inc found false never = and_false (eqb found inc)
 not_live_in inc found true never = ap (λ (b : Bool). b && true) (ne_eqb found inc (λ same. never same refl))
+
+-- an era that the attempt did not close is known to be closed where it was
+shut_behind : (inc found : ℕ) (live : Bool) → ((found ≡ inc) → live ≡ true → ⊥) → is_closed_behind inc (record { inc = found; is_live = live }) ≡ true → live ≡ false
+shut_behind inc found false never is = refl
+shut_behind inc found true never is = absurd (never (eqb-true found inc is) refl)
 
 -- a change of the era alone, which shuts it
 shut_call : {B : Type 0} {kc : Coded B} {kz : DeskTables} (m : LaneLink (RingState (PlacedDesk kc kz))) (inc : ℕ) (k : ℕ) (call : Call) → m.era ≡ record { inc = inc; is_live = true } → IsCallOf m 0 k call → IsCallOf (record m { era = record { inc = inc; is_live = false } }) 0 k call
@@ -116,7 +124,7 @@ module _ {B : Type 0} {kc : Coded B} {kz : DeskTables} (cd : Coded (PlacedDesk k
             })
             (record {
               places = numbers_set st.views id v u o w at refl refl r.numbers.places;
-              manager = manager_set st.views id v u o w at refl cd m m refl refl refl refl (λ old. old) (λ j y apart there manages. refl) (λ n none was not. was not) (λ n none Q was not. was not) (λ old. old) (λ j y apart there manages old. old) (λ k same _. sym (some_copy (copied cd m) k same)) r.numbers.manager;
+              manager = manager_set st.views id v u o w at refl cd m m refl refl refl refl (λ old. old) (λ j y apart there manages. refl) (λ n none was not. was not) (λ n none Q was not. was not) (λ old. old) (λ j y apart there manages old. old) (λ k same _. sym (some_copy (copied cd m) k same)) (λ old. old) (λ j y apart there manages p has. has) r.numbers.manager;
               many = r.numbers.many;
               short = r.numbers.short;
             }),
@@ -149,17 +157,45 @@ module _ {B : Type 0} {kc : Coded B} {kz : DeskTables} (cd : Coded (PlacedDesk k
         }),
   )
 
+  -- the same, where the view knows whether the era is closed
+  stays_knowing : (st : State Slot View) (m : LaneLink (RingState (PlacedDesk kc kz))) (p : ℕ) → Shows cd desk z st m p → (i n id : ℕ) (cs : List (ℕ × Slot)) (v : View) (o : Mover v) (b : Bool) (d : Deed) → get_elem? st.views id ≡ some v → n ≡ get_or st.words i 0
+      → MayDo desk m d → m ≡ after_deed desk m d → (b ≡ true → m.era.is_live ≡ false) → WordsRule cd desk z (stepped st i n id cs (record v { copy = Some (copied cd m); is_closed = b }) keeps)
+  stays_knowing st m p r i n id cs v o b d at found may deed shut =
+      let u = record v { copy = Some (copied cd m); is_closed = b } in let again = sym (set_again v.passes o.place o.pass o.here) in let each = each_set st.views id v u o o.pass at again in (
+        m,
+        p,
+        put_together (ap (set st.words i) found ∙ (set-get_or st.words i 0 ∙ r.words_are))
+            r.shelves r.homes_are
+            (state_in r) (told_in r) (buffers_in r) (one_more desk m _ d r.reached may deed)
+            (record {
+              calls = each (HasCall m p) (HasCall m p) r.numbers.places r.turns.calls (λ j l q there apart had. had) (r.turns.calls id o.place o.pass (v, at, o.here));
+              keepers = keepers_set st.views id v u o o.pass at again refl (λ i k. k) r.turns.keepers;
+              still = r.turns.still;
+            })
+            (record {
+              own = each (HistoryOf m) (HistoryOf m) r.numbers.places r.histories.own (λ j l q there apart had. had) (r.histories.own id o.place o.pass (v, at, o.here));
+              hands = each (HandsOf m) (HandsOf m) r.numbers.places r.histories.hands (λ j l q there apart had. had) (r.histories.hands id o.place o.pass (v, at, o.here));
+              latest = each (LatestOf m) (LatestOf m) r.numbers.places r.histories.latest (λ j l q there apart had. had) (r.histories.latest id o.place o.pass (v, at, o.here));
+            })
+            (record {
+              places = numbers_set st.views id v u o o.pass at again refl r.numbers.places;
+              manager = manager_set st.views id v u o o.pass at again cd m m refl refl refl refl (λ old. old) (λ j y apart there manages. refl) (λ n none was not. was not) (λ n none Q was not. was not) (λ old. shut) (λ j y apart there manages old. old) (λ k same _. sym (some_copy (copied cd m) k same)) (λ old. old) (λ j y apart there manages p has. has) r.numbers.manager;
+              many = r.numbers.many;
+              short = r.numbers.short;
+            }),
+      )
+
   pub closes : (n id : ℕ) (me : SeatState) (o : Mover me.0) (inc old new : ℕ) → old ≡ era_word (record { inc = inc; is_live = true }) → new ≡ era_word (record { inc = inc; is_live = false })
-      → Allows (WordsRule cd desk z) n id me 1 (λ y. either (eqb y old) new y) (λ y me'. ClosesEraBy me y me' × IsCloseOf cd desk inc y me me')
+      → Allows (WordsRule cd desk z) n id me 1 (λ y. either (eqb y old) new y) (λ y me'. ClosesEraBy inc me y me' × IsCloseOf cd desk inc y me me')
   closes n id me o inc old new is_old is_new st (m, p, r₀) wide at _ =
       let y : ℕ = get_or st.words 1 0 in let word : y ≡ era_word m.era = ap (λ (ws : List ℕ). get_or ws 1 0) r₀.words_are in
-      exchanged y old new (λ f. (w : View) × (a : Act Slot) × Valid st.homes me.1 a × WordsRule cd desk z (stepped st 1 f id me.1 w a) × (ClosesEraBy me y (w, carried_after me.1 a) × IsCloseOf cd desk inc y me (w, carried_after me.1 a)))
+      exchanged y old new (λ f. (w : View) × (a : Act Slot) × Valid st.homes me.1 a × WordsRule cd desk z (stepped st 1 f id me.1 w a) × (ClosesEraBy inc me y (w, carried_after me.1 a) × IsCloseOf cd desk inc y me (w, carried_after me.1 a)))
       (λ hit.
       let era : m.era ≡ record { inc = inc; is_live = true } = era_of_word m.era (record { inc = inc; is_live = true }) (sym word ∙ (hit ∙ is_old)) in
       let r : Shows cd desk z st m 0 = ⊎_elim (λ (none_reset : p ≡ 0). subst (Shows cd desk z st m) none_reset r₀) (λ (still : IsStill m). absurd (true-false (ap (λ (x : Era). x.is_live) (sym era) ∙ still.0))) r₀.turns.still in
       let m' : LaneLink (RingState (PlacedDesk kc kz)) = record m { era = record { inc = inc; is_live = false } } in
       let deed : m' ≡ link_after_close m inc = sym (ap (λ (b : Bool). cond b m' m) (live_in m.era inc era)) in
-      let u = record me.0 { copy = Some (copied cd m') } in let again = sym (set_again me.0.passes o.place o.pass o.here) in let each = each_set st.views id me.0 u o o.pass at again in (
+      let u = record me.0 { copy = Some (copied cd m'); is_closed = is_closed_behind inc m.era } in let again = sym (set_again me.0.passes o.place o.pass o.here) in let each = each_set st.views id me.0 u o o.pass at again in (
         u,
         keeps,
         tt,
@@ -181,19 +217,20 @@ module _ {B : Type 0} {kc : Coded B} {kz : DeskTables} (cd : Coded (PlacedDesk k
               })
               (record {
                 places = numbers_set st.views id me.0 u o o.pass at again refl r.numbers.places;
-                manager = manager_set st.views id me.0 u o o.pass at again cd m m' refl refl refl refl (λ old. old ∙ ap (λ (x : Era). x.inc) era) (λ j y apart there manages. ap (λ (x : Era). x.inc) (sym era)) (λ n none was not. none_shut m inc n (was not)) (λ n none Q was not. none_shut m inc n (was not)) (λ old _. refl) (λ j y apart there manages old. refl) (λ k same _. sym (some_copy (copied cd m') k same)) r.numbers.manager;
+                manager = manager_set st.views id me.0 u o o.pass at again cd m m' refl refl refl refl (λ old. old ∙ ap (λ (x : Era). x.inc) era) (λ j y apart there manages. ap (λ (x : Era). x.inc) (sym era)) (λ n none was not. none_shut m inc n (was not)) (λ n none Q was not. none_shut m inc n (was not)) (λ old _. refl) (λ j y apart there manages old. refl) (λ k same _. sym (some_copy (copied cd m') k same)) (λ old i p has. ended_by desk m m' (Closes inc) deed (λ _. refl) p (old i p has)) (λ j y apart there manages. ended_by desk m m' (Closes inc) deed (λ _. refl)) r.numbers.manager;
                 many = r.numbers.many;
                 short = subst (λ (x : Era). x.inc < 4294967296) era r.numbers.short;
               }),
         ),
-        ((m.era, word, r.numbers.short, refl), record { state = m; sound = state_in r; found = word; copy = λ k manages none was. ((r.numbers.manager id me.0 at manages).copy k was none, ap (λ (x : LaneLink (RingState (PlacedDesk kc kz))). Some (copied cd x)) deed) }),
+        ((m.era, word, r.numbers.short, refl, λ manages. sym (r.numbers.manager id me.0 at manages).inc), record { state = m; sound = state_in r; found = word; copy = λ k manages none was. ((r.numbers.manager id me.0 at manages).copy k was none, ap (λ (x : LaneLink (RingState (PlacedDesk kc kz))). Some (copied cd x)) deed) }),
       ))
       (λ miss.
-      let other : is_live_in m.era inc ≡ false = not_live_in inc m.era.inc m.era.is_live (λ same live. miss (word ∙ ((λ k. era_word (record { inc = same k; is_live = live k })) ∙ sym is_old))) in
+      let never : m.era.inc ≡ inc → m.era.is_live ≡ true → ⊥ = λ same live. miss (word ∙ ((λ k. era_word (record { inc = same k; is_live = live k })) ∙ sym is_old)) in
+      let other : is_live_in m.era inc ≡ false = not_live_in inc m.era.inc m.era.is_live never in
       let same : m ≡ link_after_close m inc = sym (ap (λ (b : Bool). cond b (record m { era = record { inc = inc; is_live = false } }) m) other) in (
-        me.0,
+        record me.0 { copy = Some (copied cd m); is_closed = is_closed_behind inc m.era },
         keeps,
         tt,
-        stays st m p r₀ 1 y id me.1 me.0 (Closes inc) at refl tt same,
-        ((m.era, word, r₀.numbers.short, refl), record { state = m; sound = state_in r₀; found = word; copy = λ k manages none was. let is = (r₀.numbers.manager id me.0 at manages).copy k was none in (is, was ∙ ap Some (is ∙ ap (copied cd) same)) }),
+        stays_knowing st m p r₀ 1 y id me.1 me.0 o (is_closed_behind inc m.era) (Closes inc) at refl tt same (shut_behind inc m.era.inc m.era.is_live never),
+        ((m.era, word, r₀.numbers.short, refl, λ manages. sym (r₀.numbers.manager id me.0 at manages).inc), record { state = m; sound = state_in r₀; found = word; copy = λ k manages none was. ((r₀.numbers.manager id me.0 at manages).copy k was none, ap (λ (x : LaneLink (RingState (PlacedDesk kc kz))). Some (copied cd x)) same) }),
       ))

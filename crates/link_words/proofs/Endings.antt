@@ -5,7 +5,7 @@ use Rattle.link_words.specs.Seats.{Settles}
 use Rattle.link_words.proofs.Books.{none_with}
 use Rattle.link_words.proofs.Froms.{stands_left, stands_right}
 use Rattle.std.proofs.Common.{suc}
-use Rattle.std.proofs.Common.{◌≡◌, ◌≢◌, ℕ, zero, suc, ◌-◌, Bool, true, false, List, [], ◌∷◌, get_or, set, refl, sym, ap, ◌∙◌, subst, ⊎_elim, arith, length-set, ◌||◌, not}
+use Rattle.std.proofs.Common.{◌≡◌, ◌≢◌, ℕ, zero, suc, ◌-◌, Bool, true, false, List, [], ◌∷◌, ◌++◌, get_or, set, refl, sym, ap, ◌∙◌, subst, ⊎_elim, arith, length-set, ◌||◌, not}
 use Rattle.std.specs.Prelude.{Option, Some, None, slice_set}
 use mathlib.Core.Option.{some, some-injective, some-ne-none}
 use mathlib.Core.Path.{Path}
@@ -27,11 +27,15 @@ use Rattle.link_words.specs.declared.rule.Call.TheVariants.{Rests}
 use Rattle.link_words.specs.declared.rule.Pass.{Pass}
 use Rattle.link_words.specs.declared.rule.View.{View}
 use Rattle.link_words.specs.Words.{other, lane_to}
-use Rattle.link_words.specs.Passes.{PassAt, HasNumber, Manages, Mover, numbers_of, spent_view, without_pass, after_end_at, callers_without, after_end_with}
+use Rattle.link_words.specs.Passes.{PassAt, HasNumber, Manages, Mover, numbers_of, spent_view, without_pass, after_end_at, callers_without, after_end_with, only_pass}
 use Rattle.link_words.specs.Deeds.{Frees, MayDo}
 use Rattle.link_words.specs.Rule.{HasCall, IsCallOf, HistoryOf, HandsOf, Shows, WordsRule, LatestOf}
 use Rattle.link_words.specs.Parts.{Knows, ManagerKnows}
-use Rattle.link_words.specs.Histories.{hands_of}
+use Rattle.link_words.specs.Histories.{hands_of, HasEnded, IsQuiet}
+use Rattle.link_words.proofs.Quiet.{ended_more, ended_with, quiet_apart, quiet_uncalled}
+use Rattle.lane_model.specs.Links.{link_of}
+use Rattle.lane_model.specs.Soundness.{SoundLink}
+use Rattle.ring_core.specs.RingSteps.{ring_form}
 use Rattle.link_words.specs.Calls.{SeatState}
 use Rattle.link_words.specs.Passes.{after_settle}
 use Rattle.link_words.specs.Codes.{copied}
@@ -103,6 +107,11 @@ end_from views id v o c at j l q (u, eu, eq) = ⊎_elim
     (λ (x : (j ≢ id) × (get_elem? views j ≡ some u)). ((j, l), (u, x.1, eq), gone_not id o.place j l x.0, λ same. absurd (x.0 same)))
     (at_set views id j (after_end_at v o c) u eu)
 
+only_here : (k : ℕ) (ps : List Pass) (p : Pass) → get_elem? ps k ≡ some p → only_pass k ps ≡ p ∷ []
+only_here k [] p at = absurd (some-ne-none p (sym at))
+only_here zero (q ∷ ps) p at = ap (λ (x : Pass). x ∷ []) (some-injective q p at)
+only_here (suc k) (q ∷ ps) p at = only_here k ps p at
+
 removed_manages : (v : View) (o : Mover v) (c : Option LinkCopy) → Manages (after_end_at v o c) → Manages v
 removed_manages v o c (k, b, e, is) = let r = removed_at o.place v.passes k b e in (r.0, b, r.1, is)
 
@@ -110,6 +119,22 @@ module _ {B : Type 0} {kc : Coded B} {kz : DeskTables} (cd : Coded (PlacedDesk k
   frees_may : (m : LaneLink (RingState (PlacedDesk kc kz))) (p : ℕ) (e : End) (n : ℕ) → m.era.is_live ≡ false → IsCallOf m p n (Rests e) → hands_of n (lane_to m e).lane.lane.held ≡ [] → MayDo desk m (Frees e n)
   frees_may m p side.Host n shut rests bare = (shut, rests.0, (or_false (has_call m.to_remote.lane.sender n) (has_call m.to_host.lane.receiver n) rests.1 rests.2, none_held n m.to_host.lane.lane.held bare))
   frees_may m p side.Remote n shut rests bare = (shut, rests.0, (or_false (has_call m.to_host.lane.sender n) (has_call m.to_remote.lane.receiver n) rests.1 rests.2, none_held n m.to_remote.lane.lane.held bare))
+
+  remote_host : Some side.Remote ≡ Some side.Host → ⊥
+  remote_host e = absurd (cc)
+
+  host_remote : Some side.Host ≡ Some side.Remote → ⊥
+  host_remote e = absurd (cc)
+
+  -- a caller that rests in a closed era: the books say of it what it did, and nothing comes in under its number
+  ended_rested : (m : LaneLink (RingState (PlacedDesk kc kz))) (p : ℕ) (q : Pass) (e : End) → m.era.is_live ≡ false → SoundLink (link_of (ring_form desk) m) → IsCallOf m p q.number (Rests e) → HistoryOf m q → HasEnded m q
+  ended_rested m p q e shut sound rests has = record { closed = shut; history = has; quiet = λ i. quiet e i rests }
+    where
+      quiet : (e i : End) → IsCallOf m p q.number (Rests e) → IsQuiet (lane_to m i).lane.sender q.number
+      quiet side.Host side.Host rests = quiet_apart m.callers side.Remote side.Host m.to_host.lane.sender q.number sound.to_host.sender rests.0 remote_host
+      quiet side.Host side.Remote rests = quiet_uncalled m.to_remote.lane.sender q.number rests.1
+      quiet side.Remote side.Host rests = quiet_uncalled m.to_host.lane.sender q.number rests.1
+      quiet side.Remote side.Remote rests = quiet_apart m.callers side.Host side.Remote m.to_remote.lane.sender q.number sound.to_remote.sender rests.0 host_remote
 
   -- the number n is free, and its pass is in no view
   freed : (st : State Slot View) (m : LaneLink (RingState (PlacedDesk kc kz))) (p : ℕ) (r : Shows cd desk z st m p) (views : List View) (went : Spot → Spot) → From st.views views went → (e : End) (n : ℕ)
@@ -137,6 +162,7 @@ module _ {B : Type 0} {kc : Coded B} {kz : DeskTables} (cd : Coded (PlacedDesk k
         users = ap (λ (us : List (Option End)). slice_set us n None) known.users;
         inc = known.inc;
         unused = λ i none not. none_with m (slice_set m.callers n None) i (known.unused i (sym (end_else m.callers n i None (λ same. not (0, ap some same))) ∙ none) (λ (was : HasNumber v.reclaims i). not (suc was.0, was.1)));
+        ended = λ j a has. ended_with m (slice_set m.callers n None) a (ended_more m o.pass v.ended (ended_rested m p o.pass e (known.closed shut) r.sound rests (r.histories.own id o.place o.pass (v, at, o.here))) known.ended j a has);
         closed = known.closed;
         out = λ j l q there away. ⊎_elim (λ (b : (j ≡ id) × (u ≡ there.0)). absurd (away (b.0 ∙ sym x.0)))
             (λ (b : (j ≢ id) × (get_elem? st.views j ≡ some there.0)). known.out j l q (there.0, b.1, there.2) b.0) (at_set st.views id j u there.0 there.1);
@@ -180,6 +206,7 @@ module _ {B : Type 0} {kc : Coded B} {kz : DeskTables} (cd : Coded (PlacedDesk k
         users = ap (λ (ps : List Pass). callers_without ps v.users) only ∙ ap (λ (us : List (Option End)). slice_set us n None) known.users;
         inc = known.inc;
         unused = λ i none not. none_with m (slice_set m.callers n None) i (known.unused i (sym (end_else m.callers n i None (λ same. not (stands_left (numbers_of w.passes) v.reclaims i (subst (λ (ps : List Pass). HasNumber (numbers_of ps) i) (sym only) (0, ap some same))))) ∙ none) (λ (was : HasNumber v.reclaims i). not (stands_right (numbers_of w.passes) v.reclaims i was)));
+        ended = λ j a has. ended_with m (slice_set m.callers n None) a (ended_more m q v.ended (ended_rested m p q e (known.closed shut) r.sound rests (r.histories.own other 0 q mine)) known.ended j a (ap (λ (ps : List Pass). get_elem? (ps ++ v.ended) j) (sym only) ∙ has));
         closed = known.closed;
         out = λ j l a here away. known.out j l a (before j l a here).0 (λ same. away (same ∙ sym b.0));
         copy = λ c same _. absurd (none_some c same);
@@ -210,13 +237,14 @@ module _ {B : Type 0} {kc : Coded B} {kz : DeskTables} (cd : Coded (PlacedDesk k
               users = known.users;
               inc = known.inc;
               unused = known.unused;
+              ended = known.ended;
               closed = shut_is m.era.is_live;
               out = λ j l a here away. known.out j l a (before j l a here) (λ same. away (same ∙ sym x.0));
               copy = known.copy;
             }))
             (λ (x : (i ≢ id) × (get_elem? st.views i ≡ some y)). absurd (x.0 (one_manager st.views r.numbers.places i id y me.0 x.1 manages_y at manages)))
             (at_set st.views id i u y ey))),
-        (m.era, ap (λ (ws : List ℕ). get_or ws 1 0) r.words_are, r.numbers.short, refl, sym known.inc),
+        (m.era, ap (λ (ws : List ℕ). get_or ws 1 0) r.words_are, r.numbers.short, refl, sym known.inc, known.closed),
       )
 
   -- the idle word is read by an exchange of 0 for 0, which names the caller
@@ -225,12 +253,13 @@ module _ {B : Type 0} {kc : Coded B} {kz : DeskTables} (cd : Coded (PlacedDesk k
   ends_named slots id me o e caller manages shut number place call bare st (m, p, r) wide at _ =
       let y : ℕ = get_or st.words 0 0 in
       let same : either (eqb y 0) 0 y ≡ y = exchanged y 0 0 (λ f. f ≡ y) (λ hit. sym hit) (λ miss. refl) in
+      let kept : o.pass ∷ [] ≡ only_pass (place_of_number caller me.0.passes) me.0.passes = sym (only_here o.place me.0.passes o.pass o.here) ∙ ap (λ (k : ℕ). only_pass k me.0.passes) place in
       let c = Some (copied cd (record m { callers = slice_set m.callers o.pass.number None })) in (
         after_end_at me.0 o c,
         keeps,
         tt,
         subst (λ (ws : List ℕ). WordsRule cd desk z (record { words = ws; homes = st.homes; views = set st.views id (after_end_at me.0 o c) })) (sym (ap (set st.words 0) same ∙ set-get_or st.words 0 0)) (ends st m p r id me.0 o e at manages shut call bare),
-        (λ k. (record me.0 { copy = c; reclaims = number k ∷ me.0.reclaims; passes = without_pass (place k) me.0.passes; users = slice_set me.0.users (number k) None }, me.1)),
+        (λ k. (record me.0 { copy = c; reclaims = number k ∷ me.0.reclaims; ended = kept k ++ me.0.ended; passes = without_pass (place k) me.0.passes; users = slice_set me.0.users (number k) None }, me.1)),
       )
 
   -- all that were out have come back: the manager knows the state
@@ -250,6 +279,7 @@ module _ {B : Type 0} {kc : Coded B} {kz : DeskTables} (cd : Coded (PlacedDesk k
               users = known.users;
               inc = known.inc;
               unused = known.unused;
+              ended = known.ended;
               closed = known.closed;
               out = λ j l a here away. let old = before j l a here in let apart : j ≢ id = λ same. away (same ∙ sym x.0) in let b = back a.number (known.out j l a old apart) in let q = number_from me.0.passes a.number b.0 b.1 in
                   absurd (apart (r.numbers.places j l id b.0 a q.0 old (me.0, at, q.1) (sym q.2)).0);

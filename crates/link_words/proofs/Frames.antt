@@ -3,7 +3,7 @@ use Rattle.link_words.specs.declared.codes.DeskTables.{DeskTables}
 use Rattle.link_words.specs.PlacedDesks.{PlacedDesk}
 use Rattle.lane_model.specs.Links.{end_of}
 use Rattle.std.specs.Prelude.{None}
-use Rattle.link_words.specs.Histories.{NoneOf}
+use Rattle.link_words.specs.Histories.{NoneOf, HasEnded}
 use Rattle.std.proofs.Common.{◌≡◌, ◌≢◌, ◌⊎◌, ℕ, zero, suc, ◌+◌, ◌<◌, true, false, List, [], ◌∷◌, ◌++◌, length, get_or, set, refl, sym, ap, ◌∙◌, subst, ⊎_elim, inl, inr, arith}
 use mathlib.Core.Option.{some-ne-none, Option, some}
 use lib.ListN.{get_elem?}
@@ -98,8 +98,10 @@ module _ (views : List View) (id : ℕ) (v u : View) (o : Mover v) (w : Pass) (a
   -- what the manager knows of the callers and of who is out stands
   pub manager_set : {B : Type 0} {kc : Coded B} {kz : DeskTables} (cd : Coded (PlacedDesk kc kz)) (m m' : LaneLink (RingState (PlacedDesk kc kz))) → w.number ≡ o.pass.number → m'.callers ≡ m.callers → u.users ≡ v.users → u.out ≡ v.out → (v.inc ≡ m.era.inc → u.inc ≡ m'.era.inc) → ((i : ℕ) (y : View) → i ≢ id → get_elem? views i ≡ some y → Manages y → m'.era.inc ≡ m.era.inc)
       → ((n : ℕ) → end_of m.callers n ≡ None → ((HasNumber v.reclaims n → ⊥) → NoneOf m n) → (HasNumber u.reclaims n → ⊥) → NoneOf m' n) → ((n : ℕ) → end_of m.callers n ≡ None → ((Q : Type 0) → (Q → NoneOf m n) → Q → NoneOf m' n))
-      → ((v.is_closed ≡ true → m.era.is_live ≡ false) → u.is_closed ≡ true → m'.era.is_live ≡ false) → ((i : ℕ) (y : View) → i ≢ id → get_elem? views i ≡ some y → Manages y → m.era.is_live ≡ false → m'.era.is_live ≡ false) → ((k : LinkCopy) → u.copy ≡ Some k → u.out ≡ [] → k ≡ copied cd m') → ManagerKnows cd m views → ManagerKnows cd m' (set views id u)
-  manager_set cd m m' same callers users out inc others_inc fresh others_fresh shut others copies old i y ey manages =
+      → ((v.is_closed ≡ true → m.era.is_live ≡ false) → u.is_closed ≡ true → m'.era.is_live ≡ false) → ((i : ℕ) (y : View) → i ≢ id → get_elem? views i ≡ some y → Manages y → m.era.is_live ≡ false → m'.era.is_live ≡ false) → ((k : LinkCopy) → u.copy ≡ Some k → u.out ≡ [] → k ≡ copied cd m')
+      → (((k : ℕ) (p : Pass) → get_elem? v.ended k ≡ some p → HasEnded m p) → (k : ℕ) (p : Pass) → get_elem? u.ended k ≡ some p → HasEnded m' p) → ((i : ℕ) (y : View) → i ≢ id → get_elem? views i ≡ some y → Manages y → (p : Pass) → HasEnded m p → HasEnded m' p)
+      → ManagerKnows cd m views → ManagerKnows cd m' (set views id u)
+  manager_set cd m m' same callers users out inc others_inc fresh others_fresh shut others copies ends others_end old i y ey manages =
       ⊎_elim
       (λ (x : (i ≡ id) × (u ≡ y)).
       let k = old id v at (manages_set same (subst Manages (sym x.1) manages)) in
@@ -107,6 +109,7 @@ module _ (views : List View) (id : ℕ) (v u : View) (o : Mover v) (w : Pass) (a
         users = users ∙ (k.users ∙ sym callers);
         inc = inc k.inc;
         unused = λ n none not. fresh n (ap (λ cs. end_of cs n) (sym callers) ∙ none) (k.unused n (ap (λ cs. end_of cs n) (sym callers) ∙ none)) not;
+        ended = ends k.ended;
         closed = shut k.closed;
         out = λ j l q there apart. let b = before_set (λ a c. a.number ≡ c.number) (λ a. refl) (sym same) j l q there in
             subst (λ (z : List ℕ × ℕ). HasNumber z.0 z.1) (λ t. (sym out t, b.2 t)) (k.out j l b.0 b.1 (λ here. apart (here ∙ sym x.0)));
@@ -118,6 +121,7 @@ module _ (views : List View) (id : ℕ) (v u : View) (o : Mover v) (w : Pass) (a
         users = k.users ∙ sym callers;
         inc = k.inc ∙ sym (others_inc i y x.0 x.1 manages);
         unused = λ n none not. let before = ap (λ cs. end_of cs n) (sym callers) ∙ none in others_fresh n before (HasNumber y.reclaims n → ⊥) (k.unused n before) not;
+        ended = λ j p at. others_end i y x.0 x.1 manages p (k.ended j p at);
         closed = λ s. others i y x.0 x.1 manages (k.closed s);
         out = λ j l q there apart. let b = before_set (λ a c. a.number ≡ c.number) (λ a. refl) (sym same) j l q there in subst (HasNumber y.out) b.2 (k.out j l b.0 b.1 apart);
         copy = λ c same none_out. let stands = k.out id o.place o.pass (v, at, o.here) (λ here. x.0 (sym here)) in absurd (some-ne-none o.pass.number (sym (ap (λ (l : List ℕ). get_elem? l stands.0) (sym none_out) ∙ stands.1)));
@@ -125,9 +129,9 @@ module _ (views : List View) (id : ℕ) (v u : View) (o : Mover v) (w : Pass) (a
       (at_set views id i u y ey)
 
   -- the same, where the view changes in a pass alone
-  pub manager_stays : {B : Type 0} {kc : Coded B} {kz : DeskTables} (cd : Coded (PlacedDesk kc kz)) (m : LaneLink (RingState (PlacedDesk kc kz))) → w.number ≡ o.pass.number → u.users ≡ v.users → u.out ≡ v.out → u.inc ≡ v.inc → u.reclaims ≡ v.reclaims → u.is_closed ≡ v.is_closed → u.copy ≡ v.copy
+  pub manager_stays : {B : Type 0} {kc : Coded B} {kz : DeskTables} (cd : Coded (PlacedDesk kc kz)) (m : LaneLink (RingState (PlacedDesk kc kz))) → w.number ≡ o.pass.number → u.users ≡ v.users → u.out ≡ v.out → u.inc ≡ v.inc → u.reclaims ≡ v.reclaims → u.is_closed ≡ v.is_closed → u.copy ≡ v.copy → u.ended ≡ v.ended
       → ManagerKnows cd m views → ManagerKnows cd m (set views id u)
-  manager_stays cd m same users out inc reclaims closed copy old i y ey manages =
+  manager_stays cd m same users out inc reclaims closed copy ended old i y ey manages =
       ⊎_elim
       (λ (x : (i ≡ id) × (u ≡ y)).
       let k = old id v at (manages_set same (subst Manages (sym x.1) manages)) in
@@ -135,6 +139,7 @@ module _ (views : List View) (id : ℕ) (v u : View) (o : Mover v) (w : Pass) (a
         users = users ∙ k.users;
         inc = inc ∙ k.inc;
         unused = λ n none not. k.unused n none (λ has. not (subst (λ (l : List ℕ). HasNumber l n) (sym reclaims) has));
+        ended = λ j p at. k.ended j p (ap (λ (l : List Pass). get_elem? l j) (sym ended) ∙ at);
         closed = λ shut. k.closed (sym closed ∙ shut);
         out = λ j l q there apart. let b = before_set (λ a c. a.number ≡ c.number) (λ a. refl) (sym same) j l q there in
             subst (λ (z : List ℕ × ℕ). HasNumber z.0 z.1) (λ t. (sym out t, b.2 t)) (k.out j l b.0 b.1 (λ here. apart (here ∙ sym x.0)));
@@ -146,6 +151,7 @@ module _ (views : List View) (id : ℕ) (v u : View) (o : Mover v) (w : Pass) (a
         users = k.users;
         inc = k.inc;
         unused = k.unused;
+        ended = k.ended;
         closed = k.closed;
         out = λ j l q there apart. let b = before_set (λ a c. a.number ≡ c.number) (λ a. refl) (sym same) j l q there in subst (HasNumber y.out) b.2 (k.out j l b.0 b.1 apart);
         copy = k.copy;

@@ -97,7 +97,7 @@ module _ {B : Type 0} {kc : Coded B} {kz : DeskTables} (cd : Coded (PlacedDesk k
             })
             (record {
               places = λ i k j l p q ep eq _. let a = first z i k p ep in let b = first z j l q eq in (a.0 ∙ sym b.0, a.1 ∙ sym b.1);
-              manager = λ i v e manages. let a = only z i v e in subst (Knows cd m (first_view z 64 ∷ []) i) a.1 (record { users = refl; inc = refl; unused = λ n none not. nothing n; closed = λ never. absurd (false-true never); out = λ j l q there apart. absurd (apart ((first z j l q there).0 ∙ sym a.0)); copy = λ k never _. absurd (none_some k never) });
+              manager = λ i v e manages. let a = only z i v e in subst (Knows cd m (first_view z 64 ∷ []) i) a.1 (record { users = refl; inc = refl; unused = λ n none not. nothing n; ended = λ k p never. absurd (some-ne-none p (sym never)); closed = λ never. absurd (false-true never); out = λ j l q there apart. absurd (apart ((first z j l q there).0 ∙ sym a.0)); copy = λ k never _. absurd (none_some k never) });
               many = refl;
               short = low;
             }),

@@ -107,7 +107,7 @@ still_between callers sends receives live s q = record {
   receiver = tt;
 }
 
-of_taken : {C : Type 0} (P : ℕ → C → Type 0) (t : Turn C) → OfCall t P → OfCall (manager_takes t) P
+pub of_taken : {C : Type 0} (P : ℕ → C → Type 0) (t : Turn C) → OfCall t P → OfCall (manager_takes t) P
 of_taken P turn.Free has = tt
 of_taken P (turn.Taken caller call) has = has
 of_taken P (turn.Leaving caller end) has = tt
@@ -148,7 +148,7 @@ managed_rings s lane_turn.Sender q = record {
   work = q.work;
 }
 
-of_left : {C : Type 0} (P : ℕ → C → Type 0) (t : Turn C) → OfCall t P → OfCall (manager_leaves t) P
+pub of_left : {C : Type 0} (P : ℕ → C → Type 0) (t : Turn C) → OfCall t P → OfCall (manager_leaves t) P
 of_left P turn.Free has = tt
 of_left P (turn.Taken caller call) has = has
 of_left P (turn.Leaving caller end) has = tt

@@ -45,6 +45,7 @@ use Rattle.link_words.specs.Histories.{hands_of}
 use Rattle.link_words.proofs.Frames.{some_copy, each_set, numbers_set, keepers_set, manager_set, each_lane, words_seen, homes_seen, same_lane, same_shelf}
 use Rattle.link_words.proofs.Books.{history_kept, none_same}
 use Rattle.link_words.proofs.Kept.{deed_kept}
+use Rattle.link_words.proofs.Quiet.{ended_by}
 use Rattle.link_words.proofs.Parts.{state_in, told_in, IsAsTold, buffers_in, put_together, one_more}
 use Rattle.link_words.specs.Turns.{turns_of}
 
@@ -236,7 +237,8 @@ module _ {B : Type 0} {kc : Coded B} {kz : DeskTables} (cd : Coded (PlacedDesk k
       → IsOfNow m.era.inc w.number w.hands w.own → HandsOf (with_lane m e s') w → ((q : Pass) → o.pass.number ≢ q.number → HandsOf m q → HandsOf (with_lane m e s') q) → ((n : ℕ) → end_of m.callers n ≡ None → NoneOf m n → NoneOf (with_lane m e s') n) → AreKeepersApart (set st.views id (with_pass v o w (Some (copied cd (with_lane m e s')))))
       → WordsRule cd desk z (stepped st i n id cs (with_pass v o w (Some (copied cd (with_lane m e s')))) a)
   lane_moves_with z st m r e s s' is i n id cs v o w a d l' at may deed words homes shelved mine others number sizes history histories latest hand hands fresh keepers =
-      let each = each_set st.views id v (with_pass v o w (Some (copied cd (with_lane m e s')))) o w at refl in (
+      let each = each_set st.views id v (with_pass v o w (Some (copied cd (with_lane m e s')))) o w at refl in
+      let kept = ended_by desk m (with_lane m e s') d deed (λ shut. ap (λ (x : Era). x.is_live) (era_same desk m e s') ∙ shut) in (
         with_lane m e s',
         0,
         put_together (ap (λ (ws : List ℕ). set ws i n)
@@ -262,7 +264,8 @@ module _ {B : Type 0} {kc : Coded B} {kz : DeskTables} (cd : Coded (PlacedDesk k
               places = numbers_set st.views id v (with_pass v o w (Some (copied cd (with_lane m e s')))) o w at refl number r.numbers.places;
               manager = manager_set st.views id v (with_pass v o w (Some (copied cd (with_lane m e s')))) o w at refl cd m (with_lane m e s') number (callers_same desk m e s') refl refl (λ old. old ∙ ap (λ (x : Era). x.inc) (sym (era_same desk m e s'))) (λ j y apart there manages. ap (λ (x : Era). x.inc) (era_same desk m e s'))
                   (λ n none was not. fresh n none (was not)) (λ n none Q was not. fresh n none (was not))
-                  (λ old shut. ap (λ (x : Era). x.is_live) (era_same desk m e s') ∙ old shut) (λ j y apart there manages old. ap (λ (x : Era). x.is_live) (era_same desk m e s') ∙ old) (λ k same _. sym (some_copy (copied cd (with_lane m e s')) k same)) r.numbers.manager;
+                  (λ old shut. ap (λ (x : Era). x.is_live) (era_same desk m e s') ∙ old shut) (λ j y apart there manages old. ap (λ (x : Era). x.is_live) (era_same desk m e s') ∙ old) (λ k same _. sym (some_copy (copied cd (with_lane m e s')) k same))
+                  (λ old i p has. kept p (old i p has)) (λ j y apart there manages. kept) r.numbers.manager;
               many = ap length (callers_same desk m e s') ∙ r.numbers.many;
               short = subst (λ (x : Era). x.inc < 4294967296) (sym (era_same desk m e s')) r.numbers.short;
             }),

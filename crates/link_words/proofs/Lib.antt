@@ -25,6 +25,7 @@ pub mod Fresh
 pub mod Weakens
 pub mod Seen
 pub mod Books
+pub mod Quiet
 pub mod Held
 pub mod Exact
 pub mod Starts

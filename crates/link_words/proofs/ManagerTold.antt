@@ -79,11 +79,11 @@ module _ {B : Type 0} {kc : Coded B} {kz : DeskTables} (cd : Coded (PlacedDesk k
   manager_takes_turn lane_turn.Sender e place g is =
       exchanges (sender_word e) place (λ y. either (eqb y 0) 65 y) g.at.mover g.at.here (ManagerTakes lane_turn.Sender e) (TakesSenderBy cd desk z me g.at.mover e g.to_host g.to_remote) (ManagerTakesSender e me) is
       (takes_sender cd desk z n id me g.at.mover e g.to_host g.to_remote g.at.in_call)
-      (λ y me' t. ((λ hit. let h = t.0 hit in (h.0, called me (Gathers g.to_host g.to_remote) g.at (λ c. gathers_or c (gathered e (λ s. record s { sender = Some h.0 })) c) ((sender_slot e, Sender h.0) ∷ me.1) me' h.1)), t.1, t.2))
+      (λ y me' t. ((λ hit. let h = t.0 hit in (h.0, called me (Gathers g.to_host g.to_remote) g.at (λ c. gathers_or c (gathered e (λ s. record s { sender = Some h.0 })) c) ((sender_slot e, Sender h.0) ∷ me.1) me' h.1)), t.1, t.2, t.3))
   manager_takes_turn lane_turn.Receiver e place g is =
       exchanges (receiver_word e) place (λ y. either (eqb y 0) 65 y) g.at.mover g.at.here (ManagerTakes lane_turn.Receiver e) (TakesReceiverBy cd desk z me g.at.mover e g.to_host g.to_remote) (ManagerTakesReceiver e me) is
       (takes_receiver cd desk z n id me g.at.mover e g.to_host g.to_remote g.at.in_call)
-      (λ y me' t. ((λ hit. let h = t.0 hit in (h.0, called me (Gathers g.to_host g.to_remote) g.at (λ c. gathers_or c (gathered e (λ s. record s { receiver = Some h.0 })) c) ((receiver_slot e, Receiver h.0) ∷ me.1) me' h.1)), t.1, t.2))
+      (λ y me' t. ((λ hit. let h = t.0 hit in (h.0, called me (Gathers g.to_host g.to_remote) g.at (λ c. gathers_or c (gathered e (λ s. record s { receiver = Some h.0 })) c) ((receiver_slot e, Receiver h.0) ∷ me.1) me' h.1, h.2)), t.1, t.2, t.3))
 
   pub manager_leaves_turn : (which : LaneTurn) (e : End) (place : ℕ) → MayLeaveTurn which e me → place ≡ place_in (turn_number which e)
       → Allows (PlacedRule cd desk z) n id me place (λ _. 0) (λ _ me'. ManagerLeavesTurn which e me me' × Does (StoresWord place 0) (ManagerLeaves which e) me')
@@ -142,7 +142,7 @@ module _ {B : Type 0} (kc : Coded B) (kz : DeskTables) (cd : Coded (PlacedDesk k
       let a = right_at kc kz host.end (meaning.fresh host.desk) in let b = right_at kc kz remote.end (meaning.fresh remote.desk) in
       let passes = passes_at (f z.book a b) me.0.passes o.place o.pass o.here
       ∙ (λ i. with_pass_at (f (sym sized i).book (record (sym x_is i) { code = kc.code (meaning.fresh host.desk) }) (record (sym y_is i) { code = kc.code (meaning.fresh remote.desk) })) (here i) me.0.passes) in
-      λ i. (record me.0 { passes = passes i; inc = me.0.inc + 1; reclaims = []; is_closed = false; copy = k }, me.1)
+      λ i. (record me.0 { passes = passes i; inc = me.0.inc + 1; reclaims = []; ended = []; is_closed = false; copy = k }, me.1)
 
   pub opens_told : (inc new : ℕ) → me.0.sizes ≡ z → me.0.sizes.desks ≡ kz → MayOpen inc me → new ≡ (inc + 1) * 2 + 1
       → Allows (PlacedRule cd (placed_meaning kc kz meaning) z) n id me 16 (λ _. new) (λ _ me'. OpensEra kc meaning me me' × IsOpeningOf cd (placed_meaning kc kz meaning) me me')

@@ -40,7 +40,7 @@ use Rattle.link_words.specs.Parts.{has_for_manager, HasGathered, HoldsBuffers}
 use Rattle.link_words.specs.Codes.{copied}
 use Rattle.link_words.specs.Passes.{Mover, with_pass, with_call}
 use Rattle.link_words.specs.Calls.{SeatState, call_at}
-use Rattle.link_words.specs.Reopens.{gathered}
+use Rattle.link_words.specs.Reopens.{gathered, IsHoldersWord, AreInUse}
 use Rattle.link_words.proofs.Buffers.{homes_here}
 use Rattle.link_words.proofs.Closes.{stays}
 use Rattle.link_words.proofs.Exact.{StepBy, ReadsAt, WritesAt, read_by, write_by, call_at_is}
@@ -48,10 +48,10 @@ use Rattle.link_words.proofs.Frames.{turn_set, side_found, side_set, same_lane, 
 use Rattle.link_words.proofs.Gathered.{gathered_sender, left_sender, gathered_receiver, left_receiver}
 use Rattle.link_words.proofs.Held.{free_if, free_for_all, minds_has, receiver_home, seen_receiver, shelved_receiver, alone}
 use Rattle.link_words.proofs.LaneSteps.{others_send, others_free_send, hands_kept, lane_moves, lane_moves_by}
-use Rattle.link_words.proofs.Parts.{state_in, buffers_in}
+use Rattle.link_words.proofs.Parts.{state_in, buffers_in, rings_at}
 use Rattle.link_words.proofs.Sends.{shelved_turn, true-false}
 use Rattle.link_words.proofs.Starts.{seen_sender}
-use Rattle.link_words.proofs.TurnWords.{sender_word_most, receiver_word_most}
+use Rattle.link_words.proofs.TurnWords.{sender_word_most, receiver_word_most, sender_word_held, receiver_word_held, hands_in_use}
 use Rattle.link_words.proofs.Takes.{with_receiver, receiver_turn_set, receiver_side_set, others_beside}
 
 -- a turn that is not free stays when the manager takes it
@@ -114,7 +114,7 @@ module _ {B : Type 0} {kc : Coded B} {kz : DeskTables} (cd : Coded (PlacedDesk k
 
   -- the manager takes a sender's turn
   abbrev pub TakesSenderBy : (me : SeatState) → Mover me.0 → End → LaneSides → LaneSides → ℕ → SeatState → Type 0
-  TakesSenderBy me o e a b n me' = (n ≡ 0 → (x : SenderSide) × (me' ≡ (with_pass me.0 o (with_call o.pass (gathered e (λ g. record g { sender = Some x }) a b)) me'.0.copy, (sender_slot e, Sender x) ∷ me.1))) × (n ≢ 0 → me' ≡ me) × (n ≤ 65)
+  TakesSenderBy me o e a b n me' = (n ≡ 0 → (x : SenderSide) × (me' ≡ (with_pass me.0 o (with_call o.pass (gathered e (λ g. record g { sender = Some x }) a b)) me'.0.copy, (sender_slot e, Sender x) ∷ me.1))) × (n ≢ 0 → me' ≡ me) × (n ≤ 65) × (n ≢ 0 → IsHoldersWord me.0 (other e) n)
 
   gathers_sender : (id : ℕ) (me : SeatState) (o : Mover me.0) (e : End) (a b : LaneSides) → o.pass.call ≡ Gathers a b → (st : State Slot View) (m : LaneLink (RingState (PlacedDesk kc kz))) (r : Shows cd desk z st m 0) → get_elem? st.views id ≡ some me.0 → (lane_to m e).lane.sender ≡ turn.Free
       → (w : View) × (c : Act Slot) × Valid st.homes me.1 c × WordsRule cd desk z (stepped st (sender_word e) 65 id me.1 w c)
@@ -149,16 +149,17 @@ module _ {B : Type 0} {kc : Coded B} {kz : DeskTables} (cd : Coded (PlacedDesk k
       let r : Shows cd desk z st m 0 = subst (Shows cd desk z st m) h.1 r₀ in
       let found : y ≡ turn_word (lane_to m e).lane.sender = ap (λ (ws : List ℕ). get_or ws (sender_word e) 0) r₀.words_are ∙ seen_sender desk m p e in
       let most : y ≤ 65 = subst (λ (k : ℕ). k ≤ 65) (sym found) (sender_word_most desk m e r.numbers.many r.sound) in
+      let holds : y ≢ 0 → IsHoldersWord me.0 (other e) y = sender_word_held desk m e me.0.users y (r₀.numbers.manager id me.0 at (o.place, o.pass, o.here, h.0)).users r.sound found in
       exchanged y 0 65 (λ f. (w : View) × (c : Act Slot) × Valid st.homes me.1 c × WordsRule cd desk z (stepped st (sender_word e) f id me.1 w c)
       × (TakesSenderBy me o e a b y (w, carried_after me.1 c) × StepBy cd desk (ReadsAt (sender_word e) y) me o (ManagerTakes lane_turn.Sender e) (w, carried_after me.1 c)))
       (λ hit. let all = gathers_sender id me o e a b call st m r at (free_if (lane_to m e).lane.sender (sym found ∙ hit)) in
-      (all.0, all.1, all.2, all.3, (((λ _. all.4), (λ never. absurd (never hit)), most), all.5)))
+      (all.0, all.1, all.2, all.3, (((λ _. all.4), (λ never. absurd (never hit)), most, holds), all.5)))
       (λ miss. let same : m ≡ after_deed desk m (ManagerTakes lane_turn.Sender e) = sym (ap (λ (t : Turn Sending). with_lane m e (with_turn (lane_to m e) t)) (still_taken (lane_to m e).lane.sender (λ none. miss (found ∙ none))) ∙ same_lane m e) in (
         me.0,
         keeps,
         tt,
         stays cd desk z st m p r₀ (sender_word e) y id me.1 me.0 (ManagerTakes lane_turn.Sender e) at refl tt same,
-        (((λ hit. absurd (miss hit)), (λ _. refl), most), meets_by st m r id (sender_word e) me o (ManagerTakes lane_turn.Sender e) at tt same),
+        (((λ hit. absurd (miss hit)), (λ _. refl), most, holds), meets_by st m r id (sender_word e) me o (ManagerTakes lane_turn.Sender e) at tt same),
       ))
 
   -- the manager leaves it
@@ -190,11 +191,11 @@ module _ {B : Type 0} {kc : Coded B} {kz : DeskTables} (cd : Coded (PlacedDesk k
 
   -- the manager takes a receiver's turn
   abbrev pub TakesReceiverBy : (me : SeatState) → Mover me.0 → End → LaneSides → LaneSides → ℕ → SeatState → Type 0
-  TakesReceiverBy me o e a b n me' = (n ≡ 0 → (x : ReceiverSide) × (me' ≡ (with_pass me.0 o (with_call o.pass (gathered e (λ g. record g { receiver = Some x }) a b)) me'.0.copy, (receiver_slot e, Receiver x) ∷ me.1))) × (n ≢ 0 → me' ≡ me) × (n ≤ 65)
+  TakesReceiverBy me o e a b n me' = (n ≡ 0 → (x : ReceiverSide) × (me' ≡ (with_pass me.0 o (with_call o.pass (gathered e (λ g. record g { receiver = Some x }) a b)) me'.0.copy, (receiver_slot e, Receiver x) ∷ me.1)) × AreInUse me.0 e x.hands) × (n ≢ 0 → me' ≡ me) × (n ≤ 65) × (n ≢ 0 → IsHoldersWord me.0 e n)
 
   gathers_receiver : (id : ℕ) (me : SeatState) (o : Mover me.0) (e : End) (a b : LaneSides) → o.pass.call ≡ Gathers a b → (st : State Slot View) (m : LaneLink (RingState (PlacedDesk kc kz))) (r : Shows cd desk z st m 0) → get_elem? st.views id ≡ some me.0 → (lane_to m e).lane.receiver ≡ turn.Free
       → (w : View) × (c : Act Slot) × Valid st.homes me.1 c × WordsRule cd desk z (stepped st (receiver_word e) 65 id me.1 w c)
-      × ((x : ReceiverSide) × Path (Me Slot View) (w, carried_after me.1 c) (with_pass me.0 o (with_call o.pass (gathered e (λ g. record g { receiver = Some x }) a b)) w.copy, (receiver_slot e, Receiver x) ∷ me.1))
+      × ((x : ReceiverSide) × Path (Me Slot View) (w, carried_after me.1 c) (with_pass me.0 o (with_call o.pass (gathered e (λ g. record g { receiver = Some x }) a b)) w.copy, (receiver_slot e, Receiver x) ∷ me.1) × AreInUse me.0 e x.hands)
       × StepBy cd desk (ReadsAt (receiver_word e) (get_or st.words (receiver_word e) 0)) me o (ManagerTakes lane_turn.Receiver e) (w, carried_after me.1 c)
   gathers_receiver id me o e a b call st m r at free =
       let h : IsCallOf m 0 o.pass.number (Gathers a b) = subst (IsCallOf m 0 o.pass.number) call (r.turns.calls id o.place o.pass (me.0, at, o.here)) in
@@ -219,7 +220,7 @@ module _ {B : Type 0} {kc : Coded B} {kz : DeskTables} (cd : Coded (PlacedDesk k
             (λ (same : i ≡ e). absurd (free_for_all cd desk z m e 0 free u.number u.call (minds_has cd desk z e u.call (subst (λ (q : End). has_for_manager q u.call ≡ true) same theirs)) (r.turns.calls j l u there)))
             (more_minds e x a b i mine))
             r.turns.keepers),
-        (x, refl),
+        (x, refl, hands_in_use desk m e me.0.users (r.numbers.manager id me.0 at (o.place, o.pass, o.here, h.0)).users r.sound (rings_at r e)),
         read_by (receiver_word e) cd desk z st m r id me o (with_call o.pass w) (ManagerTakes lane_turn.Receiver e) (with_lane m e s') ((receiver_slot e, Receiver x) ∷ me.1) at tt deed mine,
       )
 
@@ -231,16 +232,17 @@ module _ {B : Type 0} {kc : Coded B} {kz : DeskTables} (cd : Coded (PlacedDesk k
       let r : Shows cd desk z st m 0 = subst (Shows cd desk z st m) h.1 r₀ in
       let found : y ≡ turn_word (lane_to m e).lane.receiver = ap (λ (ws : List ℕ). get_or ws (receiver_word e) 0) r₀.words_are ∙ seen_receiver cd desk z m p e in
       let most : y ≤ 65 = subst (λ (k : ℕ). k ≤ 65) (sym found) (receiver_word_most desk m e r.numbers.many r.sound) in
+      let holds : y ≢ 0 → IsHoldersWord me.0 e y = receiver_word_held desk m e me.0.users y (r₀.numbers.manager id me.0 at (o.place, o.pass, o.here, h.0)).users r.sound found in
       exchanged y 0 65 (λ f. (w : View) × (c : Act Slot) × Valid st.homes me.1 c × WordsRule cd desk z (stepped st (receiver_word e) f id me.1 w c)
       × (TakesReceiverBy me o e a b y (w, carried_after me.1 c) × StepBy cd desk (ReadsAt (receiver_word e) y) me o (ManagerTakes lane_turn.Receiver e) (w, carried_after me.1 c)))
       (λ hit. let all = gathers_receiver id me o e a b call st m r at (free_if (lane_to m e).lane.receiver (sym found ∙ hit)) in
-      (all.0, all.1, all.2, all.3, (((λ _. all.4), (λ never. absurd (never hit)), most), all.5)))
+      (all.0, all.1, all.2, all.3, (((λ _. all.4), (λ never. absurd (never hit)), most, holds), all.5)))
       (λ miss. let same : m ≡ after_deed desk m (ManagerTakes lane_turn.Receiver e) = sym (ap (λ (t : Turn Receiving). with_lane m e (with_receiver (lane_to m e) t)) (still_taken (lane_to m e).lane.receiver (λ none. miss (found ∙ none))) ∙ same_lane m e) in (
         me.0,
         keeps,
         tt,
         stays cd desk z st m p r₀ (receiver_word e) y id me.1 me.0 (ManagerTakes lane_turn.Receiver e) at refl tt same,
-        (((λ hit. absurd (miss hit)), (λ _. refl), most), meets_by st m r id (receiver_word e) me o (ManagerTakes lane_turn.Receiver e) at tt same),
+        (((λ hit. absurd (miss hit)), (λ _. refl), most, holds), meets_by st m r id (receiver_word e) me o (ManagerTakes lane_turn.Receiver e) at tt same),
       ))
 
   -- the manager leaves it

@@ -42,6 +42,7 @@ use Rattle.link_words.specs.Calls.{SeatState}
 use Rattle.link_words.specs.Codes.{copied}
 use Rattle.link_words.proofs.Frames.{some_copy}
 use Rattle.link_words.proofs.Kept.{deed_kept}
+use Rattle.link_words.proofs.Quiet.{ended_with}
 use Rattle.link_words.proofs.Froms.{Spot, From, each_from, numbers_from, keepers_from, one_manager, one_goes, split_from, joined, join_from, last_at, at_new, stands_left, stands_right, numbers_at}
 use Rattle.link_words.proofs.Users.{free_is, end_here, end_else, call_with, history_with, hands_with, unused_turn, unused_hands, in_use}
 use Rattle.link_words.proofs.Parts.{state_in, told_in, buffers_in, put_together, one_more}
@@ -107,6 +108,7 @@ module _ {B : Type 0} {kc : Coded B} {kz : DeskTables} (cd : Coded (PlacedDesk k
         users = known.users;
         inc = known.inc;
         unused = known.unused;
+        ended = known.ended;
         closed = known.closed;
         out = λ j l q there apart. ⊎_elim
             (λ (w : get_elem? left j ≡ some there.0). ⊎_elim
@@ -135,6 +137,7 @@ module _ {B : Type 0} {kc : Coded B} {kz : DeskTables} (cd : Coded (PlacedDesk k
         users = known.users;
         inc = known.inc;
         unused = known.unused;
+        ended = known.ended;
         closed = known.closed;
         out = λ j l q here away. ⊎_elim
             (λ (e : (j ≡ other) × (spent_view ≡ here.0)). absurd (some-ne-none q (sym (subst (λ (u : View). get_elem? u.passes l ≡ some q) (sym e.1) here.2))))
@@ -258,6 +261,7 @@ module _ {B : Type 0} {kc : Coded B} {kz : DeskTables} (cd : Coded (PlacedDesk k
         users = ap (λ (us : List (Option End)). slice_set us n (Some e)) known.users;
         inc = known.inc;
         unused = λ i none not. none_with m cs i (known.unused i (sym (end_else m.callers n i (Some e) (λ same. no_end e (sym none ∙ (ap (end_of cs) (sym same) ∙ end_here m.callers n (Some e) f.1)))) ∙ none) not);
+        ended = λ j q has. ended_with m cs q (known.ended j q has);
         closed = known.closed;
         out = λ j l q there away. ⊎_elim (λ (old : PassAt st.views j l q). known.out j l q old (λ same. away (same ∙ sym x.0)))
             (λ (b : (j ≡ id) × (l ≡ length v.passes) × (new ≡ q)). absurd (away (b.0 ∙ sym x.0))) (after j l q there);

@@ -101,7 +101,7 @@ module _ {B : Type 0} {kc : Coded B} {kz : DeskTables} (cd : Coded (PlacedDesk k
             })
             (record {
               places = numbers_set st.views id v u o w at refl refl r.numbers.places;
-              manager = manager_stays st.views id v u o w at refl cd m refl refl refl refl refl refl refl r.numbers.manager;
+              manager = manager_stays st.views id v u o w at refl cd m refl refl refl refl refl refl refl refl r.numbers.manager;
               many = r.numbers.many;
               short = r.numbers.short;
             }),

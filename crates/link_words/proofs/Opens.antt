@@ -144,7 +144,7 @@ opened_hands desk m q bare has side.Remote user = ap (hands_of q.number) (sym ba
 
 -- the manager's view after the opening
 abbrev pub opened_by : (v : View) → Mover v → ℕ → DeskRight → DeskRight → Option LinkCopy → View
-opened_by v o book host remote k = record (with_pass v o (with_call o.pass (Gathers (opened_sides book host) (opened_sides book remote))) k) { is_closed = false; inc = v.inc + 1; reclaims = [] }
+opened_by v o book host remote k = record (with_pass v o (with_call o.pass (Gathers (opened_sides book host) (opened_sides book remote))) k) { is_closed = false; inc = v.inc + 1; reclaims = []; ended = [] }
 
 -- the manager has the four turns, where it has all side states
 all_turns : {B : Type 0} {kc : Coded B} {kz : DeskTables} (m : LaneLink (RingState (PlacedDesk kc kz))) (x u : SenderSide) (y v : ReceiverSide) → HasGathered (turns_of m.to_host) (both_sides x y) → HasGathered (turns_of m.to_remote) (both_sides u v) → AreManagers m
@@ -194,6 +194,7 @@ module _ {B : Type 0} {kc : Coded B} {kz : DeskTables} (cd : Coded (PlacedDesk k
       told h knows = record {
         own = λ k q there. subst (λ (t : ℕ × (End → LaneBooks)). HasHistory t.0 t.1 q.number q.first q.own) (λ i. (sym knows.inc i, λ e. books e i)) (r.histories.own id k q (me.0, at, there));
         unused = λ n none not e. subst (λ (t : LaneBooks). (entries_by n 0 t.accepted ≡ []) × (takes_by n 0 t.takers ≡ [])) (books e) (knows.unused n (ap (λ (us : List (Option End)). end_of us n) (sym knows.users) ∙ none) not e);
+        ended = λ k q there. subst (λ (t : ℕ × (End → LaneBooks)). HasHistory t.0 t.1 q.number q.first q.own) (λ i. (sym knows.inc i, λ e. books e i)) (knows.ended k q there).history;
       }
         where
           books : (e : End) → books_of (lane_to m e) ≡ books_by (sides_at e (both_sides x y) (both_sides u v))
@@ -258,7 +259,7 @@ module _ {B : Type 0} {kc : Coded B} {kz : DeskTables} (cd : Coded (PlacedDesk k
               })
               (record {
                 places = numbers_set st.views id me.0 (with_pass me.0 o (with_call o.pass w) (Some (copied cd m))) o (with_call o.pass w) at refl refl r.numbers.places;
-                manager = manager_set st.views id me.0 (with_pass me.0 o (with_call o.pass w) (Some (copied cd m))) o (with_call o.pass w) at refl cd m m refl refl refl refl (λ old. old) (λ j y apart there manages. refl) (λ n none was not. was not) (λ n none Q was not. was not) (λ old. old) (λ j y apart there manages old. old) (λ k same _. sym (some_copy (copied cd m) k same)) r.numbers.manager;
+                manager = manager_set st.views id me.0 (with_pass me.0 o (with_call o.pass w) (Some (copied cd m))) o (with_call o.pass w) at refl cd m m refl refl refl refl (λ old. old) (λ j y apart there manages. refl) (λ n none was not. was not) (λ n none Q was not. was not) (λ old. old) (λ j y apart there manages old. old) (λ k same _. sym (some_copy (copied cd m) k same)) (λ old. old) (λ j y apart there manages p has. has) r.numbers.manager;
                 many = r.numbers.many;
                 short = r.numbers.short;
               }),
@@ -307,7 +308,8 @@ module _ {B : Type 0} {kc : Coded B} {kz : DeskTables} (cd : Coded (PlacedDesk k
                 places = numbers_set st.views id me.0 seen o (with_call o.pass w) at refl refl r.numbers.places;
                 manager = manager_set st.views id me.0 seen o (with_call o.pass w) at refl cd m m' refl refl refl refl (λ old. ap (λ (k : ℕ). k + 1) old)
                     (λ j y apart there manages. absurd (apart (r.numbers.places j manages.0 id o.place manages.1 o.pass (y, there, manages.2) (me.0, at, o.here) (manages.3 ∙ sym h.0)).0)) (λ n none was not. none_opened desk m n) (λ n none Q was not. none_opened desk m n) (λ old never. absurd (true-false (sym never)))
-                    (λ j y apart there manages old. absurd (apart (r.numbers.places j manages.0 id o.place manages.1 o.pass (y, there, manages.2) (me.0, at, o.here) (manages.3 ∙ sym h.0)).0)) (λ k same _. sym (some_copy (copied cd m') k same)) r.numbers.manager;
+                    (λ j y apart there manages old. absurd (apart (r.numbers.places j manages.0 id o.place manages.1 o.pass (y, there, manages.2) (me.0, at, o.here) (manages.3 ∙ sym h.0)).0)) (λ k same _. sym (some_copy (copied cd m') k same))
+                    (λ old i p never. absurd (some-ne-none p (sym never))) (λ j y apart there manages. absurd (apart (r.numbers.places j manages.0 id o.place manages.1 o.pass (y, there, manages.2) (me.0, at, o.here) (manages.3 ∙ sym h.0)).0)) r.numbers.manager;
                 many = r.numbers.many;
                 short = subst (λ (k : ℕ). k + 1 < 4294967296) (sym h.3) more;
               }),

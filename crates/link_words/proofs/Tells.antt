@@ -39,7 +39,8 @@ use Rattle.link_words.specs.Reopens.{AreBooksOf, books_by}
 use Rattle.link_words.specs.Sides.{sides_at}
 use Rattle.link_words.specs.Histories.{NeverBack, latest}
 use Rattle.ring_core.specs.RingSteps.{hands_without}
-use Rattle.link_words.specs.Passes.{Mover, with_call, with_call_and_hands, with_pass}
+use Rattle.link_words.specs.Passes.{Manages, Mover, with_call, with_call_and_hands, with_pass}
+use Rattle.link_words.specs.Seats.{is_closed_behind}
 use Rattle.link_words.specs.Words.{receiver_slot, other, era_word, buffer_slot}
 
 -- step 2 of a send: the era that was found decides
@@ -47,8 +48,8 @@ abbrev pub SendLoadsEraBy : (me : SeatState) → Mover me.0 → End → ℕ → 
 SendLoadsEraBy me o e c s x b n me' = (era : Era) × (n ≡ era_word era) × (era.inc < 4294967296) × (me' ≡ (with_pass me.0 o (with_call o.pass (Sends e (after_send_era era c s) x b)) me'.0.copy, me.1))
 
 -- an attempt to close: the era that was found
-abbrev pub ClosesEraBy : SeatState → ℕ → SeatState → Type 0
-ClosesEraBy me n me' = (era : Era) × (n ≡ era_word era) × (era.inc < 4294967296) × (me' ≡ (record me.0 { copy = me'.0.copy }, me.1))
+abbrev pub ClosesEraBy : ℕ → SeatState → ℕ → SeatState → Type 0
+ClosesEraBy inc me n me' = (era : Era) × (n ≡ era_word era) × (era.inc < 4294967296) × (me' ≡ (record me.0 { copy = me'.0.copy; is_closed = is_closed_behind inc era }, me.1)) × (Manages me.0 → era.inc ≡ me.0.inc)
 
 -- step 4 of a send: the buffer is out
 abbrev pub SendTakesBufferBy : (me : SeatState) → Mover me.0 → ℕ → End → ℕ → Sending → SenderSide → ℕ → SeatState → Type 0

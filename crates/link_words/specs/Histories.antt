@@ -1,5 +1,5 @@
 -- The part on histories: what the books say of a pass is what its own list says (own).
-use Rattle.std.specs.Prelude.{◌≡◌, ℕ, suc, ◌+◌, ◌==◌, ◌&&◌, ◌≤◌, ◌<◌, max, ◌⊎◌, length, Bool, true, false, if◌then◌else◌, List, [], ◌∷◌, ◌++◌, Option, Some}
+use Rattle.std.specs.Prelude.{◌≡◌, ◌≢◌, ℕ, suc, ◌+◌, ◌==◌, ◌&&◌, ◌≤◌, ◌<◌, max, ◌⊎◌, length, Bool, true, false, if◌then◌else◌, List, [], ◌∷◌, ◌++◌, Option, Some}
 use Rattle.rp_base.specs.declared.kinds.End.{End}
 use Rattle.rp_base.specs.declared.kinds.End.TheVariants as side
 use Rattle.lane_model.specs.declared.lane_links.LaneLink.{LaneLink}
@@ -19,6 +19,7 @@ use Rattle.ring_core.specs.declared.states.RingState.{RingState}
 use Rattle.link_words.specs.declared.rule.Counted.{Counted}
 use Rattle.link_words.specs.declared.rule.Counted.TheVariants.{Room, Waiting, Gave}
 use Rattle.link_words.specs.declared.rule.Event.{Event}
+use Rattle.link_words.specs.declared.rule.Pass.{Pass}
 use Rattle.link_words.specs.declared.rule.Event.TheVariants.{Count, Publish, Step, Take}
 use Rattle.link_words.specs.Words.{lane_to}
 
@@ -194,3 +195,14 @@ IsCurrentTake t inc = OfCall t (λ caller r. is_past_take_era r.work ≡ true �
 -- the books of both lanes say nothing of this caller
 abbrev pub NoneOf : {D : Type 0} → LaneLink (RingState D) → ℕ → Type 0
 NoneOf m n = (e : End) → (entries_by n 0 (lane_to m e).lane.lane.accepted ≡ []) × (takes_by n 0 (lane_to m e).lane.lane.takers ≡ [])
+
+-- no send of this caller that has the turn has found its incarnation live
+abbrev pub IsQuiet : Turn Sending → ℕ → Type 0
+IsQuiet t n = OfCall t (λ caller s. is_past_era s.stage ≡ true → caller ≢ n)
+
+-- a pass that was reclaimed in this incarnation, which is closed: the books say of it what it did, and no message under its number comes in any more, whoever
+-- has that number now
+pub record HasEnded {D : Type 0} (m : LaneLink (RingState D)) (p : Pass) : Type 0 where
+  pub closed : m.era.is_live ≡ false
+  pub history : HasHistory m.era.inc (λ e. books_of (lane_to m e)) p.number p.first p.own
+  pub quiet : (e : End) → IsQuiet (lane_to m e).lane.sender p.number

@@ -33,7 +33,7 @@ use Rattle.link_words.specs.Passes.{PassAt, EachPass, HasNumber, Manages}
 use Rattle.link_words.specs.Sides.{is_there, sides_at}
 use Rattle.link_words.specs.Words.{other}
 use Rattle.link_words.specs.Turns.{is_manager, LaneTurns, LinkTurns, HasFourTurns}
-use Rattle.link_words.specs.Histories.{NoneOf, same_end, LaneBooks, HasHistory, HasHands, IsOfNow, IsCurrent, IsCurrentTake}
+use Rattle.link_words.specs.Histories.{NoneOf, HasEnded, same_end, LaneBooks, HasHistory, HasHands, IsOfNow, IsCurrent, IsCurrentTake}
 
 -- a send's turn is its lane's, with the side state and the buffer that are out with it
 abbrev pub SendsAt : LaneTurns → ℕ → Turn Sending → SenderSide → ℕ → Type 0
@@ -122,12 +122,13 @@ pub record HistoriesPart (inc : ℕ) (callers : List (Option End)) (books : End 
 abbrev pub AreNumbersApart : List View → Type 0
 AreNumbersApart views = (i k j l : ℕ) (p q : Pass) → PassAt views i k p → PassAt views j l q → p.number ≡ q.number → (i ≡ j) × (k ≡ l)
 
--- what the manager's view, the i-th, knows: who is in use, the incarnation, of which numbers the books say nothing, that the era is closed,
--- where it has found it so, which passes are out, and the state itself, where none is
+-- what the manager's view, the i-th, knows: who is in use, the incarnation, of which numbers the books say nothing, what they say of the passes
+-- that were reclaimed in it, that the era is closed, where it has found it so, which passes are out, and the state itself, where none is
 pub record Knows {D : Type 0} (coded : Coded D) (m : LaneLink (RingState D)) (views : List View) (i : ℕ) (v : View) : Type 0 where
   pub users : v.users ≡ m.callers
   pub inc : v.inc ≡ m.era.inc
   pub unused : (n : ℕ) → end_of m.callers n ≡ None → (HasNumber v.reclaims n → ⊥) → NoneOf m n
+  pub ended : (k : ℕ) (p : Pass) → get_elem? v.ended k ≡ some p → HasEnded m p
   pub closed : v.is_closed ≡ true → m.era.is_live ≡ false
   pub out : (j l : ℕ) (p : Pass) → PassAt views j l p → j ≢ i → HasNumber v.out p.number
   pub copy : (k : LinkCopy) → v.copy ≡ Some k → v.out ≡ [] → k ≡ copied coded m

@@ -54,6 +54,7 @@ spent_view = record {
   users = [];
   inc = 0;
   reclaims = [];
+  ended = [];
   is_closed = false;
   copy = None;
   sizes = record { to_host = record { entries = 0; capacity = 0; own = 0 }; to_remote = record { entries = 0; capacity = 0; own = 0 }; book = 0; first = 0; desks = no_tables };
@@ -124,27 +125,33 @@ without_pass k [] = []
 without_pass zero (p ∷ ps) = ps
 without_pass (suc k) (p ∷ ps) = p ∷ without_pass k ps
 
--- the number of a carried caller is free
+-- the number of a carried caller is free, and its pass is kept
 abbrev pub after_end_at : (v : View) → Mover v → Option_of LinkCopy → View
-after_end_at v o k = record v { copy = k; reclaims = o.pass.number ∷ v.reclaims; passes = without_pass o.place v.passes; users = slice_set v.users o.pass.number None }
+after_end_at v o k = record v { copy = k; reclaims = o.pass.number ∷ v.reclaims; ended = o.pass ∷ v.ended; passes = without_pass o.place v.passes; users = slice_set v.users o.pass.number None }
 
 -- the number of the caller of another seat is free, and the seat is spent
 abbrev pub callers_without : List Pass → List (Option_of End) → List (Option_of End)
 callers_without [] users = users
 callers_without (p ∷ ps) users = slice_set users p.number None
 
--- the manager's view when the caller of another seat has ended
+-- the manager's view when the caller of another seat has ended: its pass is kept
 abbrev pub after_end_with : View → View → View
-after_end_with v w = record v { copy = None; reclaims = numbers_of w.passes ++ v.reclaims; users = callers_without w.passes v.users }
+after_end_with v w = record v { copy = None; reclaims = numbers_of w.passes ++ v.reclaims; ended = w.passes ++ v.ended; users = callers_without w.passes v.users }
 
 -- where the pass of this number stands
 abbrev pub place_of_number : ℕ → List Pass → ℕ
 place_of_number n [] = 0
 place_of_number n (p ∷ ps) = if p.number == n then 0 else suc (place_of_number n ps)
 
+-- the pass at this place alone
+abbrev pub only_pass : ℕ → List Pass → List Pass
+only_pass k [] = []
+only_pass zero (p ∷ ps) = p ∷ []
+only_pass (suc k) (p ∷ ps) = only_pass k ps
+
 -- the manager's view when the caller of this number, which it carries, has ended
 abbrev pub after_end_of : ℕ → View → Option_of LinkCopy → View
-after_end_of n v k = record v { copy = k; reclaims = n ∷ v.reclaims; passes = without_pass (place_of_number n v.passes) v.passes; users = slice_set v.users n None }
+after_end_of n v k = record v { copy = k; reclaims = n ∷ v.reclaims; ended = only_pass (place_of_number n v.passes) v.passes ++ v.ended; passes = without_pass (place_of_number n v.passes) v.passes; users = slice_set v.users n None }
 
 -- those that were out have come back
 abbrev pub after_settle : View → Option_of LinkCopy → View

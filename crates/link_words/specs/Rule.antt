@@ -34,6 +34,7 @@ first_view z n = record {
   users = replicate 64 None;
   inc = z.first;
   reclaims = [];
+  ended = [];
   is_closed = false;
   copy = None;
   sizes = z;

@@ -1,5 +1,5 @@
 -- What the steps tell that move, make and end callers, and those of the manager's own view (own).
-use Rattle.std.specs.Prelude.{not, ◌≡◌, ◌<◌, ℕ, Some}
+use Rattle.std.specs.Prelude.{not, ◌≡◌, ◌<◌, ◌==◌, ◌||◌, ℕ, Bool, true, false, Some}
 use mathlib.Core.Option.{Option, some, none}
 use Rattle.rp_base.specs.declared.kinds.Era.{Era}
 use Rattle.rp_base.specs.declared.kinds.End.{End}
@@ -9,7 +9,7 @@ use Rattle.link_words.specs.declared.rule.Slot.TheVariants.{Empty, Sender, Recei
 use Rattle.link_words.specs.declared.rule.View.{View}
 use Rattle.link_words.specs.declared.rule.Made.TheVariants as made
 use Rattle.link_words.specs.Calls.{SeatState, Notes}
-use Rattle.link_words.specs.Passes.{with_new_caller, after_end_of, after_settle, place_of_number}
+use Rattle.link_words.specs.Passes.{Manages, with_new_caller, after_end_of, after_settle, place_of_number}
 use Rattle.link_words.specs.Words.{era_word}
 
 -- a caller is made on this end, which the manager carries
@@ -30,17 +30,24 @@ named_by (some (Start x)) = 64
 abbrev pub EndsCaller : ℕ → SeatState → SeatState → Type 0
 EndsCaller n me me' = me' ≡ (after_end_of n me.0 me'.0.copy, me.1)
 
--- the view that knows whether this era is closed
+-- the view of a seat that has found this era, and knows whether it is closed
 abbrev pub with_era : View → Era → View
 with_era v era = record v { is_closed = not era.is_live }
 
 abbrev pub LearnsEra : SeatState → ℕ → SeatState → Type 0
-LearnsEra me n me' = (era : Era) × (n ≡ era_word era) × (era.inc < 4294967296) × (me' ≡ (with_era me.0 era, me.1)) × (era.inc ≡ me.0.inc)
+LearnsEra me n me' = (era : Era) × (n ≡ era_word era) × (era.inc < 4294967296) × (me' ≡ (with_era me.0 era, me.1)) × (era.inc ≡ me.0.inc) × (me.0.is_closed ≡ true → era.is_live ≡ false)
 
 -- those that were out have come back, and the view has a copy again
 abbrev pub Settles : SeatState → SeatState → Type 0
 Settles me me' = (k : LinkCopy) × (me' ≡ (after_settle me.0 (Some k), me.1))
 
--- one attempt to close the era: the era that was found, which the pass of the closer notes
-abbrev pub ClosesEra : ℕ → SeatState → ℕ → SeatState → Type 0
-ClosesEra closer me n me' = (era : Era) × (n ≡ era_word era) × (era.inc < 4294967296) × Notes (made.Close era) (λ p. p) (place_of_number closer me.0.passes) me.1 me me'
+-- whether this era is closed behind an attempt to close this incarnation
+abbrev pub is_closed_behind : ℕ → Era → Bool
+is_closed_behind inc era = not era.is_live || (era.inc == inc)
+
+-- one attempt to close this incarnation: the era that was found, which the pass of the closer notes. The view knows then whether the era is closed;
+-- the manager's has the incarnation that was found
+abbrev pub ClosesEra : ℕ → ℕ → SeatState → ℕ → SeatState → Type 0
+ClosesEra closer inc me n me' = (era : Era) × (n ≡ era_word era) × (era.inc < 4294967296)
+    × Notes (made.Close era) (λ p. p) (place_of_number closer me.0.passes) me.1 (record me.0 { is_closed = is_closed_behind inc era }, me.1) me'
+    × (Manages me.0 → era.inc ≡ me.0.inc)

@@ -67,7 +67,7 @@ impl<D: Desk> Play<Slot, View> for TellsClosesEra<D> {
     ghost use Rattle.link_words.specs.Seats.{ClosesEra, named_by};
     ghost use Rattle.link_words.specs.Steps.{ClosesLink};
 
-    ghost then = { λ st m r m'. ClosesEra (named_by st.said) m r m' × ((inc : ℕ) → st.second ≡ inc * 2 → ClosesLink D.row.coded D.meaning inc r m m') };
+    ghost then = { λ st m r m'. (inc : ℕ) → st.second ≡ inc * 2 → ClosesEra (named_by st.said) inc m r m' × ClosesLink D.row.coded D.meaning inc r m m' };
 }
 
 /// The last pass goes to a new seat.

@@ -142,6 +142,8 @@ pub struct View {
     pub inc: Inc,
     /// In the manager's view: the numbers that were freed in this incarnation.
     pub reclaims: LinkedList<CallerNo>,
+    /// In the manager's view: the passes that were reclaimed in this incarnation, the latest first.
+    pub ended: LinkedList<Pass>,
     /// In the manager's view: it has found this incarnation closed.
     pub is_closed: bool,
     /// The manager's copy of the state.

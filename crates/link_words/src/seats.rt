@@ -107,8 +107,8 @@ pub fn settle<D: Desk>(table: &LinkTable<D>, manager: &mut LinkSeat)
     table.load::<TellsSettles>(manager, 0);
 }
 
-/// One attempt to close this incarnation, by the caller of this number, or by the manager under the number 64, who notes it. The answer is
-/// the word of the era that was found.
+/// One attempt to close this incarnation, by the caller of this number, or by the manager under the number 64, who notes it and knows then
+/// whether the era is closed. The answer is the word of the era that was found.
 pub fn close_era<D: Desk>(
     table: &LinkTable<D>,
     seat: &mut LinkSeat,
@@ -118,7 +118,7 @@ pub fn close_era<D: Desk>(
     requires table { (seat.old.table_id ≡ table.now.table_id) × (words_in table.now.key ≤ table.now.table_id.words) × (seat.old.me.0.sizes ≡ table.now.key) }
     requires pass { Mover seat.old.me.0 }
     ensures same { (seat.new.table_id ≡ seat.old.table_id) × (seat.new.id ≡ seat.old.id) }
-    ensures told { ClosesEra closer seat.old.me result seat.new.me }
+    ensures told { ClosesEra closer inc seat.old.me result seat.new.me }
     ensures step { ClosesLink D.row.coded D.meaning inc result seat.old.me seat.new.me }
 {
     let live = inc as u64 * 2 + 1;

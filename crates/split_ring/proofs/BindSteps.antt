@@ -67,6 +67,7 @@ module _ {D : Type 0} (coded : Coded D) (meaning : DeskMeaning D) where
     in_call = ap (λ (r : Pass). r.call) is;
     own = ap (λ (r : Pass). Step (made.Era era) ∷ r.own) is;
     number = ap (λ (r : Pass). r.number) is;
+    first = ap (λ (r : Pass). r.first) is;
     in_hand = ap (λ (r : Pass). r.hands) is;
   }
 

@@ -51,6 +51,7 @@ module _ {D : Type 0} (coded : Coded D) (meaning : DeskMeaning D) where
   told_so walk f h me me' is d = record {
     own = d.own;
     number = d.number;
+    first = d.first;
     in_hand = d.in_hand ∙ ap (λ (k : List ℕ → List ℕ). k (pass_in me).hands) is;
     sizes = d.sizes;
     stepped = d.stepped;

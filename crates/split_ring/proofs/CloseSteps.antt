@@ -5,13 +5,13 @@ use Rattle.rp_base.specs.declared.kinds.Era.{Era}
 use Rattle.lane_model.specs.declared.recoveries.Already.{Already}
 use Rattle.lane_model.specs.Desks.{DeskMeaning}
 use Rattle.lane_model.specs.Lanes.{is_live_in}
-use Rattle.link_words.specs.Seats.{ClosesEra}
+use Rattle.link_words.specs.Seats.{ClosesEra, is_closed_behind}
 use Rattle.link_words.specs.Steps.{ClosesLink}
 use Rattle.link_words.specs.Words.{era_word}
 use Rattle.split_ring.specs.Closes.{IsCloseAnswer, HasClosed}
 use Rattle.split_ring.proofs.Eras.{live_is, dead_is}
-use Rattle.std.specs.Prelude.{if◌then◌else◌, ◌==◌}
-use Rattle.std.proofs.Common.{◌≡◌, ◌<◌, true, false, ℕ, zero, suc, List, [], ◌∷◌, refl, sym, ap, ◌∙◌, subst}
+use Rattle.std.specs.Prelude.{if◌then◌else◌, ◌==◌, not}
+use Rattle.std.proofs.Common.{◌≡◌, ◌<◌, ◌||◌, Bool, true, false, eqb, eq-eqb, ℕ, zero, suc, List, [], ◌∷◌, refl, sym, ap, ◌∙◌, subst}
 use mathlib.Core.Option.{some, some-injective, some-ne-none}
 use lib.ListN.{get_elem?}
 use Rattle.lane_model.specs.declared.calls.Ask.{Ask}
@@ -68,6 +68,10 @@ noted_once made n me me' one number told =
       sizes = ap (λ (s : SeatState). s.0.sizes) told;
       slots = ap (λ (s : SeatState). s.1) told;
     }
+
+-- the same of a seat that learned in that step whether the era is closed
+pub noted_knowing : (made : Made) (b : Bool) (me me' : SeatState) → IsNoted made (record me.0 { is_closed = b }, me.1) me' → IsNoted made me me'
+noted_knowing made b me me' n = record { one = n.one; pass = n.pass; sizes = n.sizes; slots = n.slots }
 
 -- the one pass is in the same call and has the same in hand, with the same slots
 pub record IsLike (me me' : SeatState) : Type 0 where
@@ -167,13 +171,21 @@ rests_noted made k me me' call told at =
       in_call = c.3 ∙ at.in_call;
     })
 
+-- the manager knows that the era is closed, where it asked for the incarnation that it found
+or_true : (a b : Bool) → b ≡ true → (a || b) ≡ true
+or_true true b is = refl
+or_true false b is = is
+
+pub known_closed : (made : Made) (k inc : ℕ) (era : Era) (me me' : SeatState) → Notes made (λ p. p) k me.1 (record me.0 { is_closed = is_closed_behind inc era }, me.1) me' → era.inc ≡ inc → me'.0.is_closed ≡ true
+known_closed made k inc era me me' told same = ap (λ (s : SeatState). s.0.is_closed) told ∙ or_true (not era.is_live) (eqb era.inc inc) (eq-eqb era.inc inc same)
+
 -- an attempt to close, by the era that was found
-module _ {D : Type 0} (coded : Coded D) (meaning : DeskMeaning D) (closer inc n : ℕ) (me me' : SeatState) (found : Era) (told : ClosesEra closer me n me') (read : (era : Era) → n ≡ era_word era → era.inc < 4294967296 → found ≡ era) (step : ClosesLink coded meaning inc n me me') where
+module _ {D : Type 0} (coded : Coded D) (meaning : DeskMeaning D) (closer inc n : ℕ) (me me' : SeatState) (found : Era) (told : ClosesEra closer inc me n me') (read : (era : Era) → n ≡ era_word era → era.inc < 4294967296 → found ≡ era) (step : ClosesLink coded meaning inc n me me') where
   same_era : found ≡ told.0
   same_era = read told.0 told.1 told.2
 
   closed_with : (answer : Result (Unit {0}) Already) → IsCloseAnswer inc told.0 answer → HasClosed coded meaning closer inc answer me me'
-  closed_with answer answers = record { era = told.0; answered = answers; step = subst (λ (k : ℕ). ClosesLink coded meaning inc k me me') told.1 step; noted = told.3 }
+  closed_with answer answers = record { era = told.0; answered = answers; step = subst (λ (k : ℕ). ClosesLink coded meaning inc k me me') told.1 step; noted = told.3; current = told.4 }
 
   pub closed_now : is_live_in found inc ≡ true → HasClosed coded meaning closer inc (Ok (tt {0})) me me'
   closed_now live = closed_with (Ok (tt {0})) (sym same_era ∙ live_is found inc live)

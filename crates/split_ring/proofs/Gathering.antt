@@ -1,6 +1,6 @@
 -- The manager's own call over its steps.
-use Rattle.std.proofs.Common.{◌≡◌, ◌+◌, ℕ, zero, suc, eqb, cond, List, [], ◌∷◌, refl, sym, ap, ◌∙◌, subst}
-use Rattle.std.specs.Prelude.{Some, None}
+use Rattle.std.proofs.Common.{◌≡◌, ◌⊎◌, ◌+◌, ◌-◌, ℕ, zero, suc, eqb, cond, List, [], ◌∷◌, refl, sym, ap, ◌∙◌, subst, inl, inr, ⊎_elim, arith}
+use Rattle.std.specs.Prelude.{Option, Some, None}
 use mathlib.Core.Option.{some, some-injective, some-ne-none}
 use lib.ListN.{get_elem?}
 use Rattle.atomic_table.specs.Table.{rest}
@@ -18,15 +18,17 @@ use Rattle.link_words.specs.declared.rule.Slot.TheVariants.{Empty, Receiver, Sen
 use Rattle.link_words.specs.declared.rule.View.{View}
 use Rattle.link_words.specs.Calls.{SeatState, Becomes, with_pass_at}
 use Rattle.link_words.specs.Passes.{with_call, place_of_number}
-use Rattle.link_words.specs.Reopens.{ManagerDoes, both_sides, gathers_or, manager_place, ManagerAt, gathered, ManagerTakesSender, ManagerTakesReceiver, ManagerLeavesSender, ManagerLeavesReceiver, MayGather, MayLeaveSender, MayLeaveReceiver}
+use Rattle.link_words.specs.Reopens.{AreInUse, IsHoldersWord, ManagerDoes, both_sides, gathers_or, manager_place, ManagerAt, gathered, ManagerTakesSender, ManagerTakesReceiver, ManagerLeavesSender, ManagerLeavesReceiver, MayGather, MayLeaveSender, MayLeaveReceiver}
 use Rattle.link_words.specs.Sides.{sides_at}
 use Rattle.link_words.specs.Words.{sender_slot, receiver_slot}
 use base.Stored.{Coded}
 use Rattle.lane_model.specs.Desks.{DeskMeaning}
+use Rattle.lane_model.specs.Links.{end_of}
+use Rattle.ring_core.specs.declared.states.Hand.{Hand}
 use Rattle.link_words.specs.Deeds.{ManagerTakes}
 use Rattle.link_words.specs.Layouts.{place_in}
 use Rattle.link_words.specs.Steps.{HasWord, turn_number}
-use Rattle.split_ring.specs.Gathers.{called_view, IsCalling, TakesSide, PutsSide, Meets, lane_slots, TakesLane, PutsLane, IsAsBefore}
+use Rattle.split_ring.specs.Gathers.{called_view, IsCalling, TakesSide, PutsSide, Meets, IsHolderIn, lane_slots, TakesLane, PutsLane, IsAsBefore}
 
 at_pass : (f : Pass → Pass) (k : ℕ) (ps : List Pass) (p : Pass) → get_elem? ps k ≡ some p → get_elem? (with_pass_at f k ps) k ≡ some (f p)
 at_pass f k [] p at = absurd (some-ne-none p (sym at))
@@ -90,6 +92,27 @@ sender_out lane n me me1 hit told = let h = told.0 hit in (h.0, ap (λ (s : Seat
 
 pub receiver_out : (lane : End) (n : ℕ) (me me1 : SeatState) → n ≡ 0 → ManagerTakesReceiver lane me n me1 → (x : ReceiverSide) × (me1.1 ≡ (receiver_slot lane, Receiver x) ∷ me.1)
 receiver_out lane n me me1 hit told = let h = told.0 hit in (h.0, ap (λ (s : SeatState). s.1) h.1)
+
+-- who holds what is in hand by a side state that was taken is in use
+pub out_in_use : (lane : End) (n k : ℕ) (y : Slot) (side : ReceiverSide) (me me1 : SeatState) → n ≡ 0 → ManagerTakesReceiver lane me n me1 → k ≡ receiver_slot lane → me1.1 ≡ (k, y) ∷ rest me1.1 → ((x : ReceiverSide) → y ≡ Receiver x → side ≡ x) → AreInUse me.0 lane side.hands
+out_in_use lane n k y side me me1 hit told at lent side_is =
+    let h = told.0 hit in let taken : me1.1 ≡ (receiver_slot lane, Receiver h.0) ∷ me.1 = ap (λ (s : SeatState). s.1) h.1 in
+    let same : side ≡ h.0 = side_is h.0 (within (receiver_slot lane) k (Receiver h.0) y me1.1 me.1 taken lent) in
+    subst (λ (x : ReceiverSide). AreInUse me.0 lane x.hands) (sym same) h.2
+
+-- the holder of a turn, by its word
+pub holder_in : (v : View) (e : End) (n : ℕ) → IsHoldersWord v e n → IsHolderIn v (n - 1)
+holder_in v e n held = ⊎_elim (λ (own : n ≡ 65). inl (omega (arith, own))) (λ (user : end_of v.users (n - 1) ≡ Some e). inr (e, user)) held
+
+-- the callers in use, by the view that a seat's is but for the manager's own pass
+pub users_by : {v : View} {call call' : Call} {slots slots' : List (ℕ × Slot)} (me me' : SeatState) → IsCalling v call slots me → IsCalling v call' slots' me' → me'.0.users ≡ me.0.users
+users_by me me' c c' = ap (λ (s : SeatState). s.0.users) c'.is ∙ sym (ap (λ (s : SeatState). s.0.users) c.is)
+
+pub holder_by : (v w : View) (holder : ℕ) → w.users ≡ v.users → IsHolderIn w holder → IsHolderIn v holder
+holder_by v w holder same held = subst (λ (us : List (Option End)). (holder ≡ 64) ⊎ ((e : End) × (end_of us holder ≡ Some e))) same held
+
+pub in_use_by : (v w : View) (lane : End) (hands : List Hand) → w.users ≡ v.users → AreInUse w lane hands → AreInUse v lane hands
+in_use_by v w lane hands same users k h at = ap (λ (us : List (Option End)). end_of us h.caller) (sym same) ∙ users k h at
 
 -- a slot that was lent under its number
 pub lent_at : (k k' : ℕ) (y : Slot) (slots more : List (ℕ × Slot)) → slots ≡ (k, y) ∷ more → k' ≡ k → slots ≡ (k', y) ∷ rest slots

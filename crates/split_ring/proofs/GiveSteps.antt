@@ -81,7 +81,7 @@ module _ {D : Type 0} (coded : Coded D) (meaning : DeskMeaning D) where
         own = Count e inc (Gave (y.returned + 1)) ∷ p.own;
         hands = hands_but p.hands number;
       }) r.work) t) k) in_call in
-      record { in_call = ap (λ (r : Pass). r.call) is; own = ap (λ (r : Pass). r.own) is; number = ap (λ (r : Pass). r.number) is; in_hand = ap (λ (r : Pass). r.hands) is }
+      record { in_call = ap (λ (r : Pass). r.call) is; own = ap (λ (r : Pass). r.own) is; number = ap (λ (r : Pass). r.number) is; first = ap (λ (r : Pass). r.first) is; in_hand = ap (λ (r : Pass). r.hands) is }
 
   pub gives_back : (me me' : SeatState) (who : CallerId) (returned number : ℕ) → (at : IsGiveAt who returned (work.Give number give_stage.Entry) me) → GivePublishes me me' → IsRingStep coded meaning me me'
       → IsAt me' (Receives who.end (turn.Leaving who.number (end.Gave number)) (side_given at.side number) 0 []) (receive_slots who at.side)

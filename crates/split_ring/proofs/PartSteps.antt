@@ -41,9 +41,9 @@ use base.Stored.{Coded}
 use Rattle.lane_model.specs.Desks.{DeskMeaning}
 use Rattle.split_ring.specs.declared.reclaims.Parts.{Parts}
 use Rattle.split_ring.specs.Links.{IsManager}
-use Rattle.split_ring.specs.PartsOf.{IsAllOf, AreSame, NeedsTurn}
+use Rattle.split_ring.specs.PartsOf.{IsAllOf, AreSame, LooksAgain, NeedsTurn}
 use Rattle.split_ring.specs.Receives.{IsHeldBy}
-use Rattle.split_ring.specs.Reclaims.{StandsIn, HasRead, IsNow, IsEndFault, IsAnothers, buffer_in, has_buffer, lacks_receiver, phase_of, turn_in}
+use Rattle.split_ring.specs.Reclaims.{StandsIn, HasRead, IsNow, IsEndFault, IsAnothers, buffer_in, has_buffer, is_turn, lacks_receiver, phase_of, turn_in}
 use Rattle.split_ring.specs.Seats.{pass_in}
 use Rattle.split_ring.proofs.CloseSteps.{IsLike, at_noted, held_noted, phase_noted}
 use Rattle.split_ring.proofs.EndSteps.{none_behind, pass_is, one_is, seat_now}
@@ -138,10 +138,20 @@ module _ {D : Type 0} (link : SharedLink D) (parts : Parts D) (all : IsAllOf lin
   some_buffer (phase.LeavesReceiver (answer.Refused fault)) is = absurd (true-false (sym is))
   some_buffer phase.Ended is = absurd (true-false (sym is))
 
+  pub number_held : (is_giving : Bool) → is_giving ≡ has_buffer (phase_of parts.call) → (is_giving ≡ true) ⊎ ((buffer : HeldBuffer) × (get_elem? parts.held.items 0 ≡ some buffer)) → (n : ℕ) × HasNumber (pass_in parts.caller.seat.me).hands n
+  number_held is_giving is either = ⊎_elim
+      (λ (gives : is_giving ≡ true). let n = some_buffer (phase_of parts.call) (sym is ∙ gives) in (n.0, all.own n.0 n.1))
+      (λ (has : (buffer : HeldBuffer) × (get_elem? parts.held.items 0 ≡ some buffer)). (has.0.number, (all.held 0 has.0 has.1).numbered)) either
+
   pub holds_some : (is_giving : Bool) → is_giving ≡ has_buffer (phase_of parts.call) → (is_giving ≡ true) ⊎ ((buffer : HeldBuffer) × (get_elem? parts.held.items 0 ≡ some buffer)) → lacks_receiver (turn_in (phase_of parts.call)) ≡ true → NeedsTurn parts
-  holds_some is_giving is either lacks = ⊎_elim
-      (λ (gives : is_giving ≡ true). let n = some_buffer (phase_of parts.call) (sym is ∙ gives) in record { number = n.0; holds = all.own n.0 n.1; lacks = lacks })
-      (λ (has : (buffer : HeldBuffer) × (get_elem? parts.held.items 0 ≡ some buffer)). record { number = has.0.number; holds = (all.held 0 has.0 has.1).numbered; lacks = lacks }) either
+  holds_some is_giving is either lacks = let n = number_held is_giving is either in record { number = n.0; holds = n.1; lacks = lacks }
+
+  -- a second look at the era was for a turn or for what is held
+  pub looks_again : (turn : TurnHeld) (is_giving is_holding : Bool) → turn ≡ turn_in (phase_of parts.call) → is_giving ≡ has_buffer (phase_of parts.call) → (is_holding ≡ true → (is_giving ≡ true) ⊎ ((buffer : HeldBuffer) × (get_elem? parts.held.items 0 ≡ some buffer)))
+      → (is_turn turn ≡ true) ⊎ (is_holding ≡ true) → LooksAgain parts
+  looks_again turn is_giving is_holding same is some_held why = ⊎_elim
+      (λ (has : is_turn turn ≡ true). inl (sym (ap is_turn same) ∙ has))
+      (λ (holds : is_holding ≡ true). inr (number_held is_giving is (some_held holds))) why
 
 -- a seat that has the same pass is like it was
 like_now : (me me' : SeatState) → IsNow (pass_in me) me.1 me me' → IsLike me me'
@@ -195,7 +205,7 @@ first_item (x ∷ xs) some_there = (x, refl)
 
 -- why a call was not ended
 module _ {D : Type 0} (coded : Coded D) (meaning : DeskMeaning D) (who : CallerId) (turn : TurnHeld) (is_holding : Bool) (fault : EndFault) where
-  pub open_is : (era : Era) → fault ≡ end_fault.StillOpen era → IsEndFault coded meaning who turn is_holding fault → era.is_live ≡ true
+  pub open_is : (era : Era) → fault ≡ end_fault.StillOpen era → IsEndFault coded meaning who turn is_holding fault → (era.is_live ≡ true) × ((is_turn turn ≡ true) ⊎ (is_holding ≡ true))
   open_is era is why = subst (IsEndFault coded meaning who turn is_holding) is why
 
   pub busy_is : (holder : ℕ) → fault ≡ end_fault.Busy holder → IsEndFault coded meaning who turn is_holding fault → IsAnothers coded meaning who holder × (is_holding ≡ true) × (lacks_receiver turn ≡ true)

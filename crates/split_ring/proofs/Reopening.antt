@@ -6,6 +6,7 @@ use Rattle.lane_model.specs.declared.recoveries.ReopenFault.TheVariants as fault
 use Rattle.std.specs.Prelude.{◌⊎◌, IfNone, Err, Option, Some, None, not, nat_lt, fold, Bool, true, false}
 use Rattle.rp_base.specs.declared.kinds.Era.{Era}
 use Rattle.lane_model.specs.Desks.{DeskMeaning}
+use Rattle.lane_model.specs.Links.{end_of}
 use Rattle.ring_core.specs.declared.states.Hand.{Hand}
 use Rattle.link_words.specs.declared.rule.Event.{Event}
 use Rattle.link_words.specs.PlacedDesks.{IsRightTo}
@@ -34,7 +35,7 @@ use Rattle.split_ring.specs.Seats.{IsSeatOf}
 use Rattle.link_words.specs.Histories.{LaneBooks, HasHistory}
 use Rattle.link_words.specs.Layouts.{layout, place_in}
 use Rattle.link_words.specs.Passes.{with_call, place_of_number}
-use Rattle.link_words.specs.Reopens.{ManagerAt, both_sides, opened_sides, opened_view, OpensEra, right_by, lesser_hand, least_hand, manager_place, manager_call, sides_of, books_by, AreBooksOf, MayBegin, MayOpen, MayReset, BeginsReopening, ResetsWord, reopens_or, gathers_or}
+use Rattle.link_words.specs.Reopens.{AreInUse, ManagerAt, both_sides, opened_sides, opened_view, OpensEra, right_by, lesser_hand, least_hand, manager_place, manager_call, sides_of, books_by, AreBooksOf, MayBegin, MayOpen, MayReset, BeginsReopening, ResetsWord, reopens_or, gathers_or}
 use Rattle.link_words.specs.Sides.{no_sides, sides_at}
 use Rattle.link_words.specs.Words.{entry_word, era_word, words_in}
 use native.Mathlib.Decide.{dec_lt}
@@ -45,6 +46,9 @@ use Rattle.split_ring.specs.Openings.{opened_entries, opened_words, IsOpenable}
 use Rattle.split_ring.specs.Reopens.{all_slots, HasNone, HasAll, next_view, unopened_from, IsReopening}
 use Rattle.split_ring.proofs.Apart.{lane_entries, entries_length}
 use Rattle.split_ring.proofs.Gathering.{manager_at, calls_next, same_place, call_again}
+
+true-false : true ≡ false → ⊥
+true-false e = absurd (cc)
 
 -- the words that a reopening resets are those of a new link behind its first six
 pub fresh_words : (z : LinkSizes) → 0 ∷ (z.first * 2 + 1) ∷ 0 ∷ 0 ∷ 0 ∷ 0 ∷ fresh_of z ≡ opened_words z
@@ -121,6 +125,7 @@ books_at v call slots me told c books =
     record {
       own = λ i q there. let kept = pass_kept k i v.passes q there in subst (λ (t : ℕ × ℕ × List Event). HasHistory v.inc told t.0 t.1 t.2) (λ j. (kept.2 j, kept.3 j, kept.4 j)) (all.own i kept.0 kept.1);
       unused = all.unused;
+      ended = all.ended;
     }
   where
     pass_kept : (k i : ℕ) (ps : List Pass) (q : Pass) → get_elem? ps i ≡ some q → (p : Pass) × (get_elem? (with_pass_at (λ q. with_call q call) k ps) i ≡ some p) × (p.number ≡ q.number) × (p.first ≡ q.first) × (p.own ≡ q.own)
@@ -147,6 +152,14 @@ pub found_era : (me me' : SeatState) (n : ℕ) (found : Era) → LearnsEra me n 
 found_era me me' n found told reads live is =
     let same : found ≡ told.0 = reads told.0 told.1 told.2 in let inc : found.inc ≡ me.0.inc = ap (λ (e : Era). e.inc) same ∙ told.4 in let lives : told.0.is_live ≡ live = ap (λ (e : Era). e.is_live) (sym same) ∙ is in
     ((λ i. record { inc = inc i; is_live = is i }), subst (λ (e : Era). e.inc < 4294967296) (sym same) told.2, told.3 ∙ (λ i. (record me.0 { is_closed = not (lives i) }, me.1)))
+
+-- an era that was found live was not known closed
+pub unknown_before : (me me' : SeatState) (n : ℕ) (found : Era) → LearnsEra me n me' → ((era : Era) → n ≡ era_word era → era.inc < 4294967296 → found ≡ era) → found.is_live ≡ true → me.0.is_closed ≡ false
+unknown_before me me' n found told reads live = go me.0.is_closed refl
+  where
+    go : (b : Bool) → me.0.is_closed ≡ b → b ≡ false
+    go true is = absurd (true-false (sym live ∙ (ap (λ (e : Era). e.is_live) (reads told.0 told.1 told.2) ∙ told.5 is)))
+    go false is = refl
 
 -- no hand is the least of none
 some_least : (hands : List Hand) (h : Hand) → (k : Hand) × (fold lesser_hand (Some h) hands ≡ Some k)
@@ -283,14 +296,37 @@ or_else a None = a
 or_else a (Some b) = b
 
 -- a refusal is that something is held, or that there is no next incarnation
-which_fault : (o : Option Hand) (last : Bool) (f : ReopenFault) → option_or (option_map held_fault o) (cond last (Some fault.IncarnationsSpent) None) ≡ Some f → ((h : Hand) × (f ≡ held_fault h)) ⊎ (f ≡ fault.IncarnationsSpent)
-which_fault (Some h) last f is = inl (h, ap (λ (k : Option ReopenFault). or_else f k) (sym is))
+which_fault : (o : Option Hand) (last : Bool) (f : ReopenFault) → option_or (option_map held_fault o) (cond last (Some fault.IncarnationsSpent) None) ≡ Some f → ((h : Hand) × (f ≡ held_fault h) × (o ≡ Some h)) ⊎ (f ≡ fault.IncarnationsSpent)
+which_fault (Some h) last f is = inl (h, ap (λ (k : Option ReopenFault). or_else f k) (sym is), refl)
 which_fault None true f is = inr (ap (λ (k : Option ReopenFault). or_else f k) (sym is))
 which_fault None false f is = absurd (none_some f is)
 
+-- the hand of the least number is one of them
+least_from : (hands : List Hand) (x k : Hand) → fold lesser_hand (Some x) hands ≡ Some k → (x ≡ k) ⊎ ((i : ℕ) × (get_elem? hands i ≡ some k))
+least_from [] x k is = inl (ap (or_else x) is)
+least_from (y ∷ hands) x k is = go (nat_lt y.number x.number) is (least_from hands y k) (least_from hands x k)
+  where
+    go : (less : Bool) → fold lesser_hand (cond less (Some y) (Some x)) hands ≡ Some k → (fold lesser_hand (Some y) hands ≡ Some k → (y ≡ k) ⊎ ((i : ℕ) × (get_elem? hands i ≡ some k)))
+        → (fold lesser_hand (Some x) hands ≡ Some k → (x ≡ k) ⊎ ((i : ℕ) × (get_elem? hands i ≡ some k))) → (x ≡ k) ⊎ ((i : ℕ) × (get_elem? (y ∷ hands) i ≡ some k))
+    go true found a b = ⊎_elim (λ (same : y ≡ k). inr (0, ap some same)) (λ (t : (i : ℕ) × (get_elem? hands i ≡ some k)). inr (suc t.0, t.1)) (a found)
+    go false found a b = ⊎_elim (λ (same : x ≡ k). inl same) (λ (t : (i : ℕ) × (get_elem? hands i ≡ some k)). inr (suc t.0, t.1)) (b found)
+
+least_in : (hands : List Hand) (k : Hand) → least_hand hands ≡ Some k → (i : ℕ) × (get_elem? hands i ≡ some k)
+least_in [] k is = absurd (none_some k is)
+least_in (x ∷ hands) k is = ⊎_elim (λ (same : x ≡ k). (0, ap some same)) (λ (t : (i : ℕ) × (get_elem? hands i ≡ some k)). (suc t.0, t.1)) (least_from hands x k is)
+
+-- who holds the message of the least number is in use
+holder_in_use : (v : View) (host remote : List Hand) (h : Hand) → AreInUse v side.Host host → AreInUse v side.Remote remote → option_or (least_hand host) (least_hand remote) ≡ Some h → (e : End) × (end_of v.users h.caller ≡ Some e)
+holder_in_use v host remote h hosts remotes is = go (least_hand host) refl is
+  where
+    go : (o : Option Hand) → least_hand host ≡ o → option_or o (least_hand remote) ≡ Some h → (e : End) × (end_of v.users h.caller ≡ Some e)
+    go (Some x) least found = let at = least_in host h (least ∙ found) in (side.Host, hosts at.0 h at.1)
+    go None least found = let at = least_in remote h found in (side.Remote, remotes at.0 h at.1)
+
 pub refused_is : {D : Type 0} (coded : Coded D) (meaning : DeskMeaning D) (v : View) (x u : SenderSide) (y w : ReceiverSide) (before : SeatState) (f : ReopenFault) (v' : View) → HasAll (record v { is_closed = true }) x y u w before
-    → unopened_from y.hands w.hands v.inc ≡ Some f → v' ≡ record v { is_closed = true; copy = v'.copy } → IsReopening coded meaning v (Err f) v'
-refused_is coded meaning v x u y w before f v' all is view = ⊎_elim
-    (λ (t : (h : Hand) × (f ≡ held_fault h)). subst (λ (k : ReopenFault). IsReopening coded meaning v (Err k) v') (sym t.1) (x, y, u, w, before, all, is ∙ ap Some t.1, view))
+    → AreInUse v side.Host y.hands → AreInUse v side.Remote w.hands → unopened_from y.hands w.hands v.inc ≡ Some f → v' ≡ record v { is_closed = true; copy = v'.copy } → IsReopening coded meaning v (Err f) v'
+refused_is coded meaning v x u y w before f v' all hosts remotes is view = ⊎_elim
+    (λ (t : (h : Hand) × (f ≡ held_fault h) × (option_or (least_hand y.hands) (least_hand w.hands) ≡ Some h)).
+    subst (λ (k : ReopenFault). IsReopening coded meaning v (Err k) v') (sym t.1) (x, y, u, w, before, all, is ∙ ap Some t.1, view, holder_in_use v y.hands w.hands t.0 hosts remotes t.2))
     (λ (t : f ≡ fault.IncarnationsSpent). subst (λ (k : ReopenFault). IsReopening coded meaning v (Err k) v') (sym t) (x, y, u, w, before, all, is ∙ ap Some t, view))
     (which_fault (option_or (least_hand y.hands) (least_hand w.hands)) (eqb v.inc 4294967295) f is)

@@ -90,6 +90,7 @@ pub record Moves (p q : Pass) (call : Call) (events : List Event) (hands : List 
   pub in_call : q.call ≡ call
   pub own : q.own ≡ events ++ p.own
   pub number : q.number ≡ p.number
+  pub first : q.first ≡ p.first
   pub in_hand : q.hands ≡ hands p.hands
 
 module _ {D : Type 0} (coded : Coded D) (meaning : DeskMeaning D) where
@@ -104,6 +105,7 @@ module _ {D : Type 0} (coded : Coded D) (meaning : DeskMeaning D) where
         record {
           own = ap (λ (p : Pass). p.own) pass ∙ moves.own;
           number = ap (λ (p : Pass). p.number) pass ∙ moves.number;
+          first = ap (λ (p : Pass). p.first) pass ∙ moves.first;
           in_hand = ap (λ (p : Pass). p.hands) pass ∙ moves.in_hand;
           sizes = ap (λ (s : SeatState). s.0.sizes) told;
           stepped = stepped;
@@ -132,6 +134,7 @@ module _ {D : Type 0} (coded : Coded D) (meaning : DeskMeaning D) where
   still me me' same = record {
     own = ap (λ (v : View). (first_pass v.passes).own) same;
     number = ap (λ (v : View). (first_pass v.passes).number) same;
+    first = ap (λ (v : View). (first_pass v.passes).first) same;
     in_hand = ap (λ (v : View). (first_pass v.passes).hands) same;
     sizes = ap (λ (v : View). v.sizes) same;
     stepped = same;
@@ -172,6 +175,7 @@ module _ {D : Type 0} (coded : Coded D) (meaning : DeskMeaning D) where
   done_then events before more less a b c first then = record {
     own = then.own ∙ (ap (λ (l : List Event). events ++ l) first.own ∙ sym (append_assoc events before (pass_in a).own));
     number = then.number ∙ first.number;
+    first = then.first ∙ first.first;
     in_hand = then.in_hand ∙ ap more first.in_hand;
     sizes = then.sizes ∙ first.sizes;
     stepped = stepped_then events before a b c first.own first.stepped then.stepped;

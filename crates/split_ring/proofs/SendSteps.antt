@@ -112,7 +112,7 @@ module _ {D : Type 0} (coded : Coded D) (meaning : DeskMeaning D) where
   unfolding sending
   turned making next me me' c q t at told is step =
       after_step coded meaning (λ p. noted making (with_send next p)) me.1 (send_slots c) me me' (place_of me) (with_turn c t) (Step making ∷ []) same_hands at.one (alone me c q at) told at.out
-      (record { in_call = ap (λ (k : Call). send_or k (λ e t x b. Sends e (under_way_or t (next x) t) x b) k) at.in_call ∙ ap (with_turn c) is; own = refl; number = refl; in_hand = refl })
+      (record { in_call = ap (λ (k : Call). send_or k (λ e t x b. Sends e (under_way_or t (next x) t) x b) k) at.in_call ∙ ap (with_turn c) is; own = refl; number = refl; first = refl; in_hand = refl })
       (stepped_once coded meaning making me me' step)
 
   -- step 2
@@ -144,7 +144,7 @@ module _ {D : Type 0} (coded : Coded D) (meaning : DeskMeaning D) where
   room_pass c returned capacity book t p counted in_call turns =
       let look : ℕ → Pass = λ n. record p { call = with_turn c (look_turn n returned capacity book c.who.number (sending c stage.Era)); own = room_look c.who n returned ∷ p.own } in
       let is : with_room returned capacity book p ≡ look c.accepted = ap (λ (k : Call). send_or p (λ e t x b. under_way_or p (λ caller s. record p { call = Sends e (look_turn x.accepted returned capacity book caller s) x b; own = Count e s.follows (Room x.accepted returned) ∷ p.own }) t) k) in_call ∙ ap look counted.is in
-      record { in_call = ap (λ (r : Pass). r.call) is ∙ ap (with_turn c) turns; own = ap (λ (r : Pass). r.own) is; number = ap (λ (r : Pass). r.number) is; in_hand = ap (λ (r : Pass). r.hands) is }
+      record { in_call = ap (λ (r : Pass). r.call) is ∙ ap (with_turn c) turns; own = ap (λ (r : Pass). r.own) is; number = ap (λ (r : Pass). r.number) is; first = ap (λ (r : Pass). r.first) is; in_hand = ap (λ (r : Pass). r.hands) is }
 
   looks : (z : LinkSizes) (me me' : SeatState) (c : SendCall) (n : ℕ) (t : Turn Sending) → me.0.sizes ≡ z → IsAt me (send_call c stage.Era) (send_slots c) → IsCounted c → (told : SendLooks me n me') → IsRingStep coded meaning me me'
       → look_turn c.accepted told.0 (sizes_at z (other c.who.end)).capacity z.book c.who.number (sending c stage.Era) ≡ t
@@ -213,7 +213,7 @@ module _ {D : Type 0} (coded : Coded D) (meaning : DeskMeaning D) where
       let all = after_step coded meaning (λ p. noted (made.Buffer id) (with_call p (send_or p.call (λ e t x b. Sends e (under_way_or t (λ caller s. turn.Taken caller (record s { stage = stage.Buffer })) t) x id) p.call)))
       ((slot_by me id, told.0) ∷ me.1) (send_buffer z (record c { buffer = id }) told.0) me me' (place_of me) (send_call (record c { buffer = id }) stage.Buffer) (Step (made.Buffer id) ∷ []) same_hands at.0.one zero told.1
       (λ i. (slot_is z me c stage.Look (send_slots c) id sized at.0 zero i, told.0) ∷ at.0.out i)
-      (record { in_call = ap (λ (k : Call). send_or k (λ e t x b. Sends e (under_way_or t (λ caller s. turn.Taken caller (record s { stage = stage.Buffer })) t) x id) k) at.0.in_call; own = refl; number = refl; in_hand = refl })
+      (record { in_call = ap (λ (k : Call). send_or k (λ e t x b. Sends e (under_way_or t (λ caller s. turn.Taken caller (record s { stage = stage.Buffer })) t) x id) k) at.0.in_call; own = refl; number = refl; first = refl; in_hand = refl })
       (stepped_once coded meaning (made.Buffer id) me me' step) in
       ((told.0, (all.0, record { is = at.1.is; most = at.1.most })), all.1)
 
@@ -235,7 +235,7 @@ module _ {D : Type 0} (coded : Coded D) (meaning : DeskMeaning D) where
       → IsFilledAt z c stage.Entry y me' × HasDone coded meaning (Step made.Entry ∷ []) same_hands me me'
   stores_entry z me me' c y at told step =
       let all = after_step coded meaning (λ p. noted made.Entry (with_send (λ x caller s. turn.Taken caller (record s { stage = stage.Entry })) p)) me.1 (send_buffer z c y) me me' (place_of me) (send_call c stage.Entry) (Step made.Entry ∷ []) same_hands at.0.one (filled z me c stage.Buffer y at.0) told at.0.out
-      (record { in_call = ap (λ (k : Call). send_or k (λ e t x b. Sends e (under_way_or t (λ caller s. turn.Taken caller (record s { stage = stage.Entry })) t) x b) k) at.0.in_call; own = refl; number = refl; in_hand = refl })
+      (record { in_call = ap (λ (k : Call). send_or k (λ e t x b. Sends e (under_way_or t (λ caller s. turn.Taken caller (record s { stage = stage.Entry })) t) x b) k) at.0.in_call; own = refl; number = refl; first = refl; in_hand = refl })
       (stepped_once coded meaning made.Entry me me' step) in ((all.0, at.1), all.1)
 
   -- step 6
@@ -262,4 +262,4 @@ module _ {D : Type 0} (coded : Coded D) (meaning : DeskMeaning D) where
           let sent : ℕ → Pass = λ n. record p { call = Sends (other c.who.end) (turn.Leaving c.who.number (end.Sent n)) (accepted_side c.side.value c.who.number c.message.value) c.buffer; own = Publish (other c.who.end) c.who.follows n c.message.value ∷ p.own } in
           let is : with_publish p ≡ sent c.accepted
           = ap (λ (k : Call). send_or p (λ e t x b. under_way_or p (λ caller s. record p { call = Sends e (turn.Leaving caller (end.Sent x.accepted)) (accepted_side x caller s.message) b; own = Publish e s.follows x.accepted s.message ∷ p.own }) t) k) in_call ∙ ap sent at.1.is in
-          record { in_call = ap (λ (r : Pass). r.call) is; own = ap (λ (r : Pass). r.own) is; number = ap (λ (r : Pass). r.number) is; in_hand = ap (λ (r : Pass). r.hands) is }
+          record { in_call = ap (λ (r : Pass). r.call) is; own = ap (λ (r : Pass). r.own) is; number = ap (λ (r : Pass). r.number) is; first = ap (λ (r : Pass). r.first) is; in_hand = ap (λ (r : Pass). r.hands) is }

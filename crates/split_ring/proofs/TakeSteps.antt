@@ -107,7 +107,7 @@ module _ {D : Type 0} (coded : Coded D) (meaning : DeskMeaning D) where
       → IsAt me' (with_turn who x 0 [] t) (receive_slots who x) × HasDone coded meaning (Step made ∷ []) same_hands me me'
   turned making next me me' who w x t at told is step =
       after_step coded meaning (λ p. noted making (with_receive next p)) me.1 (receive_slots who x) me me' (place_of me) (with_turn who x 0 [] t) (Step making ∷ []) same_hands at.one (alone me who w x 0 [] at) told at.out
-      (record { in_call = ap (λ (k : Call). receive_or k (λ e t y b message. Receives e (under_way_or t (next y) t) y b message) k) at.in_call ∙ ap (with_turn who x 0 []) is; own = refl; number = refl; in_hand = refl })
+      (record { in_call = ap (λ (k : Call). receive_or k (λ e t y b message. Receives e (under_way_or t (next y) t) y b message) k) at.in_call ∙ ap (with_turn who x 0 []) is; own = refl; number = refl; first = refl; in_hand = refl })
       (stepped_once coded meaning making me me' step)
 
   -- step 2
@@ -136,7 +136,7 @@ module _ {D : Type 0} (coded : Coded D) (meaning : DeskMeaning D) where
   waiting_pass c x accepted t p handed in_call turns =
       let is : with_waiting accepted p ≡ record p { call = with_turn c.who x 0 [] (take_look_turn x.handed accepted c.who.number (receiving c.who (work.Take take_stage.Era))); own = message_look c.who x.handed accepted ∷ p.own }
       = ap (λ (k : Call). receive_or p (λ e t y b message. under_way_or p (λ caller r. record p { call = Receives e (take_look_turn y.handed accepted caller r) y b message; own = Count e r.follows (Waiting y.handed accepted) ∷ p.own }) t) k) in_call in
-      record { in_call = ap (λ (r : Pass). r.call) is ∙ ap (with_turn c.who x 0 []) turns; own = ap (λ (r : Pass). r.own) is ∙ ap (λ (k : ℕ). message_look c.who k accepted ∷ p.own) handed; number = ap (λ (r : Pass). r.number) is; in_hand = ap (λ (r : Pass). r.hands) is }
+      record { in_call = ap (λ (r : Pass). r.call) is ∙ ap (with_turn c.who x 0 []) turns; own = ap (λ (r : Pass). r.own) is ∙ ap (λ (k : ℕ). message_look c.who k accepted ∷ p.own) handed; number = ap (λ (r : Pass). r.number) is; first = ap (λ (r : Pass). r.first) is; in_hand = ap (λ (r : Pass). r.hands) is }
 
   looks : (me me' : SeatState) (c : TakeCall) (n : ℕ) (t : Turn Receiving) (at : IsTakeAt c (work.Take take_stage.Era) me) → (told : TakeLooks me n me') → IsRingStep coded meaning me me'
       → take_look_turn at.side.handed told.0 c.who.number (receiving c.who (work.Take take_stage.Era)) ≡ t
@@ -195,7 +195,7 @@ module _ {D : Type 0} (coded : Coded D) (meaning : DeskMeaning D) where
       let all = after_step coded meaning (λ p. noted (made.Buffer id) (with_call p (receive_or p.call (λ e t y b old. Receives e (under_way_or t (λ caller r. turn.Taken caller (record r { work = work.Take take_stage.Buffer })) t) y id told.0) p.call)))
       ((slot_by me id, Buffer told.0) ∷ me.1) (hand_slots z c.who x id told.0) me me' (place_of me) (receive_call c.who (work.Take take_stage.Buffer) x id told.0) (Step (made.Buffer id) ∷ []) same_hands at.at.one zero told.1
       (λ i. (buffer_slot (sized i).to_host.capacity (lane i) id, Buffer told.0) ∷ at.at.out i)
-      (record { in_call = ap (λ (k : Call). receive_or k (λ e t y b old. Receives e (under_way_or t (λ caller r. turn.Taken caller (record r { work = work.Take take_stage.Buffer })) t) y id told.0) k) at.at.in_call; own = refl; number = refl; in_hand = refl })
+      (record { in_call = ap (λ (k : Call). receive_or k (λ e t y b old. Receives e (under_way_or t (λ caller r. turn.Taken caller (record r { work = work.Take take_stage.Buffer })) t) y id told.0) k) at.at.in_call; own = refl; number = refl; first = refl; in_hand = refl })
       (stepped_once coded meaning (made.Buffer id) me me' step) in
       ((told.0, record { side = x; handed = at.handed; most = at.most; at = all.0 }), all.1)
 
@@ -225,7 +225,7 @@ module _ {D : Type 0} (coded : Coded D) (meaning : DeskMeaning D) where
         hands = p.hands ++ y.handed ∷ [];
       })
       (with_call p (Receives e (turn.Leaving caller (end.Dead era)) y a message))) t) k) in_call ∙ ap (λ (a : Bool). cond a handed dead) live in
-      record { in_call = ap (λ (r : Pass). r.call) is; own = ap (λ (r : Pass). Step (made.Era era) ∷ r.own) is; number = ap (λ (r : Pass). r.number) is; in_hand = ap (λ (r : Pass). r.hands) is }
+      record { in_call = ap (λ (r : Pass). r.call) is; own = ap (λ (r : Pass). Step (made.Era era) ∷ r.own) is; number = ap (λ (r : Pass). r.number) is; first = ap (λ (r : Pass). r.first) is; in_hand = ap (λ (r : Pass). r.hands) is }
 
   dead_pass : (c : TakeCall) (x : ReceiverSide) (b : ℕ) (m : List ℕ) (era : Era) (desk : D) (p : Pass) → p.call ≡ receive_call c.who (work.Take take_stage.Buffer) x b m → is_live_in era c.who.follows ≡ false
       → Moves p (noted (made.Era era) (with_handing coded meaning era desk p)) (Receives c.who.end (turn.Leaving c.who.number (end.Dead era)) x b m) (Step (made.Era era) ∷ []) same_hands
@@ -242,7 +242,7 @@ module _ {D : Type 0} (coded : Coded D) (meaning : DeskMeaning D) where
         hands = p.hands ++ y.handed ∷ [];
       })
       (with_call p (Receives e (turn.Leaving caller (end.Dead era)) y a message))) t) k) in_call ∙ ap (λ (a : Bool). cond a handed dead) live in
-      record { in_call = ap (λ (r : Pass). r.call) is; own = ap (λ (r : Pass). Step (made.Era era) ∷ r.own) is; number = ap (λ (r : Pass). r.number) is; in_hand = ap (λ (r : Pass). r.hands) is }
+      record { in_call = ap (λ (r : Pass). r.call) is; own = ap (λ (r : Pass). Step (made.Era era) ∷ r.own) is; number = ap (λ (r : Pass). r.number) is; first = ap (λ (r : Pass). r.first) is; in_hand = ap (λ (r : Pass). r.hands) is }
 
   -- what a handing leaves: the side state that is out is still as it was
   pub record Handed (z : LinkSizes) (c : TakeCall) (x : ReceiverSide) (b : ℕ) (m : List ℕ) (me me' : SeatState) : Type 0 where

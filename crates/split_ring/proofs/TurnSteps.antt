@@ -64,11 +64,11 @@ module _ {D : Type 0} (coded : Coded D) (meaning : DeskMeaning D) where
   leaves lane_turn.Sender lane me me' (caller, ended, x, buffer, at) told step =
       after_step coded meaning (λ p. noted made.Left (with_call p (send_or p.call (λ e t x b. Rests (other e)) p.call))) (rest me.1) [] me me' (place_of me) (Rests (other lane)) (Step made.Left ∷ []) same_hands at.one
       (first_place me (Sends lane (turn.Leaving caller ended) x buffer) ((sender_slot lane, Sender x) ∷ []) at (side_sends lane (turn.Leaving caller ended) x buffer (Sender x)))
-      told (ap rest at.out) (record { in_call = ap (λ (c : Call). send_or c (λ e t x b. Rests (other e)) c) at.in_call; own = refl; number = refl; in_hand = refl }) (stepped_once coded meaning made.Left me me' step)
+      told (ap rest at.out) (record { in_call = ap (λ (c : Call). send_or c (λ e t x b. Rests (other e)) c) at.in_call; own = refl; number = refl; first = refl; in_hand = refl }) (stepped_once coded meaning made.Left me me' step)
   leaves lane_turn.Receiver lane me me' (caller, ended, x, buffer, message, at) told step =
       after_step coded meaning (λ p. noted made.Left (with_call p (receive_or p.call (λ e t x b m. Rests e) p.call))) (rest me.1) [] me me' (place_of me) (Rests lane) (Step made.Left ∷ []) same_hands at.one
       (first_place me (Receives lane (turn.Leaving caller ended) x buffer message) ((receiver_slot lane, Receiver x) ∷ []) at (side_receives lane (turn.Leaving caller ended) x buffer message (Receiver x)))
-      told (ap rest at.out) (record { in_call = ap (λ (c : Call). receive_or c (λ e t x b m. Rests e) c) at.in_call; own = refl; number = refl; in_hand = refl }) (stepped_once coded meaning made.Left me me' step)
+      told (ap rest at.out) (record { in_call = ap (λ (c : Call). receive_or c (λ e t x b m. Rests e) c) at.in_call; own = refl; number = refl; first = refl; in_hand = refl }) (stepped_once coded meaning made.Left me me' step)
 
   -- step 1 where the turn was free
   receiver_free : (who : CallerId) (first : Work) (me me' : SeatState) → IsAt me (Rests who.end) [] → (pass_in me).number ≡ who.number → TakesReceiver who.end who.number who.follows first me 0 me' → IsRingStep coded meaning me me'
@@ -76,7 +76,7 @@ module _ {D : Type 0} (coded : Coded D) (meaning : DeskMeaning D) where
   receiver_free who first me me' at number told step =
       let t = told.0 refl in let call : Call = receive_call who first t.0 0 [] in
       let all = after_step coded meaning (λ p. noted (made.Turn 0) (with_call p call)) ((receiver_slot who.end, Receiver t.0) ∷ me.1) ((receiver_slot who.end, Receiver t.0) ∷ []) me me' (place_of_number who.number me.0.passes) call (Step (made.Turn 0) ∷ []) same_hands at.one
-      (number_place me who.number at.one number) t.3 (ap (λ (l : List (ℕ × Slot)). (receiver_slot who.end, Receiver t.0) ∷ l) at.out) (record { in_call = refl; own = refl; number = refl; in_hand = refl }) (stepped_once coded meaning (made.Turn 0) me me' step) in
+      (number_place me who.number at.one number) t.3 (ap (λ (l : List (ℕ × Slot)). (receiver_slot who.end, Receiver t.0) ∷ l) at.out) (record { in_call = refl; own = refl; number = refl; first = refl; in_hand = refl }) (stepped_once coded meaning (made.Turn 0) me me' step) in
       ((t.0, t.1, t.2, all.0), all.1)
 
   turn_free : (who : CallerId) (w : Wish) (me me' : SeatState) → IsAt me (Rests who.end) [] → (pass_in me).number ≡ who.number → TakesTurn who.end who.number who.follows w me 0 me' → IsRingStep coded meaning me me'
@@ -84,7 +84,7 @@ module _ {D : Type 0} (coded : Coded D) (meaning : DeskMeaning D) where
   turn_free who (wish.Send message) me me' at number told step =
       let t = told.0 refl in let call : Call = Sends (other who.end) (turn.Taken who.number (record { follows = who.follows; message = message; stage = stage.Turn })) t.0 0 in
       let all = after_step coded meaning (λ p. noted (made.Turn 0) (with_call p call)) ((sender_slot (other who.end), Sender t.0) ∷ me.1) ((sender_slot (other who.end), Sender t.0) ∷ []) me me' (place_of_number who.number me.0.passes) call (Step (made.Turn 0) ∷ []) same_hands at.one
-      (number_place me who.number at.one number) t.2 (ap (λ (l : List (ℕ × Slot)). (sender_slot (other who.end), Sender t.0) ∷ l) at.out) (record { in_call = refl; own = refl; number = refl; in_hand = refl }) (stepped_once coded meaning (made.Turn 0) me me' step) in
+      (number_place me who.number at.one number) t.2 (ap (λ (l : List (ℕ × Slot)). (sender_slot (other who.end), Sender t.0) ∷ l) at.out) (record { in_call = refl; own = refl; number = refl; first = refl; in_hand = refl }) (stepped_once coded meaning (made.Turn 0) me me' step) in
       ((t.0, t.1, all.0), all.1)
   turn_free who wish.Take me me' at number told step = receiver_free who (first_work wish.Take) me me' at number told step
   turn_free who (wish.Give held) me me' at number told step = receiver_free who (first_work (wish.Give held)) me me' at number told step
@@ -96,7 +96,7 @@ module _ {D : Type 0} (coded : Coded D) (meaning : DeskMeaning D) where
       → IsAt me' (Rests who.end) [] × HasDone coded meaning (Step (made.Turn n) ∷ []) same_hands me me'
   stays who n k me me' at zero told step =
       after_step coded meaning (λ p. noted (made.Turn n) p) me.1 [] me me' k (Rests who.end) (Step (made.Turn n) ∷ []) same_hands at.one zero told at.out
-      (record { in_call = at.in_call; own = refl; number = refl; in_hand = refl }) (stepped_once coded meaning (made.Turn n) me me' step)
+      (record { in_call = at.in_call; own = refl; number = refl; first = refl; in_hand = refl }) (stepped_once coded meaning (made.Turn n) me me' step)
 
   turn_busy : (who : CallerId) (w : Wish) (n : ℕ) (me me' : SeatState) → IsAt me (Rests who.end) [] → place_of_number who.number me.0.passes ≡ 0 → TakesTurn who.end who.number who.follows w me n me' → n ≢ 0 → IsRingStep coded meaning me me'
       → IsAt me' (Rests who.end) [] × HasDone coded meaning (Step (made.Turn n) ∷ []) same_hands me me'

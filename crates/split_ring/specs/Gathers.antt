@@ -7,6 +7,7 @@ use Rattle.rp_base.specs.declared.kinds.End.{End}
 use Rattle.lane_model.specs.declared.recoveries.LaneTurn.{LaneTurn}
 use Rattle.lane_model.specs.declared.recoveries.LaneTurn.TheVariants as lane_turn
 use Rattle.lane_model.specs.Desks.{DeskMeaning}
+use Rattle.lane_model.specs.Links.{end_of}
 use Rattle.link_words.specs.declared.copies.LinkCopy.{LinkCopy}
 use Rattle.link_words.specs.declared.rule.Call.{Call}
 use Rattle.link_words.specs.declared.rule.Call.TheVariants.{Gathers}
@@ -47,6 +48,10 @@ PutsSide lane f slot me me' = (v : View) (a b : LaneSides) (slots : List (ℕ ×
 -- an attempt at this turn met this holder
 abbrev pub Meets : {D : Type 0} → Coded D → DeskMeaning D → LaneTurn → End → ℕ → SeatState → Type 0
 Meets coded meaning which lane holder me = ManagerDoes coded meaning me (HasWord (place_in (turn_number which lane)) (holder + 1)) (ManagerTakes which lane) me
+
+-- who has a turn is the manager itself, or a caller that is in use
+abbrev pub IsHolderIn : View → ℕ → Type 0
+IsHolderIn v holder = (holder ≡ 64) ⊎ ((e : End) × (end_of v.users holder ≡ Some e))
 
 -- the slots of both side states of a lane are out, with nothing in them
 abbrev pub lane_slots : End → List (ℕ × Slot) → List (ℕ × Slot)

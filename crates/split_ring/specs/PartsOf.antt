@@ -1,5 +1,5 @@
 -- A reclaim of a caller with its parts: what it asks, and what it answers (own).
-use Rattle.std.specs.Prelude.{◌≡◌, ℕ, true, false, ◌++◌, map, slice_set, None}
+use Rattle.std.specs.Prelude.{◌≡◌, ◌⊎◌, ℕ, true, false, ◌++◌, map, slice_set, None}
 use mathlib.Core.Option.{some}
 use lib.ListN.{get_elem?}
 use base.Stored.{Coded}
@@ -14,7 +14,7 @@ use Rattle.split_ring.specs.declared.reclaims.ReclaimFault.{ReclaimFault}
 use Rattle.split_ring.specs.declared.reclaims.ReclaimFault.TheVariants as fault
 use Rattle.split_ring.specs.Callers.{IsUserOf}
 use Rattle.split_ring.specs.Receives.{IsHeldBy}
-use Rattle.split_ring.specs.Reclaims.{StandsIn, HasRead, HasRetired, IsAnothers, IsNow, buffer_in, lacks_receiver, phase_of, turn_in}
+use Rattle.split_ring.specs.Reclaims.{StandsIn, HasRead, HasRetired, IsAnothers, IsNow, buffer_in, is_turn, lacks_receiver, phase_of, turn_in}
 use Rattle.split_ring.specs.Seats.{pass_in}
 
 module _ {D : Type 0} where
@@ -41,15 +41,20 @@ module _ {D : Type 0} where
     pub holds : HasNumber (pass_in parts.caller.seat.me).hands number
     pub lacks : lacks_receiver (turn_in (phase_of parts.call)) ≡ true
 
+  -- the call of a caller has a turn, or the caller holds something: a reclaim looks at the era again with its seat
+  abbrev pub LooksAgain : Parts D → Type 0
+  LooksAgain parts = (is_turn (turn_in (phase_of parts.call)) ≡ true) ⊎ ((number : ℕ) × HasNumber (pass_in parts.caller.seat.me).hands number)
+
   -- the caller has ended: its number is free
   pub record IsReclaimed (manager : Manager) (parts : Parts D) (after : Manager) : Type 0 where
     pub retired : HasRetired parts.caller.id (pass_in parts.caller.seat.me) manager.seat.me after.seat.me
     pub users : after.users ≡ slice_set manager.users parts.caller.id.number None
 
 module _ {D : Type 0} (coded : Coded D) (meaning : DeskMeaning D) where
-  -- why a caller is not reclaimed, with its parts: the era was found live, or another has the turn that it needs. The manager has read an era, and knows nothing
-  -- else
+  -- why a caller is not reclaimed, with its parts: the era was found live, by the manager, which did not know it closed, or by a second look; or another has the
+  -- turn that the caller needs. The manager has read an era, and knows nothing else
   abbrev pub IsRefusal : SharedLink D → Manager → Parts D → ReclaimFault D → Manager → Type 0
   IsRefusal link manager parts (fault.StillOpen era back) after = (era.is_live ≡ true) × AreSame parts back × IsAllOf link back × (after.users ≡ manager.users) × ((read : Era) × HasRead read manager.seat.me after.seat.me)
+      × (manager.seat.me.0.is_closed ≡ true → LooksAgain parts)
   IsRefusal link manager parts (fault.Busy holder back) after = IsAnothers coded meaning parts.caller.id holder × NeedsTurn parts × AreSame parts back × IsAllOf link back × (after.users ≡ manager.users)
       × ((read : Era) × (read.is_live ≡ false) × HasRead read manager.seat.me after.seat.me)

@@ -1,5 +1,5 @@
 -- A reclaim: the parts that a caller has, how its seat stands, and what it leaves (own).
-use Rattle.std.specs.Prelude.{◌≡◌, ◌+◌, ℕ, Bool, true, false, List, [], ◌∷◌, Option, Some, None}
+use Rattle.std.specs.Prelude.{◌⊎◌, ◌≡◌, ◌+◌, ℕ, Bool, true, false, List, [], ◌∷◌, Option, Some, None}
 use Rattle.lane_model.specs.declared.recoveries.LaneTurn.TheVariants as lane_turn
 use base.Stored.{Coded}
 use Rattle.rp_base.specs.declared.kinds.End.{End}
@@ -220,7 +220,8 @@ pub record IsAnothers {D : Type 0} (coded : Coded D) (meaning : DeskMeaning D) (
   pub after : SeatState
   pub step : DoesAt coded meaning (place_of_number who.number before.0.passes) before (HasWord (place_in (receiver_word who.end)) (holder + 1)) (ManagerTakes lane_turn.Receiver who.end) after
 
--- why a call is not ended: the era was found live; or another has the receiver's turn, and the caller holds something, and its call has another turn or none
+-- why a call is not ended: the era was found live, by a look with the turn of the call or for what the caller holds; or another has the receiver's turn, and
+-- the caller holds something, and its call has another turn or none
 abbrev pub lacks_receiver : TurnHeld → Bool
 lacks_receiver held.Neither = true
 lacks_receiver held.Sender = true
@@ -228,8 +229,16 @@ lacks_receiver held.SenderAndBuffer = true
 lacks_receiver held.Receiver = false
 lacks_receiver held.ReceiverAndBuffer = false
 
+-- whether it is a turn
+abbrev pub is_turn : TurnHeld → Bool
+is_turn held.Neither = false
+is_turn held.Sender = true
+is_turn held.SenderAndBuffer = true
+is_turn held.Receiver = true
+is_turn held.ReceiverAndBuffer = true
+
 abbrev pub IsEndFault : {D : Type 0} → Coded D → DeskMeaning D → CallerId → TurnHeld → Bool → EndFault → Type 0
-IsEndFault coded meaning who turn is_holding (end_fault.StillOpen era) = era.is_live ≡ true
+IsEndFault coded meaning who turn is_holding (end_fault.StillOpen era) = (era.is_live ≡ true) × ((is_turn turn ≡ true) ⊎ (is_holding ≡ true))
 IsEndFault coded meaning who turn is_holding (end_fault.Busy holder) = IsAnothers coded meaning who holder × (is_holding ≡ true) × (lacks_receiver turn ≡ true)
 
 -- the manager has read this era, and nothing else of what it knows has changed

@@ -8,6 +8,7 @@ use Rattle.lane_model.specs.declared.recoveries.Books.{Books}
 use Rattle.lane_model.specs.declared.recoveries.ReopenFault.{ReopenFault}
 use Rattle.lane_model.specs.declared.recoveries.ReopenFault.TheVariants as fault
 use Rattle.lane_model.specs.Desks.{DeskMeaning}
+use Rattle.lane_model.specs.Links.{end_of}
 use Rattle.ring_core.specs.declared.states.Hand.{Hand}
 use Rattle.link_words.specs.declared.rule.Call.TheVariants.{Gathers}
 use Rattle.link_words.specs.declared.rule.ReceiverSide.{ReceiverSide}
@@ -18,7 +19,7 @@ use Rattle.link_words.specs.Calls.{SeatState}
 use Rattle.link_words.specs.Histories.{LaneBooks}
 use Rattle.link_words.specs.Reopens.{AreBooksOf, both_sides, least_hand}
 use Rattle.link_words.specs.Sides.{no_sides}
-use Rattle.split_ring.specs.Gathers.{IsCalling, lane_slots, TakesLane, MeetsLane}
+use Rattle.split_ring.specs.Gathers.{IsCalling, IsHolderIn, lane_slots, TakesLane, MeetsLane}
 
 -- the slots of the four side states are out
 abbrev pub all_slots : List (ℕ × Slot)
@@ -56,17 +57,19 @@ pub record AreTold (books : Books) (told : End → LaneBooks) : Type 0 where
 
 -- the view in the next incarnation
 abbrev pub next_view : View → View
-next_view v = record v { inc = v.inc + 1; reclaims = []; is_closed = false }
+next_view v = record v { inc = v.inc + 1; reclaims = []; ended = []; is_closed = false }
 
--- a reopening from this view has this answer, and leaves this view but for the copy. Each refusal tells what it read: the era; the turn that was
--- another's, while the manager had those before it; what is held by the side states, or that it is the last incarnation. The books are those of the incarnation
--- that was closed
+-- a reopening from this view has this answer, and leaves this view but for the copy. Each refusal tells what it read: the era, which the manager did not
+-- know closed; the turn that was another's, while the manager had those before it; what is held by the side states, by a caller in use; or that it is the last
+-- incarnation. The books are those of the incarnation that was closed
 abbrev pub IsReopening : {D : Type 0} → Coded D → DeskMeaning D → View → Result Books ReopenFault → View → Type 0
 IsReopening coded meaning v (Err fault.NoMemory) v' = v' ≡ v
-IsReopening coded meaning v (Err (fault.StillOpen era)) v' = (era ≡ record { inc = v.inc; is_live = true }) × (v' ≡ record v { is_closed = false })
+IsReopening coded meaning v (Err (fault.StillOpen era)) v' = (era ≡ record { inc = v.inc; is_live = true }) × (v' ≡ record v { is_closed = false }) × (v.is_closed ≡ false)
 IsReopening coded meaning v (Err (fault.StillTurn holder)) v' = (before : SeatState) × HasNone (record v { is_closed = true }) before × MeetsTurn coded meaning holder before × (v' ≡ record v { is_closed = true; copy = v'.copy })
+    × IsHolderIn v holder
 IsReopening coded meaning v (Err (fault.StillHeld caller number)) v' = (x : SenderSide) × (y : ReceiverSide) × (u : SenderSide) × (w : ReceiverSide) × (before : SeatState) × HasAll (record v { is_closed = true }) x y u w before
     × (unopened_from y.hands w.hands v.inc ≡ Some (fault.StillHeld caller number)) × (v' ≡ record v { is_closed = true; copy = v'.copy })
+    × ((e : End) × (end_of v.users caller ≡ Some e))
 IsReopening coded meaning v (Err fault.IncarnationsSpent) v' = (x : SenderSide) × (y : ReceiverSide) × (u : SenderSide) × (w : ReceiverSide) × (before : SeatState) × HasAll (record v { is_closed = true }) x y u w before
     × (unopened_from y.hands w.hands v.inc ≡ Some fault.IncarnationsSpent) × (v' ≡ record v { is_closed = true; copy = v'.copy })
 IsReopening coded meaning v (Ok books) v' = (told : End → LaneBooks) × AreBooksOf v told × AreTold books told × (books.inc ≡ v.inc) × (v.inc + 1 < 2 ^ 32) × (v' ≡ record (next_view v) { copy = v'.copy })

@@ -39,6 +39,7 @@ module _ {D : Type 0} (coded : Coded D) (meaning : DeskMeaning D) where
   pub record HasDone (events : List Event) (hands : List ℕ → List ℕ) (me me' : SeatState) : Type 0 where
     pub own : (pass_in me').own ≡ events ++ (pass_in me).own
     pub number : (pass_in me').number ≡ (pass_in me).number
+    pub first : (pass_in me').first ≡ (pass_in me).first
     pub in_hand : (pass_in me').hands ≡ hands (pass_in me).hands
     pub sizes : me'.0.sizes ≡ me.0.sizes
     pub stepped : HasStepped events me me'

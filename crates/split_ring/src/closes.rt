@@ -1,5 +1,5 @@
 //! The close of a link: one exchange, by a caller or by the manager.
-ghost use Rattle.std.specs.Prelude.{◌≡◌, ◌∷◌};
+ghost use Rattle.std.specs.Prelude.{◌≡◌, ◌∷◌, true};
 ghost use Rattle.rp_base.specs.declared.kinds.Era.{Era};
 ghost use Rattle.link_words.specs.declared.rule.Event.TheVariants.{Step};
 ghost use Rattle.link_words.specs.declared.rule.Made.TheVariants as made;
@@ -32,10 +32,11 @@ impl<D: Desk> SharedLink<D> {
         self.close_once(&mut caller.seat, closer, inc)
     }
 
-    /// The same by the manager.
+    /// The same by the manager, which knows then that the era is closed, where it asked for the incarnation that it knows.
     pub fn close_by(&self, manager: &mut Manager, inc: Inc) -> Result<(), Already>
         requires { IsManagerOf self.now manager.old }
         ensures closed { ManagerCloses D.row.coded D.meaning manager.old inc result manager.new }
+        ensures known { inc ≡ manager.old.seat.me.0.inc → manager.new.seat.me.0.is_closed ≡ true }
         ensures manager { IsManagerOf self.now manager.new × (manager.new.users ≡ manager.old.users) }
     {
         self.close_once(&mut manager.seat, MANAGER, inc)

@@ -8,10 +8,10 @@ ghost use Rattle.link_words.specs.declared.rule.SenderSide.{SenderSide};
 ghost use Rattle.link_words.specs.declared.rule.Slot.{Slot};
 ghost use Rattle.link_words.specs.declared.rule.Slot.TheVariants.{Empty, Receiver, Sender};
 ghost use Rattle.link_words.specs.declared.rule.View.{View};
-ghost use Rattle.link_words.specs.Reopens.{MayGather, both_sides, gathered};
+ghost use Rattle.link_words.specs.Reopens.{AreInUse, MayGather, both_sides, gathered};
 ghost use Rattle.link_words.specs.Sides.{no_sides, sides_at};
 ghost use Rattle.link_words.specs.Words.{sender_slot, receiver_slot};
-ghost use Rattle.split_ring.specs.Gathers.{IsCalling, TakesSide, PutsSide, Meets, lane_slots, TakesLane, IsAsBefore, MeetsLane, PutsLane};
+ghost use Rattle.split_ring.specs.Gathers.{IsCalling, TakesSide, PutsSide, Meets, IsHolderIn, lane_slots, TakesLane, IsAsBefore, MeetsLane, PutsLane};
 ghost use Rattle.split_ring.specs.Seats.{IsSeatOf};
 
 use crate::links::SharedLink;
@@ -64,6 +64,7 @@ impl<D: Desk> SharedLink<D> {
         ensures seat { IsSeatOf self.now.table.shared.table_id self.now.sizes seat.new.table_id seat.new.me }
         ensures taken { IfOk result (λ side. TakesSide lane (λ g. record g { sender = Some side }) (sender_slot lane) seat.old.me seat.new.me) }
         ensures met { IfErr result (λ holder. (seat.new.me ≡ seat.old.me) × Meets D.row.coded D.meaning lane_turn.Sender lane holder seat.old.me) }
+        ensures holder { IfErr result (λ holder. IsHolderIn seat.old.me.0 holder) }
     {
         let table = &self.table.shared;
         let found = take_for_manager(table, seat, lane, LaneTurn::Sender);
@@ -84,7 +85,9 @@ impl<D: Desk> SharedLink<D> {
         requires manager { MayGather seat.old.me }
         ensures seat { IsSeatOf self.now.table.shared.table_id self.now.sizes seat.new.table_id seat.new.me }
         ensures taken { IfOk result (λ side. TakesSide lane (λ g. record g { receiver = Some side }) (receiver_slot lane) seat.old.me seat.new.me) }
+        ensures users { IfOk result (λ side. AreInUse seat.old.me.0 lane side.hands) }
         ensures met { IfErr result (λ holder. (seat.new.me ≡ seat.old.me) × Meets D.row.coded D.meaning lane_turn.Receiver lane holder seat.old.me) }
+        ensures holder { IfErr result (λ holder. IsHolderIn seat.old.me.0 holder) }
     {
         let table = &self.table.shared;
         let found = take_for_manager(table, seat, lane, LaneTurn::Receiver);
@@ -127,7 +130,9 @@ impl<D: Desk> SharedLink<D> {
         requires manager { (v : View) × (a : LaneSides) × (b : LaneSides) × (slots : List (ℕ × Slot)) × IsCalling v (Gathers a b) slots seat.old.me × (sides_at lane a b ≡ no_sides) }
         ensures seat { IsSeatOf self.now.table.shared.table_id self.now.sizes seat.new.table_id seat.new.me }
         ensures taken { IfOk result (λ states. TakesLane lane states.sender states.receiver seat.old.me seat.new.me) }
+        ensures users { IfOk result (λ states. AreInUse seat.old.me.0 lane states.receiver.hands) }
         ensures met { IfErr result (λ holder. IsAsBefore lane seat.old.me seat.new.me × MeetsLane D.row.coded D.meaning lane holder seat.old.me) }
+        ensures holder { IfErr result (λ holder. IsHolderIn seat.old.me.0 holder) }
     {
         let sender = match self.take_sender(seat, lane) {
             Ok(side) => side,

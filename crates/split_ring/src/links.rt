@@ -1,11 +1,13 @@
 //! A link that threads share, and its making.
-ghost use Rattle.std.specs.Prelude.{◌≡◌, ◌+◌, ◌<◌, ◌≤◌, [], IfOk, IfSome, IfNone, Some, None};
+ghost use Rattle.std.specs.Prelude.{◌≡◌, ◌+◌, ◌<◌, ◌≤◌, [], IfOk, IfSome, IfNone, Some, None, slice_set};
 ghost use Rattle.lane_model.specs.Conditions.{IsConfig};
 ghost use Rattle.lane_model.specs.Desks.{IsFreshDesk};
 ghost use Rattle.lane_model.specs.Links.{free_number};
 ghost use Rattle.rp_base.specs.declared.limits.TheConstants.{BOOK_MOST};
 ghost use Rattle.ring_core.specs.Rings.{return_count};
 ghost use Rattle.link_words.specs.Fresh.{sizes_for};
+ghost use Rattle.link_words.specs.Passes.{only_new, without_new};
+ghost use Rattle.link_words.specs.Rule.{first_view};
 ghost use Rattle.link_words.specs.Words.{sizes_at, buffer_slot};
 ghost use Rattle.split_ring.specs.Links.{IsFitLink, HasDeskSeat};
 ghost use Rattle.split_ring.specs.Seats.{pass_in};
@@ -78,6 +80,7 @@ impl<D: Desk> SharedLink<D> {
         requires desks { IsFreshDesk D.meaning host × IsFreshDesk D.meaning remote }
         ensures sizes { IfOk result (λ made. made.0.sizes ≡ sizes_for config made.0.sizes.desks) }
         ensures manager { IfOk result (λ made. IsManagerOf made.0 made.1) }
+        ensures view { IfOk result (λ made. made.1.seat.me ≡ (first_view made.0.sizes 64, [])) }
     {
         let (host, host_seat) = desk_table(alloc, host)?;
         let (remote, remote_seat) = desk_table(alloc, remote)?;
@@ -120,7 +123,10 @@ impl<D: Desk> SharedLink<D> {
         ensures manager { IsManagerOf self.now manager.new }
         ensures some { IfSome result (λ caller. (free_number manager.old.users ≡ Some caller.id.number) × (caller.id.end ≡ end) × (caller.id.follows ≡ self.now.sizes.first)
             × IsCallerOf self.now caller × ((pass_in caller.seat.me).own ≡ []) × ((pass_in caller.seat.me).hands ≡ [])) }
+        ensures views { IfSome result (λ caller. (manager.new.seat.me ≡ (without_new end manager.old.seat.me.0 manager.new.seat.me.0.copy, manager.old.seat.me.1)) × (caller.seat.me ≡ (only_new end manager.old.seat.me.0, []))) }
+        ensures users { IfSome result (λ caller. manager.new.users ≡ slice_set manager.old.users caller.id.number (Some end)) }
         ensures none { IfNone result (free_number manager.old.users ≡ None) }
+        ensures same { IfNone result (manager.new ≡ manager.old) }
     {
         let number = least_free(&manager.users)?;
         let seat = split(&self.table.shared, &mut manager.seat, end);

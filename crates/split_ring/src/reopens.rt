@@ -14,8 +14,8 @@ ghost use Rattle.link_words.specs.Histories.{LaneBooks};
 ghost use Rattle.link_words.specs.Layouts.{layout};
 ghost use Rattle.link_words.specs.Passes.{Manages};
 ghost use Rattle.link_words.specs.PlacedDesks.{table_at};
-ghost use Rattle.link_words.specs.Reopens.{AreBooksOf, both_sides};
-ghost use Rattle.split_ring.specs.Gathers.{IsCalling};
+ghost use Rattle.link_words.specs.Reopens.{AreBooksOf, AreInUse, both_sides};
+ghost use Rattle.split_ring.specs.Gathers.{IsCalling, IsHolderIn};
 ghost use Rattle.split_ring.specs.Openings.{opened_words};
 ghost use Rattle.split_ring.specs.Reopens.{all_slots, HasNone, HasAll, MeetsTurn, spent_by, unopened_from, AreTold, next_view, IsReopening};
 ghost use Rattle.split_ring.specs.Seats.{IsSeatOf};
@@ -160,6 +160,7 @@ impl<D: Desk> SharedLink<D> {
         requires manager { Manages seat.old.me.0 }
         ensures seat { IsSeatOf self.now.table.shared.table_id self.now.sizes seat.new.table_id seat.new.me }
         ensures closed { IfOk result (λ inc. (inc ≡ seat.old.me.0.inc) × (inc < 4294967296) × (seat.new.me ≡ (record seat.old.me.0 { is_closed = true }, seat.old.me.1))) }
+        ensures unknown { IfErr result (λ _. seat.old.me.0.is_closed ≡ false) }
         ensures open { IfErr result (λ era. (era ≡ live_era seat.old.me.0.inc) × (seat.new.me ≡ (record seat.old.me.0 { is_closed = false }, seat.old.me.1))) }
     {
         let era = era_of(learn_era(&self.table.shared, seat));
@@ -174,7 +175,9 @@ impl<D: Desk> SharedLink<D> {
         requires manager { (v : View) × HasNone v seat.old.me }
         ensures seat { IsSeatOf self.now.table.shared.table_id self.now.sizes seat.new.table_id seat.new.me }
         ensures taken { IfOk result (λ lanes. (v : View) → HasNone v seat.old.me → HasAll v lanes.0.sender lanes.0.receiver lanes.1.sender lanes.1.receiver seat.new.me) }
+        ensures users { IfOk result (λ lanes. AreInUse seat.old.me.0 side.Host lanes.0.receiver.hands × AreInUse seat.old.me.0 side.Remote lanes.1.receiver.hands) }
         ensures met { IfErr result (λ holder. ((v : View) → HasNone v seat.old.me → HasNone v seat.new.me) × MeetsTurn D.row.coded D.meaning holder seat.old.me) }
+        ensures holder { IfErr result (λ holder. IsHolderIn seat.old.me.0 holder) }
     {
         let host = match self.take_lane(seat, End::Host) {
             Ok(states) => states,

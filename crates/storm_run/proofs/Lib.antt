@@ -1,2 +1,15 @@
+pub mod BookSums
+pub mod Entries
+pub mod Faults
+pub mod LineTexts
 pub mod Lists
+pub mod Looks
+pub mod Made
 pub mod Moves
+pub mod Ranges
+pub mod Reclaimed
+pub mod StormBooks
+pub mod Takers
+pub mod Told
+pub mod UsedNumbers
+pub mod Works

@@ -53,6 +53,15 @@ pub send_sends : (z : LinkSizes) (who : CallerId) (message : List ℕ) (number :
 send_sends z who message number walk is =
     ap (λ (w : List Event). sends_in (other who.end) who.follows w) is.2 ∙ ap (λ (b : Bool). cond b ((number, message) ∷ []) []) (here (other who.end) who.follows)
 
+-- and none to the end of its caller
+elsewhere : (e : End) (inc : ℕ) → same_end (other e) e && eqb inc inc ≡ false
+elsewhere side.Host inc = refl
+elsewhere side.Remote inc = refl
+
+pub send_elsewhere : (z : LinkSizes) (who : CallerId) (message : List ℕ) (number : ℕ) (walk : List Event) → IsSendWalk z who message (Ok number) walk → sends_in who.end who.follows walk ≡ []
+send_elsewhere z who message number walk is =
+    ap (λ (w : List Event). sends_in who.end who.follows w) is.2 ∙ ap (λ (b : Bool). cond b ((number, message) ∷ []) []) (elsewhere who.end who.follows)
+
 -- and another none
 pub fault_sends : (e : End) (inc : ℕ) (z : LinkSizes) (who : CallerId) (message : List ℕ) (found : SendFault) (walk : List Event) → IsSendWalk z who message (Err found) walk → sends_in e inc walk ≡ []
 fault_sends e inc z who message (fault.Busy holder) walk is = ap (λ (w : List Event). sends_in e inc w) is

@@ -22,28 +22,32 @@ use Rattle.split_ring.specs.declared.takes.TakeFault.{TakeFault}
 use Rattle.split_ring.specs.declared.takes.TakeFault.TheVariants as take_fault
 use Rattle.split_ring.specs.Callers.{own_of}
 use Rattle.split_ring.specs.Receives.{IsGive}
+use Rattle.split_ring.specs.Seats.{pass_in}
 use Rattle.split_ring.specs.Waits.{IsWaitingSend, IsWaitingTake}
 use Rattle.storm_run.specs.declared.tasks.Task.{Task}
 use Rattle.storm_run.specs.declared.workers.Found.TheVariants as found
 use Rattle.storm_run.specs.Rounds.{HasFoundAll, HasSent, HasWorked, IsFree, IsWholeRound, count_on, empty_walk, mine, storm_message, storm_messages}
 use Rattle.storm_run.specs.Tasks.{HasTurned, HaveWorked, IsTaskOf, least_in}
-use Rattle.storm_run.proofs.Lists.{sends_append, tried_sends, send_sends, fault_sends, take_sends, give_sends}
+use Rattle.storm_run.proofs.Lists.{sends_append, tried_sends, send_sends, send_elsewhere, fault_sends, take_sends, give_sends}
 
 -- by its entries
 abbrev pub sent_by : (messages : List (List ℕ)) (before after : Caller) (did : List Event) → after.id ≡ before.id → own_of after ≡ did ++ own_of before
-    → map (λ (sent : ℕ × List ℕ). sent.1) (sends_in (other before.id.end) before.id.follows did) ≡ messages → HasSent messages before after
-sent_by messages before after did same own said = record {
+    → map (λ (sent : ℕ × List ℕ). sent.1) (sends_in (other before.id.end) before.id.follows did) ≡ messages → sends_in before.id.end before.id.follows did ≡ []
+    → (pass_in after.seat.me).first ≡ (pass_in before.seat.me).first → HasSent messages before after
+sent_by messages before after did same own said none_here first = record {
   same = same;
   did = did;
   own = own;
   new = sends_in (other before.id.end) before.id.follows did;
   more = (λ i. sends_in (other (same i).end) (same i).follows (own i)) ∙ sends_append (other before.id.end) before.id.follows did (own_of before);
   said = said;
+  none_here = none_here;
+  first = first;
 }
 
 -- nothing yet
 pub none_sent : (caller : Caller) → HasSent [] caller caller
-none_sent caller = sent_by [] caller caller [] refl refl refl
+none_sent caller = sent_by [] caller caller [] refl refl refl refl refl
 
 -- and then more
 abbrev pub sent_then : (messages more : List (List ℕ)) (a b c : Caller) → HasSent messages a b → HasSent more b c → HasSent (messages ++ more) a c
@@ -54,10 +58,13 @@ sent_then messages more a b c first then = record {
   new = first.new ++ then.new;
   more = then.more ∙ (ap (λ (l : List (ℕ × List ℕ)). l ++ then.new) first.more ∙ append_assoc (mine a) first.new then.new);
   said = map-append (λ (sent : ℕ × List ℕ). sent.1) first.new then.new ∙ (λ i. first.said i ++ then.said i);
+  none_here = sends_append a.id.end a.id.follows then.did first.did
+      ∙ (λ i. first.none_here i ++ (ap (λ (who : CallerId). sends_in who.end who.follows then.did) (sym first.same) ∙ then.none_here) i);
+  first = then.first ∙ first.first;
 }
 
 abbrev pub said_as : (messages said : List (List ℕ)) (a b : Caller) → messages ≡ said → HasSent messages a b → HasSent said a b
-said_as messages said a b is sent = record { same = sent.same; did = sent.did; own = sent.own; new = sent.new; more = sent.more; said = sent.said ∙ is }
+said_as messages said a b is sent = record { same = sent.same; did = sent.did; own = sent.own; new = sent.new; more = sent.more; said = sent.said ∙ is; none_here = sent.none_here; first = sent.first }
 
 -- the next message
 pub sent_next : (count : ℕ) (message : List ℕ) (first a b : Caller) → message ≡ storm_message a.id.number count → HasSent (message ∷ []) a b → HasSent (storm_messages first.id.number count) first a
@@ -101,12 +108,14 @@ module _ {D : Type 0} (coded : Coded D) (meaning : DeskMeaning D) where
       sent_by (message ∷ []) a b (send.walk ++ send.busy) same send.done.own
       (ap (λ (l : List (ℕ × List ℕ)). map (λ (s : ℕ × List ℕ). s.1) l)
       (tried_sends (other a.id.end) a.id.follows send.walk send.busy ((number, message) ∷ []) send.tries (send_sends z a.id message number send.walk send.is)))
+      (tried_sends a.id.end a.id.follows send.walk send.busy [] send.tries (send_elsewhere z a.id message number send.walk send.is)) send.done.first
 
   pub sent_none : (z : LinkSizes) (message : List ℕ) (found : SendFault) (a b : Caller) → b.id ≡ a.id → IsWaitingSend coded meaning z a.id message (Err found) a.seat.me b.seat.me → HasSent [] a b
   sent_none z message found a b same send =
       sent_by [] a b (send.walk ++ send.busy) same send.done.own
       (ap (λ (l : List (ℕ × List ℕ)). map (λ (s : ℕ × List ℕ). s.1) l)
       (tried_sends (other a.id.end) a.id.follows send.walk send.busy [] send.tries (fault_sends (other a.id.end) a.id.follows z a.id message found send.walk send.is)))
+      (tried_sends a.id.end a.id.follows send.walk send.busy [] send.tries (fault_sends a.id.end a.id.follows z a.id message found send.walk send.is)) send.done.first
 
   -- a take
   abbrev pub took : (answer : Result Taken TakeFault) (a b : Caller) → b.id ≡ a.id → IsWaitingTake coded meaning a.id answer a.seat.me b.seat.me → HasSent [] a b
@@ -114,6 +123,7 @@ module _ {D : Type 0} (coded : Coded D) (meaning : DeskMeaning D) where
       sent_by [] a b (take.walk ++ take.busy) same take.done.own
       (ap (λ (l : List (ℕ × List ℕ)). map (λ (s : ℕ × List ℕ). s.1) l)
       (tried_sends (other a.id.end) a.id.follows take.walk take.busy [] take.tries (take_sends meaning (other a.id.end) a.id.follows a.id answer take.walk take.is)))
+      (tried_sends a.id.end a.id.follows take.walk take.busy [] take.tries (take_sends meaning a.id.end a.id.follows a.id answer take.walk take.is)) take.done.first
 
   -- and one that was answered Empty
   pub found_empty : (accepted : ℕ) (answer : Result Taken TakeFault) (a b : Caller) → answer ≡ Err (take_fault.Empty accepted) → b.id ≡ a.id → IsWaitingTake coded meaning a.id answer a.seat.me b.seat.me → HasTurned (found.Empty accepted) a b
@@ -128,6 +138,7 @@ module _ {D : Type 0} (coded : Coded D) (meaning : DeskMeaning D) where
   gave held answer a b same give =
       sent_by [] a b give.walk same give.done.own
       (ap (λ (l : List (ℕ × List ℕ)). map (λ (s : ℕ × List ℕ). s.1) l) (give_sends (other a.id.end) a.id.follows a.id.end _ held answer give.walk give.is))
+      (give_sends a.id.end a.id.follows a.id.end _ held answer give.walk give.is) give.done.first
 
 -- how many messages are sent to an end is what those of the other end send
 pub least_is : (task : Task) (callers : List Caller) (e : End) → IsTaskOf task callers → least_in task e ≡ task.count * count_on (other e) callers

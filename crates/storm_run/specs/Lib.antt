@@ -1,2 +1,5 @@
+pub mod Counts
+pub mod Managers
 pub mod Rounds
+pub mod Storms
 pub mod Tasks

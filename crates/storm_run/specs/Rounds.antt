@@ -39,7 +39,8 @@ pub record IsFree (link : SharedLink Side) (caller : Caller) : Type 0 where
 abbrev pub MayBegin : SharedLink Side → List Caller → Type 0
 MayBegin link callers = All (λ caller. IsFree link caller) callers × ((inc : ℕ) × All (λ caller. caller.id.follows ≡ inc) callers)
 
--- the same caller has done more, and these messages are what it has sent more, in their order
+-- the same caller has done more, and these messages are what it has sent more, in their order, none of them to its own end. The incarnation from which the books
+-- say what it sent stays
 pub record HasSent (messages : List (List ℕ)) (before after : Caller) : Type 0 where
   pub same : after.id ≡ before.id
   pub did : List Event
@@ -47,6 +48,8 @@ pub record HasSent (messages : List (List ℕ)) (before after : Caller) : Type 0
   pub new : List (ℕ × List ℕ)
   pub more : mine after ≡ mine before ++ new
   pub said : map (λ sent. sent.1) new ≡ messages
+  pub none_here : sends_in before.id.end before.id.follows did ≡ []
+  pub first : (pass_in after.seat.me).first ≡ (pass_in before.seat.me).first
 
 -- the steps of a whole take that was answered Empty, the newest first: it found that so many messages were accepted and that each was handed over
 abbrev pub empty_walk : CallerId → ℕ → List Event

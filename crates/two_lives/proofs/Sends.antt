@@ -112,7 +112,7 @@ module _ {D : Type 0} (coded : Coded D) (meaning : DeskMeaning D) (z : LinkSizes
 
   -- none where it begins
   pub begun : (p : Phase) → p ≡ phase.Asked (ask.Send message) → SendsOn 0 p start
-  begun p is = subst (λ (q : Phase). SendsOn 0 q start) (sym is) (record { come = record { steps = []; path = (refl, refl); done = record { own = refl; number = refl; in_hand = refl; sizes = refl; stepped = refl } }; counted = refl })
+  begun p is = subst (λ (q : Phase). SendsOn 0 q start) (sym is) (record { come = record { steps = []; path = (refl, refl); done = record { own = refl; number = refl; first = refl; in_hand = refl; sizes = refl; stepped = refl } }; counted = refl })
 
   -- in one more
   pub goes_on : (steps number : ℕ) (now : CallerId) (before after : Phase) (me me' : SeatState) → now ≡ who → SendsOn steps before me → Advances coded meaning z now before (progress.At number) after me me' → SendsOn (steps + 1) after me'

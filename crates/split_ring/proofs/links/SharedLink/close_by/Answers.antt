@@ -1,8 +1,10 @@
-use Rattle.std.proofs.Common.{◌∙◌, refl, ap}
+use Rattle.std.proofs.Common.{◌∙◌, refl, sym, ap}
 use Rattle.link_words.specs.declared.rule.Made.TheVariants as made
 use Rattle.link_words.specs.Calls.{SeatState}
 use Rattle.link_words.specs.Passes.{place_of_number}
-use Rattle.split_ring.proofs.CloseSteps.{manages_noted, rests_noted}
+use Rattle.split_ring.proofs.CloseSteps.{manages_noted, rests_noted, known_closed}
+use Rattle.split_ring.proofs.Makes.{rests_at}
+use Rattle.link_words.specs.Seats.{is_closed_behind}
 use Rattle.split_ring.proofs.links.SharedLink.close_by.Goals as goal
 
 pub close_once-requires-clause-pass : goal.close_once-requires-clause-pass
@@ -13,14 +15,20 @@ close_once-requires-clause-seat g c = record { at_table = c.requires.at_table; t
 
 pub returns-clause-manager : goal.returns-clause-manager
 returns-clause-manager g c =
-    let q = c.requires in let x = c.close_once.ensures.closed in let me = c.args.manager.now.seat.me in let me' = c.close_once.new.seat.me in (
+    let q = c.requires in let x = c.close_once.ensures.closed in let me = c.args.manager.now.seat.me in let me' = c.close_once.new.seat.me in
+    let knows : SeatState = (record me.0 { is_closed = is_closed_behind c.args.inc x.era }, me.1) in (
       record {
         at_table = c.close_once.ensures.same.0 ∙ q.at_table;
-        manages = manages_noted (made.Close x.era) (place_of_number 64 me.0.passes) me me' x.noted q.manages;
-        rests = rests_noted (made.Close x.era) (place_of_number 64 me.0.passes) me me' _ x.noted q.rests;
+        manages = manages_noted (made.Close x.era) (place_of_number 64 me.0.passes) knows me' x.noted q.manages;
+        rests = rests_noted (made.Close x.era) (place_of_number 64 me.0.passes) knows me' _ x.noted (rests_at {me' = knows} refl q.rests);
         knows = ap (λ (s : SeatState). s.0.users) x.noted ∙ q.knows;
         told = ap (λ (s : SeatState). s.0.sizes) x.noted ∙ q.told;
         empty = ap (λ (s : SeatState). s.1) x.noted ∙ q.empty;
       },
       refl,
     )
+
+pub returns-clause-known : goal.returns-clause-known
+returns-clause-known g c same =
+    let x = c.close_once.ensures.closed in let me = c.args.manager.now.seat.me in
+    known_closed (made.Close x.era) (place_of_number 64 me.0.passes) c.args.inc x.era me c.close_once.new.seat.me x.noted (x.current c.requires.manages ∙ sym same)

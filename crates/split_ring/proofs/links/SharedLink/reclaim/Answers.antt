@@ -7,7 +7,7 @@ use Rattle.split_ring.specs.declared.ends.TurnHeld.{TurnHeld}
 use Rattle.split_ring.specs.declared.reclaims.Parts.{Parts}
 use Rattle.split_ring.specs.PartsOf.{AreSame}
 use Rattle.split_ring.specs.Reclaims.{IsAnothers, lacks_receiver}
-use Rattle.split_ring.proofs.PartSteps.{holds_nothing, holds_some, all_same, manager_read, open_is, busy_is}
+use Rattle.split_ring.proofs.PartSteps.{true-false, holds_nothing, holds_some, looks_again, all_same, manager_read, open_is, busy_is}
 use Rattle.link_words.specs.Calls.{SeatState}
 use Rattle.std.specs.Prelude.{slice_set, ℕ, Option, None}
 use Rattle.std.proofs.Common.{ap₂}
@@ -33,7 +33,15 @@ returns-in-Err-StillOpen-clause-refused g c =
     let coded = g.row.D.coded in let meaning = g.D.Desk.meaning in let t = c.learn_era.ensures.told in let q = c.in-Err-StillOpen.ensures in let x = c.in-Err-StillOpen in let parts = c.args.parts in
     let back : Parts _ = record { caller = record { id = parts.caller.id; seat = c.end_call.new.seat }; call = parts.call; held = parts.held } in
     let same : AreSame parts back = record { id = refl; call = refl; held = refl; table = q.seat.at_table ∙ sym c.requires.parts.user.seat.at_table; seat = q.refused.0 } in
-    (ap (λ (e : Era). e.is_live) x.era-is ∙ open_is coded meaning parts.caller.id c.call_has-turn.result.0 c.is_holding-is_holding.result x.field-0 x.era x.field-0-is q.refused.1, same, all_same c.args.self.now parts back same c.requires.parts, refl, (t.0, t.3))
+    let why = open_is coded meaning parts.caller.id c.call_has-turn.result.0 c.is_holding-is_holding.result x.field-0 x.era x.field-0-is q.refused.1 in (
+      ap (λ (e : Era). e.is_live) x.era-is ∙ why.0,
+      same,
+      all_same c.args.self.now parts back same c.requires.parts,
+      refl,
+      (t.0, t.3),
+      λ _. looks_again c.args.self.now parts c.requires.parts c.call_has-turn.result.0 c.call_has-turn.result.1 c.is_holding-is_holding.result c.call_has-turn.ensures.0 c.call_has-turn.ensures.1
+          (λ holds. subst (λ (l : List HeldBuffer). (c.call_has-turn.result.1 ≡ true) ⊎ ((buffer : HeldBuffer) × (get_elem? l 0 ≡ some buffer))) c.deref.ensures.value (c.is_holding-is_holding.ensures.some holds)) why.1,
+    )
 
 pub returns-in-Err-Busy-clause-refused : goal.returns-in-Err-Busy-clause-refused
 returns-in-Err-Busy-clause-refused g c =
@@ -49,6 +57,12 @@ returns-in-Err-Busy-clause-refused g c =
       refl,
       (t.0, sym (ap (λ (e : Era). e.is_live) read) ∙ c.if-era.false, t.3),
     )
+
+pub returns-then-era-clause-refused : goal.returns-then-era-clause-refused
+returns-then-era-clause-refused g c =
+    let t = c.learn_era.ensures.told in let parts = c.args.parts in let read : c.era_of-era.result ≡ t.0 = c.era_of-era.ensures t.0 t.1 t.2 in
+    let same : AreSame parts parts = record { id = refl; call = refl; held = refl; table = refl; seat = record { one = c.requires.parts.user.one; out = refl; sizes = refl } } in
+    (c.if-era.true, same, c.requires.parts, refl, (t.0, t.3), λ closed. absurd (true-false (sym c.if-era.true ∙ (ap (λ (e : Era). e.is_live) read ∙ t.5 closed))))
 
 pub returns-then-era-clause-manager : goal.returns-then-era-clause-manager
 returns-then-era-clause-manager g c =

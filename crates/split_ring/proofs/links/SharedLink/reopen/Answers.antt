@@ -3,6 +3,9 @@ use Rattle.link_words.specs.declared.rule.View.{View}
 use Rattle.link_words.specs.Reopens.{both_sides}
 use Rattle.split_ring.specs.Reopens.{next_view, unopened_from}
 use Rattle.split_ring.proofs.Reopening.{rests_none, none_view, manager_again, refused_is}
+use Rattle.rp_base.specs.declared.kinds.End.TheVariants as side
+use Rattle.link_words.specs.Calls.{SeatState}
+use Rattle.split_ring.proofs.Gathering.{holder_by, in_use_by}
 use Rattle.split_ring.proofs.links.SharedLink.reopen.Goals as goal
 
 pub returns-in-Err-find_closed-clause-manager : goal.returns-in-Err-find_closed-clause-manager
@@ -25,7 +28,13 @@ pub returns-in-Err-take_lanes-clause-answer : goal.returns-in-Err-take_lanes-cla
 returns-in-Err-take_lanes-clause-answer g c =
     let me = c.args.manager.now.seat.me in let me1 = c.find_closed.new.seat.me in let v : View = record me.0 { is_closed = true } in let closed = c.in-Ok-find_closed.ensures.closed in
     let none = rests_none me me1 true c.requires.rests c.requires.empty closed.2 in
-    let met = c.in-Err-take_lanes.ensures.met in (me1, none, met.1, none_view me v c.take_lanes.new.seat.me c.requires.rests refl (met.0 v none))
+    let met = c.in-Err-take_lanes.ensures.met in (
+      me1,
+      none,
+      met.1,
+      none_view me v c.take_lanes.new.seat.me c.requires.rests refl (met.0 v none),
+      holder_by me.0 me1.0 c.in-Err-take_lanes.holder (ap (λ (s : SeatState). s.0.users) closed.2) c.in-Err-take_lanes.ensures.holder,
+    )
 
 pub put_lanes-requires-clause-manager : goal.put_lanes-requires-clause-manager
 put_lanes-requires-clause-manager g c =
@@ -51,6 +60,7 @@ returns-in-Some-clause-answer g c =
     let taken = c.in-Ok-take_lanes.ensures.taken v none in let h = c.in-Ok-take_lanes.lanes.0 in let r = c.in-Ok-take_lanes.lanes.1 in let me2 = c.take_lanes.new.seat.me in
     let left = c.put_lanes.ensures.put v (both_sides h.sender h.receiver) (both_sides r.sender r.receiver) taken in
     refused_is g.row.D.coded g.D.Desk.meaning me.0 h.sender r.sender h.receiver r.receiver me2 c.in-Some.fault c.put_lanes.new.seat.me.0 taken
+    (in_use_by me.0 me1.0 side.Host h.receiver.hands (ap (λ (s : SeatState). s.0.users) closed.2) c.in-Ok-take_lanes.ensures.users.0) (in_use_by me.0 me1.0 side.Remote r.receiver.hands (ap (λ (s : SeatState). s.0.users) closed.2) c.in-Ok-take_lanes.ensures.users.1)
     (ap (λ (k : ℕ). unopened_from h.receiver.hands r.receiver.hands k) (sym closed.0) ∙ sym c.in-Some.ensures.fault) (none_view me v c.put_lanes.new.seat.me c.requires.rests refl left)
 
 pub returns-in-None-clause-manager : goal.returns-in-None-clause-manager
@@ -67,7 +77,7 @@ returns-in-None-clause-answer g c =
     let taken = c.in-Ok-take_lanes.ensures.taken v none in let h = c.in-Ok-take_lanes.lanes.0 in let r = c.in-Ok-take_lanes.lanes.1 in let me2 = c.take_lanes.new.seat.me in
     let next = c.open_next.ensures.next v taken (sym closed.0) in let t = c.open_next.ensures.books v taken (sym closed.0) refl in (
       t.0,
-      record { own = t.1.own; unused = t.1.unused },
+      record { own = t.1.own; unused = t.1.unused; ended = t.1.ended },
       t.2,
       c.open_next.ensures.inc ∙ closed.0,
       subst (λ (k : ℕ). k + 1 < 4294967296) closed.0 c.in-None.ensures.none.2,

@@ -4,7 +4,7 @@ use Rattle.link_words.specs.declared.rule.Call.TheVariants.{Gathers}
 use Rattle.link_words.specs.Calls.{SeatState}
 use Rattle.link_words.specs.Words.{sender_slot}
 use Rattle.split_ring.specs.Gathers.{IsCalling, TakesSide}
-use Rattle.split_ring.proofs.Gathering.{may_gather, may_gather_at, takes_both, as_before, sender_held}
+use Rattle.split_ring.proofs.Gathering.{holder_by, in_use_by, users_by, may_gather, may_gather_at, takes_both, as_before, sender_held}
 use Rattle.split_ring.proofs.links.SharedLink.take_lane.Goals as goal
 
 pub take_sender-requires-clause-manager : goal.take_sender-requires-clause-manager
@@ -30,3 +30,13 @@ pub returns-in-Err-take_receiver-clause-met : goal.returns-in-Err-take_receiver-
 returns-in-Err-take_receiver-clause-met g c = let met = c.in-Err-take_receiver.ensures.met in let lane = c.args.lane in let me = c.args.seat.now.me in
     let taken = c.in-Ok.ensures.taken in let still = subst (λ (s : SeatState). TakesSide lane (λ w. record w { sender = Some c.in-Ok.side }) (sender_slot lane) me s) (sym met.0) taken in
     (as_before lane c.in-Ok.side me c.take_receiver.new.seat.me c.put_sender.new.seat.me still c.put_sender.ensures.put, inr (c.take_sender.new.seat.me, c.in-Ok.side, taken, met.1))
+
+pub returns-in-Ok-take_receiver-clause-users : goal.returns-in-Ok-take_receiver-clause-users
+returns-in-Ok-take_receiver-clause-users g c = let q = c.requires.manager in
+    in_use_by c.args.seat.now.me.0 c.take_sender.new.seat.me.0 c.args.lane c.in-Ok-take_receiver.receiver.hands
+    (users_by c.args.seat.now.me c.take_sender.new.seat.me q.4 (c.in-Ok.ensures.taken q.0 q.1 q.2 q.3 q.4)) c.in-Ok-take_receiver.ensures.users
+
+pub returns-in-Err-take_receiver-clause-holder : goal.returns-in-Err-take_receiver-clause-holder
+returns-in-Err-take_receiver-clause-holder g c = let q = c.requires.manager in
+    holder_by c.args.seat.now.me.0 c.take_sender.new.seat.me.0 c.in-Err-take_receiver.holder
+    (users_by c.args.seat.now.me c.take_sender.new.seat.me q.4 (c.in-Ok.ensures.taken q.0 q.1 q.2 q.3 q.4)) c.in-Err-take_receiver.ensures.holder

@@ -1,8 +1,8 @@
 use Rattle.std.proofs.Common.{◌≡◌, ◌+◌, ◌-◌, ◌∙◌, arith}
 use Rattle.lane_model.specs.declared.recoveries.LaneTurn.TheVariants as lane_turn
-use Rattle.link_words.specs.Words.{sender_slot}
+use Rattle.link_words.specs.Words.{other, sender_slot}
 use Rattle.link_words.specs.declared.rule.Slot.TheVariants.{Sender}
-use Rattle.split_ring.proofs.Gathering.{sender_out, lent_at, took_sender, meets}
+use Rattle.split_ring.proofs.Gathering.{holder_in, sender_out, lent_at, took_sender, meets}
 use Rattle.split_ring.proofs.links.SharedLink.take_sender.Goals as goal
 
 pub exchange-requires : goal.exchange-requires
@@ -19,3 +19,6 @@ pub returns-else-found-eq0-clause-met : goal.returns-else-found-eq0-clause-met
 returns-else-found-eq0-clause-met g c =
     let me = c.args.seat.now.me in let me1 = c.take_for_manager-found.new.manager.me in let n = c.take_for_manager-found.result in let busy = c.if-found-eq0.false in let is : n ≡ n - 1 + 1 = omega arith in
     meets g.row.D.coded g.D.Desk.meaning lane_turn.Sender c.args.lane n (n - 1) me me1 (c.take_for_manager-found.ensures.told.1 busy) is c.take_for_manager-found.ensures.step
+
+pub returns-else-found-eq0-clause-holder : goal.returns-else-found-eq0-clause-holder
+returns-else-found-eq0-clause-holder g c = holder_in c.args.seat.now.me.0 (other c.args.lane) c.take_for_manager-found.result (c.take_for_manager-found.ensures.told.3 c.if-found-eq0.false)

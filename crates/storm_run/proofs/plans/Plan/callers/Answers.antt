@@ -1,29 +1,37 @@
-use Rattle.std.proofs.Common.{◌≡◌, List, All, sym, ap, ◌∙◌, subst}
-use Rattle.std.proofs.lemmas.List.Elements.{All-push}
+use Rattle.std.proofs.Common.{◌≡◌, ◌<◌, ◌+◌, ◌∙◌, ◌++◌, ◌∷◌, [], List, sym, ap, subst, arith, None, Some}
+use Rattle.std.proofs.lemmas.Option.{none-some}
 use Rattle.split_ring.specs.declared.callers.Caller.{Caller}
-use Rattle.storm_run.specs.Rounds.{IsFree}
+use Rattle.storm_run.specs.Managers.{AreNewCallers}
+use Rattle.storm_run.proofs.Made.{IsMaking, made_one, more_new, new_one, next_number}
 use Rattle.storm_run.proofs.plans.Plan.callers.Goals as goal
-use Rattle.storm_run.proofs.plans.Plan.callers.Goals.{in-Some+in_ok-push, in_default}
 
-pub loop-place-preserved : goal.loop-place-preserved
-loop-place-preserved c =
-    let free : Caller → Type 0 = λ caller. IsFree c.args.link.now caller in
-    let one : Caller → Type 0 = λ caller. caller.id.follows ≡ c.args.link.now.sizes.first in
+pub unreachable-requires : goal.unreachable-requires
+unreachable-requires c =
+    let plan = c.requires.plan in let hosts = plan.hosts in let remotes = plan.remotes in
+    let few : c.loop-number.number < 64 = omega (arith, c.loop-number-test.true, hosts.1, remotes.1) in
+    none-some c.loop-number.number (sym c.in-None.ensures.none ∙ next_number c.args.self.now c.loop-number.number c.loop-number.manager few c.loop-number.invariant.made)
+
+pub loop-number-preserved : goal.loop-number-preserved
+loop-number-preserved c =
+    let link = c.args.link.now in let plan = c.args.self.now in let n = c.loop-number.number in let s = c.in-Some.ensures.some in
+    let hosts = c.requires.plan.hosts in let remotes = c.requires.plan.remotes in
+    let few : n < 64 = omega (arith, c.loop-number-test.true, hosts.1, remotes.1) in
+    let making : IsMaking link c.end_at.result c.loop-number.manager c.caller.new.manager c.in-Some.caller = record {
+      manager = c.loop-number.invariant.manager;
+      rests = s.3;
+      number = s.0;
+      end_is = s.1;
+      follows = s.2;
+      own = s.4;
+      hands = s.5;
+      view = c.in-Some.ensures.views.0;
+      seat = c.in-Some.ensures.views.1;
+      users = c.in-Some.ensures.users;
+    } in
     record {
-      manager = c.caller.ensures.manager;
-      free = elim c.match-caller.branch [
-        | in-Some+in_ok-push w ↦
-            subst (λ (l : List Caller). All free l) (sym w.in_ok-push.ensures.items ∙ sym (ap (λ (v : _). v.items) w.callers-is))
-            (All-push free c.loop-place.callers.items _ c.loop-place.invariant.free (record { rests = w.in-Some.ensures.some.3; holds_nothing = w.in-Some.ensures.some.5 }))
-        | in_default w ↦ subst (λ (l : List Caller). All free l) (sym (ap (λ (v : _). v.items) w.callers-is)) c.loop-place.invariant.free
-      ];
-      one = elim c.match-caller.branch [
-        | in-Some+in_ok-push w ↦
-            subst (λ (l : List Caller). All one l) (sym w.in_ok-push.ensures.items ∙ sym (ap (λ (v : _). v.items) w.callers-is))
-            (All-push one c.loop-place.callers.items _ c.loop-place.invariant.one w.in-Some.ensures.some.2)
-        | in_default w ↦ subst (λ (l : List Caller). All one l) (sym (ap (λ (v : _). v.items) w.callers-is)) c.loop-place.invariant.one
-      ];
+      manager = c.in-Some.ensures.manager;
+      made = made_one link plan n c.end_at.result c.loop-number.manager c.caller.new.manager c.in-Some.caller few c.end_at.ensures c.requires.first c.loop-number.invariant.made making;
+      callers = subst (λ (l : List Caller). AreNewCallers link plan (n + 1) l) (sym c.in_ok-push-in-Some.ensures.items)
+          (more_new link plan n c.loop-number.callers.items c.in-Some.caller c.loop-number.invariant.callers
+          (new_one link plan n c.end_at.result c.loop-number.manager c.caller.new.manager c.in-Some.caller few c.end_at.ensures c.requires.first c.loop-number.invariant.made making));
     }
-
-pub returns : goal.returns
-returns c = (c.loop-place.invariant.free, (c.args.link.now.sizes.first, c.loop-place.invariant.one))

@@ -1,0 +1,10 @@
+use Rattle.std.proofs.Common.{refl, None}
+use Rattle.storm_run.proofs.Faults.{no_refusal}
+use Rattle.storm_run.proofs.Reclaimed.{all_of}
+use Rattle.storm_run.proofs.storms.reclaim_free.Goals as goal
+
+pub reclaim-requires-clause-parts : goal.reclaim-requires-clause-parts
+reclaim-requires-clause-parts c = all_of c.args.link.now (record { caller = c.args.caller; call = None; held = c.new.result }) c.requires.free refl c.new.ensures.items
+
+pub unreachable-requires : goal.unreachable-requires
+unreachable-requires c = no_refusal _ _ c.args.link.now c.args.manager.now c.reclaim.new.manager (record { caller = c.args.caller; call = None; held = c.new.result }) c.in-Err.field-0 c.requires.free refl c.requires.closed c.in-Err.ensures.refused
