@@ -29,6 +29,9 @@ COMMAND = """.Dd {date}
 .Cm demo
 .Ar sessions
 .Nm
+.Cm storm
+.Ar hosts remotes count entries
+.Nm
 .Cm audit
 .Sh DESCRIPTION
 .Nm
@@ -46,6 +49,11 @@ loads into the standard regions, and where.
 .It Cm demo Ar sessions
 runs the script of a demo of 1 to 500 sessions, and tells how many messages
 its links accepted.
+.It Cm storm Ar hosts remotes count entries
+runs a storm of so many callers on each end of a link, 1 to 31, each on a
+thread of its own, of which each sends so many messages, 1 to 8,192, over
+rings of so many entries, a power of two up to 32,768, and tells what was sent
+and handed over.
 .It Cm audit
 reads a transcript from standard input and says whether its lines keep the
 rules of transcripts.

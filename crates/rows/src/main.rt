@@ -8,8 +8,10 @@ use crate::devices::calls;
 use crate::rows::{Row, names_in};
 use rp_io::{MemorySink, MemorySource, MemoryStore};
 use script_run::run_program;
-use std::alloc::AllocError;
+use std::alloc::{AllocError, Global};
 use std::io::{self, Write};
+use std::sync::Wait;
+use std::thread::Threads;
 
 fn main(rt: HostRuntime) -> io::Result<()> {
     let mut out = io::writer(&rt);
@@ -21,7 +23,12 @@ fn main(rt: HostRuntime) -> io::Result<()> {
 }
 
 /// Runs the program over what a row has.
-fn run_row<W: Write>(rt: &HostRuntime, name: &str, row: Row, out: &mut W) -> io::Result<()> {
+fn run_row<R: AllocGlobal + Threads + Wait + Sync, W: Write>(
+    rt: &R,
+    name: &str,
+    row: Row,
+    out: &mut W,
+) -> io::Result<()> {
     let alloc = rt.alloc();
     let Row {
         words: lines,
@@ -41,20 +48,27 @@ fn run_row<W: Write>(rt: &HostRuntime, name: &str, row: Row, out: &mut W) -> io:
         sink_fails,
     );
     let mut sink = sink.map_err(|_| AllocError)?;
-    let status = run_program(alloc, words.as_slice(), &mut source, &mut store, &mut sink);
-    write_row(rt, name, status, sink.bytes(), out)
+    let status = run_program(
+        rt,
+        alloc,
+        words.as_slice(),
+        &mut source,
+        &mut store,
+        &mut sink,
+    );
+    write_row(alloc, name, status, sink.bytes(), out)
 }
 
 /// Writes the name and the status of a row, and its output. An output whose last line has no line
 /// feed is followed by a line that says so.
 fn write_row<W: Write>(
-    rt: &HostRuntime,
+    alloc: Global,
     name: &str,
     status: u8,
     output: &[u8],
     out: &mut W,
 ) -> io::Result<()> {
-    let head = format!(in rt.alloc(); "# {name}: {status}\n")?;
+    let head = format!(in alloc; "# {name}: {status}\n")?;
     out.write_all(head.as_bytes())?;
     out.write_all(output)?;
     if !output.is_empty() && !output.ends_with(b"\n") {

@@ -7,6 +7,8 @@ use std::alloc::{AllocError, Global};
 use std::io::ErrorKind;
 use std::process::ExitCode;
 use std::rt::{Env, Files};
+use std::sync::Wait;
+use std::thread::Threads;
 use std::{env, io};
 
 fn main(rt: HostRuntime) -> ExitCode {
@@ -14,7 +16,7 @@ fn main(rt: HostRuntime) -> ExitCode {
 }
 
 /// Runs the program over standard input, the folder of images and standard output.
-fn run<R: AllocGlobal + Env + Files + Input + Print>(rt: &R) -> u8 {
+fn run<R: AllocGlobal + Env + Files + Input + Print + Threads + Wait + Sync>(rt: &R) -> u8 {
     let alloc = rt.alloc();
     let Ok(given) = words(rt) else {
         return Status::NoMemory.number();
@@ -25,7 +27,14 @@ fn run<R: AllocGlobal + Env + Files + Input + Print>(rt: &R) -> u8 {
     let mut script = StdinSource::new(rt.reader());
     let mut store = FolderStore::new(rt);
     let mut out = StdoutSink::new(io::writer(rt));
-    run_program(alloc, words.as_slice(), &mut script, &mut store, &mut out)
+    run_program(
+        rt,
+        alloc,
+        words.as_slice(),
+        &mut script,
+        &mut store,
+        &mut out,
+    )
 }
 
 /// The words of the command line, with the program's name. Where one is no UTF-8 there are none,

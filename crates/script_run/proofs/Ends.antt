@@ -29,7 +29,7 @@ use Rattle.command_run.specs.declared.stops.Stop.TheVariants as stop
 use Rattle.script_run.specs.declared.runs.RunFault.TheVariants as run_fault
 use Rattle.command_run.specs.Stores.{IsHeld, IsTold, Told, held}
 use Rattle.command_run.specs.Runs.{new_run, run_of}
-use Rattle.script_run.specs.Outputs.{Form, other, run, check, demo, audit, Output, audit_output, fails_in, too_long_output, usage_output, run_output, script_output, stop_output, transcript_output, report_output, store_fault_output}
+use Rattle.script_run.specs.Outputs.{Form, other, run, check, demo, storm, audit, Output, audit_output, storm_output, fails_in, too_long_output, usage_output, run_output, script_output, stop_output, transcript_output, report_output, store_fault_output}
 use Rattle.script_run.specs.Reports.{check_report, fetched_report}
 use Rattle.script_run.specs.Demos.{accepted_from, counted_output, demo_output, said_output}
 use Rattle.script_run.specs.Told.{RunWrites}
@@ -137,6 +137,7 @@ some_asked other before = (usage_output, refl)
 some_asked run before = some_run before.left before.images
 some_asked (check name) before = some_report before.images name
 some_asked (demo sessions) before = (demo_output sessions, refl)
+some_asked (storm plan) before = (storm_output plan, refl)
 some_asked audit before = some_transcript before.left
 
 -- memory ran out before anything was written
@@ -371,6 +372,7 @@ well_of ended run before now output source store (inr (inl fault)) = absurd (sou
 well_of ended run before now output source store (inr (inr fault)) = absurd (store fault.1)
 well_of ended (check name) before now output source store (inr fault) = absurd (store fault.1)
 well_of ended (demo sessions) before now output source store (inr fault) = absurd fault
+well_of ended (storm plan) before now output source store (inr fault) = absurd fault
 well_of ended audit before now output source store (inr fault) = absurd (source fault.1)
 
 -- the status of a store that failed
@@ -444,6 +446,7 @@ asked_well other before output is = ap (λ (o : Output). is_store_fault o.status
 asked_well run before output is = run_script_well before.left before.images output is
 asked_well (check name) before output is = report_well before.images name output is
 asked_well (demo sessions) before output is = ap (λ (o : Output). is_store_fault o.status) is ∙ demo_well sessions
+asked_well (storm plan) before output is = ap (λ (o : Output). is_store_fault o.status) is
 asked_well audit before output is = transcript_well before.left output is
 
 -- where no count rose, the program ends with the status of the output that is asked for, or memory ran out

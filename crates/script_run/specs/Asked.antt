@@ -5,7 +5,8 @@ use Rattle.clap.specs.declared.parser.matches.ArgMatches.{ArgMatches}
 use Rattle.script_run.specs.declared.words.Asked.{Asked}
 use Rattle.script_run.specs.declared.words.Asked.TheVariants as asked
 use Rattle.image_maker.specs.declared.demo.TheConstants.{SESSIONS_MOST}
-use Rattle.script_run.specs.Outputs.{Form, other, run, check, demo, audit}
+use Rattle.storm_run.specs.Storms.{IsPlan}
+use Rattle.script_run.specs.Outputs.{Form, other, run, check, demo, storm, audit}
 
 -- what the words ask for, as the definitions have it
 abbrev pub asked_form : Asked → Form
@@ -13,14 +14,16 @@ asked_form asked.Other = other
 asked_form asked.Run = run
 asked_form (asked.Check word name) = check word.now
 asked_form (asked.Demo sessions) = demo sessions
+asked_form (asked.Storm plan) = storm plan
 asked_form asked.Audit = audit
 
--- the name of an image is the word, and a demo has 1 to 500 sessions
+-- the name of an image is the word, a demo has 1 to 500 sessions, and a storm can be run
 abbrev pub IsInForm : Asked → Type 0
 IsInForm asked.Other = Unit {0}
 IsInForm asked.Run = Unit {0}
 IsInForm (asked.Check word name) = name ≡ word.now
 IsInForm (asked.Demo sessions) = (1 ≤ sessions) × (sessions ≤ SESSIONS_MOST)
+IsInForm (asked.Storm plan) = IsPlan plan
 IsInForm asked.Audit = Unit {0}
 
 -- the word begins with `-` (45)

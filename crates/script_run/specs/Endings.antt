@@ -15,7 +15,8 @@ use Rattle.script_lang.specs.declared.commands.Command.{Command}
 use Rattle.script_lang.specs.Grammar.{Refusal, script_of}
 use Rattle.command_run.specs.Runs.{AsksNone, new_run}
 use Rattle.command_run.specs.Stores.{IsAnswer, IsHeld, IsTold, Told, held}
-use Rattle.script_run.specs.Outputs.{Form, other, run, check, demo, audit, Output, usage_output, run_output, script_output, fails_in, report_output, audit_output, too_long_output, read_fault_output, store_fault_output}
+use Rattle.storm_run.specs.declared.plans.Plan.{Plan}
+use Rattle.script_run.specs.Outputs.{Form, other, run, check, demo, storm, audit, Output, usage_output, run_output, script_output, fails_in, report_output, storm_output, audit_output, too_long_output, read_fault_output, store_fault_output}
 use Rattle.script_run.specs.Reports.{fetched_report, check_report}
 use Rattle.script_run.specs.Demos.{demo_output}
 
@@ -98,6 +99,7 @@ IsAsked other before output = output ≡ usage_output
 IsAsked run before output = IsRunOutput before.left before.images output
 IsAsked (check name) before output = IsReportOutput before.images name output
 IsAsked (demo sessions) before output = output ≡ demo_output sessions
+IsAsked (storm plan) before output = output ≡ storm_output plan
 IsAsked audit before output = OfSource before.left (λ bytes. IsAuditOutput bytes output)
 
 -- the line of the device that failed, where the words need it
@@ -109,6 +111,7 @@ IsFaultOutput run before now output =
 IsFaultOutput (check name) before now output =
     (output ≡ store_fault_output) × Rose before.store_faults now.store_faults × (now.source_faults ≡ before.source_faults)
 IsFaultOutput (demo sessions) before now output = ⊥
+IsFaultOutput (storm plan) before now output = ⊥
 IsFaultOutput audit before now output =
     (output ≡ read_fault_output) × Rose before.source_faults now.source_faults × (now.store_faults ≡ before.store_faults)
 
@@ -160,6 +163,11 @@ pub record RunEnds (ended : Status) (images : Option (List (List ℕ × List ℕ
 abbrev pub RunAnswersAs : Option Status → Option (List (List ℕ × List ℕ)) → List Command → Option (List ℕ) → Option (List ℕ) → ℕ → ℕ → ℕ → ℕ → Type 0
 RunAnswersAs None images commands old new before now was then = ⊥
 RunAnswersAs (Some ended) images commands old new before now was then = RunEnds ended images (Ok commands) old new before now was then
+
+-- the answer is the number of a status with which the storm of this plan ends: its report is written, or a front of it
+abbrev pub StormAnswersAs : Option Status → Plan → Option (List ℕ) → Option (List ℕ) → ℕ → ℕ → Type 0
+StormAnswersAs None plan old new before now = ⊥
+StormAnswersAs (Some ended) plan old new before now = Writes ended (storm_output plan) old new before now
 
 -- a transcript is audited, and the line of its audit written
 pub record AuditEnds (ended : Status) (bytes : List ℕ) (old new : Option (List ℕ)) (before now : ℕ) : Type 0 where
@@ -219,4 +227,5 @@ NeedsNoStore other left = Unit {0}
 NeedsNoStore run left = SourceAsksNone left
 NeedsNoStore (check name) left = ⊥
 NeedsNoStore (demo sessions) left = Unit {0}
+NeedsNoStore (storm plan) left = Unit {0}
 NeedsNoStore audit left = Unit {0}

@@ -17,6 +17,10 @@ use Rattle.command_run.specs.declared.stops.Stop.TheVariants as stop
 use Rattle.command_run.specs.Stores.{Told}
 use Rattle.command_run.specs.Runs.{Run, run_of}
 use Rattle.image_report.specs.Reports.{Report}
+use Rattle.rp_base.specs.Limits.{is_ring_size}
+use Rattle.storm_run.specs.declared.plans.Plan.{Plan}
+use Rattle.storm_run.specs.declared.plans.TheConstants.{COUNT_MOST, END_CALLERS_MOST}
+use Rattle.storm_run.specs.Storms.{storm_text}
 
 -- what the words ask for
 pub data Form : Type 0 where
@@ -24,6 +28,7 @@ pub data Form : Type 0 where
   run : Form
   check : List ℕ → Form
   demo : ℕ → Form
+  storm : Plan → Form
   audit : Form
 
 -- `check` with a name; a word that is no name is none of the forms
@@ -40,6 +45,21 @@ abbrev pub demo_form : Option ℕ → Form
 demo_form (Some sessions) = if nat_le 1 sessions && nat_le sessions SESSIONS_MOST then demo sessions else other
 demo_form None = other
 
+-- whether a storm may have so many callers on each end, so many messages of each and so many entries of a ring
+abbrev pub is_plan : Plan → Bool
+is_plan plan =
+    nat_le 1 plan.hosts && nat_le plan.hosts END_CALLERS_MOST && nat_le 1 plan.remotes && nat_le plan.remotes END_CALLERS_MOST
+    && nat_le 1 plan.count && nat_le plan.count COUNT_MOST && is_ring_size plan.num
+
+-- `storm` with these numbers; others are none of the forms
+abbrev pub plan_form : Plan → Form
+plan_form plan = if is_plan plan then storm plan else other
+
+-- `storm` with four numbers; a word that is no number makes none of the forms
+abbrev pub storm_form : Option ℕ → Option ℕ → Option ℕ → Option ℕ → Form
+storm_form (Some hosts) (Some remotes) (Some count) (Some num) = plan_form (record { hosts = hosts; remotes = remotes; count = count; num = num })
+storm_form hosts remotes count num = other
+
 -- what a first word asks for with the one behind it
 abbrev pub argument_form : List ℕ → List ℕ → Form
 argument_form word argument =
@@ -50,12 +70,20 @@ argument_form word argument =
 abbrev pub word_form : List ℕ → Form
 word_form word = if bytes_eq word (codes "run") then run else (if bytes_eq word (codes "audit") then audit else other)
 
+-- what a first word asks for with the four behind it
+abbrev pub numbers_form : List ℕ → List ℕ → List ℕ → List ℕ → List ℕ → Form
+numbers_form word hosts remotes count num =
+    if bytes_eq word (codes "storm") then storm_form (argument_of hosts) (argument_of remotes) (argument_of count) (argument_of num) else other
+
 -- what these words behind the program's name ask for
 abbrev pub form_of : List (List ℕ) → Form
 form_of [] = other
 form_of (word ∷ []) = word_form word
 form_of (word ∷ argument ∷ []) = argument_form word argument
-form_of (word ∷ argument ∷ third ∷ more) = other
+form_of (word ∷ hosts ∷ remotes ∷ []) = other
+form_of (word ∷ hosts ∷ remotes ∷ count ∷ []) = other
+form_of (word ∷ hosts ∷ remotes ∷ count ∷ num ∷ []) = numbers_form word hosts remotes count num
+form_of (word ∷ hosts ∷ remotes ∷ count ∷ num ∷ sixth ∷ more) = other
 
 -- how the program ends, and all that it writes
 pub record Output : Type 0 where
@@ -104,6 +132,10 @@ fails_in told (Err refusal) = false
 -- the lines of a report, with its status
 abbrev pub report_output : Report → Output
 report_output report = record { status = if report.loads then status.Done else status.Unsound; text = report_text report.notices }
+
+-- the report of a storm, with its status
+abbrev pub storm_output : Plan → Output
+storm_output plan = record { status = status.Done; text = storm_text plan }
 
 -- the line of an audit, with its status
 abbrev pub audit_output : Audit → Output

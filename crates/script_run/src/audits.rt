@@ -6,7 +6,7 @@ ghost use Rattle.journal.specs.Notices.{report_text};
 ghost use Rattle.script_run.specs.Outputs.{audit as audit_form, audit_output};
 ghost use Rattle.script_run.specs.Endings.{AuditEnds, Ends, IsFinal, IsReadEnd, devices};
 
-use crate::endings::{end_with, end_with_line};
+use crate::endings::{end_with, end_with_text};
 use crate::statuses::Status;
 use journal::Notice;
 use journal_check::{Audit, TRANSCRIPT_MOST, audit};
@@ -30,7 +30,7 @@ pub(crate) fn audit_text<S: Source, K: Sink>(
 {
     match read_front(alloc, transcript, TRANSCRIPT_MOST) {
         Ok(bytes) => audit_bytes(alloc, &bytes, out),
-        Err(ReadFault::Failed) => end_with_line("* read fault\n", Status::ReadFault, out),
+        Err(ReadFault::Failed) => end_with_text(b"* read fault\n", Status::ReadFault, out),
         Err(ReadFault::NoMemory) => Status::NoMemory,
     }
 }

@@ -28,13 +28,13 @@ pub(crate) fn end_with<K: Sink>(
     }
 }
 
-/// Writes a line that needs no memory, and ends so where all was written.
-pub(crate) fn end_with_line<K: Sink>(line: &str, status: Status, out: &mut K) -> Status
+/// Writes a text, which needs no memory, and ends so where all was written.
+pub(crate) fn end_with_text<K: Sink>(text: &[u8], status: Status, out: &mut K) -> Status
     requires { IsFinal status }
-    ensures written { Writes result (record { status = status; text = line.now }) (K.written out.old) (K.written out.new) (K.faults out.old) (K.faults out.new) }
+    ensures written { Writes result (record { status = status; text = text.now }) (K.written out.old) (K.written out.new) (K.faults out.old) (K.faults out.new) }
     ensures found { result ≢ ended.NoMemory }
 {
-    match write_whole(out, line.as_bytes()) {
+    match write_whole(out, text) {
         Ok(()) => status,
         Err(_) => Status::WriteFault,
     }

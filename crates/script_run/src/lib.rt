@@ -8,8 +8,10 @@ mod program;
 mod reports;
 mod runs;
 mod statuses;
+mod storms;
 mod words;
 
 pub use program::{run_program, run_script};
 pub use statuses::Status;
+pub use storms::run_storm;
 pub use words::Asked;

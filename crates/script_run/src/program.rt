@@ -12,10 +12,11 @@ ghost use Rattle.script_run.specs.Endings.{AnswersAs, AnswersWell, Ends, IsReadA
 
 use crate::audits::audit_text;
 use crate::demos::demo;
-use crate::endings::{end_with, end_with_line};
+use crate::endings::{end_with, end_with_text};
 use crate::reports::check;
 use crate::runs::run_commands;
 use crate::statuses::Status;
+use crate::storms::run_plan;
 use crate::words::{Asked, read_words};
 use command_run::Objects;
 use journal::Notice;
@@ -23,21 +24,26 @@ use rp_base::SCRIPT_MOST;
 use rp_io::{FirmwareStore, ReadFault, Sink, Source, read_front};
 use script_lang::{ParseFault, Script, parse};
 use std::alloc::Global;
+use std::sync::Wait;
+use std::thread::Threads;
+use storm_run::FreeGate;
 
 /// The program: it does what the words behind the program's name ask for, and answers the number with
 /// which the process ends. With the word `run` it reads a script from the source, runs it and writes
 /// the transcript; with `check NAME` it writes whether the image of that name loads; with `demo N` it
 /// runs the script of a demo over an empty store and writes how many messages its links accepted; with
-/// `audit` it reads a transcript from the source and writes whether its lines keep the rules; all other
-/// words are answered by the usage line.
+/// `storm H R N K` it runs a storm, with each caller on a thread of its own, and writes what was sent
+/// and handed over; with `audit` it reads a transcript from the source and writes whether its lines
+/// keep the rules; all other words are answered by the usage line. With `storm` alone it may wait.
 ///
 /// The number is 0 where the whole output is written; 1 where `check` found no such image, one too
 /// large, or one that doesn't load, or `audit` a line that breaks a rule; 2 for other words; 3 where the
 /// source failed; 4 where the sink failed; 5 where memory ran out; 6 where the text is no script, or a
 /// transcript that is too long; 7 where the run was to take one step more than it may; and 8 where the
 /// store failed. With `run` it is 0 or 3 to 8, with `check` 0, 1, 4, 5 or 8, with `demo` 0, 4, 5 or 7,
-/// with `audit` 0, 1 or 3 to 6, and for other words 2, 4 or 5.
-pub fn run_program<S: Source, F: FirmwareStore, K: Sink>(
+/// with `storm` 0, 4 or 5, with `audit` 0, 1 or 3 to 6, and for other words 2, 4 or 5.
+pub fn run_program<R: Threads + Wait + Sync, S: Source, F: FirmwareStore, K: Sink>(
+    rt: &R,
     alloc: Global,
     words: &[&str],
     script: &mut S,
@@ -57,11 +63,12 @@ pub fn run_program<S: Source, F: FirmwareStore, K: Sink>(
     ensures unread { reads_source (form_of (map (λ word. word.now) words.now)) ≡ false → script.new ≡ script.old }
     ensures unasked { NeedsNoStore (form_of (map (λ word. word.now) words.now)) (S.left script.old) → store.new ≡ store.old }
 {
-    answer(alloc, words, script, store, out).number()
+    answer(rt, alloc, words, script, store, out).number()
 }
 
 /// How the program ends.
-fn answer<S: Source, F: FirmwareStore, K: Sink>(
+fn answer<R: Threads + Wait + Sync, S: Source, F: FirmwareStore, K: Sink>(
+    rt: &R,
     alloc: Global,
     words: &[&str],
     script: &mut S,
@@ -84,6 +91,7 @@ fn answer<S: Source, F: FirmwareStore, K: Sink>(
         Asked::Run => run_text(alloc, script, store, out),
         Asked::Check(word, name) => check(alloc, word, name, store, out),
         Asked::Demo(sessions) => demo(alloc, sessions, out),
+        Asked::Storm(plan) => run_plan(rt, alloc, &plan, &FreeGate, out),
         Asked::Audit => audit_text(alloc, script, out),
         Asked::Other => end_with(alloc, &[Notice::Usage], Status::Usage, out),
     }
@@ -105,7 +113,7 @@ fn run_text<S: Source, F: FirmwareStore, K: Sink>(
 {
     match read_front(alloc, script, SCRIPT_MOST) {
         Ok(bytes) => run_bytes(alloc, &bytes, store, out),
-        Err(ReadFault::Failed) => end_with_line("* read fault\n", Status::ReadFault, out),
+        Err(ReadFault::Failed) => end_with_text(b"* read fault\n", Status::ReadFault, out),
         Err(ReadFault::NoMemory) => Status::NoMemory,
     }
 }

@@ -2,7 +2,7 @@ ghost use Rattle.std.specs.Prelude.{◌≡◌, IfOk, IfErr};
 ghost use Rattle.script_run.specs.Endings.{IsFinal, IsReportOutput};
 ghost use Rattle.script_run.specs.ImageReports.{IsChecked, IsReportFault, made_output};
 
-use crate::endings::{end_with, end_with_line};
+use crate::endings::{end_with, end_with_text};
 use crate::statuses::Status;
 use image_report::{ImageReport, refuse, report_image};
 use journal::Notice;
@@ -48,7 +48,7 @@ pub(crate) fn check<F: FirmwareStore, K: Sink>(
             report_status(&report),
             out,
         ),
-        Err(ReportFault::Store) => end_with_line("* store fault\n", Status::StoreFault, out),
+        Err(ReportFault::Store) => end_with_text(b"* store fault\n", Status::StoreFault, out),
         Err(ReportFault::NoMemory) => Status::NoMemory,
     }
 }

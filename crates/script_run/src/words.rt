@@ -1,15 +1,16 @@
 ghost use Rattle.std.specs.Prelude.{◌≡◌, map, IfOk, IfErr, false, ◌∷◌};
 ghost use Rattle.std.specs.List.{list_any};
 ghost use Rattle.clap.specs.Words.{kind_of};
-ghost use Rattle.script_run.specs.Outputs.{argument_of, demo_form, form_of, named_form};
+ghost use Rattle.script_run.specs.Outputs.{argument_form, argument_of, demo_form, form_of, named_form, numbers_form, plan_form, storm_form, word_form};
 ghost use Rattle.word_kinds.specs.Spellings.{name_of};
 ghost use Rattle.script_run.specs.Asked.{AreMatched, IsInForm, asked_form, begins_with_dash};
 
 use clap::error::ErrorKind;
 use clap::{Arg, ArgMatches, Command};
 use image_maker::SESSIONS_MOST;
-use rp_base::{Name, NoMemory};
+use rp_base::{Name, NoMemory, RING_MOST, is_ring_size};
 use std::alloc::Global;
+use storm_run::{COUNT_MOST, END_CALLERS_MOST, Plan};
 use word_kinds::number_to_base;
 
 /// What the words of the command line ask for.
@@ -23,6 +24,8 @@ pub enum Asked<'a> {
     Check(&'a str, Name),
     /// `demo N`: to run the script of a demo of so many sessions, 1 to 500.
     Demo(u32),
+    /// `storm H R N K`: to run the storm of this plan.
+    Storm(Plan),
     /// `audit`: to tell whether the lines of a transcript keep the rules.
     Audit,
 }
@@ -81,11 +84,50 @@ fn asked_by<'a>(job: &'a str, args: &[&'a str]) -> Asked<'a>
     ensures in_form { IsInForm result }
 {
     match args {
-        [] if job == "run" => Asked::Run,
-        [] if job == "audit" => Asked::Audit,
-        [name] if job == "check" => name_in_word(name),
-        [number] if job == "demo" => sessions_in_word(number),
+        [] => asked_alone(job),
+        [argument] => asked_with(job, argument),
+        [hosts, remotes, count, num] => asked_with_four(job, hosts, remotes, count, num),
         _ => Asked::Other,
+    }
+}
+
+/// What a job without an argument asks for.
+fn asked_alone<'a>(job: &str) -> Asked<'a>
+    ensures form { asked_form result ≡ word_form job.now }
+    ensures in_form { IsInForm result }
+{
+    if job == "run" {
+        Asked::Run
+    } else if job == "audit" {
+        Asked::Audit
+    } else {
+        Asked::Other
+    }
+}
+
+/// What a job with one argument asks for.
+fn asked_with<'a>(job: &str, argument: &'a str) -> Asked<'a>
+    ensures form { asked_form result ≡ argument_form job.now argument.now }
+    ensures in_form { IsInForm result }
+{
+    if job == "check" {
+        name_in_word(argument)
+    } else if job == "demo" {
+        sessions_in_word(argument)
+    } else {
+        Asked::Other
+    }
+}
+
+/// What a job with four arguments asks for.
+fn asked_with_four<'a>(job: &str, hosts: &str, remotes: &str, count: &str, num: &str) -> Asked<'a>
+    ensures form { asked_form result ≡ numbers_form job.now hosts.now remotes.now count.now num.now }
+    ensures in_form { IsInForm result }
+{
+    if job == "storm" {
+        plan_in_words(hosts, remotes, count, num)
+    } else {
+        Asked::Other
     }
 }
 
@@ -108,6 +150,44 @@ fn sessions_in_word(word: &str) -> Asked<'_>
             Asked::Demo(sessions as u32)
         }
         _ => Asked::Other,
+    }
+}
+
+fn plan_in_words<'a>(hosts: &str, remotes: &str, count: &str, num: &str) -> Asked<'a>
+    ensures form { asked_form result ≡ storm_form (argument_of hosts.now) (argument_of remotes.now) (argument_of count.now) (argument_of num.now) }
+    ensures in_form { IsInForm result }
+{
+    match (
+        argument(hosts.as_bytes()),
+        argument(remotes.as_bytes()),
+        argument(count.as_bytes()),
+        argument(num.as_bytes()),
+    ) {
+        (Some(hosts), Some(remotes), Some(count), Some(num)) => {
+            plan_of_numbers(hosts, remotes, count, num)
+        }
+        _ => Asked::Other,
+    }
+}
+
+fn plan_of_numbers<'a>(hosts: u64, remotes: u64, count: u64, num: u64) -> Asked<'a>
+    ensures form { asked_form result ≡ plan_form (record { hosts = hosts; remotes = remotes; count = count; num = num }) }
+    ensures in_form { IsInForm result }
+{
+    if (1..=u64::from(END_CALLERS_MOST)).contains(&hosts)
+        && (1..=u64::from(END_CALLERS_MOST)).contains(&remotes)
+        && (1..=u64::from(COUNT_MOST)).contains(&count)
+        && num <= u64::from(RING_MOST)
+        && is_ring_size(num as u32)
+    {
+        Asked::Storm(Plan {
+            hosts: hosts as u8,
+            remotes: remotes as u8,
+            count: count as u32,
+            num: num as u32,
+        })
+    } else {
+        Asked::Other
     }
 }
 

@@ -22,10 +22,10 @@ returns-in-Err-Failed-clause-ends g c images store =
     let source = g.S.Source in
     let sink = g.K.Sink in
     let before = devices (source.left c.args.transcript.now) (source.faults c.args.transcript.now) images store (sink.written c.args.out.now) (sink.faults c.args.out.now) in
-    let now = devices (source.left c.read_front.new.source) (source.faults c.read_front.new.source) images store (sink.written c.end_with_line.new.out) (sink.faults c.end_with_line.new.out) in
-    ends_fault c.end_with_line.result audit_form before now read_fault_output c.end_with_line.ensures.found
+    let now = devices (source.left c.read_front.new.source) (source.faults c.read_front.new.source) images store (sink.written c.end_with_text.new.out) (sink.faults c.end_with_text.new.out) in
+    ends_fault c.end_with_text.result audit_form before now read_fault_output c.end_with_text.ensures.found
     (refl, c.in-Err-Failed.ensures.failed (ap (λ (fault : ReadFault). Err fault) c.in-Err-Failed.field-0-is), refl)
-    (subst (λ (output : Output). Writes c.end_with_line.result output before.written now.written before.sink_faults now.sink_faults) (sym read_fault_line) c.end_with_line.ensures.written)
+    (subst (λ (output : Output). Writes c.end_with_text.result output before.written now.written before.sink_faults now.sink_faults) (sym read_fault_line) c.end_with_text.ensures.written)
 
 pub returns-in-Err-NoMemory-clause-ends : goal.returns-in-Err-NoMemory-clause-ends
 returns-in-Err-NoMemory-clause-ends g c images store =

@@ -25,10 +25,10 @@ returns-in-Err-Failed-clause-ends g c =
     let store = g.F.FirmwareStore in
     let sink = g.K.Sink in
     let before = devices (source.left c.args.script.now) (source.faults c.args.script.now) (store.images c.args.store.now) (store.faults c.args.store.now) (sink.written c.args.out.now) (sink.faults c.args.out.now) in
-    let now = devices (source.left c.read_front.new.source) (source.faults c.read_front.new.source) (store.images c.args.store.now) (store.faults c.args.store.now) (sink.written c.end_with_line.new.out) (sink.faults c.end_with_line.new.out) in
-    ends_fault c.end_with_line.result run_form before now read_fault_output c.end_with_line.ensures.found
+    let now = devices (source.left c.read_front.new.source) (source.faults c.read_front.new.source) (store.images c.args.store.now) (store.faults c.args.store.now) (sink.written c.end_with_text.new.out) (sink.faults c.end_with_text.new.out) in
+    ends_fault c.end_with_text.result run_form before now read_fault_output c.end_with_text.ensures.found
     (inl (refl, c.in-Err-Failed.ensures.failed (ap (λ (fault : ReadFault). Err fault) c.in-Err-Failed.field-0-is), refl))
-    (subst (λ (output : Output). Writes c.end_with_line.result output before.written now.written before.sink_faults now.sink_faults) (sym read_fault_line) c.end_with_line.ensures.written)
+    (subst (λ (output : Output). Writes c.end_with_text.result output before.written now.written before.sink_faults now.sink_faults) (sym read_fault_line) c.end_with_text.ensures.written)
 
 pub returns-in-Err-NoMemory-clause-ends : goal.returns-in-Err-NoMemory-clause-ends
 returns-in-Err-NoMemory-clause-ends g c =

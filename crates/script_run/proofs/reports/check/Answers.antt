@@ -12,10 +12,10 @@ returns-in-Err-Store g c left left_now images_now source =
     let store = g.F.FirmwareStore in
     let sink = g.K.Sink in
     let before = devices left source (store.images c.args.store.now) (store.faults c.args.store.now) (sink.written c.args.out.now) (sink.faults c.args.out.now) in
-    let now = devices left_now source images_now (store.faults c.fetch_report.new.store) (sink.written c.end_with_line.new.out) (sink.faults c.end_with_line.new.out) in
-    ends_fault c.end_with_line.result (check c.args.name) before now store_fault_output c.end_with_line.ensures.found
+    let now = devices left_now source images_now (store.faults c.fetch_report.new.store) (sink.written c.end_with_text.new.out) (sink.faults c.end_with_text.new.out) in
+    ends_fault c.end_with_text.result (check c.args.name) before now store_fault_output c.end_with_text.ensures.found
     (refl, subst (λ (fault : ReportFault). IsReportFault fault before.store_faults now.store_faults) c.in-Err-Store.field-0-is c.in-Err-Store.ensures.fault, refl)
-    (subst (λ (output : Output). Writes c.end_with_line.result output before.written now.written before.sink_faults now.sink_faults) (sym store_fault_line) c.end_with_line.ensures.written)
+    (subst (λ (output : Output). Writes c.end_with_text.result output before.written now.written before.sink_faults now.sink_faults) (sym store_fault_line) c.end_with_text.ensures.written)
 
 pub returns-in-Err-NoMemory : goal.returns-in-Err-NoMemory
 returns-in-Err-NoMemory g c left left_now images_now source =
