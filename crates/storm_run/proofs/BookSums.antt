@@ -1,11 +1,10 @@
 -- How many entries a book has, by how many each caller has.
-use Rattle.std.proofs.Common.{◌≡◌, ◌⊎◌, ◌+◌, ◌*◌, ◌≤◌, ◌<◌, ◌∙◌, ℕ, zero, suc, List, [], ◌∷◌, Bool, true, false, cond, ltb, eqb, eq-eqb, ne_eqb, length, get_or, refl, sym, ap, subst, ⊎_elim, inl, inr, All, arith}
+use Rattle.std.proofs.Common.{◌≡◌, ◌⊎◌, ◌+◌, ◌*◌, ◌≤◌, ◌<◌, ◌∙◌, ℕ, zero, suc, List, [], ◌∷◌, Bool, true, false, cond, ltb, eqb, eq-eqb, ne_eqb, length, get_or, refl, sym, ap, subst, ⊎_elim, arith}
 use Rattle.std.proofs.lemmas.Bool.{cases_lt, cases_order, cond-true, cond-false, lt-ltb, le-ltb}
 use Rattle.std.proofs.lemmas.List.Recursion.{is_count_by}
 use Rattle.lane_model.specs.declared.states.BookEntry.{BookEntry}
 use Rattle.link_words.specs.Histories.{entries_by}
-use Rattle.rp_base.specs.declared.limits.TheConstants.{CALLERS_MOST}
-use Rattle.storm_run.specs.Counts.{IsStormLane, entry_count}
+use Rattle.storm_run.specs.Counts.{entry_count}
 
 -- how many entries are of this caller, and of callers below this number
 abbrev pub many_of : ℕ → List BookEntry → ℕ

@@ -1,8 +1,7 @@
 -- The text of a report, by what was counted.
-use Rattle.std.proofs.Common.{◌≡◌, ◌+◌, ◌≤◌, ◌<◌, ◌∙◌, ◌++◌, ℕ, List, [], refl, ap, arith, slice_index}
+use Rattle.std.proofs.Common.{◌≡◌, ◌+◌, ◌≤◌, ◌<◌, ◌∙◌, ℕ, List, ap, arith, slice_index}
 use Rattle.lane_model.specs.declared.states.BookEntry.{BookEntry}
 use Rattle.rp_base.specs.declared.kinds.End.{End}
-use Rattle.rp_base.specs.declared.kinds.End.TheVariants as side
 use Rattle.rp_base.specs.declared.limits.TheConstants.{CALLERS_MOST}
 use Rattle.storm_run.specs.Counts.{IsStormLane, entry_count}
 use Rattle.storm_run.specs.Storms.{caller_line, caller_lines, lane_line}

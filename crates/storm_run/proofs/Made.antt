@@ -1,5 +1,5 @@
 -- What the manager of a storm knows as it makes its callers.
-use Rattle.std.proofs.Common.{◌≡◌, ◌⊎◌, ◌+◌, ◌≤◌, ◌<◌, ◌∙◌, ◌++◌, ℕ, zero, suc, replicate, List, [], ◌∷◌, cond, length, get_or, refl, sym, ap, subst, ⊎_elim, arith, Some, None}
+use Rattle.std.proofs.Common.{◌≡◌, ◌+◌, ◌<◌, ◌∙◌, ◌++◌, ℕ, zero, suc, replicate, List, [], ◌∷◌, cond, length, refl, sym, ap, subst, ⊎_elim, arith, Some, None}
 use Rattle.std.specs.Prelude.{Option, slice_set}
 use Rattle.std.proofs.lemmas.Bool.{cases_eq}
 use Rattle.std.proofs.lemmas.List.{get_or_append_left, get_or_push, length-replicate, length-set, length_push}
@@ -8,7 +8,7 @@ use Rattle.channel_bus.specs.declared.sides.Side.{Side}
 use Rattle.rp_base.specs.declared.kinds.End.{End}
 use Rattle.lane_model.specs.Links.{end_of, free_number}
 use Rattle.link_words.specs.Calls.{SeatState}
-use Rattle.link_words.specs.Passes.{first_incarnation, is_listed, only_new, with_caller_as, with_new_caller, without_last, without_new}
+use Rattle.link_words.specs.Passes.{is_listed, only_new, with_caller_as, without_last, without_new}
 use Rattle.link_words.specs.Rule.{first_view}
 use Rattle.link_words.specs.declared.copies.LinkCopy.{LinkCopy}
 use Rattle.link_words.specs.declared.rule.LinkSizes.{LinkSizes}

@@ -1,9 +1,9 @@
 -- What the manager of a storm knows as it reclaims its callers.
-use Rattle.std.proofs.Common.{◌≡◌, ◌⊎◌, ◌+◌, ◌≤◌, ◌<◌, ◌∙◌, ℕ, zero, suc, List, [], ◌∷◌, Bool, true, false, not, length, get_or, refl, sym, ap, subst, ⊎_elim, arith, None}
+use Rattle.std.proofs.Common.{◌≡◌, ◌+◌, ◌<◌, ◌∙◌, ℕ, zero, suc, List, [], ◌∷◌, not, length, get_or, refl, sym, ap, subst, ⊎_elim, arith, None}
 use Rattle.std.specs.Prelude.{Option, slice_set}
-use Rattle.std.proofs.lemmas.Bool.{cases_eq, false≢true}
+use Rattle.std.proofs.lemmas.Bool.{cases_eq}
 use Rattle.std.proofs.lemmas.List.{get_or_default, length-set}
-use mathlib.Core.Option.{some, some-injective, some-ne-none}
+use mathlib.Core.Option.{some-injective, some-ne-none}
 use lib.ListN.{get_elem?}
 use Rattle.channel_bus.specs.declared.sides.Side.{Side}
 use Rattle.rp_base.specs.declared.kinds.End.{End}
@@ -13,7 +13,6 @@ use Rattle.link_words.specs.Calls.{SeatState}
 use Rattle.link_words.specs.Passes.{HasNumber}
 use Rattle.link_words.specs.declared.rule.Pass.{Pass}
 use Rattle.link_words.proofs.Users.{end_else, end_here}
-use Rattle.split_ring.specs.Callers.{IsUserOf}
 use Rattle.split_ring.specs.PartsOf.{IsAllOf}
 use Rattle.split_ring.specs.Reclaims.{HasRetired, StandsIn, buffer_in, ended_of, phase_of}
 use Rattle.split_ring.specs.Seats.{pass_in}

@@ -1,5 +1,5 @@
 -- The books of a storm, by what its manager kept.
-use Rattle.std.proofs.Common.{◌≡◌, ◌+◌, ◌≤◌, ◌<◌, ◌∙◌, ℕ, List, [], ◌∷◌, length, refl, sym, ap, subst, arith, slice_index_or, None}
+use Rattle.std.proofs.Common.{◌≡◌, ◌≤◌, ◌<◌, ◌∙◌, ℕ, List, [], ◌∷◌, length, sym, ap, subst, arith, slice_index_or}
 use Rattle.std.specs.Prelude.{Option}
 use Rattle.channel_bus.specs.declared.sides.Side.{Side}
 use Rattle.rp_base.specs.declared.kinds.End.{End}
@@ -21,7 +21,7 @@ use Rattle.storm_run.specs.Managers.{AreDoneCallers, HasReclaimed}
 use Rattle.storm_run.specs.Storms.{IsPlan}
 use Rattle.storm_run.specs.declared.plans.Plan.{Plan}
 use Rattle.storm_run.specs.declared.plans.TheConstants.{FIRST}
-use Rattle.storm_run.proofs.Told.{AreKnown, IsKnown, lane_to_host, lane_to_remote}
+use Rattle.storm_run.proofs.Told.{AreKnown, lane_to_host, lane_to_remote}
 
 some_caller : (callers : List Caller) → 1 ≤ length callers → Caller
 some_caller [] some = absurd (omega (arith, some))

@@ -1,15 +1,13 @@
 -- Which numbers of callers are in use, as callers are made and end.
-use Rattle.std.proofs.Common.{◌≡◌, ◌≢◌, ◌⊎◌, ◌+◌, ◌≤◌, ◌<◌, ◌∙◌, ℕ, List, Bool, true, false, cond, not, length, get_or, set, refl, sym, ap, subst, ⊎_elim, arith, Some, None}
-use Rattle.std.specs.Prelude.{Option, slice_set, slice_get}
-use Rattle.std.specs.List.{position_or_len, prefix_len}
+use Rattle.std.proofs.Common.{◌≡◌, ◌<◌, ◌∙◌, ℕ, List, Bool, not, length, get_or, sym, ap, arith, Some, None}
+use Rattle.std.specs.Prelude.{Option}
+use Rattle.std.specs.List.{prefix_len}
 use Rattle.std.specs.Option.{option_and_then, is_none}
-use Rattle.std.proofs.lemmas.Bool.{cases_eq, cond-true, lt-ltb}
-use Rattle.std.proofs.lemmas.List.{length-set}
+use Rattle.std.proofs.lemmas.Bool.{cond-true, lt-ltb}
 use Rattle.std.proofs.lemmas.List.Sums.{prefix_len_is}
 use Rattle.std.proofs.lemmas.Option.{slice_get-get_or}
 use Rattle.rp_base.specs.declared.kinds.End.{End}
 use Rattle.lane_model.specs.Links.{end_of, free_number}
-use Rattle.link_words.proofs.Users.{end_else, end_here}
 
 end_at_place : (users : List (Option End)) (k : ℕ) (d : Option End) → k < length users → end_of users k ≡ get_or users k d
 end_at_place users k d within = ap (option_and_then (λ (found : Option End). found)) (slice_get-get_or users k d within)
@@ -19,7 +17,7 @@ pub free_first : (users : List (Option End)) (made : ℕ) (end : ℕ → End) �
 free_first users made end within used free =
     let p : Option End → Bool = λ f. not (is_none f) in
     let first : prefix_len p users ≡ made =
-        prefix_len_is p users made None (omega (arith, within))
-        (λ k below. ap p (sym (end_at_place users k None (omega (arith, below, within))) ∙ used k below))
-        (λ there. ap p (sym (end_at_place users made None within) ∙ free)) in
+    prefix_len_is p users made None (omega (arith, within))
+    (λ k below. ap p (sym (end_at_place users k None (omega (arith, below, within))) ∙ used k below))
+    (λ there. ap p (sym (end_at_place users made None within) ∙ free)) in
     cond-true _ (Some (prefix_len p users)) None (lt-ltb (prefix_len p users) (length users) (omega (arith, first, within))) ∙ ap (λ (n : ℕ). Some n) first

@@ -1,5 +1,5 @@
 -- What the callers of a storm have done behind its round.
-use Rattle.std.proofs.Common.{◌≡◌, ◌⊎◌, ◌+◌, ◌-◌, ◌*◌, ◌≤◌, ◌<◌, ◌∙◌, ◌++◌, ℕ, zero, suc, List, [], ◌∷◌, map, min, take, length, get_or, refl, sym, ap, subst, append-nil, ⊎_elim, true, false, arith, slice_index_or}
+use Rattle.std.proofs.Common.{◌≡◌, ◌+◌, ◌-◌, ◌*◌, ◌≤◌, ◌<◌, ◌∙◌, ◌++◌, ℕ, zero, suc, List, [], min, take, length, get_or, refl, sym, ap, subst, append-nil, ⊎_elim, arith, slice_index_or}
 use Rattle.std.proofs.lemmas.Bool.{cases_lt, cond-true, cond-false, lt-ltb, le-ltb}
 use Rattle.std.proofs.lemmas.List.{length-map, length_push, take_all}
 use Rattle.std.proofs.lemmas.List.Sums.{count_by_more_yes, count_by_more_no}
@@ -10,14 +10,13 @@ use Rattle.link_words.specs.declared.rule.Event.{Event}
 use Rattle.link_words.specs.Histories.{same_end, seen, sends_in}
 use Rattle.link_words.specs.Words.{other}
 use Rattle.split_ring.specs.Callers.{own_of}
-use Rattle.split_ring.specs.Seats.{pass_in}
 use Rattle.split_ring.specs.declared.callers.Caller.{Caller}
 use Rattle.split_ring.specs.declared.callers.CallerId.{CallerId}
 use Rattle.split_ring.specs.declared.links.SharedLink.{SharedLink}
 use Rattle.storm_run.specs.declared.plans.Plan.{Plan}
 use Rattle.storm_run.specs.declared.plans.TheConstants.{FIRST}
 use Rattle.storm_run.specs.Managers.{AreDoneCallers, AreNewCallers, AreNumbered, HasSentAll, IsDoneCaller, IsNewCaller, callers_on, end_at}
-use Rattle.storm_run.specs.Rounds.{HasFoundAll, HasWorked, IsWholeRound, count_on, empty_walk, storm_messages}
+use Rattle.storm_run.specs.Rounds.{HasWorked, IsWholeRound, count_on, empty_walk, storm_messages}
 use Rattle.storm_run.proofs.Looks.{seen_look, seen_more}
 
 -- the ends of the callers by number
@@ -112,7 +111,7 @@ round_done link plan before after new round = record {
       let here : number < length before = subst (λ (n : ℕ). number < n) (sym new.many) below in
       let is = new.each number d below in
       let on : count_on (other caller.id.end) before ≡ callers_on plan (other (end_at plan number)) =
-          on_end plan before d (λ k within. (new.each k d (subst (λ (n : ℕ). k < n) new.many within)).end) (other caller.id.end) new.many ∙ ap (λ (e : End). callers_on plan (other e)) is.end in
+      on_end plan before d (λ k within. (new.each k d (subst (λ (n : ℕ). k < n) new.many within)).end) (other caller.id.end) new.many ∙ ap (λ (e : End). callers_on plan (other e)) is.end in
       let product : plan.count * callers_on plan (other (end_at plan number)) ≡ callers_on plan (other (end_at plan number)) * plan.count = omega arith in
       is_done link plan plan.count (plan.count * count_on (other caller.id.end) before) number caller (slice_index_or after number d) is (round.each number d here)
       (plan.count * callers_on plan (other (end_at plan number))) refl (ap (λ (n : ℕ). plan.count * n) on) product;

@@ -5,7 +5,7 @@ use Rattle.rp_base.specs.declared.kinds.End.{End}
 use Rattle.rp_base.specs.declared.kinds.End.TheVariants as side
 use Rattle.rp_base.specs.Limits.{IsRingSize}
 use Rattle.word_kinds.specs.Lines.{line_of}
-use Rattle.word_kinds.specs.Texts.{Word, Fixed, Lane, Number, Side}
+use Rattle.word_kinds.specs.Texts.{Fixed, Lane, Number, Side}
 use Rattle.storm_run.specs.declared.plans.Plan.{Plan}
 use Rattle.storm_run.specs.declared.plans.TheConstants.{END_CALLERS_MOST, COUNT_MOST}
 
@@ -36,4 +36,4 @@ storm_text plan =
     let to_host = plan.remotes * plan.count in
     let to_remote = plan.hosts * plan.count in
     lane_line 0 to_host to_host to_host ++ lane_line 1 to_remote to_remote to_remote
-        ++ caller_lines 0 plan.hosts side.Host (λ number. plan.count) ++ caller_lines plan.hosts plan.remotes side.Remote (λ number. plan.count)
+    ++ caller_lines 0 plan.hosts side.Host (λ number. plan.count) ++ caller_lines plan.hosts plan.remotes side.Remote (λ number. plan.count)

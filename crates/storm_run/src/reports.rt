@@ -23,8 +23,20 @@ pub(crate) fn report(alloc: Global, plan: &Plan, books: &Books) -> Result<Vec<u8
     let mut text = Vec::new(alloc);
     push_lane(&mut text, 0, books.to_host.len(), to_host, to_host)?;
     push_lane(&mut text, 1, books.to_remote.len(), to_remote, to_remote)?;
-    push_callers(&mut text, 0, plan.hosts, End::Host, &counts_in(&books.to_remote))?;
-    push_callers(&mut text, plan.hosts, plan.remotes, End::Remote, &counts_in(&books.to_host))?;
+    push_callers(
+        &mut text,
+        0,
+        plan.hosts,
+        End::Host,
+        &counts_in(&books.to_remote),
+    )?;
+    push_callers(
+        &mut text,
+        plan.hosts,
+        plan.remotes,
+        End::Remote,
+        &counts_in(&books.to_host),
+    )?;
     Ok(text)
 }
 

@@ -66,12 +66,7 @@ fn storm_books<R: Threads + Wait + Sync, G: Gate + Sync>(
 }
 
 /// Reclaims all callers of a closed link, of which none is in a call or holds anything.
-fn reclaim_all(
-    alloc: Global,
-    link: &SharedLink<Side>,
-    manager: &mut Manager,
-    callers: Vec<Caller>,
-)
+fn reclaim_all(alloc: Global, link: &SharedLink<Side>, manager: &mut Manager, callers: Vec<Caller>)
     requires manager { IsManagerOf link.now manager.old }
     requires none { HasReclaimed callers.items 0 manager.old }
     requires callers { AreNumbered link.now callers.items }
@@ -84,12 +79,7 @@ fn reclaim_all(
 }
 
 /// Reclaims a caller of a closed link that is in no call and holds nothing.
-fn reclaim_free(
-    alloc: Global,
-    link: &SharedLink<Side>,
-    manager: &mut Manager,
-    caller: Caller,
-)
+fn reclaim_free(alloc: Global, link: &SharedLink<Side>, manager: &mut Manager, caller: Caller)
     requires manager { IsManagerOf link.now manager.old }
     requires closed { manager.old.seat.me.0.is_closed ≡ true }
     requires free { IsFree link.now caller }

@@ -1,6 +1,5 @@
-use Rattle.std.proofs.Common.{◌≡◌, ◌<◌, ◌+◌, ◌∙◌, ℕ, [], refl, sym, ap, subst, length, slice_index, get_or, replicate, arith, Some, None}
+use Rattle.std.proofs.Common.{◌<◌, ◌+◌, ◌∙◌, ℕ, [], refl, sym, subst, get_or}
 use Rattle.std.proofs.lemmas.List.{get_or-replicate, length-set}
-use Rattle.std.proofs.lemmas.Option.{slice_get-get_or}
 use Rattle.lane_model.specs.declared.states.BookEntry.{BookEntry}
 use Rattle.rp_base.specs.declared.limits.TheConstants.{CALLERS_MOST}
 use Rattle.storm_run.proofs.Entries.{HasEntry, counted_next, entry_at, none_at}
@@ -23,7 +22,7 @@ loop-number-preserved c =
     let book = c.args.book.now in
     let nobody : BookEntry = record { caller = 0; message = [] } in
     let entry : HasEntry book.entries c.loop-number.number c.from.result =
-        subst (λ (n : ℕ). HasEntry book.entries c.loop-number.number n) (sym c.from.ensures) (entry_at book.entries c.loop-number.number c.in-Some.caller (sym c.caller.ensures ∙ c.in-Some.is)) in
+    subst (λ (n : ℕ). HasEntry book.entries c.loop-number.number n) (sym c.from.ensures) (entry_at book.entries c.loop-number.number c.in-Some.caller (sym c.caller.ensures ∙ c.in-Some.is)) in
     let low : c.from.result < CALLERS_MOST = subst (λ (n : ℕ). n < CALLERS_MOST) (entry.is nobody) (c.requires c.loop-number.number nobody entry.within) in
     record {
       many = length-set c.loop-number.counts c.from.result (get_or c.loop-number.counts c.from.result 0 + 1) ∙ c.loop-number.invariant.many;

@@ -1,4 +1,4 @@
-use Rattle.std.proofs.Common.{◌≡◌, ◌++◌, ◌+◌, ◌∙◌, ℕ, List, ap, refl, slice_index}
+use Rattle.std.proofs.Common.{◌++◌, ◌+◌, ◌∙◌, ℕ, List, ap, refl, slice_index}
 use Rattle.storm_run.specs.Storms.{caller_line}
 use Rattle.storm_run.proofs.Ranges.{text_more}
 use Rattle.storm_run.proofs.reports.push_callers.Goals as goal

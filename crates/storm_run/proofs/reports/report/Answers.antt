@@ -1,7 +1,7 @@
-use Rattle.std.proofs.Common.{◌≡◌, ◌++◌, ◌+◌, ◌*◌, ◌≤◌, ◌∙◌, ℕ, List, [], ap, arith, slice_index}
+use Rattle.std.proofs.Common.{◌++◌, ◌+◌, ◌*◌, ◌≤◌, ◌∙◌, arith}
 use Rattle.rp_base.specs.declared.kinds.End.TheVariants as side
 use Rattle.rp_base.specs.declared.limits.TheConstants.{CALLERS_MOST}
-use Rattle.storm_run.specs.Storms.{caller_lines, lane_line, storm_text}
+use Rattle.storm_run.specs.Storms.{storm_text}
 use Rattle.storm_run.proofs.LineTexts.{line_as, lines_as}
 use Rattle.storm_run.proofs.reports.report.Goals as goal
 

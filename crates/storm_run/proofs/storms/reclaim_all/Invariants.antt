@@ -1,4 +1,4 @@
-use Rattle.std.proofs.Common.{◌≡◌, length}
+use Rattle.std.proofs.Common.{length}
 use Rattle.split_ring.specs.Callers.{IsManagerOf}
 use Rattle.storm_run.specs.Managers.{HasReclaimed}
 use Rattle.storm_run.proofs.storms.reclaim_all.Given as goal

@@ -1,4 +1,4 @@
-use Rattle.std.proofs.Common.{◌≡◌, ◌<◌, ◌+◌, ◌∙◌, ◌++◌, ◌∷◌, [], List, sym, ap, subst, arith, None, Some}
+use Rattle.std.proofs.Common.{◌<◌, ◌+◌, ◌∙◌, List, sym, subst, arith}
 use Rattle.std.proofs.lemmas.Option.{none-some}
 use Rattle.split_ring.specs.declared.callers.Caller.{Caller}
 use Rattle.storm_run.specs.Managers.{AreNewCallers}
