@@ -1,5 +1,5 @@
 // Two storms: one whose two callers have to be at work at once, since each waits for the other in the middle of its work, and one of more callers
-// over small rings. The report of each.
+// over small rings. The report of each, and the status with which the program would end.
 #![tactic(auto)]
 
 ghost use Rattle.storm_run.specs.Storms.{IsPlan};
@@ -7,8 +7,12 @@ ghost use Rattle.storm_run.specs.Storms.{IsPlan};
 mod meetings;
 
 use crate::meetings::Meeting;
+use rp_io::StdoutSink;
+use script_run::run_storm;
 use std::io;
-use storm_run::{FreeGate, Gate, Plan, storm};
+use std::sync::Wait;
+use std::thread::Threads;
+use storm_run::{FreeGate, Gate, Plan};
 
 fn main(rt: HostRuntime) -> io::Result<()> {
     let meeting = Meeting::new();
@@ -29,12 +33,15 @@ fn main(rt: HostRuntime) -> io::Result<()> {
     run(&rt, &many, &FreeGate)
 }
 
-/// Runs a storm with this gate, and writes its report.
-fn run<G: Gate + Sync>(rt: &HostRuntime, plan: &Plan, gate: &G) -> io::Result<()>
+/// Runs a storm with this gate, which writes its report, and writes with which status it ended.
+fn run<R: AllocGlobal + Print + Threads + Wait + Sync, G: Gate + Sync>(
+    rt: &R,
+    plan: &Plan,
+    gate: &G,
+) -> io::Result<()>
     requires { IsPlan plan.now }
 {
-    match storm(rt, rt.alloc(), plan, gate) {
-        Ok(report) => io::writer(rt).write_all(&report),
-        Err(_) => println!(rt; "no memory"),
-    }
+    let mut out = StdoutSink::new(io::writer(rt));
+    let status = run_storm(rt, rt.alloc(), plan, gate, &mut out);
+    println!(rt; "status: {status}")
 }
