@@ -31,7 +31,7 @@ use Rattle.link_words.proofs.Apart.{found_apart}
 
 module _ {B : Type 0} {kc : Coded B} {kz : DeskTables} (c : Coded (PlacedDesk kc kz)) where
   -- a copy is that of one state
-  copied_one : (m n : LaneLink (RingState (PlacedDesk kc kz))) → copied c m ≡ copied c n → m ≡ n
+  pub copied_one : (m n : LaneLink (RingState (PlacedDesk kc kz))) → copied c m ≡ copied c n → m ≡ n
   copied_one m n e i = record {
     era = (e i).state.era;
     to_host = record {

@@ -7,9 +7,6 @@ use Rattle.std.proofs.Common.{◌≡◌, ℕ, ◌<◌, zero, suc, List, [], ◌�
 use mathlib.Core.Option.{some, some-injective, some-ne-none}
 use mathlib.Core.Option.{Option as Option_of}
 use Rattle.std.proofs.lemmas.List.{length-map}
-use mathlib.Core.Path.{Path}
-use Rattle.std.specs.Prelude.{Option, Some, None}
-use Rattle.link_words.specs.declared.copies.LinkCopy.{LinkCopy}
 use base.Stored.{Coded}
 use lib.ListN.{get_elem?}
 use Rattle.atomic_table.specs.Table.{opening}
@@ -31,7 +28,9 @@ use Rattle.link_words.specs.declared.rule.LinkSizes.{LinkSizes}
 use Rattle.link_words.specs.declared.rule.Call.TheVariants.{Gathers}
 use Rattle.link_words.specs.declared.rule.Pass.{Pass}
 use Rattle.link_words.specs.declared.rule.View.{View}
+use Rattle.link_words.specs.Codes.{copied, opened_copy}
 use Rattle.link_words.specs.Sides.{no_sides}
+use Rattle.link_words.proofs.Frames.{some_copy}
 use Rattle.link_words.proofs.Gathered.{gathered_none}
 use Rattle.link_words.specs.Passes.{PassAt}
 use Rattle.link_words.specs.Words.{lane_to, words_of, shelf_to}
@@ -53,9 +52,6 @@ new_shelf s xs many none_accepted = record {
   home = λ id low mine theirs. some_there (map Buffer xs) id (omega (arith, low, many, length-map xs Buffer));
 }
 
-none_some : (c : LinkCopy) → Path (Option LinkCopy) None (Some c) → ⊥
-none_some c e = absurd (cc)
-
 false-true : false ≡ true → ⊥
 false-true e = absurd (cc)
 
@@ -74,10 +70,10 @@ first z j l q (v, ev, eq) = let a = only z j v ev in let b = pass l (subst (λ (
 module _ {B : Type 0} {kc : Coded B} {kz : DeskTables} (cd : Coded (PlacedDesk kc kz)) (desk : DeskMeaning (PlacedDesk kc kz)) where
   pub opens_new : (config : LinkConfig) (host remote : PlacedDesk kc kz) (xs ys : List (List ℕ)) → IsConfig config → config.first < 4294967296 → length xs ≡ ring_capacity config.num0 → length ys ≡ ring_capacity config.num1
       → let z : LinkSizes = record { to_host = sizes_of config.num0 true; to_remote = sizes_of config.num1 false; book = config.book; first = config.first; desks = kz } in
-      WordsRule cd desk z (opening (words_of 0 [] (opened_ring_link config host remote))
+      opened_copy z ≡ copied cd (opened_ring_link config host remote) → WordsRule cd desk z (opening (words_of 0 [] (opened_ring_link config host remote))
       (opened_slots config.book (right_to host) (right_to remote) xs ys)
       (first_view z 64))
-  opens_new config host remote xs ys is low many0 many1 =
+  opens_new config host remote xs ys is low many0 many1 known =
       let z : LinkSizes = record { to_host = sizes_of config.num0 true; to_remote = sizes_of config.num1 false; book = config.book; first = config.first; desks = kz } in let m = opened_ring_link config host remote in (
         m,
         0,
@@ -97,7 +93,7 @@ module _ {B : Type 0} {kc : Coded B} {kz : DeskTables} (cd : Coded (PlacedDesk k
             })
             (record {
               places = λ i k j l p q ep eq _. let a = first z i k p ep in let b = first z j l q eq in (a.0 ∙ sym b.0, a.1 ∙ sym b.1);
-              manager = λ i v e manages. let a = only z i v e in subst (Knows cd m (first_view z 64 ∷ []) i) a.1 (record { users = refl; inc = refl; unused = λ n none not. nothing n; ended = λ k p never. absurd (some-ne-none p (sym never)); closed = λ never. absurd (false-true never); out = λ j l q there apart. absurd (apart ((first z j l q there).0 ∙ sym a.0)); copy = λ k never _. absurd (none_some k never) });
+              manager = λ i v e manages. let a = only z i v e in subst (Knows cd m (first_view z 64 ∷ []) i) a.1 (record { users = refl; inc = refl; unused = λ n none not. nothing n; ended = λ k p never. absurd (some-ne-none p (sym never)); closed = λ never. absurd (false-true never); out = λ j l q there apart. absurd (apart ((first z j l q there).0 ∙ sym a.0)); copy = λ k same _. sym (some_copy (opened_copy z) k same) ∙ known });
               many = refl;
               short = low;
             }),

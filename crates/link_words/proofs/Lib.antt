@@ -34,6 +34,7 @@ pub mod Ends
 pub mod Entries
 pub mod TakeEnds
 pub mod Parts
+pub mod Placed
 pub mod Tells
 pub mod Apart
 pub mod Told

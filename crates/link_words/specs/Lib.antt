@@ -1,6 +1,7 @@
 pub mod Intents
 pub mod DeskSeats
 pub mod PlacedDesks
+pub mod PlacedLinks
 pub mod Words
 pub mod Layouts
 pub mod Sides

@@ -1,7 +1,7 @@
 -- A desk in its place behind the receiver's turn of an end, in a table of its own, and the right to it, which goes with that turn (own).
 use Rattle.std.specs.Prelude.{◌≡◌, [], Bool, true, false}
 use mathlib.Core.Path.{refl, sym, ap, ◌∙◌}
-use base.Stored.{gnil, Coded, coded×, coded_bool, coded_via}
+use base.Stored.{Gv, gnil, gcons, Coded, coded×, coded_bool, coded_via}
 use Rattle.atomic_table.specs.Seated.{TableId}
 use Rattle.rp_base.specs.declared.kinds.End.{End}
 use Rattle.rp_base.specs.declared.kinds.End.TheVariants as side
@@ -52,6 +52,10 @@ end_of_bool false = side.Remote
 pub end_back : (e : End) → end_of_bool (is_host e) ≡ e
 end_back side.Host = refl
 end_back side.Remote = refl
+
+-- the code of the desk of this end in its place, by its own
+abbrev pub code_placed : End → Gv → Gv
+code_placed end code = gcons code (coded_bool.code (is_host end))
 
 module _ {D : Type 0} (coded : Coded D) (tables : DeskTables) where
   -- the code of a desk in its place

@@ -1,7 +1,7 @@
 -- The rule of the table of a link: there is a state of the ring form that its words, its slots and its views show (own).
 use Rattle.link_words.specs.declared.codes.DeskTables.{DeskTables}
 use Rattle.link_words.specs.PlacedDesks.{PlacedDesk, placed_coded, placed_meaning}
-use Rattle.std.specs.Prelude.{◌≡◌, ℕ, false, replicate, List, [], ◌∷◌, None}
+use Rattle.std.specs.Prelude.{◌≡◌, ℕ, false, replicate, List, [], ◌∷◌, None, Some}
 use Rattle.atomic_table.specs.Table.{State}
 use base.Stored.{Coded}
 use Rattle.lane_model.specs.declared.lane_links.LaneLink.{LaneLink}
@@ -18,6 +18,7 @@ use Rattle.link_words.specs.declared.rule.Call.TheVariants.{Gathers}
 use Rattle.link_words.specs.declared.rule.Pass.{Pass}
 use Rattle.link_words.specs.declared.rule.View.{View}
 use Rattle.link_words.specs.declared.rule.Event.{Event}
+use Rattle.link_words.specs.Codes.{opened_copy}
 use Rattle.link_words.specs.Sides.{no_sides}
 use Rattle.link_words.specs.Words.{lane_to, lane_words, reset_block, words_of, homes_of, Shelves}
 use Rattle.link_words.specs.Layouts.{layout}
@@ -26,7 +27,7 @@ use Rattle.link_words.specs.Histories.{HasHistory, HasHands, IsOfNow, books_of}
 use Rattle.link_words.specs.Deeds.{Deed, after_deed, MayDo}
 use Rattle.link_words.specs.Parts.{IsCallAt, LanePart, TurnsPart, HistoriesPart, NumbersPart}
 
--- the view of the first seat, which is the manager's: its own pass, which has no side state
+-- the view of the first seat, which is the manager's: its own pass, which has no side state, and the copy of the new link
 abbrev pub first_view : LinkSizes → ℕ → View
 first_view z n = record {
   passes = record { number = n; call = Gathers no_sides no_sides; first = 0; own = []; hands = [] } ∷ [];
@@ -36,7 +37,7 @@ first_view z n = record {
   reclaims = [];
   ended = [];
   is_closed = false;
-  copy = None;
+  copy = Some (opened_copy z);
   sizes = z;
 }
 

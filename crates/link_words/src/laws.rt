@@ -15,6 +15,7 @@ ghost use Rattle.ring_core.specs.RingSteps.{ring_form};
 ghost use Rattle.link_words.specs.declared.rule.LinkSizes.{LinkSizes};
 ghost use Rattle.link_words.specs.declared.rule.Slot.{Slot};
 ghost use Rattle.link_words.specs.declared.rule.View.{View};
+ghost use Rattle.link_words.specs.DeskSeats.{code_in};
 ghost use Rattle.link_words.specs.Fresh.{sizes_for, opened_slots};
 ghost use Rattle.link_words.specs.Layouts.{layout};
 ghost use Rattle.link_words.specs.PlacedDesks.{PlacedDesk, placed_coded, placed_meaning, right_at};
@@ -27,22 +28,25 @@ ghost use Rattle.std.specs.Prelude.{Some};
 ghost use Rattle.link_words.specs.declared.rule.Call.{Call};
 ghost use Rattle.link_words.specs.Calls.{SeatState};
 ghost use Rattle.link_words.specs.Codes.{copied};
-ghost use Rattle.link_words.specs.Deeds.{Deed, Closes, after_deed};
+ghost use Rattle.link_words.specs.Deeds.{Deed, Closes, Enlists, Opens, after_deed};
+ghost use Rattle.link_words.specs.PlacedLinks.{KnowsState, IsSameCarrier};
+ghost use Rattle.link_words.specs.Reopens.{OpensLink};
 ghost use Rattle.link_words.specs.Passes.{EachPass, Manages};
 ghost use Rattle.link_words.specs.declared.rule.Counted.{Counted};
 ghost use Rattle.link_words.specs.declared.rule.Counted.TheVariants.{Room, Gave};
 ghost use Rattle.link_words.specs.declared.rule.Event.{Event};
 ghost use Rattle.link_words.specs.declared.rule.Event.TheVariants.{Count, Publish, Take};
 ghost use Rattle.link_words.specs.Histories.{seen, counts_told, counts_published, counts_taken, counts_of, books_of, IsWithin, IsNotBelow, NeverBack};
-ghost use Rattle.link_words.specs.Steps.{IsStepOf, IsCloseOf, HasWord, StoresWord};
+ghost use Rattle.link_words.specs.Steps.{IsStepOf, IsCloseOf, ClosesLink, MakesCaller, HasWord, StoresWord};
 
 use lane_model::Desk;
 
 /// The rule holds of the table of a new link, whatever stands in its buffers: its words are those of a new link of the ring form, each
-/// slot is at home, and the manager has the one seat.
+/// slot is at home, and the manager has the one seat, with the copy of that link, whose desks are those that the seats of their tables know.
 pub fn opening_meets_rule<D: Desk>()
     ensures { (config : LinkConfig) (desks : DeskTables) (host remote : D) (to_host to_remote : List (List ℕ)) → IsConfig config → config.first < 2 ^ 32
         → length to_host ≡ ring_capacity config.num0 → length to_remote ≡ ring_capacity config.num1
+        → code_in desks.host.value.views ≡ D.row.coded.code host → code_in desks.remote.value.views ≡ D.row.coded.code remote
         → LinkRule D.row.coded D.meaning (sizes_for config desks) (opening (layout (words_of 0 [] (opened_ring_link config host remote))) (opened_slots config.book (right_at D.row.coded desks side.Host host) (right_at D.row.coded desks side.Remote remote) to_host to_remote) (first_view (sizes_for config desks) 64)) }
 {}
 
@@ -80,4 +84,16 @@ pub fn copy_follows<D: Desk>()
         → me.0.copy ≡ Some (copied (placed_coded D.row.coded desks) known) → me'.0.copy ≡ Some (copied (placed_coded D.row.coded desks) (after_deed (placed_meaning D.row.coded desks D.meaning) known d)) }
     ensures closed { (desks : DeskTables) (inc n : ℕ) (me me' : SeatState) → IsCloseOf (placed_coded D.row.coded desks) (placed_meaning D.row.coded desks D.meaning) inc n me me' → (known : LaneLink (RingState (PlacedDesk D.row.coded desks))) → Manages me.0 → me.0.out ≡ []
         → me.0.copy ≡ Some (copied (placed_coded D.row.coded desks) known) → me'.0.copy ≡ Some (copied (placed_coded D.row.coded desks) (after_deed (placed_meaning D.row.coded desks D.meaning) known (Closes inc))) }
+{}
+
+/// A manager that carries all its callers and knows the state of its link knows the state after a step of a caller that it carries or of its
+/// own, after a close, after the making of a caller and after an opening: it is the state by the deed.
+pub fn state_follows<D: Desk>()
+    ensures found { (place n : ℕ) (d : Deed) (number : ℕ) (call next : Call) (me me' : SeatState) → IsStepOf (placed_coded D.row.coded me.0.sizes.desks) (placed_meaning D.row.coded me.0.sizes.desks D.meaning) (HasWord place n) d number call next me me'
+        → (known : LaneLink (RingState D)) → KnowsState D.row.coded me.0 known → IsSameCarrier me.0 me'.0 → KnowsState D.row.coded me'.0 (after_deed D.meaning known d) }
+    ensures stored { (place n : ℕ) (d : Deed) (number : ℕ) (call next : Call) (me me' : SeatState) → IsStepOf (placed_coded D.row.coded me.0.sizes.desks) (placed_meaning D.row.coded me.0.sizes.desks D.meaning) (StoresWord place n) d number call next me me'
+        → (known : LaneLink (RingState D)) → KnowsState D.row.coded me.0 known → IsSameCarrier me.0 me'.0 → KnowsState D.row.coded me'.0 (after_deed D.meaning known d) }
+    ensures closed { (inc n : ℕ) (me me' : SeatState) → ClosesLink D.row.coded D.meaning inc n me me' → (known : LaneLink (RingState D)) → KnowsState D.row.coded me.0 known → IsSameCarrier me.0 me'.0 → KnowsState D.row.coded me'.0 (after_deed D.meaning known (Closes inc)) }
+    ensures made { (e : End) (me me' : SeatState) → MakesCaller D.row.coded D.meaning e me me' → (known : LaneLink (RingState D)) → KnowsState D.row.coded me.0 known → IsSameCarrier me.0 me'.0 → KnowsState D.row.coded me'.0 (after_deed D.meaning known (Enlists e)) }
+    ensures opened { (me me' : SeatState) → OpensLink D.row.coded D.meaning me me' → (known : LaneLink (RingState D)) → KnowsState D.row.coded me.0 known → IsSameCarrier me.0 me'.0 → KnowsState D.row.coded me'.0 (after_deed D.meaning known Opens) }
 {}

@@ -12,7 +12,8 @@ use Rattle.lane_model.specs.declared.calls.LinkConfig.{LinkConfig}
 use Rattle.lane_model.specs.Conditions.{IsConfig}
 use Rattle.lane_model.specs.Desks.{DeskMeaning}
 use Rattle.lane_model.specs.Links.{free_number}
-use Rattle.ring_core.specs.RingLinks.{opened_ring_link}
+use Rattle.lane_model.specs.Links.{opened}
+use Rattle.ring_core.specs.RingLinks.{opened_ring_link, opened_ring_lane}
 use Rattle.link_words.specs.declared.codes.DeskRight.{DeskRight}
 use Rattle.link_words.specs.declared.codes.DeskTables.{DeskTables}
 use Rattle.link_words.specs.declared.codes.DeskView.{DeskView}
@@ -25,7 +26,8 @@ use Rattle.link_words.specs.DeskSeats.{code_in}
 use Rattle.link_words.specs.Fresh.{sizes_for, opened_slots}
 use Rattle.link_words.specs.Layouts.{layout}
 use Rattle.link_words.specs.Passes.{Manages, place_of_number, all_but_last, last_pass_only, new_pass, first_incarnation, only_new, with_new_caller, with_caller_as, without_new}
-use Rattle.link_words.specs.PlacedDesks.{right_at}
+use Rattle.link_words.specs.PlacedDesks.{right_at, code_placed}
+use Rattle.link_words.specs.PlacedLinks.{KnowsState}
 use Rattle.link_words.specs.Rule.{LinkRule, first_view}
 use Rattle.link_words.specs.declared.rule.Call.{Call}
 use Rattle.link_words.specs.Calls.{SeatState}
@@ -43,13 +45,15 @@ module _ {D : Type 0} (coded : Coded D) (meaning : DeskMeaning D) where
   -- the table of a new link may be made
   pub makes : (config : LinkConfig) (desks : DeskTables) (host remote : D) (z : LinkSizes) (words : List ℕ) (slots : List Slot) (to_host to_remote : DeskRight)
       → ((config : LinkConfig) (desks : DeskTables) (host remote : D) (xs ys : List (List ℕ)) → IsConfig config → config.first < 2 ^ 32 → length xs ≡ ring_capacity config.num0 → length ys ≡ ring_capacity config.num1
+      → code_in desks.host.value.views ≡ coded.code host → code_in desks.remote.value.views ≡ coded.code remote
       → LinkRule coded meaning (sizes_for config desks) (opening (layout (words_of 0 [] (opened_ring_link config host remote))) (opened_slots config.book (right_at coded desks side.Host host) (right_at coded desks side.Remote remote) xs ys) (first_view (sizes_for config desks) 64)))
       → IsConfig config → config.first < 2 ^ 32 → z ≡ sizes_for config desks → words ≡ layout (opened_words z) → slots ≡ opened_slots z.book to_host to_remote (replicate z.to_host.capacity []) (replicate z.to_remote.capacity [])
       → to_host ≡ right_at coded desks side.Host host → to_remote ≡ right_at coded desks side.Remote remote
+      → code_in desks.host.value.views ≡ coded.code host → code_in desks.remote.value.views ≡ coded.code remote
       → LinkRule coded meaning z (opening words slots (first_view z 64))
-  makes config desks host remote z words slots to_host to_remote law is low sized worded slotted hosts remotes =
+  makes config desks host remote z words slots to_host to_remote law is low sized worded slotted hosts remotes host_code remote_code =
       let n = ring_capacity config.num0 in let k = ring_capacity config.num1 in
-      let all = law config desks host remote (replicate n []) (replicate k []) is low (copies_length n) (copies_length k) in
+      let all = law config desks host remote (replicate n []) (replicate k []) is low (copies_length n) (copies_length k) host_code remote_code in
       let words_are : words ≡ layout (words_of 0 [] (opened_ring_link config host remote)) = worded ∙ (ap (λ (y : LinkSizes). layout (opened_words y)) sized ∙ ap layout (sym (opened_is config desks host remote))) in
       let slots_are : slots ≡ opened_slots config.book (right_at coded desks side.Host host) (right_at coded desks side.Remote remote) (replicate n []) (replicate k []) =
       slotted ∙ ((λ i. opened_slots (sized i).book (hosts i) (remotes i) (replicate (sized i).to_host.capacity []) (replicate (sized i).to_remote.capacity []))) in
@@ -97,3 +101,17 @@ rests_at same at = record {
   number = at.number;
   in_call = at.in_call;
 }
+
+-- the manager of a new link knows its state, whose desks are those that the seats of their tables know
+pub first_knows : {D : Type 0} (coded : Coded D) (config : LinkConfig) (desks : DeskTables) (host remote : D) (z : LinkSizes) (v : View) → z ≡ sizes_for config desks → v ≡ first_view z 64
+    → code_in desks.host.value.views ≡ coded.code host → code_in desks.remote.value.views ≡ coded.code remote → KnowsState coded v (opened_ring_link config host remote)
+first_knows {D} coded config desks host remote z v sized is of_host of_remote =
+    let same : v ≡ first_view (sizes_for config desks) 64 = is ∙ ap (λ (y : LinkSizes). first_view y 64) sized in
+    subst (λ (x : View). KnowsState coded x (opened_ring_link config host remote)) (sym same) (record {
+      manages = (0, _, refl, refl);
+      carries = refl;
+      copy = λ i. Some (record {
+        state = opened config.first (opened_ring_lane config.num0 true config.book (record { code = code_placed side.Host (of_host i) }))
+            (opened_ring_lane config.num1 false config.book (record { code = code_placed side.Remote (of_remote i) }));
+      });
+    })

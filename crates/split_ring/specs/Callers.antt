@@ -5,7 +5,10 @@ use Rattle.link_words.specs.declared.rule.Event.{Event}
 use Rattle.link_words.specs.Calls.{SeatState}
 use Rattle.link_words.specs.Histories.{LaneCounts, seen}
 use Rattle.link_words.specs.Words.{other}
+use Rattle.lane_model.specs.declared.lane_links.LaneLink.{LaneLink}
 use Rattle.lane_model.specs.declared.recoveries.Already.{Already}
+use Rattle.ring_core.specs.declared.states.RingState.{RingState}
+use Rattle.link_words.specs.PlacedLinks.{KnowsState}
 use Rattle.lane_model.specs.declared.calls.Ask.{Ask}
 use Rattle.lane_model.specs.declared.calls.Progress.{Progress}
 use Rattle.lane_model.specs.declared.calls.Progress.TheVariants as progress
@@ -97,6 +100,11 @@ module _ {D : Type 0} where
   abbrev pub IsAdvanced : SharedLink D → Caller → RingCall D → Progress → Type 0
   IsAdvanced link caller call (progress.At number) = MayAdvance link caller call
   IsAdvanced link caller call (progress.Done answer) = IsCallerOf link caller
+
+-- the manager carries every caller of its link, and the link's state is this one
+pub record IsStateOf {D : Type 0} (coded : Coded D) (manager : Manager) (m : LaneLink (RingState D)) : Type 0 where
+  pub known : KnowsState coded manager.seat.me.0 m
+  pub users : manager.users ≡ m.callers
 
 module _ {D : Type 0} (coded : Coded D) (meaning : DeskMeaning D) where
   -- the caller made one send of this message, with this answer

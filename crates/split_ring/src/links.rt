@@ -4,6 +4,7 @@ ghost use Rattle.lane_model.specs.Conditions.{IsConfig};
 ghost use Rattle.lane_model.specs.Desks.{IsFreshDesk};
 ghost use Rattle.lane_model.specs.Links.{free_number};
 ghost use Rattle.rp_base.specs.declared.limits.TheConstants.{BOOK_MOST};
+ghost use Rattle.ring_core.specs.RingLinks.{opened_ring_link};
 ghost use Rattle.ring_core.specs.Rings.{return_count};
 ghost use Rattle.link_words.specs.Fresh.{sizes_for};
 ghost use Rattle.link_words.specs.Passes.{only_new, without_new};
@@ -65,7 +66,7 @@ fn first_of(config: &LinkConfig) -> Inc
 }
 
 impl<D: Desk> SharedLink<D> {
-    ghost use Rattle.split_ring.specs.Callers.{IsCallerOf, IsManagerOf};
+    ghost use Rattle.split_ring.specs.Callers.{IsCallerOf, IsManagerOf, IsStateOf};
 
     /// A new link, live in its first incarnation, and the one who makes its callers.
     ///
@@ -81,6 +82,7 @@ impl<D: Desk> SharedLink<D> {
         ensures sizes { IfOk result (λ made. made.0.sizes ≡ sizes_for config made.0.sizes.desks) }
         ensures manager { IfOk result (λ made. IsManagerOf made.0 made.1) }
         ensures view { IfOk result (λ made. made.1.seat.me ≡ (first_view made.0.sizes 64, [])) }
+        ensures state { IfOk result (λ made. IsStateOf D.row.coded made.1 (opened_ring_link config host remote)) }
     {
         let (host, host_seat) = desk_table(alloc, host)?;
         let (remote, remote_seat) = desk_table(alloc, remote)?;

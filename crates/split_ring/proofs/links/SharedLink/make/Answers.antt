@@ -15,7 +15,7 @@ use Rattle.link_words.specs.Sides.{no_sides}
 use Rattle.link_words.specs.Words.{IsSized}
 use Rattle.split_ring.specs.Openings.{opened_words, IsOpenable}
 use Rattle.split_ring.proofs.Apart.{words_many}
-use Rattle.split_ring.proofs.Makes.{makes, code_is, has_entry}
+use Rattle.split_ring.proofs.Makes.{makes, code_is, has_entry, first_knows}
 use Rattle.split_ring.proofs.links.SharedLink.make.Goals as goal
 
 pub new-requires : goal.new-requires
@@ -32,6 +32,7 @@ new-requires g c =
     makes g.row.D.coded g.D.Desk.meaning config desks c.args.host c.args.remote z c.deref.result.now c.in_ok-slots.slots.items to_host to_remote c.opening_meets_rule.ensures c.requires.config low sized
     (c.deref.ensures.value ∙ c.in_ok-words.ensures) c.in_ok-slots.ensures
     (λ i. record { end = side.Host; table = host_table i; code = host_code i }) (λ i. record { end = side.Remote; table = remote_table i; code = remote_code i })
+    (ap (λ (b : _). code_in b.views) c.of.ensures ∙ host_code) (ap (λ (b : _). code_in b.views) c.of-2.ensures ∙ remote_code)
 
 pub invariant_of-result : goal.invariant_of-result
 invariant_of-result g c =
@@ -63,4 +64,17 @@ returns-in-Ok-clause-manager g c =
       knows = ap (λ (v : View). v.users) view;
       told = ap (λ (v : View). v.sizes) view;
       empty = ap (λ (s : SeatState). s.1) ok.4;
+    }
+
+pub returns-in-Ok-clause-state : goal.returns-in-Ok-clause-state
+returns-in-Ok-clause-state g c =
+    let config = c.args.config in let desks : DeskTables = record { host = c.of.result; remote = c.of-2.result } in
+    let z : LinkSizes = record { to_host = c.ring_sizes.result; to_remote = c.ring_sizes-2.result; book = config.book; first = c.first_of.result; desks = desks } in
+    let sized : z ≡ sizes_for config desks = λ i. record { to_host = c.ring_sizes.ensures i; to_remote = c.ring_sizes-2.ensures i; book = config.book; first = c.first_of.ensures i; desks = desks } in
+    let host_code = code_is (g.row.D.coded.code c.args.host) c.in_ok-host.host.shared.table_id c.in_ok-host.host_seat.table_id c.in_ok-host.host_seat.me c.into_badge-host_badge.result.views c.in_ok-host.ensures c.into_badge-host_badge.ensures.2 in
+    let remote_code = code_is (g.row.D.coded.code c.args.remote) c.in_ok-remote.remote.shared.table_id c.in_ok-remote.remote_seat.table_id c.in_ok-remote.remote_seat.me c.into_badge-remote_badge.result.views c.in_ok-remote.ensures c.into_badge-remote_badge.ensures.2 in
+    record {
+      known = first_knows g.row.D.coded config desks c.args.host c.args.remote z c.in-Ok.seat.me.0 sized (ap (λ (s : SeatState). s.0) c.in-Ok.ensures.ok.4)
+          (ap (λ (b : _). code_in b.views) c.of.ensures ∙ host_code) (ap (λ (b : _). code_in b.views) c.of-2.ensures ∙ remote_code);
+      users = refl;
     }
