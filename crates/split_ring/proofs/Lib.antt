@@ -13,6 +13,7 @@ pub mod CallSteps
 pub mod CallEnds
 pub mod CallSeen
 pub mod Makes
+pub mod Enlisting
 pub mod Crosses
 pub mod CloseSteps
 pub mod EndSteps

@@ -11,6 +11,7 @@ mod gathers;
 mod gives;
 mod layouts;
 mod links;
+mod managed;
 mod reclaims;
 mod reopens;
 mod sends;
