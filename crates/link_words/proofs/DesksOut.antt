@@ -1,5 +1,5 @@
 -- The seat of a desk's table with the desk out, and its badge when the desk is home again.
-use Rattle.std.proofs.Common.{◌≡◌, List, [], ◌∷◌, sym, ap, ◌∙◌}
+use Rattle.std.proofs.Common.{◌≡◌, ℕ, List, [], ◌∷◌, sym, ap, ◌∙◌}
 use Rattle.atomic_table.specs.Table.{Me, rest}
 use Rattle.link_words.specs.declared.codes.DeskView.{DeskView}
 use Rattle.link_words.specs.DeskSeats.{away_view, home_view, code_in}
@@ -14,3 +14,11 @@ held m m₀ d s e = λ i. (0, s) ∷ rest (e i).1
 -- a badge of a seat with the desk at home
 pub home : (views : List DeskView) (v : DeskView) (code : _) → views ≡ v ∷ [] → v ≡ home_view code → views ≡ home_view (code_in views) ∷ []
 home views v code only is = let all : views ≡ home_view code ∷ [] = only ∙ ap (λ (x : DeskView). x ∷ []) is in all ∙ (λ i. home_view (code_in (sym all i)) ∷ [])
+
+-- the desk that is lent is the one that is out
+pub lent : {D : Type 0} (s d : D) (slots : List (ℕ × D)) → slots ≡ (0, s) ∷ rest slots → slots ≡ (0, d) ∷ [] → s ≡ d
+lent {D} s d slots is out = ap desk_of (sym is ∙ out)
+  where
+    desk_of : List (ℕ × D) → D
+    desk_of [] = s
+    desk_of (x ∷ xs) = x.1

@@ -5,6 +5,7 @@ ghost use Rattle.rp_base.specs.declared.limits.TheConstants.{BOOK_MOST};
 ghost use Rattle.link_words.specs.Fresh.{opened_sender};
 ghost use Rattle.link_words.specs.Reopens.{lesser_hand, least_hand};
 ghost use Rattle.link_words.specs.Steps.{accepted_side};
+ghost use Rattle.std.specs.Fn.{FnOnceReturnsAt};
 ghost use Rattle.rp_base.specs.declared.limits.TheConstants.{CAPACITY_MOST};
 
 use crate::codes::DeskView;
@@ -170,6 +171,21 @@ impl ReceiverState {
         shut(desks, &mut seat);
         self.desk = seat.into_badge();
         answer
+    }
+
+    /// What is seen of the desk, which stays as it is.
+    pub fn look<D: Desk, T, F: FnOnce(&D) -> T>(&mut self, desks: &DeskTable<D>, look: F) -> T
+        requires desk { (self.old.desk.table ≡ desks.now.table_id) × (0 < desks.now.table_id.words) }
+        requires look { F.IsAlwaysCallable look }
+        ensures same { self.new ≡ self.old }
+        ensures seen { (d : D) → self.old.desk.code ≡ D.row.coded.code d → FnOnceReturnsAt F.FnOnce look d result }
+    {
+        let mut seat = mem::replace(&mut self.desk, Badge::blank()).into_seat();
+        open(desks, &mut seat);
+        let seen = look(seat.slot_mut(desks, 0));
+        shut(desks, &mut seat);
+        self.desk = seat.into_badge();
+        seen
     }
 
     /// A new incarnation begins: the desk is reset, and nothing is handed over. It takes the room for so many takers that is
