@@ -6,8 +6,9 @@ use Rattle.std.specs.Prelude.{Option, Some}
 use base.Stored.{Coded}
 use Rattle.rp_base.specs.declared.kinds.End.{End}
 use Rattle.rp_base.specs.declared.kinds.End.TheVariants as side
-use Rattle.lane_laws.specs.Parts.{manager_takes}
+use Rattle.lane_laws.specs.Parts.{manager_takes, manager_leaves}
 use Rattle.lane_model.specs.declared.lane_links.LaneLink.{LaneLink}
+use Rattle.lane_model.specs.declared.recoveries.LaneTurn.TheVariants as lane_turn
 use Rattle.lane_model.specs.declared.stages.Turn.{Turn}
 use Rattle.lane_model.specs.declared.stages.Turn.TheVariants as turn
 use Rattle.lane_model.specs.Desks.{DeskMeaning}
@@ -19,6 +20,7 @@ use Rattle.ring_core.specs.SoundRings.{IsSoundRings}
 use Rattle.ring_core.specs.declared.states.Hand.{Hand}
 use mathlib.Core.Option.{some, some-injective, some-ne-none}
 use lib.ListN.{get_elem?}
+use Rattle.link_words.specs.Deeds.{ManagerTakes, ManagerLeaves, after_deed}
 use Rattle.link_words.specs.Words.{other, lane_to, turn_word, words_of, receiver_word}
 use Rattle.link_words.proofs.Users.{in_range}
 
@@ -77,3 +79,14 @@ takes_none turn.Free held = absurd (held refl)
 takes_none (turn.Taken caller call) held = refl
 takes_none (turn.Leaving caller end) held = refl
 takes_none turn.Manager held = refl
+
+-- a receiver's turn that was free is taken and left: the state is as before
+pub back_again : {D : Type 0} (meaning : DeskMeaning D) (m : LaneLink (RingState D)) (e : End) → (lane_to m e).lane.receiver ≡ turn.Free → after_deed meaning (after_deed meaning m (ManagerTakes lane_turn.Receiver e)) (ManagerLeaves lane_turn.Receiver e) ≡ m
+back_again meaning m e free = go e free
+  where
+    left : {C : Type 0} (t : Turn C) → t ≡ turn.Free → manager_leaves (manager_takes t) ≡ t
+    left t is = ap (λ u. manager_leaves (manager_takes u)) is ∙ sym is
+
+    go : (e : End) → (lane_to m e).lane.receiver ≡ turn.Free → after_deed meaning (after_deed meaning m (ManagerTakes lane_turn.Receiver e)) (ManagerLeaves lane_turn.Receiver e) ≡ m
+    go side.Host free = λ i. record m { to_host = record m.to_host { lane = record m.to_host.lane { receiver = left m.to_host.lane.receiver free i } } }
+    go side.Remote free = λ i. record m { to_remote = record m.to_remote { lane = record m.to_remote.lane { receiver = left m.to_remote.lane.receiver free i } } }

@@ -19,4 +19,5 @@ pub mod CloseSteps
 pub mod EndSteps
 pub mod PartSteps
 pub mod Gathering
+pub mod ManagerSteps
 pub mod Reopening

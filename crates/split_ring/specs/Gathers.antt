@@ -19,12 +19,12 @@ use Rattle.link_words.specs.declared.rule.Slot.{Slot}
 use Rattle.link_words.specs.declared.rule.Slot.TheVariants.{Empty}
 use Rattle.link_words.specs.declared.rule.View.{View}
 use Rattle.link_words.specs.Calls.{SeatState, with_pass_at}
-use Rattle.link_words.specs.Deeds.{ManagerTakes}
+use Rattle.link_words.specs.Deeds.{ManagerTakes, ManagerLeaves}
 use Rattle.link_words.specs.Layouts.{place_in}
 use Rattle.link_words.specs.Passes.{with_call, place_of_number}
 use Rattle.link_words.specs.Reopens.{ManagerDoes, both_sides, gathered}
 use Rattle.link_words.specs.Sides.{no_sides, sides_at}
-use Rattle.link_words.specs.Steps.{HasWord, turn_number}
+use Rattle.link_words.specs.Steps.{HasWord, StoresWord, turn_number}
 use Rattle.link_words.specs.Words.{sender_slot, receiver_slot}
 
 -- the view in which the manager's own pass is in this call
@@ -48,6 +48,13 @@ PutsSide lane f slot me me' = (v : View) (a b : LaneSides) (slots : List (ℕ ×
 -- an attempt at this turn met this holder
 abbrev pub Meets : {D : Type 0} → Coded D → DeskMeaning D → LaneTurn → End → ℕ → SeatState → Type 0
 Meets coded meaning which lane holder me = ManagerDoes coded meaning me (HasWord (place_in (turn_number which lane)) (holder + 1)) (ManagerTakes which lane) me
+
+-- the manager found this turn of a lane free, and has it; or frees one that it had
+abbrev pub FindsTurnFree : {D : Type 0} → Coded D → DeskMeaning D → LaneTurn → End → SeatState → SeatState → Type 0
+FindsTurnFree coded meaning which lane me me' = ManagerDoes coded meaning me (HasWord (place_in (turn_number which lane)) 0) (ManagerTakes which lane) me'
+
+abbrev pub FreesTurn : {D : Type 0} → Coded D → DeskMeaning D → LaneTurn → End → SeatState → SeatState → Type 0
+FreesTurn coded meaning which lane me me' = ManagerDoes coded meaning me (StoresWord (place_in (turn_number which lane)) 0) (ManagerLeaves which lane) me'
 
 -- who has a turn is the manager itself, or a caller that is in use
 abbrev pub IsHolderIn : View → ℕ → Type 0

@@ -11,7 +11,7 @@ ghost use Rattle.link_words.specs.declared.rule.View.{View};
 ghost use Rattle.link_words.specs.Reopens.{AreInUse, MayGather, both_sides, gathered};
 ghost use Rattle.link_words.specs.Sides.{no_sides, sides_at};
 ghost use Rattle.link_words.specs.Words.{sender_slot, receiver_slot};
-ghost use Rattle.split_ring.specs.Gathers.{IsCalling, TakesSide, PutsSide, Meets, IsHolderIn, lane_slots, TakesLane, IsAsBefore, MeetsLane, PutsLane};
+ghost use Rattle.split_ring.specs.Gathers.{IsCalling, TakesSide, PutsSide, FindsTurnFree, FreesTurn, Meets, IsHolderIn, lane_slots, TakesLane, IsAsBefore, MeetsLane, PutsLane};
 ghost use Rattle.split_ring.specs.Seats.{IsSeatOf};
 
 use crate::links::SharedLink;
@@ -86,6 +86,7 @@ impl<D: Desk> SharedLink<D> {
         ensures seat { IsSeatOf self.now.table.shared.table_id self.now.sizes seat.new.table_id seat.new.me }
         ensures taken { IfOk result (λ side. TakesSide lane (λ g. record g { receiver = Some side }) (receiver_slot lane) seat.old.me seat.new.me) }
         ensures users { IfOk result (λ side. AreInUse seat.old.me.0 lane side.hands) }
+        ensures step { IfOk result (λ _. FindsTurnFree D.row.coded D.meaning lane_turn.Receiver lane seat.old.me seat.new.me) }
         ensures met { IfErr result (λ holder. (seat.new.me ≡ seat.old.me) × Meets D.row.coded D.meaning lane_turn.Receiver lane holder seat.old.me) }
         ensures holder { IfErr result (λ holder. IsHolderIn seat.old.me.0 holder) }
     {
@@ -116,6 +117,7 @@ impl<D: Desk> SharedLink<D> {
         requires manager { (v : View) × (a : LaneSides) × (b : LaneSides) × (slots : List (ℕ × Slot)) × IsCalling v (Gathers a b) ((receiver_slot lane, Empty) ∷ slots) seat.old.me × ((sides_at lane a b).receiver ≡ Some side) }
         ensures seat { IsSeatOf self.now.table.shared.table_id self.now.sizes seat.new.table_id seat.new.me }
         ensures put { PutsSide lane (λ g. record g { receiver = None }) (receiver_slot lane) seat.old.me seat.new.me }
+        ensures step { FreesTurn D.row.coded D.meaning lane_turn.Receiver lane seat.old.me seat.new.me }
     {
         let table = &self.table.shared;
         drop(table.exchange(seat, receiver_slot(lane), Slot::Receiver(side)));

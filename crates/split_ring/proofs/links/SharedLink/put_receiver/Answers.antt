@@ -1,4 +1,5 @@
 use Rattle.link_words.specs.declared.rule.Slot.TheVariants.{Receiver}
+use Rattle.split_ring.proofs.ManagerSteps.{frees_from}
 use Rattle.split_ring.proofs.Gathering.{leave_receiver, put_receiver_is}
 use Rattle.split_ring.proofs.links.SharedLink.put_receiver.Goals as goal
 
@@ -9,3 +10,6 @@ leave_for_manager-requires-clause-manager g c =
 
 pub returns-clause-put : goal.returns-clause-put
 returns-clause-put g c = put_receiver_is c.args.lane c.receiver_slot.result (Receiver c.args.side) c.args.seat.now.me c.exchange.new.seat.me c.leave_for_manager.new.manager.me c.exchange.ensures.3 c.leave_for_manager.ensures.told
+
+pub returns-clause-step : goal.returns-clause-step
+returns-clause-step g c = frees_from g.row.D.coded g.D.Desk.meaning c.args.lane _ c.args.seat.now.me c.exchange.new.seat.me c.leave_for_manager.new.manager.me c.exchange.ensures.3 c.leave_for_manager.ensures.step

@@ -1,0 +1,46 @@
+use Rattle.std.proofs.Common.{[], ◌∷◌, sym, ap, ◌∙◌}
+use Rattle.std.specs.Prelude.{Some}
+use Rattle.link_words.specs.declared.rule.LinkSizes.{LinkSizes}
+use Rattle.link_words.specs.declared.rule.Slot.TheVariants.{Empty}
+use Rattle.link_words.specs.PlacedDesks.{table_at}
+use Rattle.link_words.specs.Sides.{no_sides}
+use Rattle.link_words.specs.Words.{receiver_slot}
+use Rattle.split_ring.proofs.ManagerSteps.{desk_known, receiver_held, receiver_left, rests_here, right_table, right_taken, state_again, turn_free, turn_held}
+use Rattle.split_ring.proofs.Reopening.{manager_again}
+use Rattle.split_ring.proofs.links.SharedLink.desk_by.Goals as goal
+
+pub look_in-seen-requires-clause-right : goal.look_in-seen-requires-clause-right
+look_in-seen-requires-clause-right g c =
+    let q = c.requires.manager in let me = c.args.manager.now.seat.me in let me1 = c.take_receiver.new.seat.me in let e = c.args.end in let none = rests_here me q.rests q.empty in let x = c.in-Ok.side in
+    right_table g.row.D.coded g.D.Desk.meaning me.0 e x no_sides no_sides [] ((receiver_slot e, Empty) ∷ []) me me1 none (c.in-Ok.ensures.taken me.0 no_sides no_sides [] none) c.in-Ok.ensures.step
+    ∙ ap (λ (z : LinkSizes). table_at z.desks x.desk.end) q.told
+
+pub put_receiver-requires-clause-manager : goal.put_receiver-requires-clause-manager
+put_receiver-requires-clause-manager g c =
+    let q = c.requires.manager in let me = c.args.manager.now.seat.me in let e = c.args.end in
+    let h = receiver_held e c.in-Ok.side me c.take_receiver.new.seat.me me.0 (rests_here me q.rests q.empty) c.in-Ok.ensures.taken in
+    (h.0, h.1, h.2, h.3, h.4, h.5 ∙ ap Some (sym c.look_in-seen.ensures.same))
+
+pub returns-in-Ok-clause-manager : goal.returns-in-Ok-clause-manager
+returns-in-Ok-clause-manager g c =
+    let q = c.requires.manager in let me = c.args.manager.now.seat.me in
+    manager_again _ _ _ _ me.0 c.put_receiver.new.seat.me c.put_receiver.ensures.seat
+    (receiver_left c.args.end c.in-Ok.side me c.take_receiver.new.seat.me c.put_receiver.new.seat.me me.0 (rests_here me q.rests q.empty) c.in-Ok.ensures.taken c.put_receiver.ensures.put) q.knows
+
+pub returns-in-Ok-clause-state : goal.returns-in-Ok-clause-state
+returns-in-Ok-clause-state g c = λ m is.
+    let q = c.requires.manager in let me = c.args.manager.now.seat.me in record {
+      known = state_again g.row.D.coded g.D.Desk.meaning c.args.end c.in-Ok.side me c.take_receiver.new.seat.me c.put_receiver.new.seat.me m (rests_here me q.rests q.empty) c.in-Ok.ensures.taken c.put_receiver.ensures.put c.in-Ok.ensures.step c.put_receiver.ensures.step is.known;
+      users = is.users;
+    }
+
+pub returns-in-Ok-clause-seen : goal.returns-in-Ok-clause-seen
+returns-in-Ok-clause-seen g c = λ m is.
+    let q = c.requires.manager in let me = c.args.manager.now.seat.me in let me1 = c.take_receiver.new.seat.me in let e = c.args.end in let x = c.in-Ok.side in let none = rests_here me q.rests q.empty in
+    let right = right_taken g.row.D.coded g.D.Desk.meaning me.0 e x no_sides no_sides [] ((receiver_slot e, Empty) ∷ []) me me1 none (c.in-Ok.ensures.taken me.0 no_sides no_sides [] none) c.in-Ok.ensures.step in (
+      turn_free g.row.D.coded g.D.Desk.meaning me me1 e m c.in-Ok.ensures.step is.known,
+      c.look_in-seen.ensures.seen _ (desk_known g.row.D.coded g.D.Desk.meaning me me1 e x m c.in-Ok.ensures.step right is.known),
+    )
+
+pub returns-in-Err-clause-busy : goal.returns-in-Err-clause-busy
+returns-in-Err-clause-busy g c = λ m is. turn_held g.row.D.coded g.D.Desk.meaning c.args.manager.now.seat.me c.args.end c.in-Err.holder m c.in-Err.ensures.met.1 is.known
