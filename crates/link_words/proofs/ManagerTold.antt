@@ -29,7 +29,7 @@ use Rattle.link_words.specs.Words.{sender_slot, receiver_slot, sender_word, rece
 use Rattle.link_words.specs.Layouts.{place_in}
 use Rattle.link_words.specs.Passes.{Mover, with_call, with_pass}
 use Rattle.link_words.specs.Fresh.{fresh_of}
-use Rattle.link_words.specs.Deeds.{Deed, ManagerTakes, ManagerLeaves}
+use Rattle.link_words.specs.Deeds.{Deed, ManagerTakes, ManagerLeaves, Nothing}
 use Rattle.link_words.specs.Rule.{WordsRule, PlacedRule}
 use Rattle.link_words.specs.Calls.{SeatState, Becomes, call_at, number_at, with_pass_at}
 use Rattle.link_words.specs.declared.copies.LinkCopy.{LinkCopy}
@@ -37,7 +37,7 @@ use Rattle.link_words.specs.Steps.{IsStepOf, HasWord, StoresWord, turn_number}
 use Rattle.link_words.specs.Reopens.{gathers_or, reopens_or, sides_of, manager_place, manager_call, ManagerAt, both_sides, gathered, ManagerTakesSender, ManagerTakesReceiver, ManagerLeavesSender, ManagerLeavesReceiver, ManagerTakesTurn, ManagerLeavesTurn, MayGather, MayLeaveTurn, MayBegin, AreBooksOf, books_by, BeginsReopening, MayReset, ResetsWord, MayOpen, right_by, opened_sides, opened_view, OpensEra, IsOpeningOf}
 use Rattle.link_words.proofs.Apart.{apart, entry_place_is, sender_low, receiver_low}
 use Rattle.link_words.proofs.Exact.{StepBy, ReadsAt, WritesAt, becomes, passes_at, call_is, step_told, read_there, written_there}
-use Rattle.link_words.proofs.ManagerTurns.{TakesSenderBy, takes_sender, leaves_sender_turn, TakesReceiverBy, takes_receiver, leaves_receiver_turn}
+use Rattle.link_words.proofs.ManagerTurns.{TakesSenderBy, takes_sender, leaves_sender_turn, TakesReceiverBy, takes_receiver, leaves_receiver_turn, looks}
 use Rattle.link_words.proofs.Opens.{opened_by, begins, resets, opens}
 use Rattle.link_words.proofs.Tells.{BeginsReopeningBy}
 use Rattle.link_words.proofs.Weakens.{weaken}
@@ -97,6 +97,10 @@ module _ {B : Type 0} {kc : Coded B} {kz : DeskTables} (cd : Coded (PlacedDesk k
       stores (receiver_word e) place 0 g.at.mover g.at.here (ManagerLeaves lane_turn.Receiver e) (λ _ me'. me' ≡ (with_pass me.0 g.at.mover (with_call g.at.mover.pass w) me'.0.copy, rest me.1)) (λ _ me'. ManagerLeavesReceiver e me me') is
       (leaves_receiver_turn cd desk z n id me g.at.mover e g.to_host g.to_remote may.side g.at.in_call may.has may.slots)
       (λ y me' t. called me (Gathers g.to_host g.to_remote) g.at (λ c. gathers_or c (gathered e (λ s. record s { receiver = None })) c) (rest me.1) me' t)
+
+  -- a word is loaded, and nothing changes
+  pub looks_told : (i place : ℕ) → MayGather me → place ≡ place_in i → Allows (PlacedRule cd desk z) n id me place (λ y. y) (λ y me'. (me' ≡ me) × Does (HasWord place y) Nothing me')
+  looks_told i place g is = exchanges i place (λ y. y) g.at.mover g.at.here Nothing (λ _ me'. me' ≡ me) (λ _ me'. me' ≡ me) is (looks cd desk z n id me g.at.mover i g.to_host g.to_remote g.at.in_call) (λ y me' t. t)
 
   -- a reopening begins
   pub begins_told : (b : MayBegin me) → Allows (PlacedRule cd desk z) n id me 16 (λ y. y) (λ y me'. BeginsReopening me y me')

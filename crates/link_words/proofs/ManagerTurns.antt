@@ -34,7 +34,7 @@ use Rattle.link_words.specs.PlacedDesks.{PlacedDesk}
 use Rattle.link_words.specs.Words.{other, lane_to, with_lane, era_word, turn_word, lane_words, lane_homes, homes_at, home_if, shelf_to, sender_side, receiver_side, sender_word, receiver_word, sender_slot, receiver_slot, with_turn}
 use Rattle.link_words.specs.Turns.{turns_of}
 use Rattle.link_words.specs.Sides.{is_there, sides_at}
-use Rattle.link_words.specs.Deeds.{Deed, ManagerTakes, ManagerLeaves, MayDo, after_deed}
+use Rattle.link_words.specs.Deeds.{Deed, ManagerTakes, ManagerLeaves, Nothing, MayDo, after_deed}
 use Rattle.link_words.specs.Rule.{IsCallOf, Shows, WordsRule}
 use Rattle.link_words.specs.Parts.{has_for_manager, HasGathered, HoldsBuffers}
 use Rattle.link_words.specs.Codes.{copied}
@@ -43,7 +43,7 @@ use Rattle.link_words.specs.Calls.{SeatState, call_at}
 use Rattle.link_words.specs.Reopens.{gathered, IsHoldersWord, AreInUse}
 use Rattle.link_words.proofs.Buffers.{homes_here}
 use Rattle.link_words.proofs.Closes.{stays}
-use Rattle.link_words.proofs.Exact.{StepBy, ReadsAt, WritesAt, read_by, write_by, call_at_is}
+use Rattle.link_words.proofs.Exact.{StepBy, ReadsAt, WritesAt, read_by, write_by, call_at_is, stays_by}
 use Rattle.link_words.proofs.Frames.{turn_set, side_found, side_set, same_lane, keepers_set, keepers_more, sender_in, receiver_in}
 use Rattle.link_words.proofs.Gathered.{gathered_sender, left_sender, gathered_receiver, left_receiver}
 use Rattle.link_words.proofs.Held.{free_if, free_for_all, minds_has, receiver_home, seen_receiver, shelved_receiver, alone}
@@ -273,3 +273,10 @@ module _ {B : Type 0} {kc : Coded B} {kz : DeskTables} (cd : Coded (PlacedDesk k
             (keepers_set st.views id me.0 (with_pass me.0 o (with_call o.pass w) (Some (copied cd (with_lane m e s')))) o (with_call o.pass w) at refl refl (λ i has. ap (has_for_manager i) call ∙ less_minds e a b i has) r.turns.keepers),
         (refl, write_by (receiver_word e) 0 cd desk z st m r id me o (with_call o.pass w) (ManagerLeaves lane_turn.Receiver e) (with_lane m e s') (rest me.1) (receiver_in m e s') at tt deed mine),
       )
+
+  -- the manager looks at a word, and nothing changes
+  pub looks : (n id : ℕ) (me : SeatState) (o : Mover me.0) (i : ℕ) (a b : LaneSides) → o.pass.call ≡ Gathers a b → Allows (WordsRule cd desk z) n id me i (λ y. y) (λ y me'. (me' ≡ me) × StepBy cd desk (ReadsAt i y) me o Nothing me')
+  looks n id me o i a b call st (m, p, r₀) wide at _ =
+      let h : IsCallOf m p o.pass.number (Gathers a b) = subst (IsCallOf m p o.pass.number) call (r₀.turns.calls id o.place o.pass (me.0, at, o.here)) in
+      let r : Shows cd desk z st m 0 = subst (Shows cd desk z st m) h.1 r₀ in
+      (me.0, keeps, tt, stays cd desk z st m p r₀ i (get_or st.words i 0) id me.1 me.0 Nothing at refl tt refl, (refl, stays_by i cd desk z st m r id me o Nothing at tt refl))

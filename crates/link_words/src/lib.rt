@@ -26,7 +26,8 @@ pub use intents::Intent;
 pub use loads::{EraUse, IndexUse, load_entry, load_era, load_index};
 pub use reclaims::{claim_turn, find_closed, leave_ended};
 pub use reopens::{
-    begin_reopening, leave_for_manager, open_era, reset_index, reset_place, take_for_manager,
+    begin_reopening, leave_for_manager, look_for_manager, open_era, reset_index, reset_place,
+    take_for_manager,
 };
 pub use rule::{
     Call, CallStart, Counted, Event, LaneSides, LinkSeat, LinkSizes, LinkTable, LinkWords, Made,

@@ -66,3 +66,17 @@ impl<D: Desk> Play<Slot, View> for TellsOpensEra<D> {
 
     ghost then = { λ st m r m'. OpensEra D.row.coded D.meaning m m' × OpensLink D.row.coded D.meaning m m' };
 }
+
+/// A word is loaded, and nothing changes.
+pub struct TellsLooksForManager<D> {
+    marker: PhantomData<D>,
+}
+
+impl<D: Desk> Play<Slot, View> for TellsLooksForManager<D> {
+    ghost use Rattle.std.specs.Prelude.{◌≡◌};
+    ghost use Rattle.link_words.specs.Deeds.{Nothing};
+    ghost use Rattle.link_words.specs.Reopens.{ManagerDoes};
+    ghost use Rattle.link_words.specs.Steps.{HasWord};
+
+    ghost then = { λ st m r m'. (m' ≡ m) × ManagerDoes D.row.coded D.meaning m (HasWord st.word r) Nothing m' };
+}

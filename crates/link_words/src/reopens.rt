@@ -1,14 +1,14 @@
 //! The steps of the manager: it takes and leaves turns, and opens the next incarnation.
-ghost use Rattle.std.specs.Prelude.{◌≡◌, ◌≤◌, ◌<◌, ◌+◌};
-ghost use Rattle.link_words.specs.Deeds.{ManagerTakes, ManagerLeaves};
+ghost use Rattle.std.specs.Prelude.{◌≡◌, ◌≤◌, ◌<◌, ◌+◌, ℕ};
+ghost use Rattle.link_words.specs.Deeds.{ManagerTakes, ManagerLeaves, Nothing};
 ghost use Rattle.link_words.specs.Layouts.{place_in};
 ghost use Rattle.link_words.specs.Reopens.{ManagerDoes, ManagerTakesTurn, ManagerLeavesTurn, MayGather, MayLeaveTurn, MayBegin, BeginsReopening, MayReset, ResetsWord, MayOpen, OpensEra, OpensLink};
 ghost use Rattle.link_words.specs.Steps.{HasWord, StoresWord, turn_number};
 ghost use Rattle.link_words.specs.Words.{words_in};
 
 use crate::manages::{
-    TellsBeginsReopening, TellsLeavesForManager, TellsOpensEra, TellsResetsWord,
-    TellsTakesForManager,
+    TellsBeginsReopening, TellsLeavesForManager, TellsLooksForManager, TellsOpensEra,
+    TellsResetsWord, TellsTakesForManager,
 };
 use crate::places::{ERA_PLACE, receiver_place, sender_place};
 use crate::rule::{LinkSeat, LinkTable};
@@ -70,6 +70,22 @@ pub fn leave_for_manager<D: Desk>(
 {
     let word = turn_place(lane, turn);
     table.store::<TellsLeavesForManager<D>>(manager, word, 0);
+}
+
+/// The manager loads a word, outside a reopening, and nothing changes.
+pub fn look_for_manager<D: Desk>(
+    table: &LinkTable<D>,
+    manager: &mut LinkSeat,
+    place: usize,
+) -> u64
+    requires table { (manager.old.table_id ≡ table.now.table_id) × (manager.old.me.0.sizes ≡ table.now.key) }
+    requires place { (place < table.now.table_id.words) × ((i : ℕ) × (place ≡ place_in i)) }
+    requires manager { MayGather manager.old.me }
+    ensures same { (manager.new.table_id ≡ manager.old.table_id) × (manager.new.id ≡ manager.old.id) }
+    ensures told { manager.new.me ≡ manager.old.me }
+    ensures step { ManagerDoes D.row.coded D.meaning manager.old.me (HasWord place result) Nothing manager.new.me }
+{
+    table.load::<TellsLooksForManager<D>>(manager, place)
 }
 
 /// The manager, which has the four turns and holds nothing by them, loads the era. Where it is closed, a reopening begins. The answer is the
