@@ -90,14 +90,18 @@ module _ {D : Type 0} (coded : Coded D) (tables : DeskTables) (meaning : DeskMea
   later_placed : (b : Bool) (e : End) (era : Era) (lanes : Lanes (RingState D))
       → (if b then send_later (ring_form there) era (placed_lanes e lanes) else receive_later (ring_form there) there era (placed_lanes e lanes)).state
       ≡ placed_lanes e (if b then send_later (ring_form meaning) era lanes else receive_later (ring_form meaning) meaning era lanes).state
-  later_placed true e era lanes = λ i. record (placed_lanes e lanes) { outgoing = record {
-    lane = sender_placed (other e) era lanes.outgoing.lane lanes.outgoing.lane.sender i;
-    rings = ((ring_form meaning).sent_on lanes.outgoing era).rings;
-  } }
-  later_placed false e era lanes = λ i. record (placed_lanes e lanes) { incoming = record {
-    lane = receiver_placed e era lanes.incoming.lane lanes.incoming.lane.receiver i;
-    rings = ((ring_form meaning).received_on lanes.incoming era).rings;
-  } }
+  later_placed true e era lanes = λ i. record (placed_lanes e lanes) {
+    outgoing = record {
+      lane = sender_placed (other e) era lanes.outgoing.lane lanes.outgoing.lane.sender i;
+      rings = ((ring_form meaning).sent_on lanes.outgoing era).rings;
+    };
+  }
+  later_placed false e era lanes = λ i. record (placed_lanes e lanes) {
+    incoming = record {
+      lane = receiver_placed e era lanes.incoming.lane lanes.incoming.lane.receiver i;
+      rings = ((ring_form meaning).received_on lanes.incoming era).rings;
+    };
+  }
 
   lanes_placed : (e : End) (era : Era) (lanes : Lanes (RingState D)) (caller follows : ℕ) (wished : Option Wish)
       → (lanes_step (ring_form there) there era (placed_lanes e lanes) caller follows wished).state ≡ placed_lanes e (lanes_step (ring_form meaning) meaning era lanes caller follows wished).state

@@ -73,11 +73,7 @@ pub fn leave_for_manager<D: Desk>(
 }
 
 /// The manager loads a word, outside a reopening, and nothing changes.
-pub fn look_for_manager<D: Desk>(
-    table: &LinkTable<D>,
-    manager: &mut LinkSeat,
-    place: usize,
-) -> u64
+pub fn look_for_manager<D: Desk>(table: &LinkTable<D>, manager: &mut LinkSeat, place: usize) -> u64
     requires table { (manager.old.table_id ≡ table.now.table_id) × (manager.old.me.0.sizes ≡ table.now.key) }
     requires place { (place < table.now.table_id.words) × ((i : ℕ) × (place ≡ place_in i)) }
     requires manager { MayGather manager.old.me }

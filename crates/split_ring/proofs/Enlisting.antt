@@ -1,26 +1,19 @@
 -- A caller that the manager makes and carries.
-use Rattle.std.proofs.Common.{◌≡◌, ℕ, zero, suc, Bool, true, false, eqb, cond, List, [], ◌∷◌, ◌++◌, refl, sym, ap, ◌∙◌, subst}
-use Rattle.std.specs.Prelude.{Option, Some, None, slice_set}
+use Rattle.std.proofs.Common.{◌≡◌, ℕ, suc, Bool, true, false, eqb, cond, List, [], ◌∷◌, ◌++◌, refl, sym, ap, ◌∙◌, subst}
+use Rattle.std.specs.Prelude.{Option, Some}
 use mathlib.Core.Option.{some, some-ne-none}
 use lib.ListN.{get_elem?}
-use base.Stored.{Coded}
 use Rattle.atomic_table.proofs.Lists.{at_longer}
 use Rattle.rp_base.specs.declared.kinds.End.{End}
-use Rattle.lane_model.specs.declared.lane_links.LaneLink.{LaneLink}
-use Rattle.lane_model.specs.Desks.{DeskMeaning}
-use Rattle.lane_model.specs.Links.{free_number, with_caller}
-use Rattle.ring_core.specs.declared.states.RingState.{RingState}
+use Rattle.lane_model.specs.Links.{free_number}
 use Rattle.link_words.specs.declared.copies.LinkCopy.{LinkCopy}
 use Rattle.link_words.specs.declared.rule.Call.{Call}
 use Rattle.link_words.specs.declared.rule.Pass.{Pass}
 use Rattle.link_words.specs.declared.rule.View.{View}
 use Rattle.link_words.specs.Calls.{SeatState}
-use Rattle.link_words.specs.Deeds.{Enlists, after_deed}
-use Rattle.link_words.specs.Passes.{Manages, Mover, place_of_number, new_pass, first_incarnation, with_new_caller, with_caller_as}
+use Rattle.link_words.specs.Passes.{Manages, place_of_number, new_pass, first_incarnation, with_new_caller, with_caller_as}
 use Rattle.link_words.specs.PlacedLinks.{IsSameCarrier}
-use Rattle.link_words.specs.Reopens.{ManagerAt, manager_place}
-use Rattle.split_ring.specs.Callers.{IsStateOf}
-use Rattle.split_ring.specs.declared.callers.Manager.{Manager}
+use Rattle.link_words.specs.Reopens.{ManagerAt}
 
 -- a pass that is there stands where it stood when others come behind
 found_first : (n : ℕ) (ps qs : List Pass) (p : Pass) (b : Bool) (q : Pass) → (get_elem? ps (place_of_number n ps) ≡ some p → place_of_number n (ps ++ qs) ≡ place_of_number n ps)
@@ -53,8 +46,3 @@ enlisted_at e me me' n call free is at =
 pub enlisted_carrier : (e : End) (me me' : SeatState) (n : ℕ) → free_number me.0.users ≡ Some n → me' ≡ (with_new_caller e me.0 me'.0.copy, me.1) → Manages me'.0 → IsSameCarrier me.0 me'.0
 enlisted_carrier e me me' n free is manages = let view = ap (λ (s : SeatState). s.0) is ∙ new_view e me.0 me'.0.copy n free in
     record { manages = manages; out = ap (λ (w : View). w.out) view; sizes = ap (λ (w : View). w.sizes) view }
-
--- where each number is in use the state stays
-pub none_enlisted : {D : Type 0} (coded : Coded D) (meaning : DeskMeaning D) (e : End) (manager : Manager) (m : LaneLink (RingState D)) → free_number manager.users ≡ None → IsStateOf coded manager m → IsStateOf coded manager (after_deed meaning m (Enlists e))
-none_enlisted coded meaning e manager m none is =
-    subst (λ (o : Option ℕ). IsStateOf coded manager (record m { callers = with_caller m.callers e o })) (sym none ∙ ap free_number is.users) is

@@ -1,5 +1,5 @@
 -- A step of one pass of a seat that has several is the step of a seat that has that pass alone.
-use Rattle.std.proofs.Common.{◌≡◌, ◌≢◌, ◌<◌, ℕ, zero, suc, Bool, true, eqb, cond, eq-eqb, length, List, [], ◌∷◌, refl, sym, ap, ◌∙◌, subst, arith}
+use Rattle.std.proofs.Common.{◌≡◌, ◌≢◌, ◌<◌, ℕ, zero, suc, Bool, true, cond, eq-eqb, length, List, [], ◌∷◌, refl, sym, ap, ◌∙◌, subst, arith}
 use Rattle.std.specs.Prelude.{Some, None}
 use mathlib.Core.Option.{some, some-injective, some-ne-none}
 use lib.ListN.{get_elem?}
@@ -17,16 +17,14 @@ use Rattle.link_words.specs.declared.rule.Call.{Call}
 use Rattle.link_words.specs.declared.rule.Call.TheVariants.{Rests, Sends}
 use Rattle.link_words.specs.declared.rule.View.{View}
 use Rattle.link_words.specs.declared.rule.Event.TheVariants.{Step}
-use Rattle.link_words.specs.declared.rule.Made.{Made}
 use Rattle.link_words.specs.declared.rule.Made.TheVariants as made
 use Rattle.link_words.specs.declared.rule.Pass.{Pass}
-use Rattle.link_words.specs.declared.rule.SenderSide.{SenderSide}
 use Rattle.link_words.specs.declared.rule.Slot.{Slot}
 use Rattle.link_words.specs.declared.rule.Slot.TheVariants.{Sender}
 use Rattle.link_words.specs.Calls.{SeatState, Becomes, Notes, call_at, noted, number_at, place_of, with_pass_at, with_send}
 use Rattle.link_words.specs.Deeds.{MayDo, Steps, after_deed}
 use Rattle.link_words.specs.Passes.{Manages, only_pass, place_of_number, with_call}
-use Rattle.link_words.specs.PlacedDesks.{PlacedDesk, placed_coded, placed_meaning}
+use Rattle.link_words.specs.PlacedDesks.{PlacedDesk, placed_meaning}
 use Rattle.link_words.specs.PlacedLinks.{KnowsState, IsSameCarrier}
 use Rattle.link_words.specs.Rule.{IsCallOf}
 use Rattle.link_words.specs.Steps.{Begins, GoesOn, HasWord, SendLoadsEra, TakesSender}

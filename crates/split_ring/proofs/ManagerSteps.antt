@@ -1,6 +1,6 @@
 -- The manager's own steps as changes of the link's state, and what it knows of the state over them.
-use Rattle.std.proofs.Common.{◌≡◌, ◌≢◌, ◌+◌, ℕ, zero, suc, List, [], ◌∷◌, get_or, refl, sym, ap, ◌∙◌, subst, arith}
-use Rattle.std.specs.Prelude.{Option, Some, None}
+use Rattle.std.proofs.Common.{◌≡◌, ◌+◌, ℕ, List, [], ◌∷◌, get_or, refl, sym, ap, ◌∙◌, subst, arith}
+use Rattle.std.specs.Prelude.{Some, None}
 use base.Stored.{Coded}
 use Rattle.rp_base.specs.declared.kinds.End.{End}
 use Rattle.rp_base.specs.declared.kinds.End.TheVariants as side
@@ -21,7 +21,6 @@ use Rattle.link_words.specs.declared.rule.Slot.{Slot}
 use Rattle.link_words.specs.declared.rule.Slot.TheVariants.{Empty}
 use Rattle.link_words.specs.declared.rule.View.{View}
 use Rattle.link_words.specs.Calls.{SeatState, call_at, number_at}
-use Rattle.link_words.specs.Codes.{copied}
 use Rattle.link_words.specs.Deeds.{Deed, ManagerTakes, ManagerLeaves, after_deed}
 use Rattle.link_words.specs.Layouts.{layout, place_in}
 use Rattle.link_words.specs.Parts.{IsCallAt}
@@ -31,7 +30,7 @@ use Rattle.link_words.specs.PlacedLinks.{KnowsState, IsSameCarrier, placed_link}
 use Rattle.link_words.specs.Reopens.{ManagerAt, ManagerDoes, gathered, manager_place}
 use Rattle.link_words.specs.Sides.{no_sides, sides_at}
 use Rattle.link_words.specs.Rule.{IsCallOf}
-use Rattle.link_words.specs.Steps.{IsStepOf, HasWord, StoresWord, turn_number}
+use Rattle.link_words.specs.Steps.{IsStepOf, HasWord, StoresWord}
 use Rattle.link_words.specs.Turns.{turns_in}
 use Rattle.link_words.specs.Words.{lane_to, receiver_slot, receiver_word, turn_word, words_of}
 use Rattle.link_words.proofs.Apart.{found_apart}

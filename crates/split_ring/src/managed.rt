@@ -16,8 +16,8 @@ ghost use Rattle.std.specs.Fn.{FnOnceReturnsAt};
 use crate::callers::{Manager, least_free};
 use crate::links::SharedLink;
 use lane_model::Desk;
-use link_words::{ReceiverState, enlist_carried};
 use link_words::laws::state_follows;
+use link_words::{ReceiverState, enlist_carried};
 use rp_base::{CallerNo, End};
 
 impl<D: Desk> SharedLink<D> {

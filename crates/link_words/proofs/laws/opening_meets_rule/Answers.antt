@@ -1,4 +1,4 @@
-use Rattle.link_words.specs.PlacedDesks.{PlacedDesk, placed_coded, placed_meaning, code_placed}
+use Rattle.link_words.specs.PlacedDesks.{placed_coded, placed_meaning, code_placed}
 use Rattle.rp_base.specs.declared.kinds.End.TheVariants as side
 use Rattle.std.specs.Prelude.{true, false}
 use Rattle.std.proofs.Common.{[], refl}

@@ -1,11 +1,11 @@
-use Rattle.std.proofs.Common.{◌≡◌, List, refl, sym, ap, ◌∙◌, subst}
-use Rattle.std.specs.Prelude.{Option, Some, slice_set}
+use Rattle.std.proofs.Common.{◌≡◌, List, sym, ap, ◌∙◌, subst}
+use Rattle.std.specs.Prelude.{Some, slice_set}
 use Rattle.lane_model.specs.Links.{free_number, with_caller}
 use Rattle.link_words.specs.declared.rule.View.{View}
 use Rattle.link_words.specs.Calls.{SeatState}
 use Rattle.link_words.specs.Passes.{Manages}
 use Rattle.link_words.proofs.Moving.{still_manages}
-use Rattle.split_ring.proofs.Enlisting.{new_view, enlisted_at, enlisted_carrier, none_enlisted}
+use Rattle.split_ring.proofs.Enlisting.{new_view, enlisted_at, enlisted_carrier}
 use Rattle.split_ring.proofs.links.SharedLink.enlist.Goals as goal
 
 pub returns-clause-manager : goal.returns-clause-manager
