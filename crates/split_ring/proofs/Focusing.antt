@@ -1,5 +1,5 @@
 -- A step of one pass of a seat that has several is the step of a seat that has that pass alone.
-use Rattle.std.proofs.Common.{◌≡◌, ◌≢◌, ◌<◌, ℕ, zero, suc, Bool, true, cond, eq-eqb, length, List, [], ◌∷◌, refl, sym, ap, ◌∙◌, subst, arith}
+use Rattle.std.proofs.Common.{◌≡◌, ◌≢◌, ◌<◌, ℕ, zero, suc, Bool, true, false, cond, eq-eqb, length, List, [], ◌∷◌, refl, sym, ap, ◌∙◌, subst, arith}
 use Rattle.std.specs.Prelude.{Some, None}
 use mathlib.Core.Option.{some, some-injective, some-ne-none}
 use lib.ListN.{get_elem?}
@@ -21,7 +21,8 @@ use Rattle.link_words.specs.declared.rule.Made.TheVariants as made
 use Rattle.link_words.specs.declared.rule.Pass.{Pass}
 use Rattle.link_words.specs.declared.rule.Slot.{Slot}
 use Rattle.link_words.specs.declared.rule.Slot.TheVariants.{Sender}
-use Rattle.link_words.specs.Calls.{SeatState, Becomes, Notes, call_at, noted, number_at, place_of, with_pass_at, with_send}
+use Rattle.link_words.specs.Calls.{SeatState, Becomes, Notes, call_at, noted, number_at, first_side, has_side, place_of, place_with, with_pass_at, with_send}
+use Rattle.link_words.specs.Orderly.{IsOrderly}
 use Rattle.link_words.specs.Deeds.{MayDo, Steps, after_deed}
 use Rattle.link_words.specs.Passes.{Manages, only_pass, place_of_number, with_call}
 use Rattle.link_words.specs.PlacedDesks.{PlacedDesk, placed_meaning}
@@ -42,6 +43,9 @@ use Rattle.split_ring.specs.Walks.{HasDone, same_hands}
 use Rattle.split_ring.proofs.Seats.{begins, finds, number_place}
 use Rattle.split_ring.proofs.SendSteps.{alone, send_live}
 use Rattle.split_ring.proofs.TurnSteps.{entered}
+
+false-true : false ≡ true → ⊥
+false-true e = absurd (cc)
 
 -- the one pass of a seat, with all of its slots, is the seat
 front_all : (slots : List (ℕ × Slot)) → front (length slots) slots ≡ slots
@@ -190,3 +194,17 @@ module _ {D : Type 0} (coded : Coded D) (meaning : DeskMeaning D) where
       let zero = alone (focus k 1 me) c stage.Turn at.0 in
       send_live coded meaning (focus k 1 me) (focus k 1 me') c n found at (era_focus k n me me' here zero told)
       (finds coded meaning (focus k 1 me) (focus k 1 me') place n (goes_focus coded meaning c.who.number k 1 1 me me' (HasWord place n) low number here zero step)) reads live
+
+-- the pass that steps: the one whose side state is in front, and the one of its number
+pub found_with : (slot : ℕ) (ps : List Pass) (k : ℕ) (p : Pass) → get_elem? ps k ≡ some p → has_side slot p.call ≡ true → (q : Pass) × (get_elem? ps (place_with slot ps) ≡ some q) × (has_side slot q.call ≡ true)
+found_with slot [] k p at has = absurd (some-ne-none p (sym at))
+found_with slot (x ∷ xs) k p at has = go (λ j here. found_with slot xs j p here has) (has_side slot x.call) refl k at
+  where
+    go : ((j : ℕ) → get_elem? xs j ≡ some p → (q : Pass) × (get_elem? xs (place_with slot xs) ≡ some q) × (has_side slot q.call ≡ true)) → (b : Bool) → has_side slot x.call ≡ b → (k : ℕ) → get_elem? (x ∷ xs) k ≡ some p
+        → (q : Pass) × (get_elem? (x ∷ xs) (cond b 0 (suc (place_with slot xs))) ≡ some q) × (has_side slot q.call ≡ true)
+    go more true is k at = (x, refl, is)
+    go more false is zero at = let same : x ≡ p = some-injective x p at in absurd (false-true (sym is ∙ (ap (λ (q : Pass). has_side slot q.call) same ∙ has)))
+    go more false is (suc k) at = more k at
+
+pub front_place : (me : SeatState) (k : ℕ) (p : Pass) → IsOrderly me.0 → get_elem? me.0.passes k ≡ some p → has_side (first_side me.1) p.call ≡ true → place_of me ≡ k
+front_place me k p order at has = let f = found_with (first_side me.1) me.0.passes k p at has in order.sides (first_side me.1) (place_of me) k f.0 p f.1 at f.2 has

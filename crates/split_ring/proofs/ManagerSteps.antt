@@ -1,6 +1,6 @@
 -- The manager's own steps as changes of the link's state, and what it knows of the state over them.
-use Rattle.std.proofs.Common.{◌≡◌, ◌+◌, ℕ, List, [], ◌∷◌, get_or, refl, sym, ap, ◌∙◌, subst, arith}
-use Rattle.std.specs.Prelude.{Some, None}
+use Rattle.std.proofs.Common.{◌≡◌, ◌+◌, ℕ, Bool, true, false, List, [], ◌∷◌, get_or, refl, sym, ap, ◌∙◌, subst, arith}
+use Rattle.std.specs.Prelude.{Some, None, Result, if◌then◌else◌}
 use base.Stored.{Coded}
 use Rattle.rp_base.specs.declared.kinds.End.{End}
 use Rattle.rp_base.specs.declared.kinds.End.TheVariants as side
@@ -10,7 +10,9 @@ use Rattle.lane_model.specs.declared.stages.Receiving.{Receiving}
 use Rattle.lane_model.specs.declared.stages.Turn.{Turn}
 use Rattle.lane_model.specs.declared.stages.Turn.TheVariants as turn
 use Rattle.lane_model.specs.Desks.{DeskMeaning}
-use Rattle.lane_model.specs.Lanes.{holder}
+use Rattle.lane_model.specs.declared.recoveries.Already.{Already}
+use Rattle.lane_model.specs.Lanes.{holder, is_live_in}
+use Rattle.rp_base.specs.declared.kinds.Era.{Era}
 use Rattle.ring_core.specs.declared.states.RingState.{RingState}
 use Rattle.link_words.specs.declared.codes.DeskRight.{DeskRight}
 use Rattle.link_words.specs.declared.rule.Call.{Call}
@@ -21,10 +23,10 @@ use Rattle.link_words.specs.declared.rule.Slot.{Slot}
 use Rattle.link_words.specs.declared.rule.Slot.TheVariants.{Empty}
 use Rattle.link_words.specs.declared.rule.View.{View}
 use Rattle.link_words.specs.Calls.{SeatState, call_at, number_at}
-use Rattle.link_words.specs.Deeds.{Deed, ManagerTakes, ManagerLeaves, after_deed}
+use Rattle.link_words.specs.Deeds.{Closes, Deed, ManagerTakes, ManagerLeaves, after_deed}
 use Rattle.link_words.specs.Layouts.{layout, place_in}
 use Rattle.link_words.specs.Parts.{IsCallAt}
-use Rattle.link_words.specs.Passes.{place_of_number}
+use Rattle.link_words.specs.Passes.{Manages, place_of_number}
 use Rattle.link_words.specs.PlacedDesks.{PlacedDesk, placed_coded, placed_meaning, right_to, table_at}
 use Rattle.link_words.specs.PlacedLinks.{KnowsState, IsSameCarrier, placed_link}
 use Rattle.link_words.specs.Reopens.{ManagerAt, ManagerDoes, gathered, manager_place}
@@ -34,7 +36,11 @@ use Rattle.link_words.specs.Steps.{IsStepOf, HasWord, StoresWord}
 use Rattle.link_words.specs.Turns.{turns_in}
 use Rattle.link_words.specs.Words.{lane_to, receiver_slot, receiver_word, turn_word, words_of}
 use Rattle.link_words.proofs.Apart.{found_apart}
+use Rattle.link_words.proofs.Closes.{era_of_word}
 use Rattle.link_words.proofs.Exact.{copied_one}
+use Rattle.split_ring.specs.Callers.{IsStateOf}
+use Rattle.split_ring.specs.Closes.{HasClosed, IsCloseAnswer}
+use Rattle.split_ring.specs.declared.callers.Manager.{Manager}
 use Rattle.link_words.proofs.Placed.{state_after}
 use Rattle.link_words.proofs.TurnWords.{back_again, receiver_of}
 use Rattle.split_ring.specs.Gathers.{IsCalling, TakesSide, PutsSide, FindsTurnFree, FreesTurn, Meets}
@@ -171,3 +177,20 @@ module _ {D : Type 0} (coded : Coded D) (meaning : DeskMeaning D) where
       let taken = known_after coded meaning me (HasWord (place_in (receiver_word e)) 0) (ManagerTakes lane_turn.Receiver e) me1 m find knows (carrier_of me.0 (Gathers no_sides no_sides) call [] slots me me1 none one) in
       let freed = known_after coded meaning me1 (StoresWord (place_in (receiver_word e)) 0) (ManagerLeaves lane_turn.Receiver e) me2 (after_deed meaning m (ManagerTakes lane_turn.Receiver e)) free taken (carrier_of me.0 call (Gathers no_sides no_sides) slots [] me1 me2 one two) in
       subst (λ (l : LaneLink (RingState D)). KnowsState coded me2.0 l) (back_again meaning m e (turn_free coded meaning me me1 e m find knows)) freed
+
+  -- a close by the manager: the state follows, and the answer is that of its era
+  callers_closed : (b : Bool) (m : LaneLink (RingState D)) (inc : ℕ) → (if b then record m { era = record { inc = inc; is_live = false } } else m).callers ≡ m.callers
+  callers_closed true m inc = refl
+  callers_closed false m inc = refl
+
+  pub closed_state : (inc : ℕ) (answer : Result (Unit {0}) Already) (before after : Manager) (m : LaneLink (RingState D)) → HasClosed coded meaning 64 inc answer before.seat.me after.seat.me → Manages after.seat.me.0 → after.users ≡ before.users
+      → IsStateOf coded before m → IsStateOf coded after (after_deed meaning m (Closes inc)) × IsCloseAnswer inc m.era answer
+  closed_state inc answer before after m x manages users is =
+      let me = before.seat.me in let me' = after.seat.me in let knows = is.known in let step = x.step in let cd = placed_coded coded me.0.sizes.desks in
+      let here : step.state ≡ placed_link coded me.0.sizes.desks m = sym (copied_one cd (placed_link coded me.0.sizes.desks m) step.state (step.copy _ knows.manages knows.carries knows.copy).0) in (
+        record {
+          known = state_after coded meaning (Closes inc) me.0 me'.0 step.state m knows (record { manages = manages; out = ap (λ (s : SeatState). s.0.out) x.noted; sizes = ap (λ (s : SeatState). s.0.sizes) x.noted }) (λ k was. step.copy k knows.manages knows.carries was);
+          users = users ∙ (is.users ∙ sym (callers_closed (is_live_in m.era inc) m inc));
+        },
+        subst (λ (era : Era). IsCloseAnswer inc era answer) (era_of_word x.era step.state.era step.found ∙ ap (λ (l : LaneLink (RingState (PlacedDesk coded me.0.sizes.desks))). l.era) here) x.answered,
+      )

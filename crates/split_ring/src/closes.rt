@@ -1,10 +1,13 @@
 //! The close of a link: one exchange, by a caller or by the manager.
 ghost use Rattle.std.specs.Prelude.{◌≡◌, ◌∷◌, true};
 ghost use Rattle.rp_base.specs.declared.kinds.Era.{Era};
+ghost use Rattle.lane_model.specs.declared.lane_links.LaneLink.{LaneLink};
+ghost use Rattle.ring_core.specs.declared.states.RingState.{RingState};
+ghost use Rattle.link_words.specs.Deeds.{Closes, after_deed};
 ghost use Rattle.link_words.specs.declared.rule.Event.TheVariants.{Step};
 ghost use Rattle.link_words.specs.declared.rule.Made.TheVariants as made;
 ghost use Rattle.link_words.specs.Passes.{Mover};
-ghost use Rattle.split_ring.specs.Callers.{own_of, IsManagerOf, IsUserOf, IsWhereItWas, MakesClose, ManagerCloses};
+ghost use Rattle.split_ring.specs.Callers.{own_of, IsManagerOf, IsStateOf, IsUserOf, IsWhereItWas, MakesClose, ManagerCloses};
 ghost use Rattle.split_ring.specs.Closes.{IsCloseAnswer, HasClosed};
 ghost use Rattle.split_ring.specs.Seats.{IsSeatOf};
 
@@ -38,6 +41,7 @@ impl<D: Desk> SharedLink<D> {
         ensures closed { ManagerCloses D.row.coded D.meaning manager.old inc result manager.new }
         ensures known { inc ≡ manager.old.seat.me.0.inc → manager.new.seat.me.0.is_closed ≡ true }
         ensures manager { IsManagerOf self.now manager.new × (manager.new.users ≡ manager.old.users) }
+        ensures state { (m : LaneLink (RingState D)) → IsStateOf D.row.coded manager.old m → IsStateOf D.row.coded manager.new (after_deed D.meaning m (Closes inc)) × IsCloseAnswer inc m.era result }
     {
         self.close_once(&mut manager.seat, MANAGER, inc)
     }

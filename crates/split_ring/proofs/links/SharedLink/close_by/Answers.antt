@@ -4,6 +4,7 @@ use Rattle.link_words.specs.Calls.{SeatState}
 use Rattle.link_words.specs.Passes.{place_of_number}
 use Rattle.split_ring.proofs.CloseSteps.{manages_noted, rests_noted, known_closed}
 use Rattle.split_ring.proofs.Makes.{rests_at}
+use Rattle.split_ring.proofs.ManagerSteps.{closed_state}
 use Rattle.link_words.specs.Seats.{is_closed_behind}
 use Rattle.split_ring.proofs.links.SharedLink.close_by.Goals as goal
 
@@ -32,3 +33,10 @@ pub returns-clause-known : goal.returns-clause-known
 returns-clause-known g c same =
     let x = c.close_once.ensures.closed in let me = c.args.manager.now.seat.me in
     known_closed (made.Close x.era) (place_of_number 64 me.0.passes) c.args.inc x.era me c.close_once.new.seat.me x.noted (x.current c.requires.manages ∙ sym same)
+
+pub returns-clause-state : goal.returns-clause-state
+returns-clause-state g c = λ m is.
+    let x = c.close_once.ensures.closed in let me = c.args.manager.now.seat.me in let me' = c.close_once.new.seat.me in
+    let knows : SeatState = (record me.0 { is_closed = is_closed_behind c.args.inc x.era }, me.1) in
+    closed_state g.row.D.coded g.D.Desk.meaning c.args.inc c.close_once.result c.args.manager.now (record { seat = c.close_once.new.seat; users = c.args.manager.now.users }) m x
+    (manages_noted (made.Close x.era) (place_of_number 64 me.0.passes) knows me' x.noted c.requires.manages) refl is
