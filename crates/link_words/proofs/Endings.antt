@@ -29,6 +29,8 @@ use Rattle.link_words.specs.declared.rule.View.{View}
 use Rattle.link_words.specs.Words.{other, lane_to}
 use Rattle.link_words.specs.Passes.{PassAt, HasNumber, Manages, Mover, numbers_of, spent_view, without_pass, after_end_at, callers_without, after_end_with, only_pass}
 use Rattle.link_words.specs.Deeds.{Frees, MayDo}
+use Rattle.link_words.specs.Steps.{IsEndingOf}
+use Rattle.link_words.proofs.Parts.{state_in}
 use Rattle.link_words.specs.Rule.{HasCall, IsCallOf, HistoryOf, HandsOf, Shows, WordsRule, LatestOf}
 use Rattle.link_words.specs.Parts.{Knows, ManagerKnows}
 use Rattle.link_words.specs.Histories.{hands_of, HasEnded, IsQuiet}
@@ -249,9 +251,9 @@ module _ {B : Type 0} {kc : Coded B} {kz : DeskTables} (cd : Coded (PlacedDesk k
 
   -- the idle word is read by an exchange of 0 for 0, which names the caller
   pub ends_named : (slots id : ℕ) (me : SeatState) (o : Mover me.0) (e : End) (caller : ℕ) → Manages me.0 → me.0.is_closed ≡ true → o.pass.number ≡ caller → o.place ≡ place_of_number caller me.0.passes → o.pass.call ≡ Rests e → o.pass.hands ≡ []
-      → Allows (WordsRule cd desk z) slots id me 0 (λ y. either (eqb y 0) 0 y) (λ y me'. EndsCaller caller me me')
+      → Allows (WordsRule cd desk z) slots id me 0 (λ y. either (eqb y 0) 0 y) (λ y me'. EndsCaller caller me me' × IsEndingOf cd desk e caller me me')
   ends_named slots id me o e caller manages shut number place call bare st (m, p, r) wide at _ =
-      let y : ℕ = get_or st.words 0 0 in
+      let y : ℕ = get_or st.words 0 0 in let known = r.numbers.manager id me.0 at manages in let rests : IsCallOf m p o.pass.number (Rests e) = subst (IsCallOf m p o.pass.number) call (r.turns.calls id o.place o.pass (me.0, at, o.here)) in
       let same : either (eqb y 0) 0 y ≡ y = exchanged y 0 0 (λ f. f ≡ y) (λ hit. sym hit) (λ miss. refl) in
       let kept : o.pass ∷ [] ≡ only_pass (place_of_number caller me.0.passes) me.0.passes = sym (only_here o.place me.0.passes o.pass o.here) ∙ ap (λ (k : ℕ). only_pass k me.0.passes) place in
       let c = Some (copied cd (record m { callers = slice_set m.callers o.pass.number None })) in (
@@ -259,7 +261,15 @@ module _ {B : Type 0} {kc : Coded B} {kz : DeskTables} (cd : Coded (PlacedDesk k
         keeps,
         tt,
         subst (λ (ws : List ℕ). WordsRule cd desk z (record { words = ws; homes = st.homes; views = set st.views id (after_end_at me.0 o c) })) (sym (ap (set st.words 0) same ∙ set-get_or st.words 0 0)) (ends st m p r id me.0 o e at manages shut call bare),
-        (λ k. (record me.0 { copy = c; reclaims = number k ∷ me.0.reclaims; ended = kept k ++ me.0.ended; passes = without_pass (place k) me.0.passes; users = slice_set me.0.users (number k) None }, me.1)),
+        (
+          (λ k. (record me.0 { copy = c; reclaims = number k ∷ me.0.reclaims; ended = kept k ++ me.0.ended; passes = without_pass (place k) me.0.passes; users = slice_set me.0.users (number k) None }, me.1)),
+          record {
+            state = m;
+            sound = state_in r;
+            may = subst (λ (n : ℕ). MayDo desk m (Frees e n)) number (frees_may m p e o.pass.number (known.closed shut) rests (r.histories.hands id o.place o.pass (me.0, at, o.here) e rests.0 ∙ bare));
+            copy = λ k none_out was. (known.copy k was none_out, ap (λ (n : ℕ). Some (copied cd (record m { callers = slice_set m.callers n None }))) number);
+          },
+        ),
       )
 
   -- all that were out have come back: the manager knows the state

@@ -61,7 +61,7 @@ use Rattle.link_words.specs.Calls.{SendAt, WorkAt, SendEnds, ReceiveEnds}
 use Rattle.link_words.specs.Calls.{SeatState, send_or, receive_or, under_way_or, with_send, with_receive, place_of, call_at, number_at, own_at, in_hand_at, Becomes, Notes}
 use Rattle.link_words.specs.Codes.{copied}
 use Rattle.link_words.specs.Histories.{NeverBack, latest}
-use Rattle.link_words.specs.Deeds.{Deed, Closes, Enlists, Steps, after_deed, MayDo, IsSoundState}
+use Rattle.link_words.specs.Deeds.{Deed, Closes, Enlists, Frees, Steps, after_deed, MayDo, IsSoundState}
 use Rattle.link_words.specs.Parts.{AreNear}
 use Rattle.link_words.specs.Passes.{Manages, HasNumber, with_call, place_of_number}
 use Rattle.link_words.specs.Rule.{IsCallOf}
@@ -119,6 +119,18 @@ pub record IsMakingOf {B : Type 0} {kc : Coded B} {kz : DeskTables} (coded : Cod
 -- the same, with the desks in the tables that the seat knows
 abbrev pub MakesCaller : {D : Type 0} → Coded D → DeskMeaning D → End → SeatState → SeatState → Type 0
 MakesCaller coded meaning e me me' = IsMakingOf (placed_coded coded me.0.sizes.desks) (placed_meaning coded me.0.sizes.desks meaning) e me me'
+
+-- a carried caller of this end ends: in some sound state, in which it has ended its calls and holds nothing, the deed may be done. Where the manager has a copy of
+-- the state, and none of its callers is out, that state is the copy's, and the copy follows
+pub record IsEndingOf {B : Type 0} {kc : Coded B} {kz : DeskTables} (coded : Coded (PlacedDesk kc kz)) (desk : DeskMeaning (PlacedDesk kc kz)) (e : End) (number : ℕ) (me me' : SeatState) : Type 0 where
+  pub state : LaneLink (RingState (PlacedDesk kc kz))
+  pub sound : IsSoundState desk state
+  pub may : MayDo desk state (Frees e number)
+  pub copy : (k : LinkCopy) → me.0.out ≡ [] → me.0.copy ≡ Some k → (k ≡ copied coded state) × (me'.0.copy ≡ Some (copied coded (after_deed desk state (Frees e number))))
+
+-- the same, with the desks in the tables that the seat knows
+abbrev pub FreesCaller : {D : Type 0} → Coded D → DeskMeaning D → ℕ → SeatState → SeatState → Type 0
+FreesCaller coded meaning number me me' = (e : End) × IsEndingOf (placed_coded coded me.0.sizes.desks) (placed_meaning coded me.0.sizes.desks meaning) e number me me'
 
 -- an attempt to close this incarnation, by a seat that found this word of the era: in some sound state of that era, the close of the ring form is
 -- made. Where the manager has a copy of the state, and none of its callers is out, that state is the copy's, and the copy follows

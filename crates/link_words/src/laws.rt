@@ -24,7 +24,7 @@ ghost use Rattle.rp_base.specs.declared.kinds.End.TheVariants as side;
 ghost use Rattle.link_words.specs.Parts.{AreNear};
 ghost use Rattle.link_words.specs.Rule.{Shows, LinkRule, first_view};
 ghost use Rattle.link_words.specs.Words.{lane_to, sizes_at, words_of};
-ghost use Rattle.std.specs.Prelude.{Some};
+ghost use Rattle.std.specs.Prelude.{Some, None, slice_set};
 ghost use Rattle.link_words.specs.declared.rule.Call.{Call};
 ghost use Rattle.link_words.specs.Calls.{SeatState};
 ghost use Rattle.link_words.specs.Codes.{copied};
@@ -37,7 +37,7 @@ ghost use Rattle.link_words.specs.declared.rule.Counted.TheVariants.{Room, Gave}
 ghost use Rattle.link_words.specs.declared.rule.Event.{Event};
 ghost use Rattle.link_words.specs.declared.rule.Event.TheVariants.{Count, Publish, Take};
 ghost use Rattle.link_words.specs.Histories.{seen, counts_told, counts_published, counts_taken, counts_of, books_of, IsWithin, IsNotBelow, NeverBack};
-ghost use Rattle.link_words.specs.Steps.{IsStepOf, IsCloseOf, ClosesLink, MakesCaller, HasWord, StoresWord};
+ghost use Rattle.link_words.specs.Steps.{IsStepOf, IsCloseOf, ClosesLink, MakesCaller, FreesCaller, HasWord, StoresWord};
 
 use lane_model::Desk;
 
@@ -87,7 +87,7 @@ pub fn copy_follows<D: Desk>()
 {}
 
 /// A manager that carries all its callers and knows the state of its link knows the state after a step of a caller that it carries or of its
-/// own, after a close, after the making of a caller and after an opening: it is the state by the deed.
+/// own, after a close, after the making and the end of a caller and after an opening: it is the state by the deed.
 pub fn state_follows<D: Desk>()
     ensures found { (place n : ℕ) (d : Deed) (number : ℕ) (call next : Call) (me me' : SeatState) → IsStepOf (placed_coded D.row.coded me.0.sizes.desks) (placed_meaning D.row.coded me.0.sizes.desks D.meaning) (HasWord place n) d number call next me me'
         → (known : LaneLink (RingState D)) → KnowsState D.row.coded me.0 known → IsSameCarrier me.0 me'.0 → KnowsState D.row.coded me'.0 (after_deed D.meaning known d) }
@@ -95,5 +95,7 @@ pub fn state_follows<D: Desk>()
         → (known : LaneLink (RingState D)) → KnowsState D.row.coded me.0 known → IsSameCarrier me.0 me'.0 → KnowsState D.row.coded me'.0 (after_deed D.meaning known d) }
     ensures closed { (inc n : ℕ) (me me' : SeatState) → ClosesLink D.row.coded D.meaning inc n me me' → (known : LaneLink (RingState D)) → KnowsState D.row.coded me.0 known → IsSameCarrier me.0 me'.0 → KnowsState D.row.coded me'.0 (after_deed D.meaning known (Closes inc)) }
     ensures made { (e : End) (me me' : SeatState) → MakesCaller D.row.coded D.meaning e me me' → (known : LaneLink (RingState D)) → KnowsState D.row.coded me.0 known → IsSameCarrier me.0 me'.0 → KnowsState D.row.coded me'.0 (after_deed D.meaning known (Enlists e)) }
+    ensures ended { (number : ℕ) (me me' : SeatState) → FreesCaller D.row.coded D.meaning number me me' → (known : LaneLink (RingState D)) → KnowsState D.row.coded me.0 known → IsSameCarrier me.0 me'.0
+        → KnowsState D.row.coded me'.0 (record known { callers = slice_set known.callers number None }) }
     ensures opened { (me me' : SeatState) → OpensLink D.row.coded D.meaning me me' → (known : LaneLink (RingState D)) → KnowsState D.row.coded me.0 known → IsSameCarrier me.0 me'.0 → KnowsState D.row.coded me'.0 (after_deed D.meaning known Opens) }
 {}

@@ -31,12 +31,15 @@ impl<D: Desk> Play<Slot, View> for EnlistsRemote<D> {
 }
 
 /// The caller that the step names ends.
-pub struct TellsEndsCaller;
+pub struct TellsEndsCaller<D> {
+    marker: PhantomData<D>,
+}
 
-impl Play<Slot, View> for TellsEndsCaller {
+impl<D: Desk> Play<Slot, View> for TellsEndsCaller<D> {
     ghost use Rattle.link_words.specs.Seats.{EndsCaller, named_by};
+    ghost use Rattle.link_words.specs.Steps.{FreesCaller};
 
-    ghost then = { λ st m r m'. EndsCaller (named_by st.said) m m' };
+    ghost then = { λ st m r m'. EndsCaller (named_by st.said) m m' × FreesCaller D.row.coded D.meaning (named_by st.said) m m' };
 }
 
 /// The manager loads the era.

@@ -8,7 +8,7 @@ ghost use Rattle.link_words.specs.declared.rule.Pass.{Pass};
 ghost use Rattle.link_words.specs.declared.rule.Call.TheVariants.{Rests};
 ghost use Rattle.link_words.specs.Passes.{HasNumber, numbers_of, Manages, Mover, without_last, only_last, with_passes_from, after_end_with, place_of_number, without_new, only_new};
 ghost use Rattle.link_words.specs.Seats.{Settles, EnlistsCaller, EndsCaller, LearnsEra, ClosesEra};
-ghost use Rattle.link_words.specs.Steps.{MakesCaller, ClosesLink};
+ghost use Rattle.link_words.specs.Steps.{MakesCaller, FreesCaller, ClosesLink};
 ghost use Rattle.link_words.specs.Words.{words_in};
 
 use crate::moves::{
@@ -77,13 +77,14 @@ pub fn join<D: Desk>(table: &LinkTable<D>, manager: &mut LinkSeat, caller: LinkS
 
 /// The number of a caller that the manager carries, in no call and holding nothing, is free.
 pub fn end_carried<D: Desk>(table: &LinkTable<D>, manager: &mut LinkSeat, caller: CallerNo)
-    requires table { (manager.old.table_id ≡ table.now.table_id) × (words_in table.now.key ≤ table.now.table_id.words) }
+    requires table { (manager.old.table_id ≡ table.now.table_id) × (words_in table.now.key ≤ table.now.table_id.words) × (manager.old.me.0.sizes ≡ table.now.key) }
     requires manager { Manages manager.old.me.0 × (manager.old.me.0.is_closed ≡ true) }
     requires caller { (o : Mover manager.old.me.0) × (e : End) × (o.pass.number ≡ caller) × (o.place ≡ place_of_number caller manager.old.me.0.passes) × (o.pass.call ≡ Rests e) × (o.pass.hands ≡ []) }
     ensures same { (manager.new.table_id ≡ manager.old.table_id) × (manager.new.id ≡ manager.old.id) }
     ensures told { EndsCaller caller manager.old.me manager.new.me }
+    ensures step { FreesCaller D.row.coded D.meaning caller manager.old.me manager.new.me }
 {
-    table.compare_exchange_with::<TellsEndsCaller>(manager, 0, 0, 0, &Slot::Caller(caller));
+    table.compare_exchange_with::<TellsEndsCaller<D>>(manager, 0, 0, 0, &Slot::Caller(caller));
 }
 
 /// The manager loads the era, and knows from then on that it is closed, if it found it so.
