@@ -34,7 +34,7 @@ use Rattle.link_words.specs.Rule.{WordsRule, PlacedRule}
 use Rattle.link_words.specs.Calls.{SeatState, Becomes, call_at, number_at, with_pass_at}
 use Rattle.link_words.specs.declared.copies.LinkCopy.{LinkCopy}
 use Rattle.link_words.specs.Steps.{IsStepOf, HasWord, StoresWord, turn_number}
-use Rattle.link_words.specs.Reopens.{gathers_or, reopens_or, sides_of, manager_place, manager_call, ManagerAt, both_sides, gathered, ManagerTakesSender, ManagerTakesReceiver, ManagerLeavesSender, ManagerLeavesReceiver, ManagerTakesTurn, ManagerLeavesTurn, MayGather, MayLeaveTurn, MayBegin, AreBooksOf, books_by, BeginsReopening, MayReset, ResetsWord, MayOpen, right_by, opened_sides, opened_view, OpensEra, IsOpeningOf}
+use Rattle.link_words.specs.Reopens.{gathers_or, reopens_or, sides_of, manager_place, manager_call, ManagerAt, both_sides, gathered, ManagerTakesSender, ManagerTakesReceiver, ManagerLeavesSender, ManagerLeavesReceiver, ManagerTakesTurn, ManagerLeavesTurn, MayGather, MayLeaveTurn, MayBegin, AreBooksOf, books_by, BeginsReopening, MayReset, ResetsWord, MayOpen, right_by, opened_sides, opened_view, OpensEra, IsOpeningOf, KeepsCopy}
 use Rattle.link_words.proofs.Apart.{apart, entry_place_is, sender_low, receiver_low}
 use Rattle.link_words.proofs.Exact.{StepBy, ReadsAt, WritesAt, becomes, passes_at, call_is, step_told, read_there, written_there}
 use Rattle.link_words.proofs.ManagerTurns.{TakesSenderBy, takes_sender, leaves_sender_turn, TakesReceiverBy, takes_receiver, leaves_receiver_turn, looks}
@@ -103,32 +103,35 @@ module _ {B : Type 0} {kc : Coded B} {kz : DeskTables} (cd : Coded (PlacedDesk k
   looks_told i place g is = exchanges i place (λ y. y) g.at.mover g.at.here Nothing (λ _ me'. me' ≡ me) (λ _ me'. me' ≡ me) is (looks cd desk z n id me g.at.mover i g.to_host g.to_remote g.at.in_call) (λ y me' t. t)
 
   -- a reopening begins
-  pub begins_told : (b : MayBegin me) → Allows (PlacedRule cd desk z) n id me 16 (λ y. y) (λ y me'. BeginsReopening me y me')
+  pub begins_told : (b : MayBegin me) → Allows (PlacedRule cd desk z) n id me 16 (λ y. y) (λ y me'. BeginsReopening me y me' × KeepsCopy me me')
   begins_told b =
       let g = both_sides b.host_sender b.host_receiver in let h = both_sides b.remote_sender b.remote_receiver in
       let here : manager_call me ≡ Gathers g h = call_here me (Gathers g h) b.at in
-      weaken (PlacedRule cd desk z) n id me 16 (λ y. y) (BeginsReopeningBy me b.at.mover g h) (BeginsReopening me)
-      (λ y me' t. (
-        t.0,
-        t.1,
-        t.2,
-        t.3,
-        t.4,
-        (λ shut. let s = t.5 shut in (
-          called me (Gathers g h) b.at (λ c. gathers_or c (Reopens 0 t.0.inc) c) me.1 me' s.0,
-          subst (λ (c : Call). AreBooksOf me.0 (λ e. books_by (sides_of c e))) (sym here) s.1,
-        )),
-        t.6,
+      weaken (PlacedRule cd desk z) n id me 16 (λ y. y) (λ y me'. BeginsReopeningBy me b.at.mover g h y me' × KeepsCopy me me') (λ y me'. BeginsReopening me y me' × KeepsCopy me me')
+      (λ y me' b₀. let t = b₀.0 in (
+        (
+          t.0,
+          t.1,
+          t.2,
+          t.3,
+          t.4,
+          (λ shut. let s = t.5 shut in (
+            called me (Gathers g h) b.at (λ c. gathers_or c (Reopens 0 t.0.inc) c) me.1 me' s.0,
+            subst (λ (c : Call). AreBooksOf me.0 (λ e. books_by (sides_of c e))) (sym here) s.1,
+          )),
+          t.6,
+        ),
+        b₀.1,
       ))
-      (apart cd desk z n id me 1 16 (λ y. y) (BeginsReopeningBy me b.at.mover g h) refl
+      (apart cd desk z n id me 1 16 (λ y. y) (λ y me'. BeginsReopeningBy me b.at.mover g h y me' × KeepsCopy me me') refl
       (begins cd desk z n id me b.at.mover b.host_sender b.remote_sender b.host_receiver b.remote_receiver b.at.in_call b.none_held.0 b.none_held.1))
 
   -- a word is reset
-  pub resets_told : (number new place : ℕ) → me.0.sizes ≡ z → MayReset number new me → place ≡ place_in (6 + number) → Allows (PlacedRule cd desk z) n id me place (λ _. new) (λ _ me'. ResetsWord me me')
+  pub resets_told : (number new place : ℕ) → me.0.sizes ≡ z → MayReset number new me → place ≡ place_in (6 + number) → Allows (PlacedRule cd desk z) n id me place (λ _. new) (λ _ me'. ResetsWord me me' × KeepsCopy me me')
   resets_told number new place sized may is =
-      let w : Call = Reopens (suc number) may.inc may.to_host may.to_remote in let tells : ℕ → SeatState → Type 0 = λ _ me'. me' ≡ (with_pass me.0 may.at.mover (with_call may.at.mover.pass w) me'.0.copy, me.1) in
-      weaken (PlacedRule cd desk z) n id me place (λ _. new) tells (λ _ me'. ResetsWord me me')
-      (λ y me' t. called me (Reopens number may.inc may.to_host may.to_remote) may.at (λ c. reopens_or c (λ q inc a b. Reopens (suc q) inc a b) c) me.1 me' t)
+      let w : Call = Reopens (suc number) may.inc may.to_host may.to_remote in let tells : ℕ → SeatState → Type 0 = λ _ me'. (me' ≡ (with_pass me.0 may.at.mover (with_call may.at.mover.pass w) me'.0.copy, me.1)) × KeepsCopy me me' in
+      weaken (PlacedRule cd desk z) n id me place (λ _. new) tells (λ _ me'. ResetsWord me me' × KeepsCopy me me')
+      (λ y me' t. (called me (Reopens number may.inc may.to_host may.to_remote) may.at (λ c. reopens_or c (λ q inc a b. Reopens (suc q) inc a b) c) me.1 me' t.0, t.1))
       (apart cd desk z n id me (6 + number) place (λ _. new) tells is
       (resets cd desk z n id me may.at.mover number may.inc (6 + number) new may.to_host may.to_remote may.at.in_call refl (subst (λ (y : LinkSizes). get_elem? (fresh_of y) number ≡ some new) sized may.fresh)))
 

@@ -49,7 +49,7 @@ use Rattle.link_words.specs.Passes.{Mover, with_pass, with_call}
 use Rattle.link_words.specs.Calls.{SeatState}
 use Rattle.link_words.proofs.Tells.{BeginsReopeningBy}
 use Rattle.link_words.proofs.Gathered.{gathered_both}
-use Rattle.link_words.specs.Reopens.{both_sides, opened_sides, books_by, AreBooksOf, IsOpeningOf}
+use Rattle.link_words.specs.Reopens.{both_sides, opened_sides, books_by, AreBooksOf, IsOpeningOf, KeepsCopy}
 use Rattle.link_words.specs.Sides.{sides_at}
 use Rattle.link_words.proofs.Closes.{stays, stays_at}
 use Rattle.link_words.proofs.Frames.{some_copy, each_set, numbers_set, keepers_set, manager_set}
@@ -178,7 +178,7 @@ module _ {B : Type 0} {kc : Coded B} {kz : DeskTables} (cd : Coded (PlacedDesk k
 
   -- the manager has the four turns, and its sides hold nothing: it loads the era, and the books are told where it is closed
   pub begins : (n id : ℕ) (me : SeatState) (o : Mover me.0) (x u : SenderSide) (y v : ReceiverSide) → o.pass.call ≡ Gathers (both_sides x y) (both_sides u v) → y.hands ≡ [] → v.hands ≡ []
-      → Allows (WordsRule cd desk z) n id me 1 (λ w. w) (BeginsReopeningBy me o (both_sides x y) (both_sides u v))
+      → Allows (WordsRule cd desk z) n id me 1 (λ w. w) (λ w me'. BeginsReopeningBy me o (both_sides x y) (both_sides u v) w me' × KeepsCopy me me')
   begins n id me o x u y v call bare_host bare_remote st (m, p, r) wide at _ =
       let a = both_sides x y in let b = both_sides u v in
       let h : IsCallOf m p o.pass.number (Gathers a b) = subst (IsCallOf m p o.pass.number) call (r.turns.calls id o.place o.pass (me.0, at, o.here)) in
@@ -202,7 +202,7 @@ module _ {B : Type 0} {kc : Coded B} {kz : DeskTables} (cd : Coded (PlacedDesk k
           books side.Remote = books_are m.to_remote u v r.to_remote.rings h.3
 
       go : IsCallOf m p o.pass.number (Gathers (both_sides x y) (both_sides u v)) → Knows cd m st.views id me.0 → get_or st.words 1 0 ≡ era_word m.era → (live : Bool) → m.era.is_live ≡ live
-          → (w : View) × (a : Act Slot) × Valid st.homes me.1 a × WordsRule cd desk z (stepped st 1 (get_or st.words 1 0) id me.1 w a) × BeginsReopeningBy me o (both_sides x y) (both_sides u v) (get_or st.words 1 0) (w, carried_after me.1 a)
+          → (w : View) × (a : Act Slot) × Valid st.homes me.1 a × WordsRule cd desk z (stepped st 1 (get_or st.words 1 0) id me.1 w a) × (BeginsReopeningBy me o (both_sides x y) (both_sides u v) (get_or st.words 1 0) (w, carried_after me.1 a) × KeepsCopy me (w, carried_after me.1 a))
       go h knows word false shut = (
         _,
         keeps,
@@ -217,19 +217,19 @@ module _ {B : Type 0} {kc : Coded B} {kz : DeskTables} (cd : Coded (PlacedDesk k
           h.3,
         )
             (λ i k. ap (has_for_manager i) call ∙ minds x u y v i),
-        (m.era, word, sym knows.inc, r.numbers.short, knows.closed, (λ _. (refl, told h knows)), λ live. absurd (true-false (sym live ∙ shut))),
+        ((m.era, word, sym knows.inc, r.numbers.short, knows.closed, (λ _. (refl, told h knows)), λ live. absurd (true-false (sym live ∙ shut))), λ k none_out was. ap Some (sym (knows.copy k was none_out))),
       )
       go h knows word true live = (
         me.0,
         keeps,
         tt,
         stays cd desk z st m p r 1 (get_or st.words 1 0) id me.1 me.0 Nothing at refl tt refl,
-        (m.era, word, sym knows.inc, r.numbers.short, knows.closed, (λ shut. absurd (true-false (sym live ∙ shut))), λ _. refl),
+        ((m.era, word, sym knows.inc, r.numbers.short, knows.closed, (λ shut. absurd (true-false (sym live ∙ shut))), λ _. refl), λ k none_out was. was),
       )
 
   -- one word more is reset, whatever word comes next
   pub resets : (n id : ℕ) (me : SeatState) (o : Mover me.0) (q inc i new : ℕ) (a b : LaneSides) → o.pass.call ≡ Reopens q inc a b → i ≡ 6 + q → get_elem? (fresh_of z) q ≡ some new
-      → Allows (WordsRule cd desk z) n id me i (λ _. new) (λ _ me'. me' ≡ (with_pass me.0 o (with_call o.pass (Reopens (suc q) inc a b)) me'.0.copy, me.1))
+      → Allows (WordsRule cd desk z) n id me i (λ _. new) (λ _ me'. (me' ≡ (with_pass me.0 o (with_call o.pass (Reopens (suc q) inc a b)) me'.0.copy, me.1)) × KeepsCopy me me')
   resets n id me o q inc i new a b call at_word is_fresh st (m, p, r) wide at _ =
       let h : IsCallOf m p o.pass.number (Reopens q inc a b) = subst (IsCallOf m p o.pass.number) call (r.turns.calls id o.place o.pass (me.0, at, o.here)) in
       let fresh = fresh_block desk m in let old = reset_block (lane_words m.to_host) (lane_words m.to_remote) in
@@ -264,7 +264,7 @@ module _ {B : Type 0} {kc : Coded B} {kz : DeskTables} (cd : Coded (PlacedDesk k
                 short = r.numbers.short;
               }),
         ),
-        refl,
+        (refl, λ k none_out was. ap Some (sym ((r.numbers.manager id me.0 at (o.place, o.pass, o.here, h.0)).copy k was none_out))),
       )
 
   -- the era is opened, where all is reset and nothing is held: the one step of the ring form

@@ -202,6 +202,10 @@ BeginsReopening me n me' = (era : Era) × (n ≡ era_word era) × (era.inc ≡ m
     × AreBooksOf me.0 (λ e. books_by (sides_of (manager_call me) e)))
     × (era.is_live ≡ true → me' ≡ me)
 
+-- the manager's copy stays, where none of its callers is out: the state of the link is the same
+abbrev pub KeepsCopy : SeatState → SeatState → Type 0
+KeepsCopy me me' = (k : LinkCopy) → me.0.out ≡ [] → me.0.copy ≡ Some k → me'.0.copy ≡ Some k
+
 -- so many words are reset, and the next is to be this
 pub record MayReset (number new : ℕ) (me : SeatState) : Type 0 where
   pub inc : ℕ

@@ -42,18 +42,18 @@ impl<D: Desk> Play<Slot, View> for TellsLeavesForManager<D> {
 pub struct TellsBeginsReopening;
 
 impl Play<Slot, View> for TellsBeginsReopening {
-    ghost use Rattle.link_words.specs.Reopens.{BeginsReopening};
+    ghost use Rattle.link_words.specs.Reopens.{BeginsReopening, KeepsCopy};
 
-    ghost then = { λ st m r m'. BeginsReopening m r m' };
+    ghost then = { λ st m r m'. BeginsReopening m r m' × KeepsCopy m m' };
 }
 
 /// A word is reset.
 pub struct TellsResetsWord;
 
 impl Play<Slot, View> for TellsResetsWord {
-    ghost use Rattle.link_words.specs.Reopens.{ResetsWord};
+    ghost use Rattle.link_words.specs.Reopens.{ResetsWord, KeepsCopy};
 
-    ghost then = { λ st m r m'. ResetsWord m m' };
+    ghost then = { λ st m r m'. ResetsWord m m' × KeepsCopy m m' };
 }
 
 /// The next incarnation is opened.

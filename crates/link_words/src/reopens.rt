@@ -2,7 +2,7 @@
 ghost use Rattle.std.specs.Prelude.{◌≡◌, ◌≤◌, ◌<◌, ◌+◌, ℕ};
 ghost use Rattle.link_words.specs.Deeds.{ManagerTakes, ManagerLeaves, Nothing};
 ghost use Rattle.link_words.specs.Layouts.{place_in};
-ghost use Rattle.link_words.specs.Reopens.{ManagerDoes, ManagerTakesTurn, ManagerLeavesTurn, MayGather, MayLeaveTurn, MayBegin, BeginsReopening, MayReset, ResetsWord, MayOpen, OpensEra, OpensLink};
+ghost use Rattle.link_words.specs.Reopens.{ManagerDoes, ManagerTakesTurn, ManagerLeavesTurn, MayGather, MayLeaveTurn, MayBegin, BeginsReopening, KeepsCopy, MayReset, ResetsWord, MayOpen, OpensEra, OpensLink};
 ghost use Rattle.link_words.specs.Steps.{HasWord, StoresWord, turn_number};
 ghost use Rattle.link_words.specs.Words.{words_in};
 
@@ -91,6 +91,7 @@ pub fn begin_reopening<D: Desk>(table: &LinkTable<D>, manager: &mut LinkSeat) ->
     requires manager { MayBegin manager.old.me }
     ensures same { (manager.new.table_id ≡ manager.old.table_id) × (manager.new.id ≡ manager.old.id) }
     ensures told { BeginsReopening manager.old.me result manager.new.me }
+    ensures copy { KeepsCopy manager.old.me manager.new.me }
 {
     table.load::<TellsBeginsReopening>(manager, ERA_PLACE)
 }
@@ -102,6 +103,7 @@ pub fn reset_index<D: Desk>(table: &LinkTable<D>, manager: &mut LinkSeat, number
     requires manager { MayReset number new manager.old.me }
     ensures same { (manager.new.table_id ≡ manager.old.table_id) × (manager.new.id ≡ manager.old.id) }
     ensures told { ResetsWord manager.old.me manager.new.me }
+    ensures copy { KeepsCopy manager.old.me manager.new.me }
 {
     let word = reset_place(number);
     table.store::<TellsResetsWord>(manager, word, new);
