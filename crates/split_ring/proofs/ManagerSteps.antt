@@ -5,6 +5,7 @@ use base.Stored.{Coded}
 use Rattle.rp_base.specs.declared.kinds.End.{End}
 use Rattle.rp_base.specs.declared.kinds.End.TheVariants as side
 use Rattle.lane_model.specs.declared.lane_links.LaneLink.{LaneLink}
+use Rattle.lane_model.specs.declared.recoveries.LaneTurn.{LaneTurn}
 use Rattle.lane_model.specs.declared.recoveries.LaneTurn.TheVariants as lane_turn
 use Rattle.lane_model.specs.declared.stages.Receiving.{Receiving}
 use Rattle.lane_model.specs.declared.stages.Turn.{Turn}
@@ -32,7 +33,7 @@ use Rattle.link_words.specs.PlacedLinks.{KnowsState, IsSameCarrier, placed_link}
 use Rattle.link_words.specs.Reopens.{ManagerAt, ManagerDoes, gathered, manager_place}
 use Rattle.link_words.specs.Sides.{no_sides, sides_at}
 use Rattle.link_words.specs.Rule.{IsCallOf}
-use Rattle.link_words.specs.Steps.{IsStepOf, HasWord, StoresWord}
+use Rattle.link_words.specs.Steps.{IsStepOf, HasWord, StoresWord, turn_number}
 use Rattle.link_words.specs.Turns.{turns_in}
 use Rattle.link_words.specs.Words.{lane_to, receiver_slot, receiver_word, turn_word, words_of}
 use Rattle.link_words.proofs.Apart.{found_apart}
@@ -70,9 +71,15 @@ module _ {D : Type 0} (coded : Coded D) (meaning : DeskMeaning D) where
   from_slots : (v : View) (a b : List (ℕ × Slot)) (Reads : Links (v, a) → Links (v, a) → Type 0) (d : Deed) (me' : SeatState) → ManagerDoes coded meaning (v, a) Reads d me' → ManagerDoes coded meaning (v, b) Reads d me'
   from_slots v a b Reads d me' s = record { state = s.state; sound = s.sound; read = s.read; may = s.may; before = s.before; after = s.after; copy = s.copy }
 
-  pub frees_from : (e : End) (slots : List (ℕ × Slot)) (me me1 me2 : SeatState) → me1 ≡ (me.0, slots) → FreesTurn coded meaning lane_turn.Receiver e me1 me2 → FreesTurn coded meaning lane_turn.Receiver e me me2
-  frees_from e slots me me1 me2 out s =
-      from_slots me.0 slots me.1 (StoresWord (place_in (receiver_word e)) 0) (ManagerLeaves lane_turn.Receiver e) me2 (subst (λ (x : SeatState). FreesTurn coded meaning lane_turn.Receiver e x me2) out s)
+  pub frees_from : (which : LaneTurn) (e : End) (slots : List (ℕ × Slot)) (me me1 me2 : SeatState) → me1 ≡ (me.0, slots) → FreesTurn coded meaning which e me1 me2 → FreesTurn coded meaning which e me me2
+  frees_from which e slots me me1 me2 out s =
+      from_slots me.0 slots me.1 (StoresWord (place_in (turn_number which e)) 0) (ManagerLeaves which e) me2 (subst (λ (x : SeatState). FreesTurn coded meaning which e x me2) out s)
+
+  -- a turn was found free, whatever is in the slots after
+  pub finds_to : (which : LaneTurn) (e : End) (n : ℕ) (me me1 me2 : SeatState) (slots : List (ℕ × Slot)) → n ≡ 0 → me2 ≡ (me1.0, slots) → ManagerDoes coded meaning me (HasWord (place_in (turn_number which e)) n) (ManagerTakes which e) me1 → FindsTurnFree coded meaning which e me me2
+  finds_to which e n me me1 me2 slots free out s =
+      step_to me (HasWord (place_in (turn_number which e)) 0) (ManagerTakes which e) me1 me2 (sym (ap (λ (s : SeatState). s.0) out))
+      (subst (λ (k : ℕ). ManagerDoes coded meaning me (HasWord (place_in (turn_number which e)) k) (ManagerTakes which e) me1) free s)
 
   -- the state of a step is the one that the manager knew
   pub state_known : (me : SeatState) (Reads : Links me → Links me → Type 0) (d : Deed) (me' : SeatState) (m : LaneLink (RingState D)) (s : ManagerDoes coded meaning me Reads d me') → KnowsState coded me.0 m → s.state ≡ placed_link coded me.0.sizes.desks m

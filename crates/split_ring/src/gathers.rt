@@ -63,6 +63,7 @@ impl<D: Desk> SharedLink<D> {
         requires manager { MayGather seat.old.me }
         ensures seat { IsSeatOf self.now.table.shared.table_id self.now.sizes seat.new.table_id seat.new.me }
         ensures taken { IfOk result (λ side. TakesSide lane (λ g. record g { sender = Some side }) (sender_slot lane) seat.old.me seat.new.me) }
+        ensures step { IfOk result (λ _. FindsTurnFree D.row.coded D.meaning lane_turn.Sender lane seat.old.me seat.new.me) }
         ensures met { IfErr result (λ holder. (seat.new.me ≡ seat.old.me) × Meets D.row.coded D.meaning lane_turn.Sender lane holder seat.old.me) }
         ensures holder { IfErr result (λ holder. IsHolderIn seat.old.me.0 holder) }
     {
@@ -105,6 +106,7 @@ impl<D: Desk> SharedLink<D> {
         requires manager { (v : View) × (a : LaneSides) × (b : LaneSides) × (slots : List (ℕ × Slot)) × IsCalling v (Gathers a b) ((sender_slot lane, Empty) ∷ slots) seat.old.me × ((sides_at lane a b).sender ≡ Some side) }
         ensures seat { IsSeatOf self.now.table.shared.table_id self.now.sizes seat.new.table_id seat.new.me }
         ensures put { PutsSide lane (λ g. record g { sender = None }) (sender_slot lane) seat.old.me seat.new.me }
+        ensures step { FreesTurn D.row.coded D.meaning lane_turn.Sender lane seat.old.me seat.new.me }
     {
         let table = &self.table.shared;
         drop(table.exchange(seat, sender_slot(lane), Slot::Sender(side)));

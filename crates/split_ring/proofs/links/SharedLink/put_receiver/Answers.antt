@@ -1,3 +1,4 @@
+use Rattle.lane_model.specs.declared.recoveries.LaneTurn.TheVariants as lane_turn
 use Rattle.link_words.specs.declared.rule.Slot.TheVariants.{Receiver}
 use Rattle.split_ring.proofs.ManagerSteps.{frees_from}
 use Rattle.split_ring.proofs.Gathering.{leave_receiver, put_receiver_is}
@@ -12,4 +13,4 @@ pub returns-clause-put : goal.returns-clause-put
 returns-clause-put g c = put_receiver_is c.args.lane c.receiver_slot.result (Receiver c.args.side) c.args.seat.now.me c.exchange.new.seat.me c.leave_for_manager.new.manager.me c.exchange.ensures.3 c.leave_for_manager.ensures.told
 
 pub returns-clause-step : goal.returns-clause-step
-returns-clause-step g c = frees_from g.row.D.coded g.D.Desk.meaning c.args.lane _ c.args.seat.now.me c.exchange.new.seat.me c.leave_for_manager.new.manager.me c.exchange.ensures.3 c.leave_for_manager.ensures.step
+returns-clause-step g c = frees_from g.row.D.coded g.D.Desk.meaning lane_turn.Receiver c.args.lane _ c.args.seat.now.me c.exchange.new.seat.me c.leave_for_manager.new.manager.me c.exchange.ensures.3 c.leave_for_manager.ensures.step

@@ -1,13 +1,8 @@
-use Rattle.std.proofs.Common.{◌≡◌, ℕ, ◌+◌, ◌-◌, ◌∙◌, sym, ap, subst, arith}
+use Rattle.std.proofs.Common.{◌≡◌, ◌+◌, ◌-◌, ◌∙◌, arith}
 use Rattle.lane_model.specs.declared.recoveries.LaneTurn.TheVariants as lane_turn
 use Rattle.link_words.specs.Words.{receiver_slot}
 use Rattle.link_words.specs.declared.rule.Slot.TheVariants.{Receiver}
-use Rattle.link_words.specs.Calls.{SeatState}
-use Rattle.link_words.specs.Deeds.{ManagerTakes}
-use Rattle.link_words.specs.Layouts.{place_in}
-use Rattle.link_words.specs.Reopens.{ManagerDoes}
-use Rattle.link_words.specs.Steps.{HasWord, turn_number}
-use Rattle.split_ring.proofs.ManagerSteps.{step_to}
+use Rattle.split_ring.proofs.ManagerSteps.{finds_to}
 use Rattle.split_ring.proofs.Gathering.{holder_in, out_in_use, receiver_out, lent_at, took_receiver, meets}
 use Rattle.split_ring.proofs.links.SharedLink.take_receiver.Goals as goal
 
@@ -36,6 +31,4 @@ returns-then-found-eq0-clause-users g c =
 
 pub returns-then-found-eq0-clause-step : goal.returns-then-found-eq0-clause-step
 returns-then-found-eq0-clause-step g c =
-    let me = c.args.seat.now.me in let me1 = c.take_for_manager-found.new.manager.me in let me2 = c.exchange.new.seat.me in
-    step_to g.row.D.coded g.D.Desk.meaning me _ _ me1 me2 (sym (ap (λ (s : SeatState). s.0) c.exchange.ensures.3))
-    (subst (λ (n : ℕ). ManagerDoes g.row.D.coded g.D.Desk.meaning me (HasWord (place_in (turn_number lane_turn.Receiver c.args.lane)) n) (ManagerTakes lane_turn.Receiver c.args.lane) me1) c.if-found-eq0.true c.take_for_manager-found.ensures.step)
+    finds_to g.row.D.coded g.D.Desk.meaning lane_turn.Receiver c.args.lane c.take_for_manager-found.result c.args.seat.now.me c.take_for_manager-found.new.manager.me c.exchange.new.seat.me _ c.if-found-eq0.true c.exchange.ensures.3 c.take_for_manager-found.ensures.step

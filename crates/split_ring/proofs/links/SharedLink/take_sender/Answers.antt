@@ -2,6 +2,7 @@ use Rattle.std.proofs.Common.{◌≡◌, ◌+◌, ◌-◌, ◌∙◌, arith}
 use Rattle.lane_model.specs.declared.recoveries.LaneTurn.TheVariants as lane_turn
 use Rattle.link_words.specs.Words.{other, sender_slot}
 use Rattle.link_words.specs.declared.rule.Slot.TheVariants.{Sender}
+use Rattle.split_ring.proofs.ManagerSteps.{finds_to}
 use Rattle.split_ring.proofs.Gathering.{holder_in, sender_out, lent_at, took_sender, meets}
 use Rattle.split_ring.proofs.links.SharedLink.take_sender.Goals as goal
 
@@ -22,3 +23,7 @@ returns-else-found-eq0-clause-met g c =
 
 pub returns-else-found-eq0-clause-holder : goal.returns-else-found-eq0-clause-holder
 returns-else-found-eq0-clause-holder g c = holder_in c.args.seat.now.me.0 (other c.args.lane) c.take_for_manager-found.result (c.take_for_manager-found.ensures.told.3 c.if-found-eq0.false)
+
+pub returns-then-found-eq0-clause-step : goal.returns-then-found-eq0-clause-step
+returns-then-found-eq0-clause-step g c =
+    finds_to g.row.D.coded g.D.Desk.meaning lane_turn.Sender c.args.lane c.take_for_manager-found.result c.args.seat.now.me c.take_for_manager-found.new.manager.me c.exchange.new.seat.me _ c.if-found-eq0.true c.exchange.ensures.3 c.take_for_manager-found.ensures.step
