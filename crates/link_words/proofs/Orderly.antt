@@ -8,7 +8,6 @@ use lib.ListN.{get_elem?}
 use base.Stored.{Coded}
 use Rattle.rp_base.specs.declared.kinds.End.{End}
 use Rattle.rp_base.specs.declared.kinds.End.TheVariants as side
-use Rattle.lane_model.specs.declared.stages.Turn.{Turn}
 use Rattle.lane_model.specs.declared.stages.Turn.TheVariants as turn
 use Rattle.lane_model.specs.Desks.{DeskMeaning}
 use Rattle.lane_model.specs.Lanes.{holder}
@@ -17,9 +16,6 @@ use Rattle.link_words.specs.declared.rule.Call.{Call}
 use Rattle.link_words.specs.declared.rule.Call.TheVariants.{Idle, Sends, Rests, Reclaims, EndsHeld, Receives, EndsReceive, EndsSend, EndsBoth, Reopens, Gathers}
 use Rattle.link_words.specs.declared.rule.LaneSides.{LaneSides}
 use Rattle.link_words.specs.declared.rule.LinkSizes.{LinkSizes}
-use Rattle.link_words.specs.declared.rule.Pass.{Pass}
-use Rattle.link_words.specs.declared.rule.ReceiverSide.{ReceiverSide}
-use Rattle.link_words.specs.declared.rule.SenderSide.{SenderSide}
 use Rattle.link_words.specs.declared.rule.Slot.{Slot}
 use Rattle.link_words.specs.declared.rule.View.{View}
 use Rattle.atomic_table.specs.Table.{State, Allows, stepped}
@@ -28,7 +24,7 @@ use Rattle.link_words.specs.Parts.{IsCallAt, HasGathered, has_for_manager}
 use Rattle.link_words.specs.PlacedDesks.{PlacedDesk}
 use Rattle.link_words.specs.Rule.{WordsRule}
 use Rattle.link_words.specs.Sides.{has_slot, is_there}
-use Rattle.link_words.specs.Turns.{LinkTurns, HasFourTurns, is_manager, turns_in}
+use Rattle.link_words.specs.Turns.{LinkTurns, is_manager, turns_in}
 use Rattle.link_words.specs.Words.{other, receiver_slot, sender_slot}
 use Rattle.link_words.specs.Orderly.{IsOrderly}
 
