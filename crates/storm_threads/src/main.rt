@@ -7,7 +7,10 @@ ghost use Rattle.storm_run.specs.Storms.{IsPlan};
 mod meetings;
 
 use crate::meetings::Meeting;
-use std::io;
+use std::alloc::Global;
+use std::io::{self, Write};
+use std::sync::Wait;
+use std::thread::Threads;
 use storm_run::{FreeGate, Gate, Plan, storm};
 
 fn main(rt: HostRuntime) -> io::Result<()> {
@@ -18,7 +21,7 @@ fn main(rt: HostRuntime) -> io::Result<()> {
         count: 2,
         num: 4,
     };
-    run(&rt, &pair, &meeting)?;
+    run(&rt, rt.alloc(), &pair, &meeting)?;
     println!(rt; "met: {}", meeting.has_met())?;
     let many = Plan {
         hosts: 3,
@@ -26,14 +29,19 @@ fn main(rt: HostRuntime) -> io::Result<()> {
         count: 500,
         num: 8,
     };
-    run(&rt, &many, &FreeGate)
+    run(&rt, rt.alloc(), &many, &FreeGate)
 }
 
 /// Runs a storm with this gate, and writes its report.
-fn run<G: Gate + Sync>(rt: &HostRuntime, plan: &Plan, gate: &G) -> io::Result<()>
+fn run<R: Threads + Wait + Print + Sync, G: Gate + Sync>(
+    rt: &R,
+    alloc: Global,
+    plan: &Plan,
+    gate: &G,
+) -> io::Result<()>
     requires { IsPlan plan.now }
 {
-    match storm(rt, rt.alloc(), plan, gate) {
+    match storm(rt, alloc, plan, gate) {
         Ok(report) => io::writer(rt).write_all(&report),
         Err(_) => println!(rt; "no memory"),
     }
