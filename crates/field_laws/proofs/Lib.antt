@@ -4,3 +4,6 @@ pub mod Lanes
 pub mod Steps
 pub mod Benches
 pub mod Acts
+pub mod Loads
+pub mod Actors
+pub mod Cores

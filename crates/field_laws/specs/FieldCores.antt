@@ -1,0 +1,77 @@
+-- The numbers and the bytes of a core that are within their types (own).
+use Rattle.std.specs.Prelude.{◌<◌, ◌≤◌, ◌^◌, ℕ, List, Option, IfSome, All}
+use Rattle.lane_model.specs.declared.calls.Wish.{Wish}
+use Rattle.lane_model.specs.declared.recoveries.ReopenFault.{ReopenFault}
+use Rattle.lane_model.specs.declared.recoveries.ReopenFault.TheVariants as reopen
+use Rattle.proc_state.specs.Lives.{CoreLife, most}
+use Rattle.core_actors.specs.Actors.{ActorsState}
+use Rattle.core_actors.specs.declared.progress.Driven.{Driven}
+use Rattle.core_actors.specs.declared.progress.Driven.TheVariants as driven
+use Rattle.crash_recover.specs.declared.core_answers.Crash.{Crash}
+use Rattle.crash_recover.specs.declared.core_answers.Crash.TheVariants as crash
+use Rattle.crash_recover.specs.declared.core_answers.Leave.{Leave}
+use Rattle.crash_recover.specs.declared.core_answers.Leave.TheVariants as leave
+use Rattle.crash_recover.specs.declared.core_answers.Start.{Start}
+use Rattle.crash_recover.specs.declared.core_answers.Start.TheVariants as start
+use Rattle.crash_recover.specs.declared.core_faults.CoreFault.{CoreFault}
+use Rattle.crash_recover.specs.declared.core_faults.CoreFault.TheVariants as fault
+use Rattle.crash_recover.specs.Cores.{CoreState, LoadState}
+use Rattle.field_laws.specs.Fields.{AreBytes, IsFieldEnd, IsFieldWish}
+use Rattle.field_laws.specs.FieldBenches.{IsFieldBench}
+
+pub record IsFieldLife (life : CoreLife) : Type 0 where
+  pub users : life.users ≤ most
+  pub incarnation : life.incarnation ≤ most
+
+pub record IsFieldLoad (load : LoadState) : Type 0 where
+  pub memory : AreBytes load.memory
+  pub table : AreBytes load.table
+
+-- the calls that the actors are yet to make
+pub record AreFieldCalls (actors : ActorsState) : Type 0 where
+  pub host : All IsFieldWish actors.host_calls
+  pub worker : All IsFieldWish actors.worker_calls
+
+pub record IsFieldCore (core : CoreState) : Type 0 where
+  pub book : core.book < 2 ^ 64
+  pub life : IsFieldLife core.life
+  pub loaded : IfSome core.loaded IsFieldLoad
+  pub bench : IfSome core.bench IsFieldBench
+  pub calls : AreFieldCalls core.actors
+
+-- what a step of the actors was
+abbrev pub IsFieldDriven : Driven → Type 0
+IsFieldDriven driven.Idle = Unit {0}
+IsFieldDriven driven.Stepped = Unit {0}
+IsFieldDriven (driven.Ended caller ended) = (caller < 2 ^ 64) × IsFieldEnd ended
+IsFieldDriven (driven.Worker why) = Unit {0}
+IsFieldDriven (driven.Crashed kind) = Unit {0}
+
+abbrev pub IsFieldReopen : ReopenFault → Type 0
+IsFieldReopen (reopen.StillOpen era) = era.inc < 2 ^ 32
+IsFieldReopen (reopen.StillTurn caller) = caller < 2 ^ 64
+IsFieldReopen (reopen.StillHeld caller number) = (caller < 2 ^ 64) × (number < 2 ^ 64)
+IsFieldReopen reopen.IncarnationsSpent = Unit {0}
+IsFieldReopen reopen.NoMemory = Unit {0}
+
+-- what calls of a core answer; of what an image is refused for nothing is said
+abbrev pub IsFieldCoreFault : CoreFault → Type 0
+IsFieldCoreFault (fault.CallerOut caller) = caller < 2 ^ 64
+IsFieldCoreFault (fault.Reopen why) = IsFieldReopen why
+IsFieldCoreFault other = Unit {0}
+
+abbrev pub IsFieldStart : Start → Type 0
+IsFieldStart (start.Running inc) = inc < 2 ^ 64
+IsFieldStart (start.Attached inc) = inc < 2 ^ 64
+IsFieldStart (start.Users users) = users < 2 ^ 64
+IsFieldStart start.Detached = Unit {0}
+
+abbrev pub IsFieldLeave : Leave → Type 0
+IsFieldLeave (leave.Users users) = users < 2 ^ 64
+IsFieldLeave (leave.Last closed) = IfSome closed (λ inc. inc < 2 ^ 64)
+IsFieldLeave leave.Limit = Unit {0}
+
+abbrev pub IsFieldCrash : Crash → Type 0
+IsFieldCrash (crash.First closed) = IfSome closed (λ inc. inc < 2 ^ 64)
+IsFieldCrash crash.Already = Unit {0}
+IsFieldCrash crash.Limit = Unit {0}
