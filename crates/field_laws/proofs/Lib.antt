@@ -7,3 +7,4 @@ pub mod Acts
 pub mod Loads
 pub mod Actors
 pub mod Cores
+pub mod Drives
