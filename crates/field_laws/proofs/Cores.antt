@@ -60,7 +60,7 @@ use Rattle.core_laws.proofs.CoreMoves.{readied}
 use Rattle.core_laws.proofs.KeptCrashes.{reached_sound}
 use Rattle.field_laws.specs.Fields.{AreBytes, IsFieldLink, IsFieldWish}
 use Rattle.field_laws.specs.FieldBenches.{IsFieldBench}
-use Rattle.field_laws.specs.FieldCores.{AreFieldCalls, IsFieldCore, IsFieldCoreFault, IsFieldCrash, IsFieldLeave, IsFieldLife, IsFieldLoad, IsFieldReopen, IsFieldStart}
+use Rattle.field_laws.specs.FieldCores.{AreFieldCalls, IsFieldCore, IsFieldCoreFault, IsFieldCrash, IsFieldLeave, IsFieldLife, IsFieldLoad, IsFieldReopen, IsFieldStart, IsImageName}
 use Rattle.field_laws.proofs.Acts.{IsFieldRefusal, refusal_fields}
 use Rattle.field_laws.proofs.Benches.{caller_fields, crash_fields, new_fields, ready_fields, reopen_fields}
 use Rattle.field_laws.proofs.Lanes.{counts_small}
@@ -240,50 +240,51 @@ pair_fields : (names : List (List ℕ)) (book first : ℕ) (found : Option RingP
 pair_fields names book first None small few = tt
 pair_fields names book first (Some rings) small few = rings_fields names book first rings small few
 
-started_fields : (life : CoreLife) (core : CoreState) → IsFieldLife life → core.book < 2 ^ 64 → IfSome core.loaded IsFieldLoad → IsFieldCore (started_core life core)
-started_fields life core is small loaded =
+started_fields : (life : CoreLife) (core : CoreState) → IsFieldLife life → core.book < 2 ^ 64 → IfSome core.image IsImageName → IfSome core.loaded IsFieldLoad → IsFieldCore (started_core life core)
+started_fields life core is small called loaded =
     let few = is.incarnation in
     record {
       book = small;
       life = is;
+      image = called;
       loaded = loaded;
       bench = pair_fields (driver_names core.actors) core.book life.incarnation (loaded_rings core.loaded) small (omega (arith, few));
       calls = no_calls core _;
     }
 
-first_at : (life : CoreLife) (core : CoreState) (name : List ℕ) (found : Found) → IsFieldLife life → IfOk found AreBytes → IsFieldCore core → HoldsOut IsFieldStart (first_boot life core name found)
-first_at life core name found living are is =
+first_at : (life : CoreLife) (core : CoreState) (name : List ℕ) (found : Found) → IsFieldLife life → IsImageName name → IfOk found AreBytes → IsFieldCore core → HoldsOut IsFieldStart (first_boot life core name found)
+first_at life core name found living called are is =
     let few = living.incarnation in
     cond_both (is_offline core.life.state) _ _ (HoldsOut IsFieldStart)
     (λ _. refused IsFieldStart core (image_fault core found) _ is (image_fields core found)
-    (λ _. record { core = started_fields life (with_load core name (loaded_in core found)) living is.book (load_fields core found are); answer = omega (arith, few) }))
-    (λ _. record { core = started_fields life core living is.book is.loaded; answer = omega (arith, few) })
+    (λ _. record { core = started_fields life (with_load core name (loaded_in core found)) living is.book called (load_fields core found are); answer = omega (arith, few) }))
+    (λ _. record { core = started_fields life core living is.book is.image is.loaded; answer = omega (arith, few) })
 
-boot_at : (life : CoreLife) (answer : Result Power LifeFault) (core : CoreState) (name : List ℕ) (found : Found) → IsFieldLife life → IfOk answer IsFieldPower → IfOk found AreBytes → IsFieldCore core
+boot_at : (life : CoreLife) (answer : Result Power LifeFault) (core : CoreState) (name : List ℕ) (found : Found) → IsFieldLife life → IfOk answer IsFieldPower → IsImageName name → IfOk found AreBytes → IsFieldCore core
     → HoldsOut IsFieldStart (boot_as life answer core name found)
-boot_at life (Err why) core name found living told are is = record { core = is; answer = tt }
-boot_at life (Ok (power.Counted users)) core name found living told are is =
-    record { core = record { book = is.book; life = living; loaded = is.loaded; bench = is.bench; calls = is.calls }; answer = told }
-boot_at life (Ok power.First) core name found living told are is = first_at life core name found living are is
+boot_at life (Err why) core name found living told called are is = record { core = is; answer = tt }
+boot_at life (Ok (power.Counted users)) core name found living told called are is =
+    record { core = record { book = is.book; life = living; image = is.image; loaded = is.loaded; bench = is.bench; calls = is.calls }; answer = told }
+boot_at life (Ok power.First) core name found living told called are is = first_at life core name found living called are is
 
-pub boot_fields : (core : CoreState) (name : List ℕ) (found : Found) → IfOk found AreBytes → IsFieldCore core → HoldsOut IsFieldStart (boot_of core name found)
+pub boot_fields : (core : CoreState) (name : List ℕ) (found : Found) → IsImageName name → IfOk found AreBytes → IsFieldCore core → HoldsOut IsFieldStart (boot_of core name found)
 unfolding boot_of
-boot_fields core name found are is =
+boot_fields core name found called are is =
     let after = boot_to_life (line_of core.life.state).boot core.life is.life in
-    boot_at (life_after_boot core.life).life (life_after_boot core.life).answer core name found after.life after.answer are is
+    boot_at (life_after_boot core.life).life (life_after_boot core.life).answer core name found after.life after.answer called are is
 
-handover_at : (life : CoreLife) (answer : Result (Unit {0}) LifeFault) (core : CoreState) (name : List ℕ) (found : Found) → IsFieldLife life → IfOk found AreBytes → IsFieldCore core
+handover_at : (life : CoreLife) (answer : Result (Unit {0}) LifeFault) (core : CoreState) (name : List ℕ) (found : Found) → IsFieldLife life → IsImageName name → IfOk found AreBytes → IsFieldCore core
     → HoldsOut IsFieldStart (handover_as life answer core name found)
-handover_at life (Err why) core name found living are is = record { core = is; answer = tt }
-handover_at life (Ok done) core name found living are is =
+handover_at life (Err why) core name found living called are is = record { core = is; answer = tt }
+handover_at life (Ok done) core name found living called are is =
     refused IsFieldStart core (image_fault core found) _ is (image_fields core found)
-    (λ _. record { core = record { book = is.book; life = living; loaded = load_fields core found are; bench = is.bench; calls = is.calls }; answer = tt })
+    (λ _. record { core = record { book = is.book; life = living; image = called; loaded = load_fields core found are; bench = is.bench; calls = is.calls }; answer = tt })
 
-pub handover_fields : (core : CoreState) (name : List ℕ) (found : Found) → IfOk found AreBytes → IsFieldCore core → HoldsOut IsFieldStart (handover_of core name found)
+pub handover_fields : (core : CoreState) (name : List ℕ) (found : Found) → IsImageName name → IfOk found AreBytes → IsFieldCore core → HoldsOut IsFieldStart (handover_of core name found)
 unfolding handover_of
-handover_fields core name found are is =
+handover_fields core name found called are is =
     let after = handover_life (line_of core.life.state).handover core.life is.life in
-    handover_at (life_after_handover core.life).life (life_after_handover core.life).answer core name found after.life are is
+    handover_at (life_after_handover core.life).life (life_after_handover core.life).answer core name found after.life called are is
 
 -- ---- recoveries
 
@@ -323,7 +324,7 @@ map_fields None f each is = is
 map_fields (Some bench) f each is = each bench is
 
 readied_fields : (core : CoreState) → IsFieldCore core → IsFieldCore (readied_core core)
-readied_fields core is = record { book = is.book; life = is.life; loaded = is.loaded; bench = map_fields core.bench readied_bench ready_fields is.bench; calls = is.calls }
+readied_fields core is = record { book = is.book; life = is.life; image = is.image; loaded = is.loaded; bench = map_fields core.bench readied_bench ready_fields is.bench; calls = is.calls }
 
 clear_at : (bench : BenchState) (why : Option ReclaimRefusal) → unopened_unless bench why ≡ None → unopened_by (renewed_unless bench why).link ≡ None
 clear_at bench None clear = clear
@@ -350,6 +351,7 @@ recovery_fields core found are reached is =
       core = record {
         book = is.book;
         life = after.life;
+        image = is.image;
         loaded = load_fields core found are;
         bench = found_reopened core.bench (core.life.incarnation == most) opens is.bench;
         calls = no_calls core _;
@@ -393,7 +395,7 @@ leave_at : (may_step : Bool) (core gone : CoreState) (life : CoreLife) (answer :
     → HoldsOut IsFieldLeave (leave_as may_step core gone life answer)
 leave_at may_step core gone life (Err why) living told is last = record { core = is; answer = tt }
 leave_at may_step core gone life (Ok (left.Users users)) living told is last =
-    record { core = record { book = is.book; life = living; loaded = is.loaded; bench = is.bench; calls = is.calls }; answer = told }
+    record { core = record { book = is.book; life = living; image = is.image; loaded = is.loaded; bench = is.bench; calls = is.calls }; answer = told }
 leave_at may_step core gone life (Ok left.Last) living told is last =
     refused IsFieldLeave core (option_map fault.CallerOut (option_and_then caller_out core.bench)) _ is (out_fields (option_and_then caller_out core.bench) (out_at core.bench))
     (λ _. closed_at may_step core gone (live_inc core.bench) (live_small core.bench is.bench) is last)
@@ -403,14 +405,14 @@ unfolding shutdown_of
 shutdown_fields may_step core is =
     let after = leave_to_life life_fault.NotPowered (line_of core.life.state).shutdown core.life is.life in
     leave_at may_step core (unloaded_core (life_after_shutdown core.life).life core) (life_after_shutdown core.life).life (life_after_shutdown core.life).answer after.life after.answer is
-    (record { book = is.book; life = after.life; loaded = tt; bench = tt; calls = is.calls })
+    (record { book = is.book; life = after.life; image = tt; loaded = tt; bench = tt; calls = is.calls })
 
 pub detach_fields : (may_step : Bool) (core : CoreState) → IsFieldCore core → HoldsOut IsFieldLeave (detach_of may_step core)
 unfolding detach_of
 detach_fields may_step core is =
     let after = leave_to_life life_fault.NotAttached (line_of core.life.state).detach core.life is.life in
     leave_at may_step core (detached_core (life_after_detach core.life).life core) (life_after_detach core.life).life (life_after_detach core.life).answer after.life after.answer is
-    (record { book = is.book; life = after.life; loaded = is.loaded; bench = tt; calls = is.calls })
+    (record { book = is.book; life = after.life; image = is.image; loaded = is.loaded; bench = tt; calls = is.calls })
 
 -- ---- crashes
 
@@ -420,7 +422,7 @@ pub record HoldsReport (out : CoreOutcome Crash LifeFault) : Type 0 where
   pub answer : IfOk out.answer IsFieldCrash
 
 crashed_fields : (life : CoreLife) (core : CoreState) → IsFieldLife life → IsFieldCore core → IsFieldCore (crashed_core life core)
-crashed_fields life core living is = record { book = is.book; life = living; loaded = is.loaded; bench = map_fields core.bench crashed_bench crash_fields is.bench; calls = is.calls }
+crashed_fields life core living is = record { book = is.book; life = living; image = is.image; loaded = is.loaded; bench = map_fields core.bench crashed_bench crash_fields is.bench; calls = is.calls }
 
 first_crash : (may_step : Bool) (life : CoreLife) (core : CoreState) (found : Option BenchState) → IsFieldLife life → IfSome found IsFieldBench → IsFieldCore core → HoldsReport (first_report may_step life core found)
 first_crash may_step life core None living bench is = record { core = crashed_fields life core living is; answer = tt }
@@ -442,4 +444,4 @@ report_fields may_step core is =
 
 pub new_core_fields : (regions : List Region) (kinds : List Declared) (book : ℕ) → book < 2 ^ 64 → IsFieldCore (new_core regions kinds book)
 new_core_fields regions kinds book small =
-    record { book = small; life = new_life_fields; loaded = tt; bench = tt; calls = record { host = All-nil IsFieldWish; worker = All-nil IsFieldWish } }
+    record { book = small; life = new_life_fields; image = tt; loaded = tt; bench = tt; calls = record { host = All-nil IsFieldWish; worker = All-nil IsFieldWish } }

@@ -71,6 +71,7 @@ host_at core (Some bench) reached here is fields =
       core = record {
         book = is.book;
         life = is.life;
+        image = is.image;
         loaded = is.loaded;
         bench = left.bench;
         calls = host_fields (host_begun bench core.actors) walk.bench walk.reach left.bench.link left.reach (host_begun_fields bench core.actors is.calls);
@@ -84,7 +85,7 @@ worker_at core (Some bench) reached here is fields =
     let walk = link_step bench 1 (first_or_take core.actors.worker_calls) in
     let left = link_fields bench 1 (first_or_take core.actors.worker_calls) here fields (first_sendable core.actors.worker_calls reached.calls.worker) (first_fields core.actors.worker_calls is.calls.worker) in
     record {
-      core = record { book = is.book; life = is.life; loaded = is.loaded; bench = left.bench; calls = worker_fields core.actors walk.bench walk.reach left.reach is.calls };
+      core = record { book = is.book; life = is.life; image = is.image; loaded = is.loaded; bench = left.bench; calls = worker_fields core.actors walk.bench walk.reach left.reach is.calls };
       driven = by_reach 1 walk.reach (omega arith) left.reach;
     }
 
@@ -105,6 +106,7 @@ run_fields core (Some load) is here =
       core = record {
         book = is.book;
         life = is.life;
+        image = is.image;
         loaded = record { memory = memory_fields load.memory map (is_some core.bench) core.actors.worker here.memory; table = here.table };
         bench = is.bench;
         calls = ran_fields core.actors load.memory map (is_some core.bench) here.memory is.calls;
@@ -139,7 +141,7 @@ drive_fields core reached is =
     cond_both (is_idle core) _ _ HoldsDrive (λ _. record { core = is; driven = tt })
     (λ _. actor_fields (acting core) (with_turn_after (acting core) core)
     (record { bench = reached.bench; calls = record { host = reached.calls.host; worker = reached.calls.worker } })
-    (record { book = is.book; life = is.life; loaded = is.loaded; bench = is.bench; calls = record { host = is.calls.host; worker = is.calls.worker } }))
+    (record { book = is.book; life = is.life; image = is.image; loaded = is.loaded; bench = is.bench; calls = record { host = is.calls.host; worker = is.calls.worker } }))
 
 -- ---- acts on the link of a core
 
@@ -181,7 +183,7 @@ core_act_fields core bench steps asked fit fields reached here is =
     let holds : HoldsBench bench = record { reached = reached; fields = here } in
     let left = act_kept actors_after_end 2 IsFit HoldsBoth both_steps bench core.actors steps asked (fit_calls asked fit fields) (record { holds = holds; calls = is.calls }) in
     record {
-      left = record { book = is.book; life = is.life; loaded = is.loaded; bench = left.holds.fields; calls = left.calls };
+      left = record { book = is.book; life = is.life; image = is.image; loaded = is.loaded; bench = left.holds.fields; calls = left.calls };
       bench = left.holds.fields;
       answer = act_told actors_after_end 2 bench core.actors steps asked fit fields holds;
     }

@@ -8,3 +8,4 @@ pub mod Loads
 pub mod Actors
 pub mod Cores
 pub mod Drives
+pub mod Images

@@ -1,5 +1,5 @@
 -- The numbers and the bytes of a core that are within their types (own).
-use Rattle.std.specs.Prelude.{◌<◌, ◌≤◌, ◌^◌, ℕ, List, Option, IfSome, All}
+use Rattle.std.specs.Prelude.{◌≡◌, true, ◌<◌, ◌≤◌, ◌^◌, ℕ, List, Option, IfSome, All}
 use Rattle.lane_model.specs.declared.calls.Wish.{Wish}
 use Rattle.lane_model.specs.declared.recoveries.ReopenFault.{ReopenFault}
 use Rattle.lane_model.specs.declared.recoveries.ReopenFault.TheVariants as reopen
@@ -16,6 +16,7 @@ use Rattle.crash_recover.specs.declared.core_answers.Start.TheVariants as start
 use Rattle.crash_recover.specs.declared.core_faults.CoreFault.{CoreFault}
 use Rattle.crash_recover.specs.declared.core_faults.CoreFault.TheVariants as fault
 use Rattle.crash_recover.specs.Cores.{CoreState, LoadState}
+use Rattle.word_kinds.specs.Spellings.{is_name}
 use Rattle.field_laws.specs.Fields.{AreBytes, IsFieldEnd, IsFieldWish}
 use Rattle.field_laws.specs.FieldBenches.{IsFieldBench}
 
@@ -32,9 +33,14 @@ pub record AreFieldCalls (actors : ActorsState) : Type 0 where
   pub host : All IsFieldWish actors.host_calls
   pub worker : All IsFieldWish actors.worker_calls
 
+-- the name of an image, as scripts spell it
+abbrev pub IsImageName : List ℕ → Type 0
+IsImageName name = is_name name ≡ true
+
 pub record IsFieldCore (core : CoreState) : Type 0 where
   pub book : core.book < 2 ^ 64
   pub life : IsFieldLife core.life
+  pub image : IfSome core.image IsImageName
   pub loaded : IfSome core.loaded IsFieldLoad
   pub bench : IfSome core.bench IsFieldBench
   pub calls : AreFieldCalls core.actors
