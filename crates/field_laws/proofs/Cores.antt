@@ -191,7 +191,7 @@ unopened_fields link sound is =
 
 -- ---- outcomes
 
-abbrev IsFieldResult : {A : Type 0} → (A → Type 0) → Result A CoreFault → Type 0
+abbrev pub IsFieldResult : {A : Type 0} → (A → Type 0) → Result A CoreFault → Type 0
 IsFieldResult P (Ok told) = P told
 IsFieldResult P (Err why) = IsFieldCoreFault why
 

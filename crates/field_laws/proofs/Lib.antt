@@ -9,3 +9,5 @@ pub mod Actors
 pub mod Cores
 pub mod Drives
 pub mod Images
+pub mod Rings
+pub mod Tables

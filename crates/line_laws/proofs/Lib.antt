@@ -1,2 +1,6 @@
 pub mod Spelled
 pub mod SaidScripts
+pub mod Known
+pub mod SpelledCalls
+pub mod SpelledCores
+pub mod SpelledRuns

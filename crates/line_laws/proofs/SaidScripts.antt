@@ -1,12 +1,12 @@
 -- What the grammar of scripts says of the names and the bytes of a command: names are spelled as names, and bytes are bytes.
-use Rattle.std.proofs.Common.{◌≡◌, ℕ, ◌+◌, ◌*◌, ◌<◌, ◌≤◌, ◌==◌, ◌&&◌, ◌||◌, Bool, true, false, not, cond, length, List, [], ◌∷◌, ◌++◌, drop, replicate, Option, Some, None, IfSome, Result, Ok, Err, inl, inr, refl, sym, ap, subst, ◌∙◌, bytes_eq, codes, arith}
+use Rattle.std.proofs.Common.{◌≡◌, ℕ, suc, ◌+◌, ◌*◌, ◌<◌, ◌≤◌, ◌==◌, ◌&&◌, ◌||◌, Bool, true, false, not, cond, length, List, [], ◌∷◌, ◌++◌, drop, replicate, Option, Some, None, IfSome, Result, Ok, Err, inl, inr, refl, sym, ap, subst, ◌∙◌, bytes_eq, codes, arith}
 use lib.Dec.{ltb as nat_lt}
 use Rattle.std.specs.Prelude.{All, find, nat_le, option_map, unwrap_or}
 use Rattle.std.specs.List.{list_all}
 use Rattle.std.specs.Result.{IfOk}
-use Rattle.std.proofs.lemmas.Bool.{cases_lt, cond_both}
+use Rattle.std.proofs.lemmas.Bool.{cases_lt, cond_both, ltb-false}
 use Rattle.std.proofs.lemmas.Bool.Decides.{nat_tests}
-use Rattle.std.proofs.lemmas.List.{drop_more, drop_all}
+use Rattle.std.proofs.lemmas.List.{drop_more, drop_all, length-append}
 use Rattle.std.proofs.lemmas.List.Elements.{All-append, All-cons, All-from_recursion, All-nil, All-push, All-replicate}
 use Rattle.rp_base.specs.declared.limits.TheConstants.{SCRIPT_MOST, SCRIPT_LINES_MOST}
 use Rattle.word_kinds.specs.declared.causes.Cause.{Cause}
@@ -19,7 +19,6 @@ use Rattle.word_kinds.specs.Places.{bytes_at, name_at, word_at}
 use Rattle.word_kinds.specs.Spellings.{decimal_of, hex_value, is_digit, is_letter, is_name, is_name_byte, words_of}
 use Rattle.script_lang.specs.declared.commands.Command.{Command}
 use Rattle.script_lang.specs.declared.recipes.RecipeLine.{RecipeLine}
-use Rattle.script_lang.specs.declared.recipes.RecipeLine.TheVariants as recipe
 use Rattle.script_lang.specs.CallForms.{begin_command, begin_kinds, call_form_named, call_forms, call_keyword}
 use Rattle.script_lang.specs.Forms.{command_of, form_named, keyword, kinds, plain_forms}
 use Rattle.script_lang.specs.Lines.{begin_form, fitting_form, fitting_line, form_of, form_of_line, form_or, inside_cause, is_printable, is_skipped, misfit, outside_cause, recipe_form_of_line, unless_misfit}
@@ -39,17 +38,11 @@ use Rattle.script_run.specs.declared.acts.NamedAct.TheVariants as under
 use Rattle.script_run.specs.Acts.{line_of}
 use Rattle.field_laws.specs.Fields.{AreBytes}
 use Rattle.field_laws.proofs.Bytes.{more_bytes, no_bytes}
+use Rattle.field_laws.proofs.Images.{IsBytesLine}
 use Rattle.field_laws.proofs.Sides.{find_has}
 use Rattle.line_laws.proofs.Spelled.{IsName}
 
 -- ---- what is known of what a command is about
-
-abbrev pub IsSaidRecipe : RecipeLine → Type 0
-IsSaidRecipe (recipe.Load da bytes memory_len) = AreBytes bytes
-IsSaidRecipe (recipe.Carveout da len name) = AreBytes name
-IsSaidRecipe (recipe.Devmem da pa len name) = AreBytes name
-IsSaidRecipe (recipe.Trace da len name) = AreBytes name
-IsSaidRecipe other = Unit {0}
 
 abbrev pub IsSaidCall : CallWish (List ℕ) → Type 0
 IsSaidCall (call.Send source destination payload) = AreBytes payload
@@ -74,7 +67,7 @@ IsSaidAct (under.Show shown) = Unit {0}
 IsSaidAct (under.Core asked) = IsSaidCore asked
 
 abbrev pub IsSaidLine : Line (List RecipeLine) (List ℕ) → Type 0
-IsSaidLine (line.Image name lines) = IsName name × All IsSaidRecipe lines
+IsSaidLine (line.Image name lines) = IsName name × All IsBytesLine lines × (length lines ≤ SCRIPT_LINES_MOST)
 IsSaidLine (line.Quiet set) = Unit {0}
 IsSaidLine (line.Dump name image) = IsName name × IsName image
 IsSaidLine (line.On name done) = IsName name × IsSaidAct done
@@ -208,24 +201,24 @@ form_said words =
     (λ found. IfOk found (IsSaidForm kinds command_of words)) (λ _. begin_said words)
     (λ _. or_said (IsSaidForm kinds command_of words) (outside_cause (word_at words 0)) (form_named (word_at words 0)) (plain_said words))
 
-recipe_said : (words : List (List ℕ)) → IfSome (recipe_form_named (word_at words 0)) (λ f. IsSaidRecipe (recipe_line f words))
+recipe_said : (words : List (List ℕ)) → IfSome (recipe_form_named (word_at words 0)) (λ f. IsBytesLine (recipe_line f words))
 recipe_said words =
-    find_has (λ f. IsSaidRecipe (recipe_line f words)) (λ form. bytes_eq (word_at words 0) (recipe_keyword form)) recipe_forms
-    (All-from_recursion (λ f. IsSaidRecipe (recipe_line f words)) recipe_forms
+    find_has (λ f. IsBytesLine (recipe_line f words)) (λ form. bytes_eq (word_at words 0) (recipe_keyword form)) recipe_forms
+    (All-from_recursion (λ f. IsBytesLine (recipe_line f words)) recipe_forms
     (tt, (word_bytes (word_at words 2), (tt, (named_bytes words 3, (named_bytes words 4, (named_bytes words 3, (tt, (tt, (tt, (tt, (tt, (tt, (tt, (tt, (tt, (tt, (tt, (tt, (tt, tt))))))))))))))))))))
 
 -- ---- lines
 
--- the image that is open
-abbrev IsOpen : Option OpenImage → Type 0
-IsOpen None = Unit {0}
-IsOpen (Some image) = IsName image.name × All IsSaidRecipe image.lines
+-- the image that is open, behind which so many lines are left
+abbrev IsOpen : ℕ → Option OpenImage → Type 0
+IsOpen left None = Unit {0}
+IsOpen left (Some image) = IsName image.name × All IsBytesLine image.lines × (length image.lines + left ≤ SCRIPT_LINES_MOST)
 
-abbrev IsSaidStep : Step → Type 0
-IsSaidStep step = AreSaid step.commands × IsOpen step.image
+abbrev IsSaidStep : ℕ → Step → Type 0
+IsSaidStep left step = AreSaid step.commands × IsOpen left step.image
 
-abbrev AreSteps : Result Step Cause → Type 0
-AreSteps said = IfOk said IsSaidStep
+abbrev AreSteps : ℕ → Result Step Cause → Type 0
+AreSteps left said = IfOk said (IsSaidStep left)
 
 -- what a form says
 abbrev step_in : {F : Type 0} → (F → List (List ℕ) → Command) → List (List ℕ) → Result F Cause → Result Step Cause
@@ -236,26 +229,26 @@ abbrev fitting_in : {F : Type 0} → (F → List Kind) → List (List ℕ) → R
 fitting_in kinds_of words (Ok form) = unless_misfit form (misfit (kinds_of form) words)
 fitting_in kinds_of words (Err why) = Err why
 
-command_fit : {F : Type 0} (kinds_of : F → List Kind) (said : F → List (List ℕ) → Command) (words : List (List ℕ)) (f : F) (why : Option Cause) → misfit (kinds_of f) words ≡ why
-    → IsSaidForm kinds_of said words f → AreSteps (step_in said words (unless_misfit f why))
-command_fit kinds_of said words f None h is = ((is (fits (kinds_of f) words (length words == length (kinds_of f)) (are_of (kinds_of f) words) refl h), tt), tt)
-command_fit kinds_of said words f (Some why) h is = tt
+command_fit : {F : Type 0} (left : ℕ) (kinds_of : F → List Kind) (said : F → List (List ℕ) → Command) (words : List (List ℕ)) (f : F) (why : Option Cause) → misfit (kinds_of f) words ≡ why
+    → IsSaidForm kinds_of said words f → AreSteps left (step_in said words (unless_misfit f why))
+command_fit left kinds_of said words f None h is = ((is (fits (kinds_of f) words (length words == length (kinds_of f)) (are_of (kinds_of f) words) refl h), tt), tt)
+command_fit left kinds_of said words f (Some why) h is = tt
 
-commanded_by : {F : Type 0} (kinds_of : F → List Kind) (said : F → List (List ℕ) → Command) (words : List (List ℕ)) (found : Result F Cause) → IfOk found (IsSaidForm kinds_of said words)
-    → AreSteps (step_in said words (fitting_in kinds_of words found))
-commanded_by kinds_of said words (Ok f) is = command_fit kinds_of said words f (misfit (kinds_of f) words) refl is
-commanded_by kinds_of said words (Err why) is = tt
+commanded_by : {F : Type 0} (left : ℕ) (kinds_of : F → List Kind) (said : F → List (List ℕ) → Command) (words : List (List ℕ)) (found : Result F Cause) → IfOk found (IsSaidForm kinds_of said words)
+    → AreSteps left (step_in said words (fitting_in kinds_of words found))
+commanded_by left kinds_of said words (Ok f) is = command_fit left kinds_of said words f (misfit (kinds_of f) words) refl is
+commanded_by left kinds_of said words (Err why) is = tt
 
-commanded : (words : List (List ℕ)) → AreSteps (command_step words (form_of_line words))
-commanded words = commanded_by kinds command_of words (form_of words) (form_said words)
+commanded : (left : ℕ) (words : List (List ℕ)) → AreSteps left (command_step words (form_of_line words))
+commanded left words = commanded_by left kinds command_of words (form_of words) (form_said words)
 
-opened : (words : List (List ℕ)) (why : Option Cause) → misfit image_kinds words ≡ why → AreSteps (opened_step words why)
-opened words None h = (tt, ((fits image_kinds words (length words == length image_kinds) (are_of image_kinds words) refl h).1.0, All-nil IsSaidRecipe))
-opened words (Some why) h = tt
+opened : (left : ℕ) (words : List (List ℕ)) (why : Option Cause) → left ≤ SCRIPT_LINES_MOST → misfit image_kinds words ≡ why → AreSteps left (opened_step words why)
+opened left words None few h = (tt, ((fits image_kinds words (length words == length image_kinds) (are_of image_kinds words) refl h).1.0, All-nil IsBytesLine, omega (arith, few)))
+opened left words (Some why) few h = tt
 
-closed : (image : OpenImage) (why : Option Cause) → IsOpen (Some image) → AreSteps (closed_step image why)
-closed image None is = ((is, tt), tt)
-closed image (Some why) is = tt
+closed : (left : ℕ) (image : OpenImage) (why : Option Cause) → IsOpen left (Some image) → AreSteps left (closed_step image why)
+closed left image None is = let few = is.2 in (((is.0, is.1, omega (arith, few)), tt), tt)
+closed left image (Some why) is = tt
 
 -- ---- recipes
 
@@ -276,41 +269,52 @@ abbrev added_in : {F : Type 0} → (F → OpenImage) → Result F Cause → Resu
 added_in next (Ok form) = Ok (record { commands = []; image = Some (next form) })
 added_in next (Err why) = Err why
 
-added_by : {F : Type 0} (next : F → OpenImage) (found : Result F Cause) → IfOk found (λ f. IsOpen (Some (next f))) → AreSteps (added_in next found)
-added_by next (Ok form) is = (tt, is)
-added_by next (Err why) is = tt
+added_by : {F : Type 0} (left : ℕ) (next : F → OpenImage) (found : Result F Cause) → IfOk found (λ f. IsOpen left (Some (next f))) → AreSteps left (added_in next found)
+added_by left next (Ok form) is = (tt, is)
+added_by left next (Err why) is = tt
 
 ok_weaker : {F : Type 0} (P Q : F → Type 0) (found : Result F Cause) → ((f : F) → P f → Q f) → IfOk found P → IfOk found Q
 ok_weaker P Q (Ok f) each is = each f is
 ok_weaker P Q (Err why) each is = tt
 
-added : (image : OpenImage) (words : List (List ℕ)) → IsOpen (Some image) → AreSteps (added_step image words (recipe_form_of_line image.context words))
-added image words is =
-    added_by (λ form. record { name = image.name; lines = image.lines ++ recipe_line form words ∷ []; context = context_after image.context form }) (recipe_form_of_line image.context words)
-    (ok_weaker (λ f. IsSaidRecipe (recipe_line f words)) (λ f. IsOpen (Some (record { name = image.name; lines = image.lines ++ recipe_line f words ∷ []; context = context_after image.context f })))
-    (recipe_form_of_line image.context words) (λ f said. (is.0, All-push IsSaidRecipe image.lines (recipe_line f words) is.1 said))
-    (line_said (λ f. IsSaidRecipe (recipe_line f words)) (is_allowed image.context) (λ f. misfit (recipe_kinds f) words) (inside_cause (word_at words 0)) (recipe_form_named (word_at words 0)) (recipe_said words)))
+-- a list with one item more
+one_longer : {X : Type 0} (items : List X) (item : X) → length (items ++ item ∷ []) ≡ length items + 1
+one_longer items item = length-append items (item ∷ [])
+
+added : (left : ℕ) (image : OpenImage) (words : List (List ℕ)) → IsOpen (left + 1) (Some image) → AreSteps left (added_step image words (recipe_form_of_line image.context words))
+added left image words is =
+    let few = is.2 in
+    added_by left (λ form. record { name = image.name; lines = image.lines ++ recipe_line form words ∷ []; context = context_after image.context form }) (recipe_form_of_line image.context words)
+    (ok_weaker (λ f. IsBytesLine (recipe_line f words)) (λ f. IsOpen left (Some (record { name = image.name; lines = image.lines ++ recipe_line f words ∷ []; context = context_after image.context f })))
+    (recipe_form_of_line image.context words)
+    (λ f said. let more = one_longer image.lines (recipe_line f words) in (is.0, All-push IsBytesLine image.lines (recipe_line f words) is.1 said, omega (arith, few, more)))
+    (line_said (λ f. IsBytesLine (recipe_line f words)) (is_allowed image.context) (λ f. misfit (recipe_kinds f) words) (inside_cause (word_at words 0)) (recipe_form_named (word_at words 0)) (recipe_said words)))
 
 -- ---- texts
 
-outside : (words : List (List ℕ)) → AreSteps (words_step None words)
-outside words =
-    cond_both (bytes_eq (word_at words 0) (codes "image")) (opened_step words (misfit image_kinds words)) (command_step words (form_of_line words)) AreSteps
-    (λ _. opened words (misfit image_kinds words) refl) (λ _. commanded words)
+fewer : (left : ℕ) (image : Option OpenImage) → IsOpen (left + 1) image → IsOpen left image
+fewer left None is = tt
+fewer left (Some image) is = let few = is.2 in (is.0, is.1, omega (arith, few))
 
-inside : (image : OpenImage) (words : List (List ℕ)) → IsOpen (Some image) → AreSteps (words_step (Some image) words)
-inside image words is =
-    cond_both (bytes_eq (word_at words 0) (codes "end")) (closed_step image (misfit end_kinds words)) (added_step image words (recipe_form_of_line image.context words)) AreSteps
-    (λ _. closed image (misfit end_kinds words) is) (λ _. added image words is)
+outside : (left : ℕ) (words : List (List ℕ)) → left ≤ SCRIPT_LINES_MOST → AreSteps left (words_step None words)
+outside left words few =
+    cond_both (bytes_eq (word_at words 0) (codes "image")) (opened_step words (misfit image_kinds words)) (command_step words (form_of_line words)) (AreSteps left)
+    (λ _. opened left words (misfit image_kinds words) few refl) (λ _. commanded left words)
 
-worded : (image : Option OpenImage) (words : List (List ℕ)) → IsOpen image → AreSteps (words_step image words)
-worded None words is = outside words
-worded (Some image) words is = inside image words is
+inside : (left : ℕ) (image : OpenImage) (words : List (List ℕ)) → IsOpen (left + 1) (Some image) → AreSteps left (words_step (Some image) words)
+inside left image words is =
+    cond_both (bytes_eq (word_at words 0) (codes "end")) (closed_step image (misfit end_kinds words)) (added_step image words (recipe_form_of_line image.context words)) (AreSteps left)
+    (λ _. closed left image (misfit end_kinds words) (fewer left (Some image) is)) (λ _. added left image words is)
 
-stepped : (image : Option OpenImage) (line : List ℕ) → IsOpen image → AreSteps (line_step image line)
-stepped image line is =
-    cond_both (is_skipped (words_of line)) (Ok (record { commands = []; image = image })) (cond (list_all is_printable line) (words_step image (words_of line)) (Err cause.Byte)) AreSteps
-    (λ _. (tt, is)) (λ _. cond_both (list_all is_printable line) (words_step image (words_of line)) (Err cause.Byte) AreSteps (λ _. worded image (words_of line) is) (λ _. tt))
+worded : (left : ℕ) (image : Option OpenImage) (words : List (List ℕ)) → left ≤ SCRIPT_LINES_MOST → IsOpen (left + 1) image → AreSteps left (words_step image words)
+worded left None words few is = outside left words few
+worded left (Some image) words few is = inside left image words is
+
+stepped : (left : ℕ) (image : Option OpenImage) (line : List ℕ) → left ≤ SCRIPT_LINES_MOST → IsOpen (left + 1) image → AreSteps left (line_step image line)
+stepped left image line few is =
+    cond_both (is_skipped (words_of line)) (Ok (record { commands = []; image = image })) (cond (list_all is_printable line) (words_step image (words_of line)) (Err cause.Byte)) (AreSteps left)
+    (λ _. (tt, fewer left image is))
+    (λ _. cond_both (list_all is_printable line) (words_step image (words_of line)) (Err cause.Byte) (AreSteps left) (λ _. worded left image (words_of line) few is) (λ _. tt))
 
 abbrev AreAllSaid : Result (List Command) Refusal → Type 0
 AreAllSaid said = IfOk said AreSaid
@@ -323,19 +327,24 @@ onto_said : (front : List Command) (more : Result (List Command) Refusal) → Ar
 onto_said front (Ok more) f m = appended front more f m
 onto_said front (Err refusal) f m = tt
 
-here_said : (number : ℕ) (said : Result Step Cause) (more : Option OpenImage → Result (List Command) Refusal) → AreSteps said
-    → ((next : Option OpenImage) → IsOpen next → AreAllSaid (more next)) → AreAllSaid (step_and_more number said (more (image_behind said)))
-here_said number (Ok step) more is rest = onto_said step.commands (more step.image) is.0 (rest step.image is.1)
-here_said number (Err why) more is rest = tt
+here_said : (number left : ℕ) (said : Result Step Cause) (more : Option OpenImage → Result (List Command) Refusal) → AreSteps left said
+    → ((next : Option OpenImage) → IsOpen left next → AreAllSaid (more next)) → AreAllSaid (step_and_more number said (more (image_behind said)))
+here_said number left (Ok step) more is rest = onto_said step.commands (more step.image) is.0 (rest step.image is.1)
+here_said number left (Err why) more is rest = tt
 
 ended : (number : ℕ) (image : Option OpenImage) → AreAllSaid (at_end number image)
 ended number None = tt
 ended number (Some image) = tt
 
-lines_said : (number : ℕ) (image : Option OpenImage) (lines : List (List ℕ)) → IsOpen image → AreAllSaid (commands_from number image lines)
-lines_said number image [] is = ended number image
-lines_said number image (line ∷ more) is =
-    here_said number (line_step image line) (λ next. commands_from (number + 1) next more) (stepped image line is) (λ next of. lines_said (number + 1) next more of)
+one_left : (left : ℕ) (image : Option OpenImage) → IsOpen (suc left) image → IsOpen (left + 1) image
+one_left left None is = tt
+one_left left (Some image) is = let few = is.2 in (is.0, is.1, omega (arith, few))
+
+lines_said : (number : ℕ) (image : Option OpenImage) (lines : List (List ℕ)) → length lines ≤ SCRIPT_LINES_MOST → IsOpen (length lines) image → AreAllSaid (commands_from number image lines)
+lines_said number image [] few is = ended number image
+lines_said number image (line ∷ more) few is =
+    here_said number (length more) (line_step image line) (λ next. commands_from (number + 1) next more)
+    (stepped (length more) image line (omega (arith, few)) (one_left (length more) image is)) (λ next of. lines_said (number + 1) next more (omega (arith, few)) of)
 
 text_said : (text : List ℕ) → AreAllSaid (script_of text)
 unfolding script_of
@@ -343,7 +352,8 @@ text_said text =
     let lines = lines_of text in
     cond_both (nat_lt SCRIPT_MOST (length text)) (Err (bad_line 0 cause.Size))
     (cond (nat_lt SCRIPT_LINES_MOST (length lines)) (Err (bad_line (SCRIPT_LINES_MOST + 1) cause.Lines)) (commands_from 1 None lines)) AreAllSaid (λ _. tt)
-    (λ _. cond_both (nat_lt SCRIPT_LINES_MOST (length lines)) (Err (bad_line (SCRIPT_LINES_MOST + 1) cause.Lines)) (commands_from 1 None lines) AreAllSaid (λ _. tt) (λ _. lines_said 1 None lines tt))
+    (λ _. cond_both (nat_lt SCRIPT_LINES_MOST (length lines)) (Err (bad_line (SCRIPT_LINES_MOST + 1) cause.Lines)) (commands_from 1 None lines) AreAllSaid (λ _. tt)
+    (λ few. lines_said 1 None lines (ltb-false SCRIPT_LINES_MOST (length lines) few) tt))
 
 pub are_said : (commands : List Command) → IsScript commands → AreSaid commands
 are_said commands script = subst AreAllSaid script.says (text_said script.text)

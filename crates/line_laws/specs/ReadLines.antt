@@ -1,36 +1,26 @@
--- When the line of an event is read back as that event (own).
-use Rattle.std.specs.Prelude.{◌<◌, ◌≤◌, ◌^◌, List, [], ◌∷◌, length, All}
-use Rattle.word_kinds.specs.Texts.{Word, Fixed, Name, Number, Digits, Offset, Bytes, Row, Escaped, Trace, Lane, Bound, Dotted, Side, Open, Service, State, Driver, OnOff}
+-- When the line of an event is read back as that event, and what is left to a reader of it (own).
+use Rattle.std.specs.Prelude.{ℕ, ◌<◌, ◌≤◌, ◌^◌, List, length, Option, IfSome}
+use Rattle.std.specs.Result.{IfOk}
 use Rattle.journal.specs.declared.events.Event.{Event}
-use Rattle.journal.specs.Lines.{words_of}
-use Rattle.journal.specs.Reading.{HasEra, IsWritten}
+use Rattle.journal.specs.declared.events.Event.TheVariants as event
+use Rattle.journal.specs.Reading.{IsWritten}
+use Rattle.field_laws.specs.Fields.{AreBytes}
+use Rattle.script_run.specs.Stores.{Shelf, Told}
 
--- a word within its type: numbers and offsets of 64 bits, addresses of 32, bytes of 8, names of channels of at most 31 bytes without a zero; and a
--- row has some byte. How a name is spelled, which lanes there are and how long a payload or a row may be is no matter of types
-abbrev pub IsTyped : Word → Type 0
-IsTyped (Fixed text) = Unit {0}
-IsTyped (Name name) = Unit {0}
-IsTyped (Number number) = number < 2 ^ 64
-IsTyped (Digits number) = number < 2 ^ 32
-IsTyped (Offset number) = number < 2 ^ 64
-IsTyped (Bytes bytes) = All (λ byte. byte < 256) bytes
-IsTyped (Row most bytes) = (1 ≤ length bytes) × All (λ byte. byte < 256) bytes
-IsTyped (Escaped text) = (length text ≤ 31) × All (λ byte. (0 < byte) × (byte < 256)) text
-IsTyped (Trace text) = All (λ byte. byte < 256) text
-IsTyped (Lane lane) = Unit {0}
-IsTyped (Bound endpoint) = (endpoint.address < 2 ^ 32) × (endpoint.generation < 2 ^ 64)
-IsTyped (Dotted first second) = (first < 2 ^ 64) × (second < 2 ^ 64)
-IsTyped (Side end) = Unit {0}
-IsTyped (Open is_live) = Unit {0}
-IsTyped (Service what) = Unit {0}
-IsTyped (State state) = Unit {0}
-IsTyped (Driver kind) = Unit {0}
-IsTyped (OnOff switch) = Unit {0}
+-- a store tells images that are bytes
+abbrev pub TellsBytes : Told → Type 0
+TellsBytes told = (number : ℕ) → IfSome (told number) (λ (shelf : Shelf). (name : List ℕ) → IfOk (shelf name) AreBytes)
 
-abbrev pub AreTyped : List Word → Type 0
-AreTyped [] = Unit {0}
-AreTyped (word ∷ words) = IsTyped word × AreTyped words
+-- what is not proved of the events of a run: that the number of the program header or the entry fits for which an image is refused, that the bytes of memory that are shown
+-- are some, and that the length of a ring, the place of a row of it and the length of a dump that is too large fit
+abbrev pub IsInRange : Event → Type 0
+IsInRange (event.FaultAt x n i) = i < 2 ^ 64
+IsInRange (event.Mem x da bytes) = 1 ≤ length bytes
+IsInRange (event.DumpTooLarge x len) = len < 2 ^ 64
+IsInRange (event.Ring x lane len) = len < 2 ^ 64
+IsInRange (event.Dump x offset bytes) = offset < 2 ^ 64
+IsInRange e = Unit {0}
 
--- an event that `read_line` reads back from its line (its clause `back`), where its fields are within their types
+-- an event that `read_line` reads back from its line (its clause `back`), where that is in range
 abbrev pub IsReadBack : Event → Type 0
-IsReadBack e = AreTyped (words_of e) → HasEra e → IsWritten e
+IsReadBack e = IsInRange e → IsWritten e

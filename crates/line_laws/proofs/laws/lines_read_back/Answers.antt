@@ -1,5 +1,5 @@
-use Rattle.field_laws.proofs.Bytes.{no_bytes}
+use Rattle.line_laws.proofs.SpelledRuns.{lines_back}
 use Rattle.line_laws.proofs.laws.lines_read_back.Goals as goal
 
 pub returns : goal.returns
-returns c = no_bytes
+returns c = lines_back
