@@ -1,5 +1,5 @@
 -- What the calls of a core leave and answer has its numbers and bytes within their types.
-use Rattle.std.proofs.Common.{◌≡◌, ℕ, zero, suc, ◌+◌, ◌-◌, ◌<◌, ◌≤◌, ◌^◌, ◌==◌, eqb, Bool, true, false, cond, List, [], ◌∷◌, length, Option, Some, None, IfSome, Result, Ok, Err, is_some, slice_get, refl, sym, ap, subst, arith}
+use Rattle.std.proofs.Common.{◌≡◌, ℕ, zero, suc, ◌+◌, ◌-◌, ◌<◌, ◌≤◌, ◌^◌, ◌==◌, eqb, Bool, true, false, cond, List, [], ◌∷◌, length, Option, Some, None, IfSome, Result, Ok, Err, is_some, slice_get, refl, sym, ap, ◌∙◌, subst, arith}
 use Rattle.std.specs.Prelude.{All, find, fold, nat_lt}
 use Rattle.std.specs.List.{range_with_len}
 use Rattle.std.specs.Option.{option_and_then, option_map, option_map_or, option_or}
@@ -9,6 +9,8 @@ use Rattle.std.proofs.lemmas.List.Elements.{All-cons, All-head, All-nil, All-tai
 use Rattle.rp_base.specs.declared.kinds.End.{End}
 use Rattle.rp_base.specs.declared.kinds.End.TheVariants as side
 use Rattle.rp_base.specs.declared.kinds.LifeState.{LifeState}
+use Rattle.rp_base.specs.declared.kinds.LifeState.TheVariants.{Offline, Running, Crashed, Attached, Detached}
+use Rattle.memory_pool.specs.Regions.{memory_len}
 use Rattle.fw_load.specs.declared.faults.LoadFault.{LoadFault}
 use Rattle.rp_io.specs.declared.faults.FetchFault.{FetchFault}
 use Rattle.rp_io.specs.declared.faults.FetchFault.TheVariants as fetch
@@ -21,7 +23,7 @@ use Rattle.proc_state.specs.declared.answers.Power.{Power}
 use Rattle.proc_state.specs.declared.answers.Power.TheVariants as power
 use Rattle.proc_state.specs.declared.answers.Report.{Report}
 use Rattle.proc_state.specs.declared.answers.Report.TheVariants as report
-use Rattle.proc_state.specs.Lives.{CoreLife, Outcome, boot_to, crash_as, first_start, handover_to, is_offline, leave_to, life_after_boot, life_after_crash, life_after_detach, life_after_handover, life_after_recovery, life_after_shutdown, line_of, most, new_life, recovery_to, refusal_of, with_user, without_user}
+use Rattle.proc_state.specs.Lives.{CoreLife, Outcome, boot_to, crash_as, first_start, handover_to, is_offline, is_up, leave_to, life_after_boot, life_after_crash, life_after_detach, life_after_handover, life_after_recovery, life_after_shutdown, line_of, most, new_life, recovery_to, refusal_of, with_user, without_user}
 use Rattle.lane_model.specs.declared.recoveries.ReclaimRefusal.{ReclaimRefusal}
 use Rattle.lane_model.specs.declared.recoveries.ReclaimRefusal.TheVariants as refusal
 use Rattle.lane_model.specs.declared.recoveries.ReopenFault.{ReopenFault}
@@ -53,10 +55,11 @@ use Rattle.crash_recover.specs.declared.core_faults.CoreFault.TheVariants as fau
 use Rattle.crash_recover.specs.CoreBoots.{Found, boot_as, boot_of, config_of, core_bench, core_fault_of_fetch, first_boot, fresh_end, handover_as, handover_of, image_fault, loaded_in, started_core, with_load}
 use Rattle.crash_recover.specs.CoreCrashes.{after_report, crashed_core, first_report, report_as, report_of}
 use Rattle.crash_recover.specs.CoreLeaves.{close_or, detach_of, detached_core, leave_as, live_inc, shutdown_of, unloaded_core}
-use Rattle.crash_recover.specs.CoreRecoveries.{after_recovery, fault_with, link_fault, readied_core, recovery_fault, recovery_of, reload_fault, reopen_fault, reopened_core, rings_fault, spent_fault}
+use Rattle.crash_recover.specs.CoreRecoveries.{after_recovery, fault_with, link_fault, readied_core, recovery_fault, recovery_of, reload_fault, reopen_fault, reopened_core, rings_fault, spent_fault, unrecovered_to}
 use Rattle.crash_recover.specs.Cores.{CoreOutcome, CoreState, LoadState, loaded_rings, new_core, refuse_or}
 use Rattle.core_laws.specs.BenchMoves.{IsReachedBench, IsReachedCore}
 use Rattle.core_laws.proofs.CoreMoves.{readied}
+use Rattle.core_laws.proofs.Outcomes.{none_mapped, starts_up}
 use Rattle.core_laws.proofs.KeptCrashes.{reached_sound}
 use Rattle.field_laws.specs.Fields.{AreBytes, IsFieldLink, IsFieldWish}
 use Rattle.field_laws.specs.FieldBenches.{IsFieldBench}
@@ -65,6 +68,7 @@ use Rattle.field_laws.proofs.Acts.{IsFieldRefusal, refusal_fields}
 use Rattle.field_laws.proofs.Benches.{caller_fields, crash_fields, new_fields, ready_fields, reopen_fields}
 use Rattle.field_laws.proofs.Lanes.{counts_small}
 use Rattle.field_laws.proofs.Loads.{load_fields}
+use Rattle.field_laws.proofs.Rooms.{load_room}
 use Rattle.field_laws.proofs.Sides.{find_has, fresh_fields}
 use Rattle.field_laws.proofs.Steps.{holder_small, user_small}
 
@@ -130,6 +134,71 @@ recovery_life (Some state) life is =
 
 pub new_life_fields : IsFieldLife new_life
 new_life_fields = record { users = omega arith; incarnation = omega arith }
+
+-- ---- which lives are offline
+
+off_up : (state : LifeState) → is_up state ≡ true → is_offline state ≡ true → ⊥
+off_up Offline up off = true≢false (sym up)
+off_up Running up off = true≢false (sym off)
+off_up Crashed up off = true≢false (sym up)
+off_up Attached up off = true≢false (sym off)
+off_up Detached up off = true≢false (sym up)
+
+-- a user more leaves a core offline only where it was
+user_off : (life : CoreLife) → is_offline (with_user life).life.state ≡ true → is_offline life.state ≡ true
+user_off life =
+    cond_both (life.users == most) (refusal_of life_fault.UsersFull life) _ (λ (out : Outcome Power). is_offline out.life.state ≡ true → is_offline life.state ≡ true) (λ _ off. off) (λ _ off. off)
+
+first_off : {A : Type 0} (state : LifeState) (users : ℕ) (told : A) (life : CoreLife) → (is_offline state ≡ true → ⊥) → is_offline (first_start state users told life).life.state ≡ true → is_offline life.state ≡ true
+first_off {A} state users told life up =
+    cond_both (life.incarnation == most) (refusal_of life_fault.IncarnationsSpent life) _ (λ (out : Outcome A). is_offline out.life.state ≡ true → is_offline life.state ≡ true) (λ _ off. off)
+    (λ _ off. absurd (up off))
+
+boot_off : (state : LifeState) (life : CoreLife) → is_offline (boot_to (line_of state).boot life).life.state ≡ true → is_offline life.state ≡ true
+boot_off Offline life off = first_off Running 1 power.First life (λ is. true≢false (sym is)) off
+boot_off Running life off = user_off life off
+boot_off Crashed life off = user_off life off
+boot_off Attached life off = user_off life off
+boot_off Detached life off = first_off Attached 1 power.First life (λ is. true≢false (sym is)) off
+
+-- a handover that is done leaves a core that isn't offline
+handed_off : (state : LifeState) (life : CoreLife) (done : Unit {0}) → (handover_to (line_of state).handover life).answer ≡ Ok done → is_offline (handover_to (line_of state).handover life).life.state ≡ true → ⊥
+handed_off Offline life done is off = true≢false (sym off)
+handed_off Running life done is off = absurd (cc)
+handed_off Crashed life done is off = absurd (cc)
+handed_off Attached life done is off = absurd (cc)
+handed_off Detached life done is off = absurd (cc)
+
+-- a core that is recovered isn't offline
+recovered_off : (state : LifeState) (life : CoreLife) → life.state ≡ state → unrecovered_to (line_of state).recovery life ≡ None → is_offline (recovery_to (line_of state).recovery life).life.state ≡ true → ⊥
+recovered_off Offline life is none off = true≢false (ap is_some none)
+recovered_off Running life is none off = true≢false (ap is_some none)
+recovered_off Attached life is none off = true≢false (ap is_some none)
+recovered_off Detached life is none off = true≢false (ap is_some none)
+recovered_off Crashed life is none off =
+    let was : is_offline life.state ≡ true → ⊥ = λ there. true≢false (sym there ∙ ap is_offline is) in
+    was (cond_both life.recovery (first_start Running life.users tt life) (refusal_of life_fault.RecoveryOff life) (λ (out : Outcome (Unit {0})). is_offline out.life.state ≡ true → is_offline life.state ≡ true)
+    (λ _ there. first_off Running life.users tt life (λ now. true≢false (sym now)) there) (λ _ there. there) off)
+
+crash_off : (found : Option Report) (life : CoreLife) → is_offline (crash_as found life).life.state ≡ true → is_offline life.state ≡ true
+crash_off None life off = off
+crash_off (Some told) life off = absurd (true≢false (sym off))
+
+-- a user who leaves others behind leaves a core offline only where it was
+users_off : (why : LifeFault) (to : Option LifeState) (life : CoreLife) (users : ℕ) → (leave_to why to life).answer ≡ Ok (left.Users users) → is_offline (leave_to why to life).life.state ≡ true → is_offline life.state ≡ true
+users_off why None life users is off = off
+users_off why (Some state) life users is off =
+    cond_both (life.users == 1) _ _ (λ (out : Outcome Left). out.answer ≡ Ok (left.Users users) → is_offline out.life.state ≡ true → is_offline life.state ≡ true)
+    (λ _ last. absurd (cc)) (λ _ more there. there) is off
+
+-- a detach leaves a core offline only where it was
+detach_off : (state : LifeState) (life : CoreLife) → is_offline (leave_to life_fault.NotAttached (line_of state).detach life).life.state ≡ true → is_offline life.state ≡ true
+detach_off Offline life off = off
+detach_off Running life off = off
+detach_off Crashed life off = off
+detach_off Detached life off = off
+detach_off Attached life off =
+    cond_both (life.users == 1) _ _ (λ (out : Outcome Left). is_offline out.life.state ≡ true → is_offline life.state ≡ true) (λ _ there. absurd (true≢false (sym there))) (λ _ there. there) off
 
 -- ---- why a link isn't reopened
 
@@ -240,51 +309,76 @@ pair_fields : (names : List (List ℕ)) (book first : ℕ) (found : Option RingP
 pair_fields names book first None small few = tt
 pair_fields names book first (Some rings) small few = rings_fields names book first rings small few
 
-started_fields : (life : CoreLife) (core : CoreState) → IsFieldLife life → core.book < 2 ^ 64 → IfSome core.image IsImageName → IfSome core.loaded IsFieldLoad → IsFieldCore (started_core life core)
-started_fields life core is small called loaded =
+-- the memory of what is loaded has room for the regions
+abbrev HasRoom : List Region → Option LoadState → Type 0
+HasRoom regions loaded = IfSome loaded (λ (load : LoadState). memory_len regions ≤ length load.memory)
+
+started_fields : (life : CoreLife) (core : CoreState) → IsFieldLife life → is_up life.state ≡ true → core.book < 2 ^ 64 → IfSome core.image IsImageName → IfSome core.loaded IsFieldLoad → HasRoom core.regions core.loaded
+    → IsFieldCore (started_core life core)
+started_fields life core is up small called loaded room =
     let few = is.incarnation in
     record {
       book = small;
       life = is;
       image = called;
       loaded = loaded;
+      room = room;
+      rest = λ off. absurd (off_up life.state up off);
       bench = pair_fields (driver_names core.actors) core.book life.incarnation (loaded_rings core.loaded) small (omega (arith, few));
       calls = no_calls core _;
     }
 
-first_at : (life : CoreLife) (core : CoreState) (name : List ℕ) (found : Found) → IsFieldLife life → IsImageName name → IfOk found AreBytes → IsFieldCore core → HoldsOut IsFieldStart (first_boot life core name found)
-first_at life core name found living called are is =
+first_at : (life : CoreLife) (core : CoreState) (name : List ℕ) (found : Found) → IsFieldLife life → is_up life.state ≡ true → IsImageName name → IfOk found AreBytes → IsFieldCore core
+    → HoldsOut IsFieldStart (first_boot life core name found)
+first_at life core name found living up called are is =
     let few = living.incarnation in
     cond_both (is_offline core.life.state) _ _ (HoldsOut IsFieldStart)
     (λ _. refused IsFieldStart core (image_fault core found) _ is (image_fields core found)
-    (λ _. record { core = started_fields life (with_load core name (loaded_in core found)) living is.book called (load_fields core found are); answer = omega (arith, few) }))
-    (λ _. record { core = started_fields life core living is.book is.image is.loaded; answer = omega (arith, few) })
+    (λ _. record {
+      core = started_fields life (with_load core name (loaded_in core found)) living up is.book called (load_fields core found are) (load_room core found);
+      answer = omega (arith, few);
+    }))
+    (λ _. record { core = started_fields life core living up is.book is.image is.loaded is.room; answer = omega (arith, few) })
 
-boot_at : (life : CoreLife) (answer : Result Power LifeFault) (core : CoreState) (name : List ℕ) (found : Found) → IsFieldLife life → IfOk answer IsFieldPower → IsImageName name → IfOk found AreBytes → IsFieldCore core
-    → HoldsOut IsFieldStart (boot_as life answer core name found)
-boot_at life (Err why) core name found living told called are is = record { core = is; answer = tt }
-boot_at life (Ok (power.Counted users)) core name found living told called are is =
-    record { core = record { book = is.book; life = living; image = is.image; loaded = is.loaded; bench = is.bench; calls = is.calls }; answer = told }
-boot_at life (Ok power.First) core name found living told called are is = first_at life core name found living called are is
+boot_at : (life : CoreLife) (answer : Result Power LifeFault) (core : CoreState) (name : List ℕ) (found : Found) → IsFieldLife life → IfOk answer IsFieldPower → (is_offline life.state ≡ true → is_offline core.life.state ≡ true)
+    → (answer ≡ Ok power.First → is_up life.state ≡ true) → IsImageName name → IfOk found AreBytes → IsFieldCore core → HoldsOut IsFieldStart (boot_as life answer core name found)
+boot_at life (Err why) core name found living told off up called are is = record { core = is; answer = tt }
+boot_at life (Ok (power.Counted users)) core name found living told off up called are is = record {
+  core = record { book = is.book; life = living; image = is.image; loaded = is.loaded; room = is.room; rest = λ there. is.rest (off there); bench = is.bench; calls = is.calls };
+  answer = told;
+}
+boot_at life (Ok power.First) core name found living told off up called are is = first_at life core name found living (up refl) called are is
 
 pub boot_fields : (core : CoreState) (name : List ℕ) (found : Found) → IsImageName name → IfOk found AreBytes → IsFieldCore core → HoldsOut IsFieldStart (boot_of core name found)
 unfolding boot_of
 boot_fields core name found called are is =
     let after = boot_to_life (line_of core.life.state).boot core.life is.life in
-    boot_at (life_after_boot core.life).life (life_after_boot core.life).answer core name found after.life after.answer called are is
+    boot_at (life_after_boot core.life).life (life_after_boot core.life).answer core name found after.life after.answer (boot_off core.life.state core.life) (starts_up core.life) called are is
 
-handover_at : (life : CoreLife) (answer : Result (Unit {0}) LifeFault) (core : CoreState) (name : List ℕ) (found : Found) → IsFieldLife life → IsImageName name → IfOk found AreBytes → IsFieldCore core
-    → HoldsOut IsFieldStart (handover_as life answer core name found)
-handover_at life (Err why) core name found living called are is = record { core = is; answer = tt }
-handover_at life (Ok done) core name found living called are is =
+handover_at : (life : CoreLife) (answer : Result (Unit {0}) LifeFault) (core : CoreState) (name : List ℕ) (found : Found) → IsFieldLife life
+    → ((done : Unit {0}) → answer ≡ Ok done → is_offline life.state ≡ true → ⊥) → IsImageName name → IfOk found AreBytes → IsFieldCore core → HoldsOut IsFieldStart (handover_as life answer core name found)
+handover_at life (Err why) core name found living off called are is = record { core = is; answer = tt }
+handover_at life (Ok done) core name found living off called are is =
     refused IsFieldStart core (image_fault core found) _ is (image_fields core found)
-    (λ _. record { core = record { book = is.book; life = living; image = called; loaded = load_fields core found are; bench = is.bench; calls = is.calls }; answer = tt })
+    (λ _. record {
+      core = record {
+        book = is.book;
+        life = living;
+        image = called;
+        loaded = load_fields core found are;
+        room = load_room core found;
+        rest = λ there. absurd (off done refl there);
+        bench = is.bench;
+        calls = is.calls;
+      };
+      answer = tt;
+    })
 
 pub handover_fields : (core : CoreState) (name : List ℕ) (found : Found) → IsImageName name → IfOk found AreBytes → IsFieldCore core → HoldsOut IsFieldStart (handover_of core name found)
 unfolding handover_of
 handover_fields core name found called are is =
     let after = handover_life (line_of core.life.state).handover core.life is.life in
-    handover_at (life_after_handover core.life).life (life_after_handover core.life).answer core name found after.life called are is
+    handover_at (life_after_handover core.life).life (life_after_handover core.life).answer core name found after.life (λ done. handed_off core.life.state core.life done) called are is
 
 -- ---- recoveries
 
@@ -324,7 +418,7 @@ map_fields None f each is = is
 map_fields (Some bench) f each is = each bench is
 
 readied_fields : (core : CoreState) → IsFieldCore core → IsFieldCore (readied_core core)
-readied_fields core is = record { book = is.book; life = is.life; image = is.image; loaded = is.loaded; bench = map_fields core.bench readied_bench ready_fields is.bench; calls = is.calls }
+readied_fields core is = record { book = is.book; life = is.life; image = is.image; loaded = is.loaded; room = is.room; rest = is.rest; bench = map_fields core.bench readied_bench ready_fields is.bench; calls = is.calls }
 
 clear_at : (bench : BenchState) (why : Option ReclaimRefusal) → unopened_unless bench why ≡ None → unopened_by (renewed_unless bench why).link ≡ None
 clear_at bench None clear = clear
@@ -344,7 +438,7 @@ unfolding recovery_of
 recovery_fields core found are reached is =
     let after = recovery_life (line_of core.life.state).recovery core.life is.life in
     let few = after.life.incarnation in
-    refused IsFieldStart core (option_map fault.Life (recovery_fault core.life)) _ is (life_fault_fields (recovery_fault core.life)) (λ _.
+    refused IsFieldStart core (option_map fault.Life (recovery_fault core.life)) _ is (life_fault_fields (recovery_fault core.life)) (λ may.
     refused IsFieldStart core (reload_fault core found) _ is (reload_fields core found) (λ _.
     refused IsFieldStart (readied_core core) (reopen_fault core) _ (readied_fields core is) (with_fields core.bench (core.life.incarnation == most) reached.bench is.bench) (λ opens.
     record {
@@ -353,6 +447,8 @@ recovery_fields core found are reached is =
         life = after.life;
         image = is.image;
         loaded = load_fields core found are;
+        room = load_room core found;
+        rest = λ off. absurd (recovered_off core.life.state core.life refl (none_mapped fault.Life (recovery_fault core.life) may) off);
         bench = found_reopened core.bench (core.life.incarnation == most) opens is.bench;
         calls = no_calls core _;
       };
@@ -391,12 +487,13 @@ closed_at may_step core gone None small is last = record { core = last; answer =
 closed_at may_step core gone (Some inc) small is last =
     cond_both may_step _ _ (HoldsOut IsFieldLeave) (λ _. record { core = last; answer = small }) (λ _. record { core = is; answer = tt })
 
-leave_at : (may_step : Bool) (core gone : CoreState) (life : CoreLife) (answer : Result Left LifeFault) → IsFieldLife life → IfOk answer IsFieldLeft → IsFieldCore core → IsFieldCore gone
+leave_at : (may_step : Bool) (core gone : CoreState) (life : CoreLife) (answer : Result Left LifeFault) → IsFieldLife life → IfOk answer IsFieldLeft
+    → ((users : ℕ) → answer ≡ Ok (left.Users users) → is_offline life.state ≡ true → is_offline core.life.state ≡ true) → IsFieldCore core → IsFieldCore gone
     → HoldsOut IsFieldLeave (leave_as may_step core gone life answer)
-leave_at may_step core gone life (Err why) living told is last = record { core = is; answer = tt }
-leave_at may_step core gone life (Ok (left.Users users)) living told is last =
-    record { core = record { book = is.book; life = living; image = is.image; loaded = is.loaded; bench = is.bench; calls = is.calls }; answer = told }
-leave_at may_step core gone life (Ok left.Last) living told is last =
+leave_at may_step core gone life (Err why) living told off is last = record { core = is; answer = tt }
+leave_at may_step core gone life (Ok (left.Users users)) living told off is last =
+    record { core = record { book = is.book; life = living; image = is.image; loaded = is.loaded; room = is.room; rest = λ there. is.rest (off users refl there); bench = is.bench; calls = is.calls }; answer = told }
+leave_at may_step core gone life (Ok left.Last) living told off is last =
     refused IsFieldLeave core (option_map fault.CallerOut (option_and_then caller_out core.bench)) _ is (out_fields (option_and_then caller_out core.bench) (out_at core.bench))
     (λ _. closed_at may_step core gone (live_inc core.bench) (live_small core.bench is.bench) is last)
 
@@ -404,15 +501,17 @@ pub shutdown_fields : (may_step : Bool) (core : CoreState) → IsFieldCore core 
 unfolding shutdown_of
 shutdown_fields may_step core is =
     let after = leave_to_life life_fault.NotPowered (line_of core.life.state).shutdown core.life is.life in
-    leave_at may_step core (unloaded_core (life_after_shutdown core.life).life core) (life_after_shutdown core.life).life (life_after_shutdown core.life).answer after.life after.answer is
-    (record { book = is.book; life = after.life; image = tt; loaded = tt; bench = tt; calls = is.calls })
+    leave_at may_step core (unloaded_core (life_after_shutdown core.life).life core) (life_after_shutdown core.life).life (life_after_shutdown core.life).answer after.life after.answer
+    (λ users. users_off life_fault.NotPowered (line_of core.life.state).shutdown core.life users) is
+    (record { book = is.book; life = after.life; image = tt; loaded = tt; room = tt; rest = λ _. refl; bench = tt; calls = is.calls })
 
 pub detach_fields : (may_step : Bool) (core : CoreState) → IsFieldCore core → HoldsOut IsFieldLeave (detach_of may_step core)
 unfolding detach_of
 detach_fields may_step core is =
     let after = leave_to_life life_fault.NotAttached (line_of core.life.state).detach core.life is.life in
-    leave_at may_step core (detached_core (life_after_detach core.life).life core) (life_after_detach core.life).life (life_after_detach core.life).answer after.life after.answer is
-    (record { book = is.book; life = after.life; image = is.image; loaded = is.loaded; bench = tt; calls = is.calls })
+    leave_at may_step core (detached_core (life_after_detach core.life).life core) (life_after_detach core.life).life (life_after_detach core.life).answer after.life after.answer
+    (λ users. users_off life_fault.NotAttached (line_of core.life.state).detach core.life users) is
+    (record { book = is.book; life = after.life; image = is.image; loaded = is.loaded; room = is.room; rest = λ off. is.rest (detach_off core.life.state core.life off); bench = tt; calls = is.calls })
 
 -- ---- crashes
 
@@ -421,27 +520,37 @@ pub record HoldsReport (out : CoreOutcome Crash LifeFault) : Type 0 where
   pub core : IsFieldCore out.core
   pub answer : IfOk out.answer IsFieldCrash
 
-crashed_fields : (life : CoreLife) (core : CoreState) → IsFieldLife life → IsFieldCore core → IsFieldCore (crashed_core life core)
-crashed_fields life core living is = record { book = is.book; life = living; image = is.image; loaded = is.loaded; bench = map_fields core.bench crashed_bench crash_fields is.bench; calls = is.calls }
+module _ (core : CoreState) (is : IsFieldCore core) (life : CoreLife) (living : IsFieldLife life) (off : is_offline life.state ≡ true → is_offline core.life.state ≡ true) where
+  crashed_fields : IsFieldCore (crashed_core life core)
+  crashed_fields = record {
+    book = is.book;
+    life = living;
+    image = is.image;
+    loaded = is.loaded;
+    room = is.room;
+    rest = λ there. is.rest (off there);
+    bench = map_fields core.bench crashed_bench crash_fields is.bench;
+    calls = is.calls;
+  }
 
-first_crash : (may_step : Bool) (life : CoreLife) (core : CoreState) (found : Option BenchState) → IsFieldLife life → IfSome found IsFieldBench → IsFieldCore core → HoldsReport (first_report may_step life core found)
-first_crash may_step life core None living bench is = record { core = crashed_fields life core living is; answer = tt }
-first_crash may_step life core (Some bench) living here is =
-    let inc = here.link.inc in
-    cond_both may_step _ _ HoldsReport (λ _. record { core = crashed_fields life core living is; answer = omega (arith, inc) }) (λ _. record { core = is; answer = tt })
+  first_crash : (may_step : Bool) (found : Option BenchState) → IfSome found IsFieldBench → HoldsReport (first_report may_step life core found)
+  first_crash may_step None here = record { core = crashed_fields; answer = tt }
+  first_crash may_step (Some bench) here =
+      let inc = here.link.inc in
+      cond_both may_step _ _ HoldsReport (λ _. record { core = crashed_fields; answer = omega (arith, inc) }) (λ _. record { core = is; answer = tt })
 
-report_at : (may_step : Bool) (life : CoreLife) (answer : Result Report LifeFault) (core : CoreState) → IsFieldLife life → IsFieldCore core → HoldsReport (report_as may_step life answer core)
-report_at may_step life (Err why) core living is = record { core = is; answer = tt }
-report_at may_step life (Ok report.First) core living is = first_crash may_step life core core.bench living is.bench is
-report_at may_step life (Ok report.Already) core living is = record { core = is; answer = tt }
+  report_at : (may_step : Bool) (answer : Result Report LifeFault) → HoldsReport (report_as may_step life answer core)
+  report_at may_step (Err why) = record { core = is; answer = tt }
+  report_at may_step (Ok report.First) = first_crash may_step core.bench is.bench
+  report_at may_step (Ok report.Already) = record { core = is; answer = tt }
 
 pub report_fields : (may_step : Bool) (core : CoreState) → IsFieldCore core → HoldsReport (report_of may_step core)
 unfolding report_of
 report_fields may_step core is =
-    report_at may_step (life_after_crash core.life).life (life_after_crash core.life).answer core (crash_life (line_of core.life.state).crash core.life is.life).life is
+    report_at core is (life_after_crash core.life).life (crash_life (line_of core.life.state).crash core.life is.life).life (crash_off (line_of core.life.state).crash core.life) may_step (life_after_crash core.life).answer
 
 -- ---- a core that was never booted
 
 pub new_core_fields : (regions : List Region) (kinds : List Declared) (book : ℕ) → book < 2 ^ 64 → IsFieldCore (new_core regions kinds book)
 new_core_fields regions kinds book small =
-    record { book = small; life = new_life_fields; image = tt; loaded = tt; bench = tt; calls = record { host = All-nil IsFieldWish; worker = All-nil IsFieldWish } }
+    record { book = small; life = new_life_fields; image = tt; loaded = tt; room = tt; rest = λ _. refl; bench = tt; calls = record { host = All-nil IsFieldWish; worker = All-nil IsFieldWish } }

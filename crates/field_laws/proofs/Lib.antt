@@ -5,6 +5,7 @@ pub mod Steps
 pub mod Benches
 pub mod Acts
 pub mod Loads
+pub mod Rooms
 pub mod Actors
 pub mod Cores
 pub mod Drives

@@ -1,9 +1,10 @@
 -- The numbers and the bytes of a core that are within their types (own).
-use Rattle.std.specs.Prelude.{◌≡◌, true, ◌<◌, ◌≤◌, ◌^◌, ℕ, List, Option, IfSome, All}
+use Rattle.std.specs.Prelude.{◌≡◌, true, ◌<◌, ◌≤◌, ◌^◌, ℕ, List, length, Option, None, IfSome, All}
 use Rattle.lane_model.specs.declared.calls.Wish.{Wish}
 use Rattle.lane_model.specs.declared.recoveries.ReopenFault.{ReopenFault}
 use Rattle.lane_model.specs.declared.recoveries.ReopenFault.TheVariants as reopen
-use Rattle.proc_state.specs.Lives.{CoreLife, most}
+use Rattle.memory_pool.specs.Regions.{memory_len}
+use Rattle.proc_state.specs.Lives.{CoreLife, is_offline, most}
 use Rattle.core_actors.specs.Actors.{ActorsState}
 use Rattle.core_actors.specs.declared.progress.Driven.{Driven}
 use Rattle.core_actors.specs.declared.progress.Driven.TheVariants as driven
@@ -42,6 +43,9 @@ pub record IsFieldCore (core : CoreState) : Type 0 where
   pub life : IsFieldLife core.life
   pub image : IfSome core.image IsImageName
   pub loaded : IfSome core.loaded IsFieldLoad
+  -- the memory has room for the regions, and nothing is loaded while the core is offline
+  pub room : IfSome core.loaded (λ (load : LoadState). memory_len core.regions ≤ length load.memory)
+  pub rest : is_offline core.life.state ≡ true → core.loaded ≡ None
   pub bench : IfSome core.bench IsFieldBench
   pub calls : AreFieldCalls core.actors
 

@@ -1,5 +1,5 @@
 -- What is told of a core is spelled as lines have it.
-use Rattle.std.proofs.Common.{◌≡◌, ℕ, zero, suc, ◌+◌, ◌-◌, ◌<◌, ◌≤◌, ◌^◌, ◌==◌, not, Bool, true, false, cond, List, [], ◌∷◌, ◌++◌, length, drop, slice_range, Option, Some, None, IfSome, Result, Ok, Err, unwrap_or, arith, ap, is_some, leb, refl, take}
+use Rattle.std.proofs.Common.{◌++◌, sym, subst, ◌≡◌, ℕ, zero, suc, ◌+◌, ◌-◌, ◌<◌, ◌≤◌, ◌^◌, ◌==◌, not, Bool, true, false, cond, List, [], ◌∷◌, ◌++◌, length, drop, slice_range, Option, Some, None, IfSome, Result, Ok, Err, unwrap_or, arith, ap, is_some, leb, refl, take}
 use Rattle.std.specs.Prelude.{All, bytes_eq, find, nat_le, nat_lt, option_map, slice_get}
 use Rattle.std.specs.List.{slice_index_or}
 use Rattle.std.specs.Option.{option_and_then, option_or}
@@ -90,7 +90,8 @@ use Rattle.run_laws.proofs.CoreWalks.{FitsNamed}
 use Rattle.std.specs.Result.{IfOk}
 use Rattle.rp_base.specs.declared.kinds.Switch.{Switch}
 use Rattle.memory_pool.specs.declared.TheConstants.{REGIONS_MOST}
-use Rattle.memory_pool.specs.Regions.{region_fault}
+use Rattle.memory_pool.specs.Regions.{memory_len, region_fault}
+use Rattle.field_laws.proofs.Rooms.{range_in, slice_some}
 use Rattle.resource_table.specs.Entries.{entries_of}
 use Rattle.resource_table.specs.declared.entries.Entry.{Entry}
 use Rattle.resource_table.specs.declared.entries.Entry.TheVariants as table_entry
@@ -139,6 +140,18 @@ loaded_short : (regions : List Region) (da len : ℕ) (found : Option LoadState)
     → IfSome (option_and_then (λ (load : LoadState). bytes_at load.memory len (memory_at regions load.placed da len)) found) (λ bytes. length bytes ≤ len)
 loaded_short regions da len None = tt
 loaded_short regions da len (Some load) = bytes_short load.memory len (memory_at regions load.placed da len)
+
+-- bytes of memory that are shown are some
+place_some : (regions : List Region) (load : LoadState) (da len : ℕ) (place : Option ℕ) → memory_at regions load.placed da len ≡ place → 1 ≤ len → memory_len regions ≤ length load.memory
+    → IfSome (bytes_at load.memory len place) (λ bytes. 1 ≤ length bytes)
+place_some regions load da len None is some room = tt
+place_some regions load da len (Some at) is some room =
+    let inside = range_in regions load.placed da len at is in slice_some load.memory at len some (omega (arith, inside, room))
+
+loaded_some : (regions : List Region) (da len : ℕ) (found : Option LoadState) → 1 ≤ len → IfSome found (λ (load : LoadState). memory_len regions ≤ length load.memory)
+    → IfSome (option_and_then (λ (load : LoadState). bytes_at load.memory len (memory_at regions load.placed da len)) found) (λ bytes. 1 ≤ length bytes)
+loaded_some regions da len None some room = tt
+loaded_some regions da len (Some load) some room = place_some regions load da len (memory_at regions load.placed da len) refl some room
 
 place_bytes : (memory : List ℕ) (len : ℕ) (place : Option ℕ) → AreBytes memory → IfSome (bytes_at memory len place) AreBytes
 place_bytes memory len None are = tt
@@ -224,6 +237,10 @@ unadded : (offline : Bool) (found : Option RegionFault) → cond offline (option
 unadded false found clear = absurd (true≢false (ap is_some clear))
 unadded true None clear = refl
 unadded true (Some why) clear = absurd (true≢false (ap is_some clear))
+
+offline_then : (offline : Bool) (found : Option RegionFault) → cond offline (option_map add.Region found) (Some add.NotOffline) ≡ None → offline ≡ true
+offline_then false found clear = absurd (true≢false (ap is_some clear))
+offline_then true found clear = refl
 
 regions_small : (core : CoreState) (region : Region) → add_fault core region ≡ None → length core.regions < 2 ^ 64
 regions_small core region clear =
@@ -371,7 +388,17 @@ module _ (name : List ℕ) (named : IsName name) where
   module _ (core : CoreState) (steps : ℕ) (is : IsFieldCore core) where
     added : (region : Region) (why : Option AddFault) → add_fault core region ≡ why → LeavesSpelled (added_effect name core steps region why)
     added region None clear = record {
-      left = record { book = is.book; life = is.life; image = is.image; loaded = is.loaded; bench = is.bench; calls = is.calls };
+      left = record {
+        book = is.book;
+        life = is.life;
+        image = is.image;
+        loaded = is.loaded;
+        room = subst (λ (loaded : Option LoadState). IfSome loaded (λ (load : LoadState). memory_len (core.regions ++ region ∷ []) ≤ length load.memory))
+            (sym (is.rest (offline_then (is_offline core.life.state) (region_fault core.regions region) clear))) tt;
+        rest = is.rest;
+        bench = is.bench;
+        calls = is.calls;
+      };
       events = one (event.Region name (length core.regions)) (λ _. ((named, (regions_small core region clear, tt)), tt));
     }
     added region (Some why) found = told core steps (add_fault_event name why) is (add_told why)
@@ -382,7 +409,7 @@ module _ (name : List ℕ) (named : IsName name) where
 
     declared : (channel : List ℕ) (kind : DriverKind) (why : Option AddFault) → IsName channel → LeavesSpelled (declared_effect name core steps channel kind why)
     declared channel kind None called = record {
-      left = record { book = is.book; life = is.life; image = is.image; loaded = is.loaded; bench = is.bench; calls = record { host = is.calls.host; worker = is.calls.worker } };
+      left = record { book = is.book; life = is.life; image = is.image; loaded = is.loaded; room = is.room; rest = is.rest; bench = is.bench; calls = record { host = is.calls.host; worker = is.calls.worker } };
       events = one (event.Driver name channel kind) (λ _. ((named, (called, (tt, tt))), tt));
     }
     declared channel kind (Some why) called = told core steps (driver_fault_event name channel why) is (driver_told channel why called)
@@ -393,7 +420,7 @@ module _ (name : List ℕ) (named : IsName name) where
 
     switch_spelled : (set : Switch) → LeavesSpelled (recovery_effect name core steps set)
     switch_spelled set = record {
-      left = record { book = is.book; life = record { users = is.life.users; incarnation = is.life.incarnation }; image = is.image; loaded = is.loaded; bench = is.bench; calls = is.calls };
+      left = record { book = is.book; life = record { users = is.life.users; incarnation = is.life.incarnation }; image = is.image; loaded = is.loaded; room = is.room; rest = is.rest; bench = is.bench; calls = is.calls };
       events = one (event.Recovery name set) (λ _. ((named, (tt, tt)), tt));
     }
 
@@ -409,9 +436,9 @@ module _ (name : List ℕ) (named : IsName name) where
   trace_told index None small are = λ _. ((named, (small, tt)), tt)
   trace_told index (Some bytes) small are = λ _. ((named, (small, (text_bytes bytes are, tt))), tt)
 
-  memory_told : (da len : ℕ) (found : Option (List ℕ)) → da < 2 ^ 32 → len ≤ 256 → IfSome found (λ bytes. length bytes ≤ len) → IfSome found AreBytes → IsSpelled (shown_memory_event name da len found)
-  memory_told da len None small few short are = λ _. ((named, (small, (omega (arith, few), tt))), tt)
-  memory_told da len (Some bytes) small few short are = λ some. ((named, (small, ((some, omega (arith, few, short), are), tt))), tt)
+  memory_told : (da len : ℕ) (found : Option (List ℕ)) → da < 2 ^ 32 → len ≤ 256 → IfSome found (λ bytes. 1 ≤ length bytes) → IfSome found (λ bytes. length bytes ≤ len) → IfSome found AreBytes → IsSpelled (shown_memory_event name da len found)
+  memory_told da len None small few some short are = λ _. ((named, (small, (omega (arith, few), tt))), tt)
+  memory_told da len (Some bytes) small few some short are = λ _. ((named, (small, ((some, omega (arith, few, short), are), tt))), tt)
 
   module _ (core : CoreState) (steps : ℕ) (is : IsFieldCore core) where
     table_at : (found : Option LoadState) → IfSome found IsFieldLoad → LeavesSpelled (loaded_table_effect name core steps found)
@@ -430,11 +457,11 @@ module _ (name : List ℕ) (named : IsName name) where
     unfolding trace_effect
     trace_spelled index small = told core steps (shown_trace_event name index (trace_bytes core index)) is (trace_told index (trace_bytes core index) small (traced core index is.loaded))
 
-    mem_spelled : (da len : ℕ) → da < 2 ^ 32 → len ≤ 256 → LeavesSpelled (mem_effect name core steps da len)
+    mem_spelled : (da len : ℕ) → da < 2 ^ 32 → 1 ≤ len → len ≤ 256 → LeavesSpelled (mem_effect name core steps da len)
     unfolding mem_effect
-    mem_spelled da len small few =
+    mem_spelled da len small some few =
         told core steps (shown_memory_event name da len (core_memory core da len)) is
-        (memory_told da len (core_memory core da len) small few (loaded_short core.regions da len core.loaded) (memory_bytes core da len core.loaded is.loaded))
+        (memory_told da len (core_memory core da len) small few (loaded_some core.regions da len core.loaded some is.room) (loaded_short core.regions da len core.loaded) (memory_bytes core da len core.loaded is.loaded))
 
   -- ---- lives
 
@@ -613,7 +640,7 @@ module _ (images : List ImageState) (answer : Answer) (is_quiet : Bool) (on : Na
   asked_spelled act.State knows = state_spelled on.name named on.core steps is
   asked_spelled act.Table knows = table_spelled on.name named on.core steps is
   asked_spelled (act.Trace trace) knows = trace_spelled on.name named on.core steps is trace knows
-  asked_spelled (act.Mem da len) knows = mem_spelled on.name named on.core steps is da len knows.0 knows.2
+  asked_spelled (act.Mem da len) knows = mem_spelled on.name named on.core steps is da len knows.0 knows.1 knows.2
   asked_spelled (act.Crash kind) knows = crash_spelled on.name named on.core steps is kind
   asked_spelled act.Recover knows = recover_spelled on.name named on.core steps is images answer are told_are reached
   asked_spelled (act.Recovery set) knows = switch_spelled on.name named on.core steps is set

@@ -15,7 +15,6 @@ TellsBytes told = (number : ℕ) → IfSome (told number) (λ (shelf : Shelf). (
 -- are some, and that the length of a ring, the place of a row of it and the length of a dump that is too large fit
 abbrev pub IsInRange : Event → Type 0
 IsInRange (event.FaultAt x n i) = i < 2 ^ 64
-IsInRange (event.Mem x da bytes) = 1 ≤ length bytes
 IsInRange (event.DumpTooLarge x len) = len < 2 ^ 64
 IsInRange (event.Ring x lane len) = len < 2 ^ 64
 IsInRange (event.Dump x offset bytes) = offset < 2 ^ 64
