@@ -12,6 +12,7 @@ use Rattle.rp_base.specs.declared.kinds.LifeState.{LifeState}
 use Rattle.rp_base.specs.declared.kinds.LifeState.TheVariants.{Offline, Running, Crashed, Attached, Detached}
 use Rattle.memory_pool.specs.Regions.{memory_len}
 use Rattle.fw_load.specs.declared.faults.LoadFault.{LoadFault}
+use Rattle.fw_load.specs.Loading.{load_fault}
 use Rattle.rp_io.specs.declared.faults.FetchFault.{FetchFault}
 use Rattle.rp_io.specs.declared.faults.FetchFault.TheVariants as fetch
 use Rattle.fw_load.specs.declared.rings.RingPair.{RingPair}
@@ -63,11 +64,12 @@ use Rattle.core_laws.proofs.Outcomes.{none_mapped, starts_up}
 use Rattle.core_laws.proofs.KeptCrashes.{reached_sound}
 use Rattle.field_laws.specs.Fields.{AreBytes, IsFieldLink, IsFieldWish}
 use Rattle.field_laws.specs.FieldBenches.{IsFieldBench}
-use Rattle.field_laws.specs.FieldCores.{AreFieldCalls, IsFieldCore, IsFieldCoreFault, IsFieldCrash, IsFieldLeave, IsFieldLife, IsFieldLoad, IsFieldReopen, IsFieldStart, IsImageName}
+use Rattle.field_laws.specs.FieldCores.{AreFieldCalls, IsFieldCore, IsFieldCoreFault, IsFieldCrash, IsFieldLeave, IsFieldLife, IsFieldLoad, IsFieldRefused, IsFieldReopen, IsFieldStart, IsImageName}
 use Rattle.field_laws.proofs.Acts.{IsFieldRefusal, refusal_fields}
 use Rattle.field_laws.proofs.Benches.{caller_fields, crash_fields, new_fields, ready_fields, reopen_fields}
 use Rattle.field_laws.proofs.Lanes.{counts_small}
 use Rattle.field_laws.proofs.Loads.{load_fields}
+use Rattle.field_laws.proofs.Refusals.{refused_fields}
 use Rattle.field_laws.proofs.Rooms.{load_room}
 use Rattle.field_laws.proofs.Sides.{find_has, fresh_fields}
 use Rattle.field_laws.proofs.Steps.{holder_small, user_small}
@@ -274,9 +276,9 @@ refused : {A : Type 0} (P : A → Type 0) (core : CoreState) (why : Option CoreF
 refused P core None done is fields rest = rest refl
 refused P core (Some why) done is fields rest = record { core = is; answer = fields }
 
-load_fault_fields : (found : Option LoadFault) → IfSome (option_map fault.Load found) IsFieldCoreFault
-load_fault_fields None = tt
-load_fault_fields (Some why) = tt
+load_fault_fields : (found : Option LoadFault) → IfSome found IsFieldRefused → IfSome (option_map fault.Load found) IsFieldCoreFault
+load_fault_fields None is = tt
+load_fault_fields (Some why) is = is
 
 fetch_fields : (why : FetchFault) → IsFieldCoreFault (core_fault_of_fetch why)
 fetch_fields fetch.Missing = tt
@@ -284,9 +286,9 @@ fetch_fields fetch.Failed = tt
 fetch_fields (fetch.TooLarge bytes) = tt
 fetch_fields fetch.NoMemory = tt
 
-image_fields : (core : CoreState) (found : Found) → IfSome (image_fault core found) IsFieldCoreFault
-image_fields core (Ok image) = load_fault_fields _
-image_fields core (Err why) = fetch_fields why
+image_fields : (core : CoreState) (found : Found) → IfOk found AreBytes → IfSome (image_fault core found) IsFieldCoreFault
+image_fields core (Ok image) are = load_fault_fields (load_fault image core.regions) (refused_fields image core.regions are)
+image_fields core (Err why) are = fetch_fields why
 
 life_fault_fields : (found : Option LifeFault) → IfSome (option_map fault.Life found) IsFieldCoreFault
 life_fault_fields None = tt
@@ -333,7 +335,7 @@ first_at : (life : CoreLife) (core : CoreState) (name : List ℕ) (found : Found
 first_at life core name found living up called are is =
     let few = living.incarnation in
     cond_both (is_offline core.life.state) _ _ (HoldsOut IsFieldStart)
-    (λ _. refused IsFieldStart core (image_fault core found) _ is (image_fields core found)
+    (λ _. refused IsFieldStart core (image_fault core found) _ is (image_fields core found are)
     (λ _. record {
       core = started_fields life (with_load core name (loaded_in core found)) living up is.book called (load_fields core found are) (load_room core found);
       answer = omega (arith, few);
@@ -359,7 +361,7 @@ handover_at : (life : CoreLife) (answer : Result (Unit {0}) LifeFault) (core : C
     → ((done : Unit {0}) → answer ≡ Ok done → is_offline life.state ≡ true → ⊥) → IsImageName name → IfOk found AreBytes → IsFieldCore core → HoldsOut IsFieldStart (handover_as life answer core name found)
 handover_at life (Err why) core name found living off called are is = record { core = is; answer = tt }
 handover_at life (Ok done) core name found living off called are is =
-    refused IsFieldStart core (image_fault core found) _ is (image_fields core found)
+    refused IsFieldStart core (image_fault core found) _ is (image_fields core found are)
     (λ _. record {
       core = record {
         book = is.book;
@@ -408,9 +410,9 @@ with_fields None is_spent reached is = spent_fields is_spent
 with_fields (Some bench) is_spent reached is =
     or_has IsFieldCoreFault (option_map fault.Reopen (reopen_refusal_of bench)) (spent_fault is_spent) (reopen_map (reopen_refusal_of bench) (reopen_refusal_fields bench reached is)) (spent_fields is_spent)
 
-reload_fields : (core : CoreState) (found : Found) → IfSome (reload_fault core found) IsFieldCoreFault
-reload_fields core found =
-    or_has IsFieldCoreFault (image_fault core found) (rings_fault core (loaded_in core found)) (image_fields core found)
+reload_fields : (core : CoreState) (found : Found) → IfOk found AreBytes → IfSome (reload_fault core found) IsFieldCoreFault
+reload_fields core found are =
+    or_has IsFieldCoreFault (image_fault core found) (rings_fault core (loaded_in core found)) (image_fields core found are)
     (cond_both _ None (Some fault.RingsChanged) (λ (why : Option CoreFault). IfSome why IsFieldCoreFault) (λ _. tt) (λ _. tt))
 
 map_fields : (found : Option BenchState) (f : BenchState → BenchState) → ((bench : BenchState) → IsFieldBench bench → IsFieldBench (f bench)) → IfSome found IsFieldBench → IfSome (option_map f found) IsFieldBench
@@ -439,7 +441,7 @@ recovery_fields core found are reached is =
     let after = recovery_life (line_of core.life.state).recovery core.life is.life in
     let few = after.life.incarnation in
     refused IsFieldStart core (option_map fault.Life (recovery_fault core.life)) _ is (life_fault_fields (recovery_fault core.life)) (λ may.
-    refused IsFieldStart core (reload_fault core found) _ is (reload_fields core found) (λ _.
+    refused IsFieldStart core (reload_fault core found) _ is (reload_fields core found are) (λ _.
     refused IsFieldStart (readied_core core) (reopen_fault core) _ (readied_fields core is) (with_fields core.bench (core.life.incarnation == most) reached.bench is.bench) (λ opens.
     record {
       core = record {

@@ -4,6 +4,8 @@ pub mod Lanes
 pub mod Steps
 pub mod Benches
 pub mod Acts
+pub mod Tables
+pub mod Refusals
 pub mod Loads
 pub mod Rooms
 pub mod Actors
@@ -11,4 +13,3 @@ pub mod Cores
 pub mod Drives
 pub mod Images
 pub mod Rings
-pub mod Tables

@@ -1,5 +1,7 @@
 -- The numbers and the bytes of a core that are within their types (own).
 use Rattle.std.specs.Prelude.{◌≡◌, true, ◌<◌, ◌≤◌, ◌^◌, ℕ, List, length, Option, None, IfSome, All}
+use Rattle.fw_load.specs.declared.faults.LoadFault.{LoadFault}
+use Rattle.fw_load.specs.Faults.{load_fault_index}
 use Rattle.lane_model.specs.declared.calls.Wish.{Wish}
 use Rattle.lane_model.specs.declared.recoveries.ReopenFault.{ReopenFault}
 use Rattle.lane_model.specs.declared.recoveries.ReopenFault.TheVariants as reopen
@@ -64,8 +66,13 @@ IsFieldReopen (reopen.StillHeld caller number) = (caller < 2 ^ 64) × (number < 
 IsFieldReopen reopen.IncarnationsSpent = Unit {0}
 IsFieldReopen reopen.NoMemory = Unit {0}
 
--- what calls of a core answer; of what an image is refused for nothing is said
+-- what an image is refused for: the number of a program header or of an entry of its table, if it has one
+abbrev pub IsFieldRefused : LoadFault → Type 0
+IsFieldRefused why = IfSome (load_fault_index why) (λ index. index < 2 ^ 64)
+
+-- what calls of a core answer
 abbrev pub IsFieldCoreFault : CoreFault → Type 0
+IsFieldCoreFault (fault.Load why) = IsFieldRefused why
 IsFieldCoreFault (fault.CallerOut caller) = caller < 2 ^ 64
 IsFieldCoreFault (fault.Reopen why) = IsFieldReopen why
 IsFieldCoreFault other = Unit {0}

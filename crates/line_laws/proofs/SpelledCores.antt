@@ -465,9 +465,9 @@ module _ (name : List ℕ) (named : IsName name) where
 
   -- ---- lives
 
-  fault_told : (number : ℕ) (index : Option ℕ) → number < 2 ^ 64 → IsSpelled (fault_at name number index)
-  fault_told number None small = λ _. ((named, (small, tt)), tt)
-  fault_told number (Some index) small = λ range. ((named, (small, (range, tt))), tt)
+  fault_told : (number : ℕ) (index : Option ℕ) → number < 2 ^ 64 → IfSome index (λ place. place < 2 ^ 64) → IsSpelled (fault_at name number index)
+  fault_told number None small is = λ _. ((named, (small, tt)), tt)
+  fault_told number (Some index) small is = λ _. ((named, (small, (is, tt))), tt)
 
   life_told : (why : LifeFault) → IsSpelled (life_fault_event name why)
   life_told life.IncarnationsSpent = λ _. ((named, tt), tt)
@@ -483,7 +483,7 @@ module _ (name : List ℕ) (named : IsName name) where
   core_told image (fault.Fetch (fetch.TooLarge bytes)) called is = one (event.TooLarge name image) (λ _. ((named, (called, tt)), tt))
   core_told image (fault.Fetch fetch.Failed) called is = none
   core_told image (fault.Fetch fetch.NoMemory) called is = none
-  core_told image (fault.Load why) called is = one (load_fault_event name why) (fault_told (unwrap_or (load_fault_number why) 0) (load_fault_index why) (load_number why))
+  core_told image (fault.Load why) called is = one (load_fault_event name why) (fault_told (unwrap_or (load_fault_number why) 0) (load_fault_index why) (load_number why) is)
   core_told image (fault.Life why) called is = one (life_fault_event name why) (life_told why)
   core_told image fault.RingsChanged called is = one (event.Fault name RINGS_CHANGED) (λ _. ((named, (omega arith, tt)), tt))
   core_told image (fault.CallerOut caller) called is = one (event.FaultAt name CALLER_OUT caller) (λ _. ((named, (omega arith, (is, tt))), tt))

@@ -11,10 +11,8 @@ use Rattle.script_run.specs.Stores.{Shelf, Told}
 abbrev pub TellsBytes : Told → Type 0
 TellsBytes told = (number : ℕ) → IfSome (told number) (λ (shelf : Shelf). (name : List ℕ) → IfOk (shelf name) AreBytes)
 
--- what is not proved of the events of a run: that the number of the program header or the entry fits for which an image is refused, that the bytes of memory that are shown
--- are some, and that the length of a ring, the place of a row of it and the length of a dump that is too large fit
+-- what is not proved of the events of a run: that the length of a ring, the place of a row of it and the length of a dump that is too large have 64 bits
 abbrev pub IsInRange : Event → Type 0
-IsInRange (event.FaultAt x n i) = i < 2 ^ 64
 IsInRange (event.DumpTooLarge x len) = len < 2 ^ 64
 IsInRange (event.Ring x lane len) = len < 2 ^ 64
 IsInRange (event.Dump x offset bytes) = offset < 2 ^ 64
