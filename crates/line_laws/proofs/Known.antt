@@ -5,7 +5,7 @@ use Rattle.script_lang.specs.declared.commands.Command.{Command}
 use Rattle.script_lang.specs.declared.commands.Command.TheVariants as command
 use Rattle.script_lang.specs.declared.recipes.RecipeLine.{RecipeLine}
 use Rattle.script_lang.specs.Grammar.{IsScript}
-use Rattle.script_lang.specs.Runnable.{AreRunnable, IsRunnable}
+use Rattle.script_lang.specs.Runnable.{IsBook, AreRunnable, IsRunnable}
 use Rattle.script_lang.proofs.Runnable.{are_runnable}
 use Rattle.image_maker.specs.Images.{image_of}
 use Rattle.link_bench.specs.Acts.{IsFitAct}
@@ -21,10 +21,10 @@ use Rattle.script_run.specs.declared.acts.NamedAct.{NamedAct}
 use Rattle.script_run.specs.declared.acts.NamedAct.TheVariants as under
 use Rattle.script_run.specs.Acts.{line_of}
 use Rattle.run_laws.proofs.RunsReached.{line_fits}
+use Rattle.way_laws.proofs.RunTales.{FitsMaking}
 use Rattle.field_laws.specs.Fields.{AreBytes}
 use Rattle.field_laws.specs.FieldBenches.{IsFieldAct}
-use Rattle.field_laws.proofs.Images.{image_small}
-use Rattle.field_laws.proofs.Images.{IsBytesLine}
+use Rattle.field_laws.proofs.Images.{IsBytesLine, image_small}
 use Rattle.line_laws.proofs.Spelled.{IsName}
 use Rattle.line_laws.proofs.SaidScripts.{AreSaid, IsSaidLine, are_said}
 
@@ -41,8 +41,8 @@ IsKnownCore (core.Mem da len) = (da < 2 ^ 32) × (1 ≤ len) × (len ≤ 256)
 IsKnownCore other = Unit {0}
 
 abbrev pub IsKnownMaking : Making → Type 0
-IsKnownMaking (making.Link config has_service) = (config.first < 2 ^ 32) × (config.book < 2 ^ 64)
-IsKnownMaking (making.Core set book) = book < 2 ^ 64
+IsKnownMaking (making.Link config has_service) = ((config.first < 2 ^ 32) × (config.book < 2 ^ 64)) × FitsMaking (making.Link config has_service)
+IsKnownMaking (making.Core set book) = (book < 2 ^ 64) × IsBook book
 
 abbrev pub IsKnownAct : NamedAct (List ℕ) → Type 0
 IsKnownAct (under.Make made) = IsKnownMaking made
@@ -61,9 +61,9 @@ line_known : (wanted : Command) → IsRunnable wanted → IsSaidLine (line_of wa
 line_known (command.Image name lines) runs said = (said.0, said.1, image_small lines runs said.2)
 line_known (command.Quiet set) runs said = tt
 line_known (command.Dump name image) runs said = (said.0, said.1)
-line_known (command.Link name to_host to_remote book) runs said = let few = runs.2.1 in (said.0, (omega arith, omega (arith, few)))
-line_known (command.NsLink name to_host to_remote book) runs said = let few = runs.2.1 in (said.0, (omega arith, omega (arith, few)))
-line_known (command.Core name regions book) runs said = let few = runs.1 in (said.0, omega (arith, few))
+line_known (command.Link name to_host to_remote book) runs said = let few = runs.2.1 in (said.0, ((omega arith, omega (arith, few)), runs))
+line_known (command.NsLink name to_host to_remote book) runs said = let few = runs.2.1 in (said.0, ((omega arith, omega (arith, few)), runs))
+line_known (command.Core name regions book) runs said = let few = runs.1 in (said.0, (omega (arith, few), runs))
 line_known (command.Caller name end) runs said = (said.0, (line_fits (command.Caller name end) runs, tt))
 line_known (command.Send name caller source destination payload) runs said =
     let short = runs.3 in (said.0, (line_fits (command.Send name caller source destination payload) runs, (omega (arith, short), said.1)))

@@ -42,6 +42,7 @@ use Rattle.link_bench.specs.Benches.{BenchState, taken_on}
 use Rattle.link_bench.specs.BenchCrashes.{after_close}
 use Rattle.link_bench.specs.BenchRings.{first_holder, lane_base, lane_bytes, lane_words, turn_holder}
 use Rattle.link_bench.specs.Watchers.{nobody_sees}
+use Rattle.lane_laws.specs.SoundRingLinks.{HasSoundRings}
 use Rattle.core_laws.specs.BenchMoves.{IsShortLink}
 use Rattle.core_laws.proofs.KeptCrashes.{reached_sound}
 use Rattle.journal.specs.declared.events.Event.TheVariants as event
@@ -70,6 +71,7 @@ use Rattle.field_laws.proofs.Lanes.{counts_small}
 use Rattle.field_laws.proofs.Rings.{ring_are}
 use Rattle.field_laws.proofs.Steps.{holder_small}
 use Rattle.line_laws.proofs.Known.{IsKnownAct, IsKnownView}
+use Rattle.line_laws.proofs.RingLengths.{bytes_few}
 use Rattle.line_laws.proofs.Spelled.{IsName, IsSpelled, none, one, two}
 
 -- a payload is shorter than its message
@@ -190,31 +192,32 @@ module _ (name : List ℕ) (named : IsName name) where
   channels_spelled bench sound is =
       listed_spelled bench (holder bench.link.to_host.receiver) (holder_small bench.link.callers side.Host bench.link.to_host.receiver is.callers sound.to_host.receiver) is
 
-  row_spelled : (offset : ℕ) (row : List ℕ) → 1 ≤ length row → length row ≤ 16 → AreBytes row → All IsSpelled (row_events name offset row)
-  row_spelled offset row some short are =
+  row_spelled : (offset : ℕ) (row : List ℕ) → offset < 2 ^ 64 → 1 ≤ length row → length row ≤ 16 → AreBytes row → All IsSpelled (row_events name offset row)
+  row_spelled offset row small some short are =
       cond_both (list_all (λ byte. byte == 0) row) [] (event.Dump name offset row ∷ []) (All IsSpelled) (λ _. none)
-      (λ _. one (event.Dump name offset row) (λ small. ((named, (small, ((some, short, are), tt))), tt)))
+      (λ _. one (event.Dump name offset row) (λ _. ((named, (small, ((some, short, are), tt))), tt)))
 
-  rows_spelled : (count offset : ℕ) (bytes : List ℕ) → count ≤ row_count bytes → AreBytes bytes → All IsSpelled (dump_rows count name offset bytes)
+  rows_spelled : (count offset : ℕ) (bytes : List ℕ) → count ≤ row_count bytes → offset + 16 * count ≤ 2 ^ 64 → AreBytes bytes → All IsSpelled (dump_rows count name offset bytes)
   unfolding dump_rows
-  rows_spelled zero offset bytes few are = none
-  rows_spelled (suc more) offset bytes few are =
+  rows_spelled zero offset bytes few small are = none
+  rows_spelled (suc more) offset bytes few small are =
       let taken = length-take 16 bytes in
       let left = length-drop 16 bytes in
       let first = min-le_left 16 (length bytes) in
       All-append IsSpelled (row_events name offset (take 16 bytes)) (dump_rows more name (offset + 16) (drop 16 bytes))
-      (row_spelled offset (take 16 bytes) (grind (arith, taken, few)) (omega (arith, taken, first)) (taken_bytes 16 bytes are))
-      (rows_spelled more (offset + 16) (drop 16 bytes) (omega (arith, left, few)) (dropped_bytes 16 bytes are))
+      (row_spelled offset (take 16 bytes) (omega (arith, small)) (grind (arith, taken, few)) (omega (arith, taken, first)) (taken_bytes 16 bytes are))
+      (rows_spelled more (offset + 16) (drop 16 bytes) (omega (arith, left, few)) (omega (arith, small)) (dropped_bytes 16 bytes are))
 
-  pub ring_spelled : (lane : ℕ) (bytes : List ℕ) → lane < 2 → AreBytes bytes → All IsSpelled (ring_events name lane bytes)
-  ring_spelled lane bytes first are =
-      All-cons IsSpelled (event.Ring name lane (length bytes)) (dump_rows (row_count bytes) name 0 bytes) (λ small. ((named, (first, (small, tt))), tt))
-      (rows_spelled (row_count bytes) 0 bytes (omega arith) are)
+  pub ring_spelled : (lane : ℕ) (bytes : List ℕ) → lane < 2 → length bytes ≤ 2 ^ 32 → AreBytes bytes → All IsSpelled (ring_events name lane bytes)
+  ring_spelled lane bytes first short are =
+      All-cons IsSpelled (event.Ring name lane (length bytes)) (dump_rows (row_count bytes) name 0 bytes) (λ _. ((named, (first, (omega (arith, short), tt))), tt))
+      (rows_spelled (row_count bytes) 0 bytes (omega arith) (omega (arith, short)) are)
 
-  shown_spelled : (bench : BenchState) (lane : ℕ) (held : Option ℕ) → lane < 2 → IfSome held (λ caller. caller ≤ 64) → All IsSpelled (shown_ring name bench lane held)
-  shown_spelled bench lane (Some caller) first small = one (event.StillTurn name caller) (still_spelled caller small)
-  shown_spelled bench lane None first small =
-      ring_spelled lane (lane_bytes bench.rings lane) first (ring_are 4 (lane_words bench.rings lane (lane_base 0 bench.rings.to_host.rings.sizes.capacity lane)))
+  shown_spelled : (bench : BenchState) (lane : ℕ) (held : Option ℕ) → lane < 2 → HasSoundRings bench.rings → IfSome held (λ caller. caller ≤ 64) → All IsSpelled (shown_ring name bench lane held)
+  shown_spelled bench lane (Some caller) first rings small = one (event.StillTurn name caller) (still_spelled caller small)
+  shown_spelled bench lane None first rings small =
+      ring_spelled lane (lane_bytes bench.rings lane) first (bytes_few bench.rings lane rings)
+      (ring_are 4 (lane_words bench.rings lane (lane_base 0 bench.rings.to_host.rings.sizes.capacity lane)))
 
   turn_or : (first later : Option ℕ) → IfSome first (λ caller. caller ≤ 64) → IfSome later (λ caller. caller ≤ 64) → IfSome (first_holder first later) (λ caller. caller ≤ 64)
   turn_or None later is rest = rest
@@ -227,21 +230,21 @@ module _ (name : List ℕ) (named : IsName name) where
       (turn_or (holder link.to_remote.sender) (holder link.to_remote.receiver) (holder_small link.callers side.Host link.to_remote.sender is.callers sound.to_remote.sender)
       (holder_small link.callers side.Remote link.to_remote.receiver is.callers sound.to_remote.receiver)))
 
-  bench_ring_spelled : (bench : BenchState) (lane : ℕ) → lane < 2 → SoundLink bench.link → IsFieldLink bench.link → All IsSpelled (bench_ring_events name bench lane)
+  bench_ring_spelled : (bench : BenchState) (lane : ℕ) → lane < 2 → HasSoundRings bench.rings → SoundLink bench.link → IsFieldLink bench.link → All IsSpelled (bench_ring_events name bench lane)
   unfolding bench_ring_events
-  bench_ring_spelled bench lane first sound is = shown_spelled bench lane (turn_holder bench.link) first (turn_small bench.link sound is)
+  bench_ring_spelled bench lane first rings sound is = shown_spelled bench lane (turn_holder bench.link) first rings (turn_small bench.link sound is)
 
   books_spelled : (lane : ℕ) (state : LaneState EndState) → lane < 2 → IsSoundLane state → IsFieldLane state → IsSpelled (lane_event name lane state)
   books_spelled lane state first sound is =
       let counts = counts_small state sound is in λ _. ((named, (first, (counts.accepted, (counts.takers, (counts.returned, tt))))), tt)
 
-  pub view_spelled : (bench : BenchState) (shown : LinkView) → IsKnownView shown → SoundLink bench.link → IsFieldLink bench.link → All IsSpelled (view_events name bench shown)
+  pub view_spelled : (bench : BenchState) (shown : LinkView) → IsKnownView shown → HasSoundRings bench.rings → SoundLink bench.link → IsFieldLink bench.link → All IsSpelled (view_events name bench shown)
   unfolding view_events
-  view_spelled bench view.Books fits sound is =
+  view_spelled bench view.Books fits rings sound is =
       two (lane_event name 0 bench.link.to_host) (lane_event name 1 bench.link.to_remote) (books_spelled 0 bench.link.to_host (omega arith) sound.to_host.lane is.to_host)
       (books_spelled 1 bench.link.to_remote (omega arith) sound.to_remote.lane is.to_remote)
-  view_spelled bench (view.Ring lane) fits sound is = bench_ring_spelled bench lane fits sound is
-  view_spelled bench view.Channels fits sound is = channels_spelled bench sound is
+  view_spelled bench (view.Ring lane) fits rings sound is = bench_ring_spelled bench lane fits rings sound is
+  view_spelled bench view.Channels fits rings sound is = channels_spelled bench sound is
 
   -- ---- what its manager does
 
@@ -285,18 +288,18 @@ module _ (name : List ℕ) (named : IsName name) where
   managed_spelled bench steps manager.Reopen sound is = reopen_spelled bench steps sound is
 
 -- what is done under the name of a link
-pub link_spelled : (on : NamedLink) (steps : ℕ) (wanted : NamedAct (List ℕ)) → IsName on.name → IsKnownAct wanted → HoldsBench on.bench → LeavesSpelledLink (link_effect on steps wanted)
+pub link_spelled : (on : NamedLink) (steps : ℕ) (wanted : NamedAct (List ℕ)) → IsName on.name → IsKnownAct wanted → HasSoundRings on.bench.rings → HoldsBench on.bench → LeavesSpelledLink (link_effect on steps wanted)
 unfolding link_effect
-link_spelled on steps (under.Make made) named knows is = record { bench = is.fields; events = one (event.Exists on.name) (λ _. ((named, tt), tt)) }
-link_spelled on steps (under.Link asked) named knows is =
+link_spelled on steps (under.Make made) named knows rings is = record { bench = is.fields; events = one (event.Exists on.name) (λ _. ((named, tt), tt)) }
+link_spelled on steps (under.Link asked) named knows rings is =
     let acted = link_act nobody_sees 0 on.bench tt steps asked in
     let left = act_holds nobody_sees 0 on.bench tt steps asked knows.0 knows.1 is in
     record {
       bench = left.fields;
       events = answer_spelled on.name named acted.bench.link acted.answer left.reached.link.short left.fields.link (act_told nobody_sees 0 on.bench tt steps asked knows.0 knows.1 is);
     }
-link_spelled on steps (under.Manage managed) named knows is =
+link_spelled on steps (under.Manage managed) named knows rings is =
     let left = managed_spelled on.name named on.bench steps managed (reached_sound on.bench.link is.reached.link) is.fields in record { bench = left.bench; events = left.events }
-link_spelled on steps (under.Show shown) named knows is =
-    record { bench = is.fields; events = view_spelled on.name named on.bench shown knows (reached_sound on.bench.link is.reached.link) is.fields.link }
-link_spelled on steps (under.Core asked) named knows is = record { bench = is.fields; events = one (event.Unknown on.name) (λ _. ((named, tt), tt)) }
+link_spelled on steps (under.Show shown) named knows rings is =
+    record { bench = is.fields; events = view_spelled on.name named on.bench shown knows rings (reached_sound on.bench.link is.reached.link) is.fields.link }
+link_spelled on steps (under.Core asked) named knows rings is = record { bench = is.fields; events = one (event.Unknown on.name) (λ _. ((named, tt), tt)) }

@@ -1,5 +1,5 @@
 -- What is told of a core is spelled as lines have it.
-use Rattle.std.proofs.Common.{◌++◌, sym, subst, ◌≡◌, ℕ, zero, suc, ◌+◌, ◌-◌, ◌<◌, ◌≤◌, ◌^◌, ◌==◌, not, Bool, true, false, cond, List, [], ◌∷◌, ◌++◌, length, drop, slice_range, Option, Some, None, IfSome, Result, Ok, Err, unwrap_or, arith, ap, is_some, leb, refl, take}
+use Rattle.std.proofs.Common.{sym, subst, ◌≡◌, ℕ, zero, suc, ◌+◌, ◌-◌, ◌<◌, ◌≤◌, ◌^◌, ◌==◌, not, Bool, true, false, cond, List, [], ◌∷◌, ◌++◌, length, drop, slice_range, Option, Some, None, IfSome, Result, Ok, Err, unwrap_or, arith, ap, is_some, leb, refl, take}
 use Rattle.std.specs.Prelude.{All, bytes_eq, find, nat_le, nat_lt, option_map, slice_get}
 use Rattle.std.specs.List.{slice_index_or}
 use Rattle.std.specs.Option.{option_and_then, option_or}
@@ -86,7 +86,7 @@ use Rattle.script_run.specs.CoreViews.{loaded_table_effect, mem_effect, shown_me
 use Rattle.script_run.specs.NamedCores.{NamedCoreState}
 use Rattle.script_run.specs.NamedImages.{ImageState}
 use Rattle.script_run.specs.Stores.{Answer}
-use Rattle.run_laws.proofs.CoreWalks.{FitsNamed}
+use Rattle.way_laws.proofs.CoreRungs.{IsRung, IsRungCore}
 use Rattle.std.specs.Result.{IfOk}
 use Rattle.rp_base.specs.declared.kinds.Switch.{Switch}
 use Rattle.memory_pool.specs.declared.TheConstants.{REGIONS_MOST}
@@ -97,6 +97,8 @@ use Rattle.resource_table.specs.declared.entries.Entry.{Entry}
 use Rattle.resource_table.specs.declared.entries.Entry.TheVariants as table_entry
 use Rattle.resource_table.specs.declared.entries.Ring.{Ring}
 use Rattle.resource_table.specs.declared.entries.Vdev.{Vdev}
+use Rattle.lane_laws.specs.SoundRingLinks.{HasSoundRings}
+use Rattle.fw_load.specs.Rings.{IsSoundPair}
 use Rattle.fw_load.specs.declared.rings.RingPair.{RingPair}
 use Rattle.fw_load.specs.declared.traces.TraceAt.{TraceAt}
 use Rattle.journal.specs.TableLines.{table_words}
@@ -116,6 +118,7 @@ use Rattle.field_laws.proofs.Rings.{ring_are}
 use Rattle.field_laws.proofs.Sides.{find_has}
 use Rattle.field_laws.proofs.Tables.{entries_few, entries_fields}
 use Rattle.line_laws.proofs.Known.{IsKnownAct, IsKnownCore, IsKnownView}
+use Rattle.line_laws.proofs.RingLengths.{pair_few}
 use Rattle.line_laws.proofs.Spelled.{AreSpelled, IsName, IsSpelled, none, one, two}
 use Rattle.line_laws.proofs.SpelledCalls.{answer_spelled, end_spelled, reopen_told, ring_spelled, turn_small, view_spelled}
 
@@ -314,6 +317,10 @@ rows_are index (first ∷ more) traces few all =
 table_rows_are : (table : List ℕ) (traces : List TraceAt) → AreBytes table → All IsRow (table_rows table traces)
 table_rows_are table traces are = let few = entries_few table are in rows_are 0 (entries_of table) traces (omega (arith, few)) (entries_fields table are)
 
+-- bytes, and few
+abbrev IsFewBytes : List ℕ → Type 0
+IsFewBytes bytes = (length bytes ≤ 2 ^ 32) × AreBytes bytes
+
 module _ (name : List ℕ) (named : IsName name) where
   told : (core : CoreState) (steps : ℕ) (first : Event) → IsFieldCore core → IsSpelled first → LeavesSpelled (core_tells core steps first)
   told core steps first is spelled = record { left = is; events = one first spelled }
@@ -323,7 +330,7 @@ module _ (name : List ℕ) (named : IsName name) where
 
   -- ---- the link of a core
 
-  module _ (core : CoreState) (steps : ℕ) (is : IsFieldCore core) where
+  module _ (core : CoreState) (steps : ℕ) (is : IsFieldCore core) (rungs : IsRungCore core) where
     link_at : (asked : LinkAct (List ℕ)) (found : Option BenchState) → IsFitAct asked → IsFieldAct asked → IfSome found IsReachedBench → IfSome found IsFieldBench
         → LeavesSpelled (core_link_effect name core steps asked found)
     unfolding core_link_effect
@@ -336,20 +343,21 @@ module _ (name : List ℕ) (named : IsName name) where
           events = answer_spelled name named acted.bench.link acted.answer (acted_reached actors_after_end 2 bench core.actors steps asked fits reached).link.short left.bench.link left.answer;
         }
 
-    ring_at : (lane : ℕ) (found : Option (List ℕ)) → lane < 2 → IfSome found AreBytes → LeavesSpelled (found_ring_effect name core steps lane found)
+    ring_at : (lane : ℕ) (found : Option (List ℕ)) → lane < 2 → IfSome found IsFewBytes → LeavesSpelled (found_ring_effect name core steps lane found)
     ring_at lane None first are = no_link core steps is
-    ring_at lane (Some bytes) first are = record { left = is; events = ring_spelled name named lane bytes first are }
+    ring_at lane (Some bytes) first are = record { left = is; events = ring_spelled name named lane bytes first are.0 are.1 }
 
-    pair_are : (bench : BenchState) (lane : ℕ) (found : Option RingPair) → IfSome (option_map (pair_bytes bench.rings lane) found) AreBytes
-    pair_are bench lane None = tt
-    pair_are bench lane (Some rings) = ring_are (ring_of_lane rings lane).align (lane_words bench.rings lane (lane_base rings.base (ring_capacity rings.to_host.num) lane))
+    pair_are : (bench : BenchState) (lane : ℕ) (found : Option RingPair) → HasSoundRings bench.rings → IfSome found IsSoundPair → IfSome (option_map (pair_bytes bench.rings lane) found) IsFewBytes
+    pair_are bench lane None sound fit = tt
+    pair_are bench lane (Some rings) sound fit =
+        (pair_few bench.rings lane rings sound fit, ring_are (ring_of_lane rings lane).align (lane_words bench.rings lane (lane_base rings.base (ring_capacity rings.to_host.num) lane)))
 
-    ring_bytes : (lane : ℕ) (found : Option BenchState) → IfSome (option_and_then (λ (bench : BenchState). option_map (pair_bytes bench.rings lane) (loaded_rings core.loaded)) found) AreBytes
-    ring_bytes lane None = tt
-    ring_bytes lane (Some bench) = pair_are bench lane (loaded_rings core.loaded)
+    ring_bytes : (lane : ℕ) (found : Option BenchState) → IfSome found IsRung → IfSome (option_and_then (λ (bench : BenchState). option_map (pair_bytes bench.rings lane) (loaded_rings core.loaded)) found) IsFewBytes
+    ring_bytes lane None rung = tt
+    ring_bytes lane (Some bench) rung = pair_are bench lane (loaded_rings core.loaded) rung.sound rungs.load.rings
 
     shown_at : (lane : ℕ) (found : Option ℕ) → lane < 2 → IfSome found (λ caller. caller ≤ 64) → LeavesSpelled (core_shown_effect name core steps lane found)
-    shown_at lane None first small = ring_at lane (core_ring core lane) first (ring_bytes lane core.bench)
+    shown_at lane None first small = ring_at lane (core_ring core lane) first (ring_bytes lane core.bench rungs.bench)
     shown_at lane (Some caller) first small = told core steps (event.StillTurn name caller) is (λ _. ((named, (omega (arith, small), tt)), tt))
 
     core_turn : (found : Option BenchState) → IfSome found IsReachedBench → IfSome found IsFieldBench → IfSome (option_and_then (λ (bench : BenchState). turn_holder bench.link) found) (λ caller. caller ≤ 64)
@@ -360,14 +368,14 @@ module _ (name : List ℕ) (named : IsName name) where
     unfolding core_ring_effect
     ring_shown lane first reached = shown_at lane (core_turn_holder core) first (core_turn core.bench reached is.bench)
 
-    viewed_at : (shown : LinkView) (found : Option BenchState) → IsKnownView shown → IfSome found IsReachedBench → IfSome found IsFieldBench → LeavesSpelled (found_view_effect name core steps shown found)
-    viewed_at shown None knows reached here = no_link core steps is
-    viewed_at shown (Some bench) knows reached here = record { left = is; events = view_spelled name named bench shown knows (reached_sound bench.link reached.link) here.link }
+    viewed_at : (shown : LinkView) (found : Option BenchState) → IsKnownView shown → IfSome found IsRung → IfSome found IsReachedBench → IfSome found IsFieldBench → LeavesSpelled (found_view_effect name core steps shown found)
+    viewed_at shown None knows rung reached here = no_link core steps is
+    viewed_at shown (Some bench) knows rung reached here = record { left = is; events = view_spelled name named bench shown knows rung.sound (reached_sound bench.link reached.link) here.link }
 
     view_shown : (shown : LinkView) → IsKnownView shown → IfSome core.bench IsReachedBench → LeavesSpelled (core_view_effect name core steps shown)
-    view_shown view.Books knows reached = viewed_at view.Books core.bench tt reached is.bench
+    view_shown view.Books knows reached = viewed_at view.Books core.bench tt rungs.bench reached is.bench
     view_shown (view.Ring lane) knows reached = ring_shown lane knows reached
-    view_shown view.Channels knows reached = viewed_at view.Channels core.bench tt reached is.bench
+    view_shown view.Channels knows reached = viewed_at view.Channels core.bench tt rungs.bench reached is.bench
 
   -- ---- what a core is made of
 
@@ -628,7 +636,7 @@ module _ (name : List ℕ) (named : IsName name) where
 -- ---- what is done under the name of a core
 
 module _ (images : List ImageState) (answer : Answer) (is_quiet : Bool) (on : NamedCoreState) (steps : ℕ) (named : IsName on.name) (are : AreBytesImages images) (told_are : IfOk answer AreBytes)
-    (reached : IsReachedCore on.core) (is : IsFieldCore on.core) where
+    (reached : IsReachedCore on.core) (is : IsFieldCore on.core) (rungs : IsRungCore on.core) where
   asked_spelled : (asked : CoreAct) → IsKnownCore asked → LeavesSpelled (core_act_effect images answer is_quiet on steps asked)
   unfolding core_act_effect
   asked_spelled (act.Region region) knows = region_spelled on.name named on.core steps is region
@@ -649,7 +657,7 @@ module _ (images : List ImageState) (answer : Answer) (is_quiet : Bool) (on : Na
   pub core_spelled : (wanted : NamedAct (List ℕ)) → IsKnownAct wanted → LeavesSpelled (core_effect images answer is_quiet on steps wanted)
   unfolding core_effect
   core_spelled (under.Make made) knows = told on.name named on.core steps (event.Exists on.name) is (λ _. ((named, tt), tt))
-  core_spelled (under.Link asked) knows = link_at on.name named on.core steps is asked on.core.bench knows.0 knows.1 reached.bench is.bench
+  core_spelled (under.Link asked) knows = link_at on.name named on.core steps is rungs asked on.core.bench knows.0 knows.1 reached.bench is.bench
   core_spelled (under.Manage managed) knows = told on.name named on.core steps (event.Unknown on.name) is (λ _. ((named, tt), tt))
-  core_spelled (under.Show shown) knows = view_shown on.name named on.core steps is shown knows reached.bench
+  core_spelled (under.Show shown) knows = view_shown on.name named on.core steps is rungs shown knows reached.bench
   core_spelled (under.Core asked) knows = asked_spelled asked knows

@@ -5,6 +5,7 @@ use Rattle.std.specs.Result.{IfOk}
 use Rattle.std.proofs.lemmas.Bool.{cond_both, ltb-false}
 use Rattle.std.proofs.lemmas.List.Elements.{All-append, All-nil, All-push, All-set, All-weaker}
 use Rattle.rp_base.specs.declared.limits.TheConstants.{IMAGE_MOST}
+use Rattle.rp_base.specs.declared.kinds.End.TheVariants as side
 use Rattle.rp_base.specs.declared.kinds.LifeState.{LifeState}
 use Rattle.rp_base.specs.declared.kinds.LifeState.TheVariants.{Crashed}
 use Rattle.rp_base.specs.declared.kinds.Switch.{Switch}
@@ -14,11 +15,12 @@ use Rattle.script_lang.specs.declared.commands.Command.{Command}
 use Rattle.script_lang.specs.declared.commands.RegionSet.{RegionSet}
 use Rattle.script_lang.specs.declared.recipes.RecipeLine.{RecipeLine}
 use Rattle.script_lang.specs.Grammar.{IsScript}
-use Rattle.script_lang.specs.Runnable.{AreRunnable, IsRunnable}
+use Rattle.script_lang.specs.Runnable.{AreRunnable, IsBook, IsRunnable}
 use Rattle.script_lang.proofs.Runnable.{are_runnable}
 use Rattle.image_maker.specs.Images.{image_of}
 use Rattle.core_dump.specs.Dumps.{dump_of}
-use Rattle.link_bench.specs.Benches.{new_bench_of}
+use Rattle.link_bench.specs.Acts.{IsFitAct}
+use Rattle.link_bench.specs.Benches.{BenchState, new_bench_of}
 use Rattle.crash_recover.specs.CoreParts.{core_parts}
 use Rattle.crash_recover.specs.Cores.{CoreState, LoadState}
 use Rattle.core_laws.specs.BenchMoves.{IsReachedBench, IsReachedCore}
@@ -40,8 +42,14 @@ use Rattle.script_run.specs.NamedLinks.{NamedLink}
 use Rattle.script_run.specs.Runs.{ObjectsState, Run, RunEffect, RunState, asked_name, core_located_effect, core_made_effect, core_named, core_place, dump_answer, dump_effect, dumped_effect, effect_of, find_core, found_core_effect, found_effect, has_image, image_effect, is_full, line_effect, located_effect, made_effect, making_effect, name_effect, new_end, new_run, place_of, quiet_effect, regions_of, run_from, run_of, run_on, run_tells, run_told, unnamed_effect, with_image, without_link_effect}
 use Rattle.script_run.specs.Stores.{Answer, Shelf, Told, answer_for, later_told, told_answer}
 use Rattle.run_laws.specs.Reached.{AreReached}
+use Rattle.run_laws.proofs.CoreWalks.{FitsNamed}
 use Rattle.run_laws.proofs.RunWalks.{item_at}
 use Rattle.run_laws.proofs.RunsReached.{effect_reached}
+use Rattle.act_laws.specs.Accounts.{Account}
+use Rattle.act_laws.proofs.Tales.{IsSoundTale}
+use Rattle.way_laws.proofs.CoreRungs.{IsRungCore, core_rung, new_core_rung}
+use Rattle.way_laws.proofs.LinkTales.{link_tale, made_tale}
+use Rattle.way_laws.proofs.RunTales.{FitsMaking}
 use Rattle.field_laws.specs.Fields.{AreBytes}
 use Rattle.field_laws.specs.FieldBenches.{IsFieldBench}
 use Rattle.field_laws.specs.FieldCores.{IsFieldCore, IsFieldLoad}
@@ -56,14 +64,21 @@ use Rattle.line_laws.proofs.Spelled.{IsName, IsSpelled, none, one, read_back}
 use Rattle.line_laws.proofs.SpelledCalls.{link_spelled}
 use Rattle.line_laws.proofs.SpelledCores.{AreBytesImages, core_spelled}
 
+-- there is an account of what an end was told, and the rings are sound
+record HasTale (bench : BenchState) : Type 0 where
+  pub account : Account
+  pub tale : IsSoundTale side.Host bench account
+
 -- a link and a core, by name and fields
 record IsFieldNamedLink (named : NamedLink) : Type 0 where
   pub name : IsName named.name
   pub bench : IsFieldBench named.bench
+  pub tale : HasTale named.bench
 
 record IsFieldNamedCore (named : NamedCoreState) : Type 0 where
   pub name : IsName named.name
   pub core : IsFieldCore named.core
+  pub rungs : IsRungCore named.core
 
 -- all that a run made
 record AreFieldObjects (objects : ObjectsState) : Type 0 where
@@ -88,36 +103,40 @@ unknown run name named are = told run (event.Unknown name) are (λ _. ((named, t
 -- ---- new links and cores
 
 module _ (run : RunState) (are : AreFieldObjects run.objects) (name : List ℕ) (named : IsName name) where
-  made : (config : LinkConfig) (has_service : Bool) → config.first < 2 ^ 32 → config.book < 2 ^ 64 → RunSpelled (made_effect run name config has_service)
+  made : (config : LinkConfig) (has_service : Bool) → config.first < 2 ^ 32 → config.book < 2 ^ 64 → FitsMaking (making.Link config has_service) → RunSpelled (made_effect run name config has_service)
   unfolding made_effect
-  made config has_service first book =
+  made config has_service first book fits =
       cond_both (is_full run.objects) (run_tells run event.ObjectsFull) _ RunSpelled (λ _. full run are)
       (λ _. record {
         left = record {
           links = All-push IsFieldNamedLink run.objects.links (record { name = name; bench = new_bench_of config (new_end has_service) (new_end false) }) are.links
-              (record { name = named; bench = new_fields config (new_end has_service) (new_end false) first book (fresh_fields (new_end has_service)) (fresh_fields (new_end false)) });
+              (record {
+                name = named;
+                bench = new_fields config (new_end has_service) (new_end false) first book (fresh_fields (new_end has_service)) (fresh_fields (new_end false));
+                tale = record { account = _; tale = made_tale side.Host config has_service fits.0 fits.1 fits.2 };
+              });
           cores = are.cores;
           images = are.images;
         };
         events = one (event.Open name 1) (λ _. ((named, (omega arith, tt)), tt));
       })
 
-  core_made : (set : RegionSet) (book : ℕ) → book < 2 ^ 64 → RunSpelled (core_made_effect run name set book)
+  core_made : (set : RegionSet) (book : ℕ) → book < 2 ^ 64 → IsBook book → RunSpelled (core_made_effect run name set book)
   unfolding core_made_effect
-  core_made set book small =
+  core_made set book small fits =
       cond_both (is_full run.objects) (run_tells run event.ObjectsFull) _ RunSpelled (λ _. full run are)
       (λ _. record {
         left = record {
           links = are.links;
-          cores = All-push IsFieldNamedCore run.objects.cores _ are.cores (record { name = named; core = new_core_fields (regions_of set) [] book small });
+          cores = All-push IsFieldNamedCore run.objects.cores _ are.cores (record { name = named; core = new_core_fields (regions_of set) [] book small; rungs = new_core_rung set book fits });
           images = are.images;
         };
         events = one (event.Offline name) (λ _. ((named, tt), tt));
       })
 
   made_so : (wanted : Making) → IsKnownMaking wanted → RunSpelled (making_effect run name wanted)
-  made_so (making.Link config has_service) knows = made config has_service knows.0 knows.1
-  made_so (making.Core set book) knows = core_made set book knows
+  made_so (making.Link config has_service) knows = made config has_service knows.0.0 knows.0.1 knows.1
+  made_so (making.Core set book) knows = core_made set book knows.0 knows.1
 
   unnamed : (wanted : NamedAct (List ℕ)) → IsKnownAct wanted → RunSpelled (unnamed_effect run name wanted)
   unfolding unnamed_effect
@@ -129,6 +148,13 @@ module _ (run : RunState) (are : AreFieldObjects run.objects) (name : List ℕ) 
 
 -- ---- what is done under a name
 
+fits_named : (wanted : NamedAct (List ℕ)) → IsKnownAct wanted → FitsNamed IsFitAct wanted
+fits_named (under.Make made) knows = tt
+fits_named (under.Link asked) knows = knows.0
+fits_named (under.Manage managed) knows = tt
+fits_named (under.Show shown) knows = tt
+fits_named (under.Core asked) knows = tt
+
 module _ (answer : Answer) (told_are : IfOk answer AreBytes) (run : RunState) (name : List ℕ) (wanted : NamedAct (List ℕ)) (named : IsName name) (knows : IsKnownAct wanted) (are : AreFieldObjects run.objects)
     (reached : AreReached run.objects) where
   core_at : (place : ℕ) (found : Option NamedCoreState) → slice_get run.objects.cores place ≡ found → RunSpelled (found_core_effect answer run name wanted place found)
@@ -136,9 +162,9 @@ module _ (answer : Answer) (told_are : IfOk answer AreBytes) (run : RunState) (n
   core_at place (Some on) found =
       let is = item_at IsFieldNamedCore run.objects.cores place on found are.cores in
       let came = item_at (λ (at : NamedCoreState). IsReachedCore at.core) run.objects.cores place on found reached.cores in
-      let left = core_spelled run.objects.images answer run.objects.is_quiet on run.steps is.name are.images told_are came is.core wanted knows in
+      let left = core_spelled run.objects.images answer run.objects.is_quiet on run.steps is.name are.images told_are came is.core is.rungs wanted knows in
       record {
-        left = record { links = are.links; cores = All-set IsFieldNamedCore run.objects.cores place _ (record { name = is.name; core = left.left }) are.cores; images = are.images };
+        left = record { links = are.links; cores = All-set IsFieldNamedCore run.objects.cores place _ (record { name = is.name; core = left.left; rungs = core_rung run.objects.images answer on run.steps came is.rungs run.objects.is_quiet wanted (fits_named wanted knows) }) are.cores; images = are.images };
         events = left.events;
       }
 
@@ -155,9 +181,13 @@ module _ (answer : Answer) (told_are : IfOk answer AreBytes) (run : RunState) (n
   link_at place (Some on) found =
       let is = item_at IsFieldNamedLink run.objects.links place on found are.links in
       let came = item_at (λ (at : NamedLink). IsReachedBench at.bench) run.objects.links place on found reached.links in
-      let left = link_spelled on run.steps wanted is.name knows (record { reached = came; fields = is.bench }) in
+      let left = link_spelled on run.steps wanted is.name knows is.tale.tale.sound (record { reached = came; fields = is.bench }) in
       record {
-        left = record { links = All-set IsFieldNamedLink run.objects.links place _ (record { name = is.name; bench = left.bench }) are.links; cores = are.cores; images = are.images };
+        left = record { links = All-set IsFieldNamedLink run.objects.links place _ (record {
+          name = is.name;
+          bench = left.bench;
+          tale = record { account = _; tale = link_tale side.Host on run.steps wanted is.tale.account (fits_named wanted knows) came is.tale.tale };
+        }) are.links; cores = are.cores; images = are.images };
         events = left.events;
       }
 
