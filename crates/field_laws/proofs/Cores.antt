@@ -10,7 +10,7 @@ use Rattle.rp_base.specs.declared.kinds.End.{End}
 use Rattle.rp_base.specs.declared.kinds.End.TheVariants as side
 use Rattle.rp_base.specs.declared.kinds.LifeState.{LifeState}
 use Rattle.rp_base.specs.declared.kinds.LifeState.TheVariants.{Offline, Running, Crashed, Attached, Detached}
-use Rattle.memory_pool.specs.Regions.{memory_len}
+use Rattle.memory_pool.specs.Soundness.{SoundRegions}
 use Rattle.fw_load.specs.declared.faults.LoadFault.{LoadFault}
 use Rattle.fw_load.specs.Loading.{load_fault}
 use Rattle.rp_io.specs.declared.faults.FetchFault.{FetchFault}
@@ -64,13 +64,13 @@ use Rattle.core_laws.proofs.Outcomes.{none_mapped, starts_up}
 use Rattle.core_laws.proofs.KeptCrashes.{reached_sound}
 use Rattle.field_laws.specs.Fields.{AreBytes, IsFieldLink, IsFieldWish}
 use Rattle.field_laws.specs.FieldBenches.{IsFieldBench}
-use Rattle.field_laws.specs.FieldCores.{AreFieldCalls, IsFieldCore, IsFieldCoreFault, IsFieldCrash, IsFieldLeave, IsFieldLife, IsFieldLoad, IsFieldRefused, IsFieldReopen, IsFieldStart, IsImageName}
+use Rattle.field_laws.specs.FieldCores.{AreFieldCalls, IsFieldCore, IsFieldCoreFault, IsFieldCrash, IsFieldLeave, IsFieldLife, IsFieldLoad, IsFieldPlaced, IsFieldRefused, IsFieldReopen, IsFieldStart, IsImageName}
 use Rattle.field_laws.proofs.Acts.{IsFieldRefusal, refusal_fields}
 use Rattle.field_laws.proofs.Benches.{caller_fields, crash_fields, new_fields, ready_fields, reopen_fields}
 use Rattle.field_laws.proofs.Lanes.{counts_small}
 use Rattle.field_laws.proofs.Loads.{load_fields}
 use Rattle.field_laws.proofs.Refusals.{refused_fields}
-use Rattle.field_laws.proofs.Rooms.{load_room}
+use Rattle.field_laws.proofs.Rooms.{load_placed}
 use Rattle.field_laws.proofs.Sides.{find_has, fresh_fields}
 use Rattle.field_laws.proofs.Steps.{holder_small, user_small}
 
@@ -311,64 +311,60 @@ pair_fields : (names : List (List ℕ)) (book first : ℕ) (found : Option RingP
 pair_fields names book first None small few = tt
 pair_fields names book first (Some rings) small few = rings_fields names book first rings small few
 
--- the memory of what is loaded has room for the regions
-abbrev HasRoom : List Region → Option LoadState → Type 0
-HasRoom regions loaded = IfSome loaded (λ (load : LoadState). memory_len regions ≤ length load.memory)
-
-started_fields : (life : CoreLife) (core : CoreState) → IsFieldLife life → is_up life.state ≡ true → core.book < 2 ^ 64 → IfSome core.image IsImageName → IfSome core.loaded IsFieldLoad → HasRoom core.regions core.loaded
+started_fields : (life : CoreLife) (core : CoreState) → IsFieldLife life → is_up life.state ≡ true → core.book < 2 ^ 64 → IfSome core.image IsImageName → IfSome core.loaded IsFieldLoad → IfSome core.loaded (IsFieldPlaced core.regions)
     → IsFieldCore (started_core life core)
-started_fields life core is up small called loaded room =
+started_fields life core is up small called loaded placed =
     let few = is.incarnation in
     record {
       book = small;
       life = is;
       image = called;
       loaded = loaded;
-      room = room;
+      placed = placed;
       rest = λ off. absurd (off_up life.state up off);
       bench = pair_fields (driver_names core.actors) core.book life.incarnation (loaded_rings core.loaded) small (omega (arith, few));
       calls = no_calls core _;
     }
 
-first_at : (life : CoreLife) (core : CoreState) (name : List ℕ) (found : Found) → IsFieldLife life → is_up life.state ≡ true → IsImageName name → IfOk found AreBytes → IsFieldCore core
+first_at : (life : CoreLife) (core : CoreState) (name : List ℕ) (found : Found) → IsFieldLife life → is_up life.state ≡ true → IsImageName name → IfOk found AreBytes → SoundRegions core.regions → IsFieldCore core
     → HoldsOut IsFieldStart (first_boot life core name found)
-first_at life core name found living up called are is =
+first_at life core name found living up called are sound is =
     let few = living.incarnation in
     cond_both (is_offline core.life.state) _ _ (HoldsOut IsFieldStart)
     (λ _. refused IsFieldStart core (image_fault core found) _ is (image_fields core found are)
-    (λ _. record {
-      core = started_fields life (with_load core name (loaded_in core found)) living up is.book called (load_fields core found are) (load_room core found);
+    (λ clear. record {
+      core = started_fields life (with_load core name (loaded_in core found)) living up is.book called (load_fields core found are) (load_placed core found sound clear);
       answer = omega (arith, few);
     }))
-    (λ _. record { core = started_fields life core living up is.book is.image is.loaded is.room; answer = omega (arith, few) })
+    (λ _. record { core = started_fields life core living up is.book is.image is.loaded is.placed; answer = omega (arith, few) })
 
 boot_at : (life : CoreLife) (answer : Result Power LifeFault) (core : CoreState) (name : List ℕ) (found : Found) → IsFieldLife life → IfOk answer IsFieldPower → (is_offline life.state ≡ true → is_offline core.life.state ≡ true)
-    → (answer ≡ Ok power.First → is_up life.state ≡ true) → IsImageName name → IfOk found AreBytes → IsFieldCore core → HoldsOut IsFieldStart (boot_as life answer core name found)
-boot_at life (Err why) core name found living told off up called are is = record { core = is; answer = tt }
-boot_at life (Ok (power.Counted users)) core name found living told off up called are is = record {
-  core = record { book = is.book; life = living; image = is.image; loaded = is.loaded; room = is.room; rest = λ there. is.rest (off there); bench = is.bench; calls = is.calls };
+    → (answer ≡ Ok power.First → is_up life.state ≡ true) → IsImageName name → IfOk found AreBytes → SoundRegions core.regions → IsFieldCore core → HoldsOut IsFieldStart (boot_as life answer core name found)
+boot_at life (Err why) core name found living told off up called are sound is = record { core = is; answer = tt }
+boot_at life (Ok (power.Counted users)) core name found living told off up called are sound is = record {
+  core = record { book = is.book; life = living; image = is.image; loaded = is.loaded; placed = is.placed; rest = λ there. is.rest (off there); bench = is.bench; calls = is.calls };
   answer = told;
 }
-boot_at life (Ok power.First) core name found living told off up called are is = first_at life core name found living (up refl) called are is
+boot_at life (Ok power.First) core name found living told off up called are sound is = first_at life core name found living (up refl) called are sound is
 
-pub boot_fields : (core : CoreState) (name : List ℕ) (found : Found) → IsImageName name → IfOk found AreBytes → IsFieldCore core → HoldsOut IsFieldStart (boot_of core name found)
+pub boot_fields : (core : CoreState) (name : List ℕ) (found : Found) → IsImageName name → IfOk found AreBytes → SoundRegions core.regions → IsFieldCore core → HoldsOut IsFieldStart (boot_of core name found)
 unfolding boot_of
-boot_fields core name found called are is =
+boot_fields core name found called are sound is =
     let after = boot_to_life (line_of core.life.state).boot core.life is.life in
-    boot_at (life_after_boot core.life).life (life_after_boot core.life).answer core name found after.life after.answer (boot_off core.life.state core.life) (starts_up core.life) called are is
+    boot_at (life_after_boot core.life).life (life_after_boot core.life).answer core name found after.life after.answer (boot_off core.life.state core.life) (starts_up core.life) called are sound is
 
 handover_at : (life : CoreLife) (answer : Result (Unit {0}) LifeFault) (core : CoreState) (name : List ℕ) (found : Found) → IsFieldLife life
-    → ((done : Unit {0}) → answer ≡ Ok done → is_offline life.state ≡ true → ⊥) → IsImageName name → IfOk found AreBytes → IsFieldCore core → HoldsOut IsFieldStart (handover_as life answer core name found)
-handover_at life (Err why) core name found living off called are is = record { core = is; answer = tt }
-handover_at life (Ok done) core name found living off called are is =
+    → ((done : Unit {0}) → answer ≡ Ok done → is_offline life.state ≡ true → ⊥) → IsImageName name → IfOk found AreBytes → SoundRegions core.regions → IsFieldCore core → HoldsOut IsFieldStart (handover_as life answer core name found)
+handover_at life (Err why) core name found living off called are sound is = record { core = is; answer = tt }
+handover_at life (Ok done) core name found living off called are sound is =
     refused IsFieldStart core (image_fault core found) _ is (image_fields core found are)
-    (λ _. record {
+    (λ clear. record {
       core = record {
         book = is.book;
         life = living;
         image = called;
         loaded = load_fields core found are;
-        room = load_room core found;
+        placed = load_placed core found sound clear;
         rest = λ there. absurd (off done refl there);
         bench = is.bench;
         calls = is.calls;
@@ -376,11 +372,11 @@ handover_at life (Ok done) core name found living off called are is =
       answer = tt;
     })
 
-pub handover_fields : (core : CoreState) (name : List ℕ) (found : Found) → IsImageName name → IfOk found AreBytes → IsFieldCore core → HoldsOut IsFieldStart (handover_of core name found)
+pub handover_fields : (core : CoreState) (name : List ℕ) (found : Found) → IsImageName name → IfOk found AreBytes → SoundRegions core.regions → IsFieldCore core → HoldsOut IsFieldStart (handover_of core name found)
 unfolding handover_of
-handover_fields core name found called are is =
+handover_fields core name found called are sound is =
     let after = handover_life (line_of core.life.state).handover core.life is.life in
-    handover_at (life_after_handover core.life).life (life_after_handover core.life).answer core name found after.life (λ done. handed_off core.life.state core.life done) called are is
+    handover_at (life_after_handover core.life).life (life_after_handover core.life).answer core name found after.life (λ done. handed_off core.life.state core.life done) called are sound is
 
 -- ---- recoveries
 
@@ -420,7 +416,7 @@ map_fields None f each is = is
 map_fields (Some bench) f each is = each bench is
 
 readied_fields : (core : CoreState) → IsFieldCore core → IsFieldCore (readied_core core)
-readied_fields core is = record { book = is.book; life = is.life; image = is.image; loaded = is.loaded; room = is.room; rest = is.rest; bench = map_fields core.bench readied_bench ready_fields is.bench; calls = is.calls }
+readied_fields core is = record { book = is.book; life = is.life; image = is.image; loaded = is.loaded; placed = is.placed; rest = is.rest; bench = map_fields core.bench readied_bench ready_fields is.bench; calls = is.calls }
 
 clear_at : (bench : BenchState) (why : Option ReclaimRefusal) → unopened_unless bench why ≡ None → unopened_by (renewed_unless bench why).link ≡ None
 clear_at bench None clear = clear
@@ -430,18 +426,23 @@ first_none : (refusal : Option ReopenFault) (later : Option CoreFault) → optio
 first_none None later none = refl
 first_none (Some why) later none = absurd (true≢false (ap is_some none))
 
+image_none : (first later : Option CoreFault) → option_or first later ≡ None → first ≡ None
+image_none None later none = refl
+image_none (Some why) later none = absurd (true≢false (ap is_some none))
+
 found_reopened : (found : Option BenchState) (is_spent : Bool) → fault_with found is_spent ≡ None → IfSome found IsFieldBench → IfSome (option_map (λ bench. after_reopen (readied_bench bench)) found) IsFieldBench
 found_reopened None is_spent none is = is
 found_reopened (Some bench) is_spent none is =
     reopen_fields (readied_bench bench) (clear_at bench (unreclaimed_by bench.link 0) (first_none (reopen_refusal_of bench) (spent_fault is_spent) none)) (ready_fields bench is)
 
-pub recovery_fields : (core : CoreState) (found : Found) → IfOk found AreBytes → IsReachedCore core → IsFieldCore core → HoldsOut IsFieldStart (recovery_of core found)
+pub recovery_fields : (core : CoreState) (found : Found) → IfOk found AreBytes → SoundRegions core.regions → IsReachedCore core → IsFieldCore core → HoldsOut IsFieldStart (recovery_of core found)
 unfolding recovery_of
-recovery_fields core found are reached is =
+recovery_fields core found are sound reached is =
     let after = recovery_life (line_of core.life.state).recovery core.life is.life in
     let few = after.life.incarnation in
     refused IsFieldStart core (option_map fault.Life (recovery_fault core.life)) _ is (life_fault_fields (recovery_fault core.life)) (λ may.
-    refused IsFieldStart core (reload_fault core found) _ is (reload_fields core found are) (λ _.
+    refused IsFieldStart core (reload_fault core found) _ is (reload_fields core found are) (λ reloads.
+    let clear = image_none (image_fault core found) (rings_fault core (loaded_in core found)) reloads in
     refused IsFieldStart (readied_core core) (reopen_fault core) _ (readied_fields core is) (with_fields core.bench (core.life.incarnation == most) reached.bench is.bench) (λ opens.
     record {
       core = record {
@@ -449,7 +450,7 @@ recovery_fields core found are reached is =
         life = after.life;
         image = is.image;
         loaded = load_fields core found are;
-        room = load_room core found;
+        placed = load_placed core found sound clear;
         rest = λ off. absurd (recovered_off core.life.state core.life refl (none_mapped fault.Life (recovery_fault core.life) may) off);
         bench = found_reopened core.bench (core.life.incarnation == most) opens is.bench;
         calls = no_calls core _;
@@ -494,7 +495,7 @@ leave_at : (may_step : Bool) (core gone : CoreState) (life : CoreLife) (answer :
     → HoldsOut IsFieldLeave (leave_as may_step core gone life answer)
 leave_at may_step core gone life (Err why) living told off is last = record { core = is; answer = tt }
 leave_at may_step core gone life (Ok (left.Users users)) living told off is last =
-    record { core = record { book = is.book; life = living; image = is.image; loaded = is.loaded; room = is.room; rest = λ there. is.rest (off users refl there); bench = is.bench; calls = is.calls }; answer = told }
+    record { core = record { book = is.book; life = living; image = is.image; loaded = is.loaded; placed = is.placed; rest = λ there. is.rest (off users refl there); bench = is.bench; calls = is.calls }; answer = told }
 leave_at may_step core gone life (Ok left.Last) living told off is last =
     refused IsFieldLeave core (option_map fault.CallerOut (option_and_then caller_out core.bench)) _ is (out_fields (option_and_then caller_out core.bench) (out_at core.bench))
     (λ _. closed_at may_step core gone (live_inc core.bench) (live_small core.bench is.bench) is last)
@@ -505,7 +506,7 @@ shutdown_fields may_step core is =
     let after = leave_to_life life_fault.NotPowered (line_of core.life.state).shutdown core.life is.life in
     leave_at may_step core (unloaded_core (life_after_shutdown core.life).life core) (life_after_shutdown core.life).life (life_after_shutdown core.life).answer after.life after.answer
     (λ users. users_off life_fault.NotPowered (line_of core.life.state).shutdown core.life users) is
-    (record { book = is.book; life = after.life; image = tt; loaded = tt; room = tt; rest = λ _. refl; bench = tt; calls = is.calls })
+    (record { book = is.book; life = after.life; image = tt; loaded = tt; placed = tt; rest = λ _. refl; bench = tt; calls = is.calls })
 
 pub detach_fields : (may_step : Bool) (core : CoreState) → IsFieldCore core → HoldsOut IsFieldLeave (detach_of may_step core)
 unfolding detach_of
@@ -513,7 +514,7 @@ detach_fields may_step core is =
     let after = leave_to_life life_fault.NotAttached (line_of core.life.state).detach core.life is.life in
     leave_at may_step core (detached_core (life_after_detach core.life).life core) (life_after_detach core.life).life (life_after_detach core.life).answer after.life after.answer
     (λ users. users_off life_fault.NotAttached (line_of core.life.state).detach core.life users) is
-    (record { book = is.book; life = after.life; image = is.image; loaded = is.loaded; room = is.room; rest = λ off. is.rest (detach_off core.life.state core.life off); bench = tt; calls = is.calls })
+    (record { book = is.book; life = after.life; image = is.image; loaded = is.loaded; placed = is.placed; rest = λ off. is.rest (detach_off core.life.state core.life off); bench = tt; calls = is.calls })
 
 -- ---- crashes
 
@@ -529,7 +530,7 @@ module _ (core : CoreState) (is : IsFieldCore core) (life : CoreLife) (living : 
     life = living;
     image = is.image;
     loaded = is.loaded;
-    room = is.room;
+    placed = is.placed;
     rest = λ there. is.rest (off there);
     bench = map_fields core.bench crashed_bench crash_fields is.bench;
     calls = is.calls;
@@ -555,4 +556,4 @@ report_fields may_step core is =
 
 pub new_core_fields : (regions : List Region) (kinds : List Declared) (book : ℕ) → book < 2 ^ 64 → IsFieldCore (new_core regions kinds book)
 new_core_fields regions kinds book small =
-    record { book = small; life = new_life_fields; image = tt; loaded = tt; room = tt; rest = λ _. refl; bench = tt; calls = record { host = All-nil IsFieldWish; worker = All-nil IsFieldWish } }
+    record { book = small; life = new_life_fields; image = tt; loaded = tt; placed = tt; rest = λ _. refl; bench = tt; calls = record { host = All-nil IsFieldWish; worker = All-nil IsFieldWish } }

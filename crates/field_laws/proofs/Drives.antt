@@ -32,7 +32,7 @@ use Rattle.core_laws.proofs.KeptActs.{AreKeptSteps, act_kept}
 use Rattle.core_laws.proofs.BenchMoves.{advanced, begun_reached, enlisted, reclaim_tried}
 use Rattle.field_laws.specs.Fields.{IsFieldWish}
 use Rattle.field_laws.specs.FieldBenches.{IsFieldAct, IsFieldActed, IsFieldBench, IsFieldReach}
-use Rattle.field_laws.specs.FieldCores.{AreFieldCalls, IsFieldCore, IsFieldDriven, IsFieldLoad}
+use Rattle.field_laws.specs.FieldCores.{AreFieldCalls, IsFieldCore, IsFieldDriven, IsFieldLoad, IsFieldPlaced}
 use Rattle.field_laws.proofs.Actors.{first_fields, host_begun_fields, host_fields, memory_fields, ran_fields, seen_fields, worker_fields}
 use Rattle.field_laws.proofs.Acts.{HoldsBench, IsFit, act_told, call_holds, fit_calls, ready_wish}
 use Rattle.field_laws.proofs.Benches.{HoldsBenchWalk, advance_fields, begun_fields, caller_fields, start_fields, tried_fields}
@@ -75,7 +75,7 @@ host_at core (Some bench) reached here is fields =
         life = is.life;
         image = is.image;
         loaded = is.loaded;
-        room = is.room;
+        placed = is.placed;
         rest = is.rest;
         bench = left.bench;
         calls = host_fields (host_begun bench core.actors) walk.bench walk.reach left.bench.link left.reach (host_begun_fields bench core.actors is.calls);
@@ -89,7 +89,7 @@ worker_at core (Some bench) reached here is fields =
     let walk = link_step bench 1 (first_or_take core.actors.worker_calls) in
     let left = link_fields bench 1 (first_or_take core.actors.worker_calls) here fields (first_sendable core.actors.worker_calls reached.calls.worker) (first_fields core.actors.worker_calls is.calls.worker) in
     record {
-      core = record { book = is.book; life = is.life; image = is.image; loaded = is.loaded; room = is.room; rest = is.rest; bench = left.bench; calls = worker_fields core.actors walk.bench walk.reach left.reach is.calls };
+      core = record { book = is.book; life = is.life; image = is.image; loaded = is.loaded; placed = is.placed; rest = is.rest; bench = left.bench; calls = worker_fields core.actors walk.bench walk.reach left.reach is.calls };
       driven = by_reach 1 walk.reach (omega arith) left.reach;
     }
 
@@ -102,9 +102,9 @@ by_work work.Halted = tt
 by_work (work.Crash kind) = tt
 by_work (work.Fault why) = tt
 
-run_fields : (core : CoreState) (loaded : Option LoadState) → core.loaded ≡ loaded → IsFieldCore core → IfSome loaded IsFieldLoad → IfSome loaded (λ (load : LoadState). memory_len core.regions ≤ length load.memory) → HoldsDrive (record_run core loaded)
-run_fields core None same is here room = record { core = is; driven = tt }
-run_fields core (Some load) same is here room =
+run_fields : (core : CoreState) (loaded : Option LoadState) → core.loaded ≡ loaded → IsFieldCore core → IfSome loaded IsFieldLoad → IfSome loaded (IsFieldPlaced core.regions) → HoldsDrive (record_run core loaded)
+run_fields core None same is here placed = record { core = is; driven = tt }
+run_fields core (Some load) same is here placed =
     let map = placed_map core.regions load in
     record {
       core = record {
@@ -112,7 +112,7 @@ run_fields core (Some load) same is here room =
         life = is.life;
         image = is.image;
         loaded = record { memory = memory_fields load.memory map (is_some core.bench) core.actors.worker here.memory; table = here.table };
-        room = memory_longer load.memory map (is_some core.bench) core.actors.worker (memory_len core.regions) room;
+        placed = record { memory = memory_longer load.memory map (is_some core.bench) core.actors.worker (memory_len core.regions) placed.memory; few = placed.few; ranges = placed.ranges };
         rest = λ off. absurd (true≢false (ap is_some (sym same ∙ is.rest off)));
         bench = is.bench;
         calls = ran_fields core.actors load.memory map (is_some core.bench) here.memory is.calls;
@@ -129,7 +129,7 @@ reported_fields (driven.Crashed kind) core is = (report_fields true core is).cor
 
 record_fields : (core : CoreState) → IsFieldCore core → HoldsDrive (record_step core)
 record_fields core is =
-    let ran = run_fields core core.loaded refl is is.loaded is.room in
+    let ran = run_fields core core.loaded refl is is.loaded is.placed in
     record { core = reported_fields (record_run core core.loaded).driven (record_run core core.loaded).core ran.core; driven = ran.driven }
 
 -- ---- a step of the actors
@@ -147,7 +147,7 @@ drive_fields core reached is =
     cond_both (is_idle core) _ _ HoldsDrive (λ _. record { core = is; driven = tt })
     (λ _. actor_fields (acting core) (with_turn_after (acting core) core)
     (record { bench = reached.bench; calls = record { host = reached.calls.host; worker = reached.calls.worker } })
-    (record { book = is.book; life = is.life; image = is.image; loaded = is.loaded; room = is.room; rest = is.rest; bench = is.bench; calls = record { host = is.calls.host; worker = is.calls.worker } }))
+    (record { book = is.book; life = is.life; image = is.image; loaded = is.loaded; placed = is.placed; rest = is.rest; bench = is.bench; calls = record { host = is.calls.host; worker = is.calls.worker } }))
 
 -- ---- acts on the link of a core
 
@@ -189,7 +189,7 @@ core_act_fields core bench steps asked fit fields reached here is =
     let holds : HoldsBench bench = record { reached = reached; fields = here } in
     let left = act_kept actors_after_end 2 IsFit HoldsBoth both_steps bench core.actors steps asked (fit_calls asked fit fields) (record { holds = holds; calls = is.calls }) in
     record {
-      left = record { book = is.book; life = is.life; image = is.image; loaded = is.loaded; room = is.room; rest = is.rest; bench = left.holds.fields; calls = left.calls };
+      left = record { book = is.book; life = is.life; image = is.image; loaded = is.loaded; placed = is.placed; rest = is.rest; bench = left.holds.fields; calls = left.calls };
       bench = left.holds.fields;
       answer = act_told actors_after_end 2 bench core.actors steps asked fit fields holds;
     }

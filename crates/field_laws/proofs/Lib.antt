@@ -12,4 +12,5 @@ pub mod Actors
 pub mod Cores
 pub mod Drives
 pub mod Images
+pub mod DumpSizes
 pub mod Rings

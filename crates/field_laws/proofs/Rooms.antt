@@ -1,13 +1,15 @@
 -- A range of device addresses that has a place stands within the memory of the regions, and a load has at least so much memory.
-use Rattle.std.proofs.Common.{◌≡◌, ℕ, ◌+◌, ◌-◌, ◌<◌, ◌≤◌, List, [], ◌∷◌, ◌++◌, length, take, drop, map, replicate, Option, Some, None, IfSome, Bool, true, false, Result, Ok, Err, not, slice_range, unwrap_or, subst, arith}
+use Rattle.std.proofs.Common.{◌≡◌, ℕ, ◌+◌, ◌-◌, ◌<◌, ◌≤◌, List, [], ◌∷◌, ◌++◌, length, take, drop, map, replicate, Option, Some, None, IfSome, Bool, true, false, Result, Ok, Err, not, is_some, slice_range, unwrap_or, subst, sym, ap, ◌∙◌, arith}
 use Rattle.std.specs.Prelude.{All, filter, min}
 use Rattle.std.specs.Result.{result_ok}
-use Rattle.std.proofs.lemmas.Bool.{cond_both}
+use Rattle.std.proofs.lemmas.Bool.{cond_both, true≢false}
 use Rattle.std.proofs.lemmas.List.{length-append, length-drop, length-replicate, length-take}
 use Rattle.std.proofs.lemmas.List.Elements.{All-append, All-contains, All-map}
 use Rattle.std.proofs.Math.Nat.{min-le_left}
 use Rattle.elf_image.specs.Segments.{SegmentAt, segments_of}
 use Rattle.elf_image.specs.declared.sections.Section.{Section}
+use Rattle.memory_pool.specs.Soundness.{SoundRegions}
+use Rattle.memory_pool.specs.declared.faults.PlaceFault.{PlaceFault}
 use Rattle.memory_pool.specs.declared.blocks.Block.{Block}
 use Rattle.memory_pool.specs.declared.blocks.Use.{Use}
 use Rattle.memory_pool.specs.declared.blocks.Use.TheVariants as usage
@@ -22,6 +24,8 @@ use Rattle.addr_translate.specs.OrderedMaps.{IsInMemory}
 use Rattle.addr_translate.proofs.Sound.{place_inside}
 use Rattle.fw_load.specs.Memory.{memory_at, memory_of, segment_bytes, with_at, with_segments, with_table}
 use Rattle.fw_load.specs.Tables.{entries_in, patched_in, table_of, table_section}
+use Rattle.fw_load.specs.Loading.{load_fault}
+use Rattle.load_laws.proofs.LoadParts.{parts_fit, placed_is_sound}
 use Rattle.load_laws.proofs.PlaceParts.{StandsIn, stands_in}
 use Rattle.remote_code.specs.declared.faults.WorkerFault.{WorkerFault}
 use Rattle.remote_code.specs.declared.records.Record.{Record}
@@ -30,8 +34,12 @@ use Rattle.remote_core.specs.Named.{named_bytes, named_place, written_from}
 use Rattle.remote_core.specs.Records.{next_record}
 use Rattle.remote_core.specs.Workers.{WorkerState}
 use Rattle.remote_core.specs.Works.{memory_after, memory_after_next, memory_after_record}
-use Rattle.crash_recover.specs.CoreBoots.{Found, loaded_at, loaded_from, loaded_in}
+use Rattle.crash_recover.specs.declared.core_faults.CoreFault.TheVariants as fault
+use Rattle.crash_recover.specs.CoreBoots.{Found, image_fault, loaded_at, loaded_from, loaded_in}
 use Rattle.crash_recover.specs.Cores.{CoreState, LoadState}
+use Rattle.crash_recover.proofs.PlacedCounts.{loads_few}
+use Rattle.core_laws.proofs.Outcomes.{none_mapped}
+use Rattle.field_laws.specs.FieldCores.{IsFieldPlaced}
 
 -- ---- places
 
@@ -99,9 +107,27 @@ from_room : (image : List ℕ) (regions : List Region) → memory_len regions �
 unfolding loaded_from
 from_room image regions = loaded_room image regions (unwrap_or (result_ok (placement regions (entries_in (table_of image)))) [])
 
-pub load_room : (core : CoreState) (found : Found) → memory_len core.regions ≤ length (loaded_in core found).memory
-load_room core (Ok image) = from_room image core.regions
-load_room core (Err why) = from_room [] core.regions
+-- where the entries of a table are placed
+placed_in : Result (List Block) PlaceFault → List Block
+placed_in found = unwrap_or (result_ok found) []
+
+image_placed : (image : List ℕ) (regions : List Region) → SoundRegions regions → load_fault image regions ≡ None → IsFieldPlaced regions (loaded_from image regions)
+unfolding loaded_from placed_in
+image_placed image regions sound loads =
+    let fits = parts_fit image regions loads in
+    let placed = placed_in (placement regions (entries_in (table_of image))) in
+    let is : placement regions (entries_in (table_of image)) ≡ Ok placed = fits.placed ∙ ap Ok (sym (ap placed_in fits.placed)) in
+    let held = placed_is_sound image regions placed sound fits.table is in
+    record {
+      memory = from_room image regions;
+      few = (loads_few image regions placed loads is).0;
+      ranges = λ at other within. let device = (held.ranges at other within).device in omega (arith, device);
+    }
+
+-- what is loaded of an image that nothing refuses
+pub load_placed : (core : CoreState) (found : Found) → SoundRegions core.regions → image_fault core found ≡ None → IsFieldPlaced core.regions (loaded_in core found)
+load_placed core (Ok image) sound none = image_placed image core.regions sound (none_mapped fault.Load (load_fault image core.regions) none)
+load_placed core (Err why) sound none = absurd (true≢false (ap is_some none))
 
 -- ---- what a worker leaves of the memory
 

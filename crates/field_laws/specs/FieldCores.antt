@@ -5,6 +5,8 @@ use Rattle.fw_load.specs.Faults.{load_fault_index}
 use Rattle.lane_model.specs.declared.calls.Wish.{Wish}
 use Rattle.lane_model.specs.declared.recoveries.ReopenFault.{ReopenFault}
 use Rattle.lane_model.specs.declared.recoveries.ReopenFault.TheVariants as reopen
+use Rattle.memory_pool.specs.declared.blocks.Block.{Block}
+use Rattle.memory_pool.specs.declared.regions.Region.{Region}
 use Rattle.memory_pool.specs.Regions.{memory_len}
 use Rattle.proc_state.specs.Lives.{CoreLife, is_offline, most}
 use Rattle.core_actors.specs.Actors.{ActorsState}
@@ -18,7 +20,7 @@ use Rattle.crash_recover.specs.declared.core_answers.Start.{Start}
 use Rattle.crash_recover.specs.declared.core_answers.Start.TheVariants as start
 use Rattle.crash_recover.specs.declared.core_faults.CoreFault.{CoreFault}
 use Rattle.crash_recover.specs.declared.core_faults.CoreFault.TheVariants as fault
-use Rattle.crash_recover.specs.Cores.{CoreState, LoadState}
+use Rattle.crash_recover.specs.Cores.{CoreState, LoadState, blocks_most}
 use Rattle.word_kinds.specs.Spellings.{is_name}
 use Rattle.field_laws.specs.Fields.{AreBytes, IsFieldEnd, IsFieldWish}
 use Rattle.field_laws.specs.FieldBenches.{IsFieldBench}
@@ -30,6 +32,12 @@ pub record IsFieldLife (life : CoreLife) : Type 0 where
 pub record IsFieldLoad (load : LoadState) : Type 0 where
   pub memory : AreBytes load.memory
   pub table : AreBytes load.table
+
+-- what is loaded over regions: the memory has room for them, and the blocks that were placed are few and within the addresses
+pub record IsFieldPlaced (regions : List Region) (load : LoadState) : Type 0 where
+  pub memory : memory_len regions ≤ length load.memory
+  pub few : length load.placed ≤ blocks_most
+  pub ranges : All (λ (block : Block). block.len ≤ 2 ^ 32) load.placed
 
 -- the calls that the actors are yet to make
 pub record AreFieldCalls (actors : ActorsState) : Type 0 where
@@ -45,8 +53,8 @@ pub record IsFieldCore (core : CoreState) : Type 0 where
   pub life : IsFieldLife core.life
   pub image : IfSome core.image IsImageName
   pub loaded : IfSome core.loaded IsFieldLoad
-  -- the memory has room for the regions, and nothing is loaded while the core is offline
-  pub room : IfSome core.loaded (λ (load : LoadState). memory_len core.regions ≤ length load.memory)
+  -- nothing is loaded while the core is offline
+  pub placed : IfSome core.loaded (IsFieldPlaced core.regions)
   pub rest : is_offline core.life.state ≡ true → core.loaded ≡ None
   pub bench : IfSome core.bench IsFieldBench
   pub calls : AreFieldCalls core.actors

@@ -91,6 +91,7 @@ use Rattle.std.specs.Result.{IfOk}
 use Rattle.rp_base.specs.declared.kinds.Switch.{Switch}
 use Rattle.memory_pool.specs.declared.TheConstants.{REGIONS_MOST}
 use Rattle.memory_pool.specs.Regions.{memory_len, region_fault}
+use Rattle.memory_pool.specs.Soundness.{SoundRegions}
 use Rattle.field_laws.proofs.Rooms.{range_in, slice_some}
 use Rattle.resource_table.specs.Entries.{entries_of}
 use Rattle.resource_table.specs.declared.entries.Entry.{Entry}
@@ -108,10 +109,11 @@ use Rattle.crash_recover.specs.declared.core_faults.TheConstants.{CALLER_OUT, RI
 use Rattle.core_laws.proofs.KeptCrashes.{reached_sound}
 use Rattle.field_laws.specs.Fields.{AreBytes, IsFieldEnd}
 use Rattle.field_laws.specs.FieldBenches.{IsFieldAct, IsFieldBench}
-use Rattle.field_laws.specs.FieldCores.{IsFieldCore, IsFieldCoreFault, IsFieldCrash, IsFieldDriven, IsFieldLeave, IsFieldLoad, IsFieldStart}
+use Rattle.field_laws.specs.FieldCores.{IsFieldCore, IsFieldCoreFault, IsFieldCrash, IsFieldDriven, IsFieldLeave, IsFieldLoad, IsFieldPlaced, IsFieldStart}
 use Rattle.field_laws.specs.FieldTables.{IsFieldDevice, IsFieldEntry, IsFieldRing}
 use Rattle.field_laws.proofs.Bytes.{range_bytes, text_bytes}
 use Rattle.field_laws.proofs.Cores.{IsFieldResult, boot_fields, detach_fields, handover_fields, recovery_fields, report_fields, shutdown_fields}
+use Rattle.field_laws.proofs.DumpSizes.{loaded_short}
 use Rattle.field_laws.proofs.Drives.{core_act_fields, drive_fields}
 use Rattle.field_laws.proofs.Images.{memory_bytes}
 use Rattle.field_laws.proofs.Rings.{ring_are}
@@ -129,21 +131,6 @@ pub record LeavesSpelled (effect : CoreEffect) : Type 0 where
 
 -- ---- memory
 
-slice_short : (memory : List ℕ) (at len : ℕ) → length (slice_range memory at (at + len)) ≤ len
-slice_short memory at len =
-    let is = length-take (at + len - at) (drop at memory) in
-    let less = min-le_left (at + len - at) (length (drop at memory)) in
-    omega (arith, is, less)
-
-bytes_short : (memory : List ℕ) (len : ℕ) (place : Option ℕ) → IfSome (bytes_at memory len place) (λ bytes. length bytes ≤ len)
-bytes_short memory len None = tt
-bytes_short memory len (Some at) = slice_short memory at len
-
-loaded_short : (regions : List Region) (da len : ℕ) (found : Option LoadState)
-    → IfSome (option_and_then (λ (load : LoadState). bytes_at load.memory len (memory_at regions load.placed da len)) found) (λ bytes. length bytes ≤ len)
-loaded_short regions da len None = tt
-loaded_short regions da len (Some load) = bytes_short load.memory len (memory_at regions load.placed da len)
-
 -- bytes of memory that are shown are some
 place_some : (regions : List Region) (load : LoadState) (da len : ℕ) (place : Option ℕ) → memory_at regions load.placed da len ≡ place → 1 ≤ len → memory_len regions ≤ length load.memory
     → IfSome (bytes_at load.memory len place) (λ bytes. 1 ≤ length bytes)
@@ -151,10 +138,10 @@ place_some regions load da len None is some room = tt
 place_some regions load da len (Some at) is some room =
     let inside = range_in regions load.placed da len at is in slice_some load.memory at len some (omega (arith, inside, room))
 
-loaded_some : (regions : List Region) (da len : ℕ) (found : Option LoadState) → 1 ≤ len → IfSome found (λ (load : LoadState). memory_len regions ≤ length load.memory)
+loaded_some : (regions : List Region) (da len : ℕ) (found : Option LoadState) → 1 ≤ len → IfSome found (IsFieldPlaced regions)
     → IfSome (option_and_then (λ (load : LoadState). bytes_at load.memory len (memory_at regions load.placed da len)) found) (λ bytes. 1 ≤ length bytes)
-loaded_some regions da len None some room = tt
-loaded_some regions da len (Some load) some room = place_some regions load da len (memory_at regions load.placed da len) refl some room
+loaded_some regions da len None some placed = tt
+loaded_some regions da len (Some load) some placed = place_some regions load da len (memory_at regions load.placed da len) refl some placed.memory
 
 place_bytes : (memory : List ℕ) (len : ℕ) (place : Option ℕ) → AreBytes memory → IfSome (bytes_at memory len place) AreBytes
 place_bytes memory len None are = tt
@@ -401,7 +388,7 @@ module _ (name : List ℕ) (named : IsName name) where
         life = is.life;
         image = is.image;
         loaded = is.loaded;
-        room = subst (λ (loaded : Option LoadState). IfSome loaded (λ (load : LoadState). memory_len (core.regions ++ region ∷ []) ≤ length load.memory))
+        placed = subst (λ (loaded : Option LoadState). IfSome loaded (IsFieldPlaced (core.regions ++ region ∷ [])))
             (sym (is.rest (offline_then (is_offline core.life.state) (region_fault core.regions region) clear))) tt;
         rest = is.rest;
         bench = is.bench;
@@ -417,7 +404,7 @@ module _ (name : List ℕ) (named : IsName name) where
 
     declared : (channel : List ℕ) (kind : DriverKind) (why : Option AddFault) → IsName channel → LeavesSpelled (declared_effect name core steps channel kind why)
     declared channel kind None called = record {
-      left = record { book = is.book; life = is.life; image = is.image; loaded = is.loaded; room = is.room; rest = is.rest; bench = is.bench; calls = record { host = is.calls.host; worker = is.calls.worker } };
+      left = record { book = is.book; life = is.life; image = is.image; loaded = is.loaded; placed = is.placed; rest = is.rest; bench = is.bench; calls = record { host = is.calls.host; worker = is.calls.worker } };
       events = one (event.Driver name channel kind) (λ _. ((named, (called, (tt, tt))), tt));
     }
     declared channel kind (Some why) called = told core steps (driver_fault_event name channel why) is (driver_told channel why called)
@@ -428,7 +415,7 @@ module _ (name : List ℕ) (named : IsName name) where
 
     switch_spelled : (set : Switch) → LeavesSpelled (recovery_effect name core steps set)
     switch_spelled set = record {
-      left = record { book = is.book; life = record { users = is.life.users; incarnation = is.life.incarnation }; image = is.image; loaded = is.loaded; room = is.room; rest = is.rest; bench = is.bench; calls = is.calls };
+      left = record { book = is.book; life = record { users = is.life.users; incarnation = is.life.incarnation }; image = is.image; loaded = is.loaded; placed = is.placed; rest = is.rest; bench = is.bench; calls = is.calls };
       events = one (event.Recovery name set) (λ _. ((named, (tt, tt)), tt));
     }
 
@@ -469,7 +456,7 @@ module _ (name : List ℕ) (named : IsName name) where
     unfolding mem_effect
     mem_spelled da len small some few =
         told core steps (shown_memory_event name da len (core_memory core da len)) is
-        (memory_told da len (core_memory core da len) small few (loaded_some core.regions da len core.loaded some is.room) (loaded_short core.regions da len core.loaded) (memory_bytes core da len core.loaded is.loaded))
+        (memory_told da len (core_memory core da len) small few (loaded_some core.regions da len core.loaded some is.placed) (loaded_short core.regions da len core.loaded) (memory_bytes core da len core.loaded is.loaded))
 
   -- ---- lives
 
@@ -531,19 +518,19 @@ module _ (name : List ℕ) (named : IsName name) where
   booted_named None has = named
   booted_named (Some image) has = has
 
-  module _ (core : CoreState) (steps : ℕ) (is : IsFieldCore core) (images : List ImageState) (answer : Answer) (are : AreBytesImages images) (told_are : IfOk answer AreBytes) where
+  module _ (core : CoreState) (steps : ℕ) (is : IsFieldCore core) (sound : SoundRegions core.regions) (images : List ImageState) (answer : Answer) (are : AreBytesImages images) (told_are : IfOk answer AreBytes) where
     boot_spelled : (image : List ℕ) → IsName image → LeavesSpelled (boot_effect images answer name core steps image)
     unfolding boot_effect
     boot_spelled image called =
         let found = found_image images answer image in
-        let out = boot_fields core image found called (found_are images answer image are told_are) is in
+        let out = boot_fields core image found called (found_are images answer image are told_are) sound is in
         record { left = out.core; events = starts_told image (boot_of core image found).answer called out.answer }
 
     handover_spelled : (image : List ℕ) → IsName image → LeavesSpelled (handover_effect images answer name core steps image)
     unfolding handover_effect
     handover_spelled image called =
         let found = found_image images answer image in
-        let out = handover_fields core image found called (found_are images answer image are told_are) is in
+        let out = handover_fields core image found called (found_are images answer image are told_are) sound is in
         record { left = out.core; events = starts_told image (handover_of core image found).answer called out.answer }
 
     recover_spelled : IsReachedCore core → LeavesSpelled (recover_effect images answer name core steps)
@@ -551,7 +538,7 @@ module _ (name : List ℕ) (named : IsName name) where
     recover_spelled reached =
         let image = booted_image name core in
         let found = found_image images answer image in
-        let out = recovery_fields core found (found_are images answer image are told_are) reached is in
+        let out = recovery_fields core found (found_are images answer image are told_are) sound reached is in
         record { left = out.core; events = starts_told image (recovery_of core found).answer (booted_named core.image is.image) out.answer }
 
   module _ (core : CoreState) (steps : ℕ) (is : IsFieldCore core) where
@@ -641,8 +628,8 @@ module _ (images : List ImageState) (answer : Answer) (is_quiet : Bool) (on : Na
   unfolding core_act_effect
   asked_spelled (act.Region region) knows = region_spelled on.name named on.core steps is region
   asked_spelled (act.Driver channel kind) knows = driver_spelled on.name named on.core steps is channel kind knows
-  asked_spelled (act.Boot image) knows = boot_spelled on.name named on.core steps is images answer are told_are image knows
-  asked_spelled (act.Handover image) knows = handover_spelled on.name named on.core steps is images answer are told_are image knows
+  asked_spelled (act.Boot image) knows = boot_spelled on.name named on.core steps is rungs.load.regions images answer are told_are image knows
+  asked_spelled (act.Handover image) knows = handover_spelled on.name named on.core steps is rungs.load.regions images answer are told_are image knows
   asked_spelled act.Shutdown knows = shutdown_spelled on.name named on.core steps is
   asked_spelled act.Detach knows = detach_spelled on.name named on.core steps is
   asked_spelled act.State knows = state_spelled on.name named on.core steps is
@@ -650,7 +637,7 @@ module _ (images : List ImageState) (answer : Answer) (is_quiet : Bool) (on : Na
   asked_spelled (act.Trace trace) knows = trace_spelled on.name named on.core steps is trace knows
   asked_spelled (act.Mem da len) knows = mem_spelled on.name named on.core steps is da len knows.0 knows.1 knows.2
   asked_spelled (act.Crash kind) knows = crash_spelled on.name named on.core steps is kind
-  asked_spelled act.Recover knows = recover_spelled on.name named on.core steps is images answer are told_are reached
+  asked_spelled act.Recover knows = recover_spelled on.name named on.core steps is rungs.load.regions images answer are told_are reached
   asked_spelled (act.Recovery set) knows = switch_spelled on.name named on.core steps is set
   asked_spelled (act.Drive count) knows = drive_spelled on.name named is_quiet on.core steps count reached is
 

@@ -17,6 +17,7 @@ use Rattle.script_lang.specs.declared.recipes.RecipeLine.{RecipeLine}
 use Rattle.script_lang.specs.Grammar.{IsScript}
 use Rattle.script_lang.specs.Runnable.{AreRunnable, IsBook, IsRunnable}
 use Rattle.script_lang.proofs.Runnable.{are_runnable}
+use Rattle.memory_pool.specs.Soundness.{SoundRegions}
 use Rattle.image_maker.specs.Images.{image_of}
 use Rattle.core_dump.specs.Dumps.{dump_of}
 use Rattle.link_bench.specs.Acts.{IsFitAct}
@@ -56,6 +57,7 @@ use Rattle.field_laws.specs.FieldCores.{IsFieldCore, IsFieldLoad}
 use Rattle.field_laws.proofs.Acts.{HoldsBench}
 use Rattle.field_laws.proofs.Benches.{new_fields}
 use Rattle.field_laws.proofs.Cores.{new_core_fields}
+use Rattle.field_laws.proofs.DumpSizes.{dump_small}
 use Rattle.field_laws.proofs.Images.{IsBytesLine, dump_are, image_are}
 use Rattle.field_laws.proofs.Sides.{find_has, fresh_fields}
 use Rattle.line_laws.specs.ReadLines.{IsReadBack, TellsBytes}
@@ -225,19 +227,20 @@ IsSpelledAnswer (Ok bytes) = AreBytes bytes × (length bytes < 2 ^ 64)
 IsSpelledAnswer (Err told) = IsSpelled told
 
 module _ (name image : List ℕ) (named : IsName name) (called : IsName image) where
-  bytes_told : (is_taken : Bool) (kept : ℕ) (bytes : List ℕ) → AreBytes bytes → IsSpelledAnswer (bytes_answer is_taken kept name image bytes)
-  bytes_told is_taken kept bytes are =
+  bytes_told : (is_taken : Bool) (kept : ℕ) (bytes : List ℕ) → AreBytes bytes → length bytes < 2 ^ 64 → IsSpelledAnswer (bytes_answer is_taken kept name image bytes)
+  bytes_told is_taken kept bytes are small =
       cond_both is_taken _ _ IsSpelledAnswer (λ _ _. ((called, tt), tt))
-      (λ _. cond_both (nat_lt IMAGE_MOST (length bytes)) _ _ IsSpelledAnswer (λ _ small. ((named, (small, tt)), tt))
-      (λ fits. cond_both (nat_le DUMPS_MOST kept) _ _ IsSpelledAnswer (λ _ _. ((named, tt), tt)) (λ _. let few = ltb-false IMAGE_MOST (length bytes) fits in (are, omega (arith, few)))))
+      (λ _. cond_both (nat_lt IMAGE_MOST (length bytes)) _ _ IsSpelledAnswer (λ _ _. ((named, (small, tt)), tt))
+      (λ _. cond_both (nat_le DUMPS_MOST kept) _ _ IsSpelledAnswer (λ _ _. ((named, tt), tt)) (λ _. (are, small))))
 
-  load_told : (is_taken : Bool) (kept : ℕ) (core : CoreState) (found : Option LoadState) → IfSome core.loaded IsFieldLoad → IsSpelledAnswer (load_answer is_taken kept name image core found)
-  load_told is_taken kept core None is = λ _. ((named, tt), tt)
-  load_told is_taken kept core (Some load) is = bytes_told is_taken kept (dump_of load.entry (core_parts core)) (dump_are core load.entry is)
+  load_told : (is_taken : Bool) (kept : ℕ) (core : CoreState) (found : Option LoadState) → IsFieldCore core → SoundRegions core.regions → IsSpelledAnswer (load_answer is_taken kept name image core found)
+  load_told is_taken kept core None is sound = λ _. ((named, tt), tt)
+  load_told is_taken kept core (Some load) is sound =
+      bytes_told is_taken kept (dump_of load.entry (core_parts core)) (dump_are core load.entry is.loaded) (dump_small core load.entry sound is.placed)
 
   core_told : (is_taken : Bool) (kept : ℕ) (found : Option NamedCoreState) → IfSome found IsFieldNamedCore → IsSpelledAnswer (core_answer is_taken kept name image found)
   core_told is_taken kept None is = λ _. ((named, tt), tt)
-  core_told is_taken kept (Some on) is = load_told is_taken kept on.core (crashed_load on.core.life.state on.core.loaded) is.core.loaded
+  core_told is_taken kept (Some on) is = load_told is_taken kept on.core (crashed_load on.core.life.state on.core.loaded) is.core is.rungs.load.regions
 
   dumped : (run : RunState) (answered : Result (List ℕ) Event) → IsSpelledAnswer answered → AreFieldObjects run.objects → RunSpelled (dumped_effect run image answered)
   dumped run (Ok bytes) is are = record {
