@@ -9,9 +9,8 @@ use Rattle.word_kinds.specs.Readings.{IsGood, is_clean, kind_of}
 use Rattle.word_kinds.specs.Rows.{AreGood, are_fixed}
 use Rattle.journal.specs.declared.events.Event.{Event}
 use Rattle.journal.specs.Lines.{words_of}
-use Rattle.journal.specs.Reading.{HasEra}
+use Rattle.journal.specs.Reading.{HasEra, IsWritten}
 use Rattle.journal.proofs.Tabled.{form_of, kinds_fixed, kinds_of_words}
-use Rattle.line_laws.specs.ReadLines.{IsInRange, IsReadBack}
 
 -- a name as scripts spell it
 abbrev pub IsName : List ℕ → Type 0
@@ -23,9 +22,9 @@ AreSpelled [] = Unit {0}
 AreSpelled (Fixed text ∷ words) = AreSpelled words
 AreSpelled (word ∷ words) = IsGood word × AreSpelled words
 
--- an event with such words and an era of 32 bits, where what a reader is left is in range
+-- an event with such words and an era of 32 bits
 abbrev pub IsSpelled : Event → Type 0
-IsSpelled e = IsInRange e → AreSpelled (words_of e) × HasEra e
+IsSpelled e = AreSpelled (words_of e) × HasEra e
 
 -- some events
 pub none : All IsSpelled []
@@ -45,7 +44,5 @@ goods (Name name ∷ words) fixed spelled = (spelled.0, goods words fixed spelle
 goods (other ∷ words) fixed spelled = (spelled.0, goods words fixed spelled.1)
 
 -- so an event is read back
-pub read_back : (e : Event) → IsSpelled e → IsReadBack e
-read_back e spelled range =
-    let is = spelled range in
-    (goods (words_of e) (ap are_fixed (sym (kinds_of_words e)) ∙ kinds_fixed (form_of e)) is.0, is.1)
+pub read_back : (e : Event) → IsSpelled e → IsWritten e
+read_back e is = (goods (words_of e) (ap are_fixed (sym (kinds_of_words e)) ∙ kinds_fixed (form_of e)) is.0, is.1)

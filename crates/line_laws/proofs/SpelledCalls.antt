@@ -100,70 +100,70 @@ module _ (name : List ℕ) (named : IsName name) where
   took_spelled : (caller number : ℕ) (message : List ℕ) (judged : Verdict) → caller < 2 ^ 64 → number < 2 ^ 64 → length message ≤ 512 → AreBytes message → IsFieldVerdict judged
       → IsSpelled (took_event name caller number message judged)
   took_spelled caller number message (verdict.To endpoint) small counted short are is =
-      λ _. ((named, (small, (counted, (source_small message are, (is, ((payload_short message short, payload_bytes message are), tt)))))), tt)
+      ((named, (small, (counted, (source_small message are, (is, ((payload_short message short, payload_bytes message are), tt)))))), tt)
   took_spelled caller number message (verdict.Dropped dst) small counted short are is =
-      λ _. ((named, (small, (counted, (source_small message are, (omega (arith, is), ((payload_short message short, payload_bytes message are), tt)))))), tt)
-  took_spelled caller number message verdict.Malformed small counted short are is = λ _. ((named, (small, (counted, tt))), tt)
+      ((named, (small, (counted, (source_small message are, (omega (arith, is), ((payload_short message short, payload_bytes message are), tt)))))), tt)
+  took_spelled caller number message verdict.Malformed small counted short are is = ((named, (small, (counted, tt))), tt)
   took_spelled caller number message (verdict.Service what channel address endpoint) small counted short are is =
-      let fits = is.1 in λ _. ((named, (small, (counted, (tt, (is.0, (omega (arith, fits), tt)))))), tt)
-  took_spelled caller number message verdict.ServiceMalformed small counted short are is = λ _. ((named, (small, (counted, tt))), tt)
+      let fits = is.1 in ((named, (small, (counted, (tt, (is.0, (omega (arith, fits), tt)))))), tt)
+  took_spelled caller number message verdict.ServiceMalformed small counted short are is = ((named, (small, (counted, tt))), tt)
 
   refused_spelled : (caller : ℕ) (why : BindFault) → caller < 2 ^ 64 → IsFieldFault why → IsSpelled (refused_event name caller why)
-  refused_spelled caller (bind_fault.AddressTaken address) small is = λ _. ((named, (small, (omega (arith, is), tt))), tt)
-  refused_spelled caller bind_fault.EndpointsFull small is = λ _. ((named, (small, tt)), tt)
-  refused_spelled caller (bind_fault.NotBound address) small is = λ _. ((named, (small, (omega (arith, is), tt))), tt)
+  refused_spelled caller (bind_fault.AddressTaken address) small is = ((named, (small, (omega (arith, is), tt))), tt)
+  refused_spelled caller bind_fault.EndpointsFull small is = ((named, (small, tt)), tt)
+  refused_spelled caller (bind_fault.NotBound address) small is = ((named, (small, (omega (arith, is), tt))), tt)
 
   pub end_spelled : (link : LinkState EndState) (caller : ℕ) (ended : CallEnd) → caller < 2 ^ 64 → IsShortLink link → IsFieldLink link → IsFieldEnd ended → IsSpelled (end_event name link caller ended)
-  end_spelled link caller (end.Sent number) small short fields is = λ _. ((named, (small, (is, tt))), tt)
+  end_spelled link caller (end.Sent number) small short fields is = ((named, (small, (is, tt))), tt)
   end_spelled link caller (end.Took number judged) small short fields is =
       took_spelled caller number (taken_on link (end_of link.callers caller) number) judged small is.0 (taken_short link (end_of link.callers caller) number short)
       (taken_bytes_on link (end_of link.callers caller) number fields) is.1
-  end_spelled link caller (end.Gave number) small short fields is = λ _. ((named, (small, (is, tt))), tt)
-  end_spelled link caller (end.Bound endpoint) small short fields is = λ _. ((named, (small, (is, tt))), tt)
-  end_spelled link caller (end.Unbound endpoint) small short fields is = λ _. ((named, (small, (is, tt))), tt)
-  end_spelled link caller (end.Busy held) small short fields is = λ _. ((named, (small, (is, tt))), tt)
-  end_spelled link caller (end.Dead era) small short fields is = λ _. ((named, (small, (omega (arith, is), (tt, tt)))), is)
-  end_spelled link caller (end.NoBuffer accepted returned) small short fields is = λ _. ((named, (small, (is.0, (is.1, tt)))), tt)
-  end_spelled link caller (end.BookFull accepted) small short fields is = λ _. ((named, (small, (is, tt))), tt)
-  end_spelled link caller (end.Empty accepted) small short fields is = λ _. ((named, (small, (is, tt))), tt)
+  end_spelled link caller (end.Gave number) small short fields is = ((named, (small, (is, tt))), tt)
+  end_spelled link caller (end.Bound endpoint) small short fields is = ((named, (small, (is, tt))), tt)
+  end_spelled link caller (end.Unbound endpoint) small short fields is = ((named, (small, (is, tt))), tt)
+  end_spelled link caller (end.Busy held) small short fields is = ((named, (small, (is, tt))), tt)
+  end_spelled link caller (end.Dead era) small short fields is = ((named, (small, (omega (arith, is), (tt, tt)))), is)
+  end_spelled link caller (end.NoBuffer accepted returned) small short fields is = ((named, (small, (is.0, (is.1, tt)))), tt)
+  end_spelled link caller (end.BookFull accepted) small short fields is = ((named, (small, (is, tt))), tt)
+  end_spelled link caller (end.Empty accepted) small short fields is = ((named, (small, (is, tt))), tt)
   end_spelled link caller (end.Refused why) small short fields is = refused_spelled caller why small is
 
   fault_spelled : (caller : ℕ) (why : BenchFault) → caller < 2 ^ 64 → IsFieldBenchFault why → IsSpelled (fault_event name caller why)
-  fault_spelled caller fault.NoCaller small is = λ _. ((named, (small, tt)), tt)
-  fault_spelled caller fault.InCall small is = λ _. ((named, (small, tt)), tt)
-  fault_spelled caller fault.NoCall small is = λ _. ((named, (small, tt)), tt)
-  fault_spelled caller (fault.NotHeld number) small is = λ _. ((named, (small, (is, tt))), tt)
+  fault_spelled caller fault.NoCaller small is = ((named, (small, tt)), tt)
+  fault_spelled caller fault.InCall small is = ((named, (small, tt)), tt)
+  fault_spelled caller fault.NoCall small is = ((named, (small, tt)), tt)
+  fault_spelled caller (fault.NotHeld number) small is = ((named, (small, (is, tt))), tt)
 
   reach_spelled : (link : LinkState EndState) (caller : ℕ) (reached : Reach) → caller < 2 ^ 64 → IsShortLink link → IsFieldLink link → IsFieldReach reached → All IsSpelled (reach_events name link caller reached)
-  reach_spelled link caller (reach.At step) small short fields is = one (event.At name caller step) (λ _. ((named, (small, (is, tt))), tt))
+  reach_spelled link caller (reach.At step) small short fields is = one (event.At name caller step) (((named, (small, (is, tt))), tt))
   reach_spelled link caller (reach.Ended ended) small short fields is = one (end_event name link caller ended) (end_spelled link caller ended small short fields is)
   reach_spelled link caller reach.Limit small short fields is = none
 
   pumped_spelled : (done : ℕ) → done < 2 ^ 64 → IsSpelled (event.Pumped name done)
-  pumped_spelled done small = λ _. ((named, (small, tt)), tt)
+  pumped_spelled done small = ((named, (small, tt)), tt)
 
   turns_spelled : (link : LinkState EndState) (done : ℕ) (ended : TurnEnd) → done < 2 ^ 64 → IsShortLink link → IsFieldLink link → IsFieldTurnEnd ended → All IsSpelled (turn_events name link done ended)
   turns_spelled link done turn_end.Whole small short fields is = one (event.Pumped name done) (pumped_spelled done small)
   turns_spelled link done (turn_end.Fault caller why) small short fields is =
       two (fault_event name caller why) (event.Pumped name done) (fault_spelled caller why is.0 is.1) (pumped_spelled done small)
   turns_spelled link done (turn_end.Reached caller (reach.At step)) small short fields is =
-      two (event.At name caller step) (event.Pumped name done) (λ _. ((named, (is.0, (is.1, tt))), tt)) (pumped_spelled done small)
+      two (event.At name caller step) (event.Pumped name done) (((named, (is.0, (is.1, tt))), tt)) (pumped_spelled done small)
   turns_spelled link done (turn_end.Reached caller (reach.Ended ended)) small short fields is =
       two (end_event name link caller ended) (event.Pumped name done) (end_spelled link caller ended is.0 short fields is.1) (pumped_spelled done small)
   turns_spelled link done (turn_end.Reached caller reach.Limit) small short fields is = none
 
   reclaim_spelled : (caller : ℕ) (came : Reclaim) → caller < 2 ^ 64 → IsFieldReclaim came → IsSpelled (reclaim_event name caller came)
-  reclaim_spelled caller reclaim.Done small is = λ _. ((named, (small, tt)), tt)
-  reclaim_spelled caller (reclaim.StillOpen era) small is = λ _. ((named, (omega (arith, is), tt)), tt)
-  reclaim_spelled caller (reclaim.Busy held) small is = λ _. ((named, (is, tt)), tt)
+  reclaim_spelled caller reclaim.Done small is = ((named, (small, tt)), tt)
+  reclaim_spelled caller (reclaim.StillOpen era) small is = ((named, (omega (arith, is), tt)), tt)
+  reclaim_spelled caller (reclaim.Busy held) small is = ((named, (is, tt)), tt)
 
   pub answer_spelled : (link : LinkState EndState) (came : ActAnswer) → IsShortLink link → IsFieldLink link → IsFieldActed came → All IsSpelled (answer_events name link came)
-  answer_spelled link (answer.Caller number at) short fields is = one (event.Caller name number at) (λ _. ((named, (is, (tt, tt))), tt))
-  answer_spelled link answer.CallersFull short fields is = one (event.CallersFull name) (λ _. ((named, tt), tt))
+  answer_spelled link (answer.Caller number at) short fields is = one (event.Caller name number at) (((named, (is, (tt, tt))), tt))
+  answer_spelled link answer.CallersFull short fields is = one (event.CallersFull name) (((named, tt), tt))
   answer_spelled link (answer.Refused caller why) short fields is = one (fault_event name caller why) (fault_spelled caller why is.0 is.1)
-  answer_spelled link (answer.TooLong caller len) short fields is = one (event.TooLong name caller len) (λ _. ((named, (is.0, (is.1, tt))), tt))
-  answer_spelled link (answer.WrongSide receiver) short fields is = one (event.WrongSide name receiver) (λ _. ((named, (is, tt)), tt))
-  answer_spelled link (answer.Begun caller) short fields is = one (event.Begun name caller) (λ _. ((named, (is, tt)), tt))
+  answer_spelled link (answer.TooLong caller len) short fields is = one (event.TooLong name caller len) (((named, (is.0, (is.1, tt))), tt))
+  answer_spelled link (answer.WrongSide receiver) short fields is = one (event.WrongSide name receiver) (((named, (is, tt)), tt))
+  answer_spelled link (answer.Begun caller) short fields is = one (event.Begun name caller) (((named, (is, tt)), tt))
   answer_spelled link (answer.Reached caller reached) short fields is = reach_spelled link caller reached is.0 short fields is.1
   answer_spelled link (answer.Pumped done ended) short fields is = turns_spelled link done ended is.0 short fields is.1
   answer_spelled link (answer.Reclaimed caller came) short fields is = one (reclaim_event name caller came) (reclaim_spelled caller came is.0 is.1)
@@ -171,12 +171,12 @@ module _ (name : List ℕ) (named : IsName name) where
   -- ---- what a link shows
 
   still_spelled : (caller : ℕ) → caller ≤ 64 → IsSpelled (event.StillTurn name caller)
-  still_spelled caller small = λ _. ((named, (omega (arith, small), tt)), tt)
+  still_spelled caller small = ((named, (omega (arith, small), tt)), tt)
 
   channel_with : (channel : List ℕ) (address : ℕ) (endpoint : Option Endpoint) → IsFieldChannel (record { name = channel; address = address; endpoint = endpoint })
       → IsSpelled (event.Channel name channel address endpoint)
-  channel_with channel address None is = let small = is.address in λ _. ((named, (is.name, (omega (arith, small), tt))), tt)
-  channel_with channel address (Some endpoint) is = let small = is.address in λ _. ((named, (is.name, (omega (arith, small), (is.endpoint, tt)))), tt)
+  channel_with channel address None is = let small = is.address in ((named, (is.name, (omega (arith, small), tt))), tt)
+  channel_with channel address (Some endpoint) is = let small = is.address in ((named, (is.name, (omega (arith, small), (is.endpoint, tt)))), tt)
 
   channel_spelled : (channel : Channel) → IsFieldChannel channel → IsSpelled (channel_event name channel)
   channel_spelled channel is = channel_with channel.name channel.address channel.endpoint is
@@ -195,7 +195,7 @@ module _ (name : List ℕ) (named : IsName name) where
   row_spelled : (offset : ℕ) (row : List ℕ) → offset < 2 ^ 64 → 1 ≤ length row → length row ≤ 16 → AreBytes row → All IsSpelled (row_events name offset row)
   row_spelled offset row small some short are =
       cond_both (list_all (λ byte. byte == 0) row) [] (event.Dump name offset row ∷ []) (All IsSpelled) (λ _. none)
-      (λ _. one (event.Dump name offset row) (λ _. ((named, (small, ((some, short, are), tt))), tt)))
+      (λ _. one (event.Dump name offset row) (((named, (small, ((some, short, are), tt))), tt)))
 
   rows_spelled : (count offset : ℕ) (bytes : List ℕ) → count ≤ row_count bytes → offset + 16 * count ≤ 2 ^ 64 → AreBytes bytes → All IsSpelled (dump_rows count name offset bytes)
   unfolding dump_rows
@@ -210,7 +210,7 @@ module _ (name : List ℕ) (named : IsName name) where
 
   pub ring_spelled : (lane : ℕ) (bytes : List ℕ) → lane < 2 → length bytes ≤ 2 ^ 32 → AreBytes bytes → All IsSpelled (ring_events name lane bytes)
   ring_spelled lane bytes first short are =
-      All-cons IsSpelled (event.Ring name lane (length bytes)) (dump_rows (row_count bytes) name 0 bytes) (λ _. ((named, (first, (omega (arith, short), tt))), tt))
+      All-cons IsSpelled (event.Ring name lane (length bytes)) (dump_rows (row_count bytes) name 0 bytes) (((named, (first, (omega (arith, short), tt))), tt))
       (rows_spelled (row_count bytes) 0 bytes (omega arith) (omega (arith, short)) are)
 
   shown_spelled : (bench : BenchState) (lane : ℕ) (held : Option ℕ) → lane < 2 → HasSoundRings bench.rings → IfSome held (λ caller. caller ≤ 64) → All IsSpelled (shown_ring name bench lane held)
@@ -236,7 +236,7 @@ module _ (name : List ℕ) (named : IsName name) where
 
   books_spelled : (lane : ℕ) (state : LaneState EndState) → lane < 2 → IsSoundLane state → IsFieldLane state → IsSpelled (lane_event name lane state)
   books_spelled lane state first sound is =
-      let counts = counts_small state sound is in λ _. ((named, (first, (counts.accepted, (counts.takers, (counts.returned, tt))))), tt)
+      let counts = counts_small state sound is in ((named, (first, (counts.accepted, (counts.takers, (counts.returned, tt))))), tt)
 
   pub view_spelled : (bench : BenchState) (shown : LinkView) → IsKnownView shown → HasSoundRings bench.rings → SoundLink bench.link → IsFieldLink bench.link → All IsSpelled (view_events name bench shown)
   unfolding view_events
@@ -249,8 +249,8 @@ module _ (name : List ℕ) (named : IsName name) where
   -- ---- what its manager does
 
   close_told : (era : Era) (found : Option Era) → era.inc < 2 ^ 32 → IfSome found (λ (other : Era). other.inc < 2 ^ 32) → IsSpelled (close_event name era found)
-  close_told era None small is = λ _. ((named, (omega (arith, small), tt)), tt)
-  close_told era (Some found) small is = λ _. ((named, (omega (arith, is), (tt, tt))), is)
+  close_told era None small is = ((named, (omega (arith, small), tt)), tt)
+  close_told era (Some found) small is = ((named, (omega (arith, is), (tt, tt))), is)
 
   closed_era : (era : Era) (inc : ℕ) → era.inc < 2 ^ 32 → IfSome (unclosed_by era inc) (λ (other : Era). other.inc < 2 ^ 32)
   closed_era era inc small = cond_both (is_live_in era inc) None (Some era) (λ (found : Option Era). IfSome found (λ (other : Era). other.inc < 2 ^ 32)) (λ _. tt) (λ _. small)
@@ -266,17 +266,17 @@ module _ (name : List ℕ) (named : IsName name) where
       })
 
   pub reopen_told : (why : ReopenFault) → IsFieldReopen why → All IsSpelled (reopen_events name why)
-  reopen_told (reopen_fault.StillOpen era) is = one (event.StillOpen name era.inc) (λ _. ((named, (omega (arith, is), tt)), tt))
-  reopen_told (reopen_fault.StillTurn caller) is = one (event.StillTurn name caller) (λ _. ((named, (is, tt)), tt))
-  reopen_told (reopen_fault.StillHeld caller number) is = one (event.StillHeld name caller number) (λ _. ((named, (is.0, (is.1, tt))), tt))
-  reopen_told reopen_fault.IncarnationsSpent is = one (event.IncarnationsSpent name) (λ _. ((named, tt), tt))
+  reopen_told (reopen_fault.StillOpen era) is = one (event.StillOpen name era.inc) (((named, (omega (arith, is), tt)), tt))
+  reopen_told (reopen_fault.StillTurn caller) is = one (event.StillTurn name caller) (((named, (is, tt)), tt))
+  reopen_told (reopen_fault.StillHeld caller number) is = one (event.StillHeld name caller number) (((named, (is.0, (is.1, tt))), tt))
+  reopen_told reopen_fault.IncarnationsSpent is = one (event.IncarnationsSpent name) (((named, tt), tt))
   reopen_told reopen_fault.NoMemory is = none
 
   opened_spelled : (bench : BenchState) (steps : ℕ) (why : Option ReopenFault) → unopened_by bench.link ≡ why → IsFieldBench bench → IfSome why IsFieldReopen → LeavesSpelledLink (opened_effect name bench steps why)
   opened_spelled bench steps None clear is fields =
       let left = reopen_fields bench clear is in
       let inc = left.link.inc in
-      record { bench = left; events = one (event.Open name (bench.link.era.inc + 1)) (λ _. ((named, (omega (arith, inc), tt)), tt)) }
+      record { bench = left; events = one (event.Open name (bench.link.era.inc + 1)) (((named, (omega (arith, inc), tt)), tt)) }
   opened_spelled bench steps (Some why) found is fields = record { bench = is; events = reopen_told why fields }
 
   reopen_spelled : (bench : BenchState) (steps : ℕ) → SoundLink bench.link → IsFieldBench bench → LeavesSpelledLink (reopen_effect name bench steps)
@@ -290,7 +290,7 @@ module _ (name : List ℕ) (named : IsName name) where
 -- what is done under the name of a link
 pub link_spelled : (on : NamedLink) (steps : ℕ) (wanted : NamedAct (List ℕ)) → IsName on.name → IsKnownAct wanted → HasSoundRings on.bench.rings → HoldsBench on.bench → LeavesSpelledLink (link_effect on steps wanted)
 unfolding link_effect
-link_spelled on steps (under.Make made) named knows rings is = record { bench = is.fields; events = one (event.Exists on.name) (λ _. ((named, tt), tt)) }
+link_spelled on steps (under.Make made) named knows rings is = record { bench = is.fields; events = one (event.Exists on.name) (((named, tt), tt)) }
 link_spelled on steps (under.Link asked) named knows rings is =
     let acted = link_act nobody_sees 0 on.bench tt steps asked in
     let left = act_holds nobody_sees 0 on.bench tt steps asked knows.0 knows.1 is in
@@ -302,4 +302,4 @@ link_spelled on steps (under.Manage managed) named knows rings is =
     let left = managed_spelled on.name named on.bench steps managed (reached_sound on.bench.link is.reached.link) is.fields in record { bench = left.bench; events = left.events }
 link_spelled on steps (under.Show shown) named knows rings is =
     record { bench = is.fields; events = view_spelled on.name named on.bench shown knows rings (reached_sound on.bench.link is.reached.link) is.fields.link }
-link_spelled on steps (under.Core asked) named knows rings is = record { bench = is.fields; events = one (event.Unknown on.name) (λ _. ((named, tt), tt)) }
+link_spelled on steps (under.Core asked) named knows rings is = record { bench = is.fields; events = one (event.Unknown on.name) (((named, tt), tt)) }

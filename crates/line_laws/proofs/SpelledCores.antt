@@ -259,13 +259,13 @@ found_are images answer image are told =
 -- ---- tables
 
 row_words : (name : List ℕ) → IsName name → (row : TableLine) → AreSpelled (table_words row) → IsSpelled (table_event name row)
-row_words name named (entry.Carveout i da pa len label) is = λ _. ((named, is), tt)
-row_words name named (entry.Devmem i da pa len label) is = λ _. ((named, is), tt)
-row_words name named (entry.Trace i da len label) is = λ _. ((named, is), tt)
-row_words name named (entry.TraceUnavailable i da len label) is = λ _. ((named, is), tt)
-row_words name named (entry.Skipped i kind) is = λ _. ((named, is), tt)
-row_words name named (entry.Vdev i id features status) is = λ _. ((named, is), tt)
-row_words name named (entry.Vring i j da align num notify) is = λ _. ((named, is), tt)
+row_words name named (entry.Carveout i da pa len label) is = ((named, is), tt)
+row_words name named (entry.Devmem i da pa len label) is = ((named, is), tt)
+row_words name named (entry.Trace i da len label) is = ((named, is), tt)
+row_words name named (entry.TraceUnavailable i da len label) is = ((named, is), tt)
+row_words name named (entry.Skipped i kind) is = ((named, is), tt)
+row_words name named (entry.Vdev i id features status) is = ((named, is), tt)
+row_words name named (entry.Vring i j da align num notify) is = ((named, is), tt)
 
 abbrev IsRow : TableLine → Type 0
 IsRow row = AreSpelled (table_words row)
@@ -313,7 +313,7 @@ module _ (name : List ℕ) (named : IsName name) where
   told core steps first is spelled = record { left = is; events = one first spelled }
 
   no_link : (core : CoreState) (steps : ℕ) → IsFieldCore core → LeavesSpelled (core_tells core steps (event.NoLink name))
-  no_link core steps is = told core steps (event.NoLink name) is (λ _. ((named, tt), tt))
+  no_link core steps is = told core steps (event.NoLink name) is (((named, tt), tt))
 
   -- ---- the link of a core
 
@@ -345,7 +345,7 @@ module _ (name : List ℕ) (named : IsName name) where
 
     shown_at : (lane : ℕ) (found : Option ℕ) → lane < 2 → IfSome found (λ caller. caller ≤ 64) → LeavesSpelled (core_shown_effect name core steps lane found)
     shown_at lane None first small = ring_at lane (core_ring core lane) first (ring_bytes lane core.bench rungs.bench)
-    shown_at lane (Some caller) first small = told core steps (event.StillTurn name caller) is (λ _. ((named, (omega (arith, small), tt)), tt))
+    shown_at lane (Some caller) first small = told core steps (event.StillTurn name caller) is (((named, (omega (arith, small), tt)), tt))
 
     core_turn : (found : Option BenchState) → IfSome found IsReachedBench → IfSome found IsFieldBench → IfSome (option_and_then (λ (bench : BenchState). turn_holder bench.link) found) (λ caller. caller ≤ 64)
     core_turn None reached here = tt
@@ -367,18 +367,18 @@ module _ (name : List ℕ) (named : IsName name) where
   -- ---- what a core is made of
 
   add_told : (why : AddFault) → IsSpelled (add_fault_event name why)
-  add_told add.NotOffline = λ _. ((named, tt), tt)
-  add_told (add.Region why) = λ _. ((named, (region_number why, tt)), tt)
-  add_told add.DriverTaken = λ _. ((named, tt), tt)
-  add_told add.DriversFull = λ _. ((named, tt), tt)
-  add_told add.NoMemory = λ _. ((named, tt), tt)
+  add_told add.NotOffline = ((named, tt), tt)
+  add_told (add.Region why) = ((named, (region_number why, tt)), tt)
+  add_told add.DriverTaken = ((named, tt), tt)
+  add_told add.DriversFull = ((named, tt), tt)
+  add_told add.NoMemory = ((named, tt), tt)
 
   driver_told : (channel : List ℕ) (why : AddFault) → IsName channel → IsSpelled (driver_fault_event name channel why)
-  driver_told channel add.NotOffline called = λ _. ((named, tt), tt)
-  driver_told channel (add.Region why) called = λ _. ((named, tt), tt)
-  driver_told channel add.DriverTaken called = λ _. ((named, (called, tt)), tt)
-  driver_told channel add.DriversFull called = λ _. ((named, tt), tt)
-  driver_told channel add.NoMemory called = λ _. ((named, tt), tt)
+  driver_told channel add.NotOffline called = ((named, tt), tt)
+  driver_told channel (add.Region why) called = ((named, tt), tt)
+  driver_told channel add.DriverTaken called = ((named, (called, tt)), tt)
+  driver_told channel add.DriversFull called = ((named, tt), tt)
+  driver_told channel add.NoMemory called = ((named, tt), tt)
 
   module _ (core : CoreState) (steps : ℕ) (is : IsFieldCore core) where
     added : (region : Region) (why : Option AddFault) → add_fault core region ≡ why → LeavesSpelled (added_effect name core steps region why)
@@ -394,7 +394,7 @@ module _ (name : List ℕ) (named : IsName name) where
         bench = is.bench;
         calls = is.calls;
       };
-      events = one (event.Region name (length core.regions)) (λ _. ((named, (regions_small core region clear, tt)), tt));
+      events = one (event.Region name (length core.regions)) (((named, (regions_small core region clear, tt)), tt));
     }
     added region (Some why) found = told core steps (add_fault_event name why) is (add_told why)
 
@@ -405,7 +405,7 @@ module _ (name : List ℕ) (named : IsName name) where
     declared : (channel : List ℕ) (kind : DriverKind) (why : Option AddFault) → IsName channel → LeavesSpelled (declared_effect name core steps channel kind why)
     declared channel kind None called = record {
       left = record { book = is.book; life = is.life; image = is.image; loaded = is.loaded; placed = is.placed; rest = is.rest; bench = is.bench; calls = record { host = is.calls.host; worker = is.calls.worker } };
-      events = one (event.Driver name channel kind) (λ _. ((named, (called, (tt, tt))), tt));
+      events = one (event.Driver name channel kind) (((named, (called, (tt, tt))), tt));
     }
     declared channel kind (Some why) called = told core steps (driver_fault_event name channel why) is (driver_told channel why called)
 
@@ -416,28 +416,28 @@ module _ (name : List ℕ) (named : IsName name) where
     switch_spelled : (set : Switch) → LeavesSpelled (recovery_effect name core steps set)
     switch_spelled set = record {
       left = record { book = is.book; life = record { users = is.life.users; incarnation = is.life.incarnation }; image = is.image; loaded = is.loaded; placed = is.placed; rest = is.rest; bench = is.bench; calls = is.calls };
-      events = one (event.Recovery name set) (λ _. ((named, (tt, tt)), tt));
+      events = one (event.Recovery name set) (((named, (tt, tt)), tt));
     }
 
     state_spelled : LeavesSpelled (state_effect name core steps)
     state_spelled =
         let users = is.life.users in
         let inc = is.life.incarnation in
-        told core steps (event.State name core.life.state core.life.users core.life.incarnation) is (λ _. ((named, (tt, (omega (arith, users), (omega (arith, inc), tt)))), tt))
+        told core steps (event.State name core.life.state core.life.users core.life.incarnation) is (((named, (tt, (omega (arith, users), (omega (arith, inc), tt)))), tt))
 
   -- ---- what a core shows
 
   trace_told : (index : ℕ) (found : Option (List ℕ)) → index < 2 ^ 64 → IfSome found AreBytes → IsSpelled (shown_trace_event name index found)
-  trace_told index None small are = λ _. ((named, (small, tt)), tt)
-  trace_told index (Some bytes) small are = λ _. ((named, (small, (text_bytes bytes are, tt))), tt)
+  trace_told index None small are = ((named, (small, tt)), tt)
+  trace_told index (Some bytes) small are = ((named, (small, (text_bytes bytes are, tt))), tt)
 
   memory_told : (da len : ℕ) (found : Option (List ℕ)) → da < 2 ^ 32 → len ≤ 256 → IfSome found (λ bytes. 1 ≤ length bytes) → IfSome found (λ bytes. length bytes ≤ len) → IfSome found AreBytes → IsSpelled (shown_memory_event name da len found)
-  memory_told da len None small few some short are = λ _. ((named, (small, (omega (arith, few), tt))), tt)
-  memory_told da len (Some bytes) small few some short are = λ _. ((named, (small, ((some, omega (arith, few, short), are), tt))), tt)
+  memory_told da len None small few some short are = ((named, (small, (omega (arith, few), tt))), tt)
+  memory_told da len (Some bytes) small few some short are = ((named, (small, ((some, omega (arith, few, short), are), tt))), tt)
 
   module _ (core : CoreState) (steps : ℕ) (is : IsFieldCore core) where
     table_at : (found : Option LoadState) → IfSome found IsFieldLoad → LeavesSpelled (loaded_table_effect name core steps found)
-    table_at None here = told core steps (event.NotLoaded name) is (λ _. ((named, tt), tt))
+    table_at None here = told core steps (event.NotLoaded name) is (((named, tt), tt))
     table_at (Some loaded) here = record {
       left = is;
       events = All-map IsSpelled (table_event name) (table_rows loaded.table loaded.traces)
@@ -461,56 +461,56 @@ module _ (name : List ℕ) (named : IsName name) where
   -- ---- lives
 
   fault_told : (number : ℕ) (index : Option ℕ) → number < 2 ^ 64 → IfSome index (λ place. place < 2 ^ 64) → IsSpelled (fault_at name number index)
-  fault_told number None small is = λ _. ((named, (small, tt)), tt)
-  fault_told number (Some index) small is = λ _. ((named, (small, (is, tt))), tt)
+  fault_told number None small is = ((named, (small, tt)), tt)
+  fault_told number (Some index) small is = ((named, (small, (is, tt))), tt)
 
   life_told : (why : LifeFault) → IsSpelled (life_fault_event name why)
-  life_told life.IncarnationsSpent = λ _. ((named, tt), tt)
-  life_told life.NotPowered = λ _. ((named, (omega arith, tt)), tt)
-  life_told life.NotCrashed = λ _. ((named, (omega arith, tt)), tt)
-  life_told life.RecoveryOff = λ _. ((named, (omega arith, tt)), tt)
-  life_told life.UsersFull = λ _. ((named, (omega arith, tt)), tt)
-  life_told life.NotOffline = λ _. ((named, (omega arith, tt)), tt)
-  life_told life.NotAttached = λ _. ((named, (omega arith, tt)), tt)
+  life_told life.IncarnationsSpent = ((named, tt), tt)
+  life_told life.NotPowered = ((named, (omega arith, tt)), tt)
+  life_told life.NotCrashed = ((named, (omega arith, tt)), tt)
+  life_told life.RecoveryOff = ((named, (omega arith, tt)), tt)
+  life_told life.UsersFull = ((named, (omega arith, tt)), tt)
+  life_told life.NotOffline = ((named, (omega arith, tt)), tt)
+  life_told life.NotAttached = ((named, (omega arith, tt)), tt)
 
   core_told : (image : List ℕ) (why : CoreFault) → IsName image → IsFieldCoreFault why → All IsSpelled (core_fault_events name image why)
-  core_told image (fault.Fetch fetch.Missing) called is = one (event.Missing name image) (λ _. ((named, (called, tt)), tt))
-  core_told image (fault.Fetch (fetch.TooLarge bytes)) called is = one (event.TooLarge name image) (λ _. ((named, (called, tt)), tt))
+  core_told image (fault.Fetch fetch.Missing) called is = one (event.Missing name image) (((named, (called, tt)), tt))
+  core_told image (fault.Fetch (fetch.TooLarge bytes)) called is = one (event.TooLarge name image) (((named, (called, tt)), tt))
   core_told image (fault.Fetch fetch.Failed) called is = none
   core_told image (fault.Fetch fetch.NoMemory) called is = none
   core_told image (fault.Load why) called is = one (load_fault_event name why) (fault_told (unwrap_or (load_fault_number why) 0) (load_fault_index why) (load_number why) is)
   core_told image (fault.Life why) called is = one (life_fault_event name why) (life_told why)
-  core_told image fault.RingsChanged called is = one (event.Fault name RINGS_CHANGED) (λ _. ((named, (omega arith, tt)), tt))
-  core_told image (fault.CallerOut caller) called is = one (event.FaultAt name CALLER_OUT caller) (λ _. ((named, (omega arith, (is, tt))), tt))
+  core_told image fault.RingsChanged called is = one (event.Fault name RINGS_CHANGED) (((named, (omega arith, tt)), tt))
+  core_told image (fault.CallerOut caller) called is = one (event.FaultAt name CALLER_OUT caller) (((named, (omega arith, (is, tt))), tt))
   core_told image (fault.Reopen why) called is = reopen_told name named why is
   core_told image fault.NoMemory called is = none
 
   start_told : (began : Start) → IsFieldStart began → IsSpelled (start_event name began)
-  start_told (start.Running inc) is = λ _. ((named, (is, tt)), tt)
-  start_told (start.Attached inc) is = λ _. ((named, (is, tt)), tt)
-  start_told (start.Users users) is = λ _. ((named, (is, tt)), tt)
-  start_told start.Detached is = λ _. ((named, tt), tt)
+  start_told (start.Running inc) is = ((named, (is, tt)), tt)
+  start_told (start.Attached inc) is = ((named, (is, tt)), tt)
+  start_told (start.Users users) is = ((named, (is, tt)), tt)
+  start_told start.Detached is = ((named, tt), tt)
 
   starts_told : (image : List ℕ) (came : Result Start CoreFault) → IsName image → IsFieldResult IsFieldStart came → All IsSpelled (start_events name image came)
   starts_told image (Ok began) called is = one (start_event name began) (start_told began is)
   starts_told image (Err why) called is = core_told image why called is
 
   leave_told : (last : Event) (came : Result Leave CoreFault) → IsSpelled last → IsFieldResult IsFieldLeave came → All IsSpelled (leave_events name last came)
-  leave_told last (Ok (leave.Users users)) spelled is = one (event.Users name users) (λ _. ((named, (is, tt)), tt))
+  leave_told last (Ok (leave.Users users)) spelled is = one (event.Users name users) (((named, (is, tt)), tt))
   leave_told last (Ok (leave.Last None)) spelled is = one last spelled
-  leave_told last (Ok (leave.Last (Some inc))) spelled is = two (event.Closed name inc) last (λ _. ((named, (is, tt)), tt)) spelled
+  leave_told last (Ok (leave.Last (Some inc))) spelled is = two (event.Closed name inc) last (((named, (is, tt)), tt)) spelled
   leave_told last (Ok leave.Limit) spelled is = none
   leave_told last (Err why) spelled is = core_told name why named is
 
   crash_told : (kind : CrashKind) → IsSpelled (event.Crashed name kind)
-  crash_told crash_kind.Mmufault = λ _. ((named, tt), tt)
-  crash_told crash_kind.Watchdog = λ _. ((named, tt), tt)
-  crash_told crash_kind.Fatal = λ _. ((named, tt), tt)
+  crash_told crash_kind.Mmufault = ((named, tt), tt)
+  crash_told crash_kind.Watchdog = ((named, tt), tt)
+  crash_told crash_kind.Fatal = ((named, tt), tt)
 
   report_told : (kind : CrashKind) (came : Result Crash LifeFault) → IfOk came IsFieldCrash → All IsSpelled (report_events name kind came)
   report_told kind (Ok (crash.First None)) is = one (event.Crashed name kind) (crash_told kind)
-  report_told kind (Ok (crash.First (Some inc))) is = two (event.Closed name inc) (event.Crashed name kind) (λ _. ((named, (is, tt)), tt)) (crash_told kind)
-  report_told kind (Ok crash.Already) is = one (event.AlreadyCrashed name) (λ _. ((named, tt), tt))
+  report_told kind (Ok (crash.First (Some inc))) is = two (event.Closed name inc) (event.Crashed name kind) (((named, (is, tt)), tt)) (crash_told kind)
+  report_told kind (Ok crash.Already) is = one (event.AlreadyCrashed name) (((named, tt), tt))
   report_told kind (Ok crash.Limit) is = none
   report_told kind (Err why) is = one (life_fault_event name why) (life_told why)
 
@@ -546,13 +546,13 @@ module _ (name : List ℕ) (named : IsName name) where
     unfolding shutdown_effect
     shutdown_spelled =
         let out = shutdown_fields (may_step steps) core is in
-        record { left = out.core; events = leave_told (event.Offline name) (shutdown_of (may_step steps) core).answer (λ _. ((named, tt), tt)) out.answer }
+        record { left = out.core; events = leave_told (event.Offline name) (shutdown_of (may_step steps) core).answer (((named, tt), tt)) out.answer }
 
     detach_spelled : LeavesSpelled (detach_effect name core steps)
     unfolding detach_effect
     detach_spelled =
         let out = detach_fields (may_step steps) core is in
-        record { left = out.core; events = leave_told (event.Detached name) (detach_of (may_step steps) core).answer (λ _. ((named, tt), tt)) out.answer }
+        record { left = out.core; events = leave_told (event.Detached name) (detach_of (may_step steps) core).answer (((named, tt), tt)) out.answer }
 
     crash_spelled : (kind : CrashKind) → LeavesSpelled (crash_effect name core steps kind)
     unfolding crash_effect
@@ -565,7 +565,7 @@ module _ (name : List ℕ) (named : IsName name) where
   crashed_told : (kind : CrashKind) (found : Option BenchState) → IfSome found IsFieldBench → All IsSpelled (crash_events name kind found)
   crashed_told kind None is = one (event.Crashed name kind) (crash_told kind)
   crashed_told kind (Some bench) is =
-      let inc = is.link.inc in two (event.Closed name bench.link.era.inc) (event.Crashed name kind) (λ _. ((named, (omega (arith, inc), tt)), tt)) (crash_told kind)
+      let inc = is.link.inc in two (event.Closed name bench.link.era.inc) (event.Crashed name kind) (((named, (omega (arith, inc), tt)), tt)) (crash_told kind)
 
   ended_told : (caller : ℕ) (end : CallEnd) (found : Option BenchState) → caller < 2 ^ 64 → IsFieldEnd end → IfSome found IsReachedBench → IfSome found IsFieldBench
       → All IsSpelled (actor_end_events name caller end found)
@@ -580,16 +580,16 @@ module _ (name : List ℕ) (named : IsName name) where
   driven_told is_quiet found (driven.Ended caller end) of reached is =
       cond_both is_quiet [] (actor_end_events name caller end found) (All IsSpelled) (λ _. none) (λ _. ended_told caller end found of.0 of.1 reached is)
   driven_told is_quiet found (driven.Worker why) of reached is =
-      All-cons IsSpelled (event.WorkerFault name (worker.fault_number why)) (crash_events name crash_kind.Fatal found) (λ _. ((named, (worker_number why, tt)), tt)) (crashed_told crash_kind.Fatal found is)
+      All-cons IsSpelled (event.WorkerFault name (worker.fault_number why)) (crash_events name crash_kind.Fatal found) (((named, (worker_number why, tt)), tt)) (crashed_told crash_kind.Fatal found is)
   driven_told is_quiet found (driven.Crashed kind) of reached is = crashed_told kind found is
 
   rest_told : (crashed idle : Bool) → IfSome (cond crashed (Some (event.Stopped name)) (cond idle (Some (event.Idle name)) None)) IsSpelled
-  rest_told true idle = λ _. ((named, tt), tt)
-  rest_told false true = λ _. ((named, tt), tt)
+  rest_told true idle = ((named, tt), tt)
+  rest_told false true = ((named, tt), tt)
   rest_told false false = tt
 
   paused_told : (found : Option Event) → IfSome found IsSpelled → IsSpelled (unwrap_or found (event.Paused name))
-  paused_told None is = λ _. ((named, tt), tt)
+  paused_told None is = ((named, tt), tt)
   paused_told (Some first) is = is
 
   rests_spelled : (core : CoreState) (steps : ℕ) (found : Option Event) (effect : CoreEffect) → IsFieldCore core → IfSome found IsSpelled → LeavesSpelled effect → LeavesSpelled (rests_or core steps found effect)
@@ -618,7 +618,7 @@ module _ (name : List ℕ) (named : IsName name) where
   unfolding drive_effect
   drive_spelled is_quiet core steps count reached is =
       cond_both (is_up core.life.state) (drive_steps count name is_quiet core steps) (core_tells core steps (event.NotRunning name)) LeavesSpelled
-      (λ _. steps_spelled count is_quiet core steps reached is) (λ _. told core steps (event.NotRunning name) is (λ _. ((named, tt), tt)))
+      (λ _. steps_spelled count is_quiet core steps reached is) (λ _. told core steps (event.NotRunning name) is (((named, tt), tt)))
 
 -- ---- what is done under the name of a core
 
@@ -643,8 +643,8 @@ module _ (images : List ImageState) (answer : Answer) (is_quiet : Bool) (on : Na
 
   pub core_spelled : (wanted : NamedAct (List ℕ)) → IsKnownAct wanted → LeavesSpelled (core_effect images answer is_quiet on steps wanted)
   unfolding core_effect
-  core_spelled (under.Make made) knows = told on.name named on.core steps (event.Exists on.name) is (λ _. ((named, tt), tt))
+  core_spelled (under.Make made) knows = told on.name named on.core steps (event.Exists on.name) is (((named, tt), tt))
   core_spelled (under.Link asked) knows = link_at on.name named on.core steps is rungs asked on.core.bench knows.0 knows.1 reached.bench is.bench
-  core_spelled (under.Manage managed) knows = told on.name named on.core steps (event.Unknown on.name) is (λ _. ((named, tt), tt))
+  core_spelled (under.Manage managed) knows = told on.name named on.core steps (event.Unknown on.name) is (((named, tt), tt))
   core_spelled (under.Show shown) knows = view_shown on.name named on.core steps is rungs shown knows reached.bench
   core_spelled (under.Core asked) knows = asked_spelled asked knows

@@ -25,6 +25,7 @@ use Rattle.link_bench.specs.Benches.{BenchState, new_bench_of}
 use Rattle.crash_recover.specs.CoreParts.{core_parts}
 use Rattle.crash_recover.specs.Cores.{CoreState, LoadState}
 use Rattle.core_laws.specs.BenchMoves.{IsReachedBench, IsReachedCore}
+use Rattle.journal.specs.Reading.{IsWritten}
 use Rattle.journal.specs.declared.events.Event.{Event}
 use Rattle.journal.specs.declared.events.Event.TheVariants as event
 use Rattle.script_run.specs.declared.acts.Line.{Line}
@@ -60,7 +61,7 @@ use Rattle.field_laws.proofs.Cores.{new_core_fields}
 use Rattle.field_laws.proofs.DumpSizes.{dump_small}
 use Rattle.field_laws.proofs.Images.{IsBytesLine, dump_are, image_are}
 use Rattle.field_laws.proofs.Sides.{find_has, fresh_fields}
-use Rattle.line_laws.specs.ReadLines.{IsReadBack, TellsBytes}
+use Rattle.line_laws.specs.ReadLines.{TellsBytes}
 use Rattle.line_laws.proofs.Known.{AreKnown, IsKnownAct, IsKnownLine, IsKnownMaking, are_known}
 use Rattle.line_laws.proofs.Spelled.{IsName, IsSpelled, none, one, read_back}
 use Rattle.line_laws.proofs.SpelledCalls.{link_spelled}
@@ -97,10 +98,10 @@ told : (run : RunState) (first : Event) → AreFieldObjects run.objects → IsSp
 told run first are is = record { left = are; events = one first is }
 
 full : (run : RunState) → AreFieldObjects run.objects → RunSpelled (run_tells run event.ObjectsFull)
-full run are = told run event.ObjectsFull are (λ _. (tt, tt))
+full run are = told run event.ObjectsFull are (tt, tt)
 
 unknown : (run : RunState) (name : List ℕ) → IsName name → AreFieldObjects run.objects → RunSpelled (run_tells run (event.Unknown name))
-unknown run name named are = told run (event.Unknown name) are (λ _. ((named, tt), tt))
+unknown run name named are = told run (event.Unknown name) are (((named, tt), tt))
 
 -- ---- new links and cores
 
@@ -120,7 +121,7 @@ module _ (run : RunState) (are : AreFieldObjects run.objects) (name : List ℕ) 
           cores = are.cores;
           images = are.images;
         };
-        events = one (event.Open name 1) (λ _. ((named, (omega arith, tt)), tt));
+        events = one (event.Open name 1) (((named, (omega arith, tt)), tt));
       })
 
   core_made : (set : RegionSet) (book : ℕ) → book < 2 ^ 64 → IsBook book → RunSpelled (core_made_effect run name set book)
@@ -133,7 +134,7 @@ module _ (run : RunState) (are : AreFieldObjects run.objects) (name : List ℕ) 
           cores = All-push IsFieldNamedCore run.objects.cores _ are.cores (record { name = named; core = new_core_fields (regions_of set) [] book small; rungs = new_core_rung set book fits });
           images = are.images;
         };
-        events = one (event.Offline name) (λ _. ((named, tt), tt));
+        events = one (event.Offline name) (((named, tt), tt));
       })
 
   made_so : (wanted : Making) → IsKnownMaking wanted → RunSpelled (making_effect run name wanted)
@@ -211,14 +212,14 @@ imaged : (run : RunState) (name : List ℕ) (lines : List RecipeLine) → IsName
 unfolding image_effect
 imaged run name lines named all small are =
     cond_both (has_image run.objects.images name) (run_tells run (event.ImageExists name))
-    (run_tells (with_image run name (image_of lines)) (event.Image name (length (image_of lines)))) RunSpelled (λ _. told run (event.ImageExists name) are (λ _. ((named, tt), tt)))
+    (run_tells (with_image run name (image_of lines)) (event.Image name (length (image_of lines)))) RunSpelled (λ _. told run (event.ImageExists name) are (((named, tt), tt)))
     (λ _. record {
       left = record {
         links = are.links;
         cores = are.cores;
         images = All-push (λ (image : ImageState). AreBytes image.bytes) run.objects.images (record { name = name; bytes = image_of lines; is_dump = false }) are.images (image_are lines all);
       };
-      events = one (event.Image name (length (image_of lines))) (λ _. ((named, (small, tt)), tt));
+      events = one (event.Image name (length (image_of lines))) (((named, (small, tt)), tt));
     })
 
 -- what is told in the place of a dump, or its bytes
@@ -229,17 +230,17 @@ IsSpelledAnswer (Err told) = IsSpelled told
 module _ (name image : List ℕ) (named : IsName name) (called : IsName image) where
   bytes_told : (is_taken : Bool) (kept : ℕ) (bytes : List ℕ) → AreBytes bytes → length bytes < 2 ^ 64 → IsSpelledAnswer (bytes_answer is_taken kept name image bytes)
   bytes_told is_taken kept bytes are small =
-      cond_both is_taken _ _ IsSpelledAnswer (λ _ _. ((called, tt), tt))
-      (λ _. cond_both (nat_lt IMAGE_MOST (length bytes)) _ _ IsSpelledAnswer (λ _ _. ((named, (small, tt)), tt))
-      (λ _. cond_both (nat_le DUMPS_MOST kept) _ _ IsSpelledAnswer (λ _ _. ((named, tt), tt)) (λ _. (are, small))))
+      cond_both is_taken _ _ IsSpelledAnswer (λ _. ((called, tt), tt))
+      (λ _. cond_both (nat_lt IMAGE_MOST (length bytes)) _ _ IsSpelledAnswer (λ _. ((named, (small, tt)), tt))
+      (λ _. cond_both (nat_le DUMPS_MOST kept) _ _ IsSpelledAnswer (λ _. ((named, tt), tt)) (λ _. (are, small))))
 
   load_told : (is_taken : Bool) (kept : ℕ) (core : CoreState) (found : Option LoadState) → IsFieldCore core → SoundRegions core.regions → IsSpelledAnswer (load_answer is_taken kept name image core found)
-  load_told is_taken kept core None is sound = λ _. ((named, tt), tt)
+  load_told is_taken kept core None is sound = ((named, tt), tt)
   load_told is_taken kept core (Some load) is sound =
       bytes_told is_taken kept (dump_of load.entry (core_parts core)) (dump_are core load.entry is.loaded) (dump_small core load.entry sound is.placed)
 
   core_told : (is_taken : Bool) (kept : ℕ) (found : Option NamedCoreState) → IfSome found IsFieldNamedCore → IsSpelledAnswer (core_answer is_taken kept name image found)
-  core_told is_taken kept None is = λ _. ((named, tt), tt)
+  core_told is_taken kept None is = ((named, tt), tt)
   core_told is_taken kept (Some on) is = load_told is_taken kept on.core (crashed_load on.core.life.state on.core.loaded) is.core is.rungs.load.regions
 
   dumped : (run : RunState) (answered : Result (List ℕ) Event) → IsSpelledAnswer answered → AreFieldObjects run.objects → RunSpelled (dumped_effect run image answered)
@@ -249,7 +250,7 @@ module _ (name image : List ℕ) (named : IsName name) (called : IsName image) w
       cores = are.cores;
       images = All-push (λ (image : ImageState). AreBytes image.bytes) run.objects.images _ are.images is.0;
     };
-    events = one (event.Image image (length bytes)) (λ _. ((called, (is.1, tt)), tt));
+    events = one (event.Image image (length bytes)) (((called, (is.1, tt)), tt));
   }
   dumped run (Err first) is are = told run first are is
 
@@ -307,9 +308,9 @@ run_spelled told run (first ∷ more) tells know runs are reached =
     told_spelled run first (told_answer (told 0) (asked_name run.objects first)) (λ next. run_from (later_told told) next more) (answer_are (told 0) (asked_name run.objects first) (tells 0)) know.0 runs.0 are reached
     (λ next left came. run_spelled (later_told told) next more (λ number. tells (suc number)) know.1 runs.1 left came)
 
-pub lines_back : (told : Told) (commands : List Command) → TellsBytes told → IsScript commands → All IsReadBack (run_of told commands).events
+pub lines_back : (told : Told) (commands : List Command) → TellsBytes told → IsScript commands → All IsWritten (run_of told commands).events
 lines_back told commands tells script =
-    All-weaker IsSpelled IsReadBack read_back (run_of told commands).events
+    All-weaker IsSpelled IsWritten read_back (run_of told commands).events
     (run_spelled told new_run commands tells (are_known commands script) (are_runnable commands script)
     (record { links = All-nil IsFieldNamedLink; cores = All-nil IsFieldNamedCore; images = All-nil (λ (image : ImageState). AreBytes image.bytes) })
     (record { links = All-nil (λ (named : NamedLink). IsReachedBench named.bench); cores = All-nil (λ (named : NamedCoreState). IsReachedCore named.core) }))
