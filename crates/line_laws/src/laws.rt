@@ -1,0 +1,14 @@
+//! Laws of the lines that a run tells. Each is the contract of an empty function, and speaks of definitions alone.
+
+ghost use Rattle.std.specs.Prelude.{List, All};
+ghost use Rattle.script_lang.specs.declared.commands.Command.{Command};
+ghost use Rattle.script_lang.specs.Grammar.{IsScript};
+ghost use Rattle.journal.specs.Reading.{IsWritten};
+ghost use Rattle.script_run.specs.Stores.{Told};
+ghost use Rattle.script_run.specs.Runs.{run_of};
+ghost use Rattle.line_laws.specs.ReadLines.{TellsBytes};
+
+/// Each event of the run of a script, over a store whose images are bytes, is one that `read_line` reads back from its line.
+pub fn lines_read_back()
+    ensures { (told : Told) (commands : List Command) → TellsBytes told → IsScript commands → All IsWritten (run_of told commands).events }
+{}
