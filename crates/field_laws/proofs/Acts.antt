@@ -150,14 +150,14 @@ pump_fields bench sender receiver sends receives =
     let other = end_of bench.link.callers receiver in
     let both = side_at one other receiver receives in
     let fourth = first_fields (option_map (answer.Refused receiver) (calling_fault (is_in_call bench receiver))) (side_refusal one other receiver)
-        (refused receiver (calling_fault (is_in_call bench receiver)) receives (calling_fields (is_in_call bench receiver))) both in
+    (refused receiver (calling_fault (is_in_call bench receiver)) receives (calling_fields (is_in_call bench receiver))) both in
     let third = first_fields (option_map (answer.Refused sender) (calling_fault (is_in_call bench sender)))
-        (first_refusal (option_map (answer.Refused receiver) (calling_fault (is_in_call bench receiver))) (side_refusal one other receiver))
-        (refused sender (calling_fault (is_in_call bench sender)) sends (calling_fields (is_in_call bench sender))) fourth in
+    (first_refusal (option_map (answer.Refused receiver) (calling_fault (is_in_call bench receiver))) (side_refusal one other receiver))
+    (refused sender (calling_fault (is_in_call bench sender)) sends (calling_fields (is_in_call bench sender))) fourth in
     let second = first_fields (option_map (answer.Refused receiver) (used_fault other))
-        (first_refusal (option_map (answer.Refused sender) (calling_fault (is_in_call bench sender)))
-        (first_refusal (option_map (answer.Refused receiver) (calling_fault (is_in_call bench receiver))) (side_refusal one other receiver)))
-        (refused receiver (used_fault other) receives (used_fields other)) third in
+    (first_refusal (option_map (answer.Refused sender) (calling_fault (is_in_call bench sender)))
+    (first_refusal (option_map (answer.Refused receiver) (calling_fault (is_in_call bench receiver))) (side_refusal one other receiver)))
+    (refused receiver (used_fault other) receives (used_fields other)) third in
     first_fields (option_map (answer.Refused sender) (used_fault one))
     (first_refusal (option_map (answer.Refused receiver) (used_fault other))
     (first_refusal (option_map (answer.Refused sender) (calling_fault (is_in_call bench sender)))
@@ -309,8 +309,10 @@ module _ {W : Type 0} (sees : Seeing W) where
   step_told bench watcher steps caller more is small =
       unless_told bench watcher steps (option_map (answer.Refused caller) (step_fault bench caller)) _
       (refused caller (step_fault bench caller) small (advance_at (end_of bench.link.callers caller) (is_in_call bench caller)))
-      (λ may. (small,
-      (advance_fields bench more steps caller (in_call_at (end_of bench.link.callers caller) (is_in_call bench caller) (none_refused caller (step_fault bench caller) may)) is.reached is.fields).reach))
+      (λ may. (
+        small,
+        (advance_fields bench more steps caller (in_call_at (end_of bench.link.callers caller) (is_in_call bench caller) (none_refused caller (step_fault bench caller) may)) is.reached is.fields).reach,
+      ))
 
   -- ---- turns
 

@@ -228,8 +228,8 @@ unspent None None None inc false is none = is
 next_small : (link : LinkState EndState) → IsFieldLink link → unopened_by link ≡ None → link.era.inc + 1 < 2 ^ 32
 next_small link is clear =
     let spent = unspent (cond link.era.is_live (Some (reopen_fault.StillOpen link.era)) None) (option_map reopen_fault.StillTurn (option_or (turn_out link.to_host) (turn_out link.to_remote)))
-        (option_map (λ (h : Holding). reopen_fault.StillHeld h.caller h.number) (option_or (least_held link.to_host.lane.held) (least_held link.to_remote.lane.held)))
-        link.era.inc (eqb link.era.inc (2 ^ 32 - 1)) refl clear in
+    (option_map (λ (h : Holding). reopen_fault.StillHeld h.caller h.number) (option_or (least_held link.to_host.lane.held) (least_held link.to_remote.lane.held)))
+    link.era.inc (eqb link.era.inc (2 ^ 32 - 1)) refl clear in
     let other = eqb-false link.era.inc (2 ^ 32 - 1) spent in
     let small = is.inc in
     omega (arith, small, other)

@@ -247,11 +247,11 @@ lane_turn state callers sends receives len sender receiver =
 pub unopened_fields : (link : LinkState EndState) → SoundLink link → IsFieldLink link → IfSome (unopened_by link) IsFieldReopen
 unopened_fields link sound is =
     let turns = or_has IsSmall (turn_out link.to_host) (turn_out link.to_remote) (lane_turn link.to_host link.callers side.Remote side.Host is.callers sound.to_host.sender sound.to_host.receiver)
-        (lane_turn link.to_remote link.callers side.Host side.Remote is.callers sound.to_remote.sender sound.to_remote.receiver) in
+    (lane_turn link.to_remote link.callers side.Host side.Remote is.callers sound.to_remote.sender sound.to_remote.receiver) in
     let host = least_from None link.to_host.lane.held tt
-        (holdings_fields link.callers side.Host (length link.to_host.lane.takers) link.to_host.lane.held is.callers (counts_small link.to_host sound.to_host.lane is.to_host).takers sound.to_host.users sound.to_host.lane.holdings) in
+    (holdings_fields link.callers side.Host (length link.to_host.lane.takers) link.to_host.lane.held is.callers (counts_small link.to_host sound.to_host.lane is.to_host).takers sound.to_host.users sound.to_host.lane.holdings) in
     let remote = least_from None link.to_remote.lane.held tt
-        (holdings_fields link.callers side.Remote (length link.to_remote.lane.takers) link.to_remote.lane.held is.callers (counts_small link.to_remote sound.to_remote.lane is.to_remote).takers sound.to_remote.users sound.to_remote.lane.holdings) in
+    (holdings_fields link.callers side.Remote (length link.to_remote.lane.takers) link.to_remote.lane.held is.callers (counts_small link.to_remote sound.to_remote.lane is.to_remote).takers sound.to_remote.users sound.to_remote.lane.holdings) in
     let held = or_has IsFieldHolding (least_held link.to_host.lane.held) (least_held link.to_remote.lane.held) host remote in
     or_has IsFieldReopen (cond link.era.is_live (Some (reopen.StillOpen link.era)) None) _
     (cond_both link.era.is_live (Some (reopen.StillOpen link.era)) None (λ (found : Option ReopenFault). IfSome found IsFieldReopen) (λ _. is.inc) (λ _. tt))

@@ -86,7 +86,7 @@ memory_few regions load sound is =
     let regions_few = sound.few in
     let blocks_few = is.few in
     let region_short = All-filter (λ (region : Region). not (is_pool region)) (λ (region : Region). region.len ≤ 2 ^ 32) regions
-        (λ at other within. let device = (sound.ranges at other within).device in omega (arith, device)) in
+    (λ at other within. let device = (sound.ranges at other within).device in omega (arith, device)) in
     let block_short = All-filter (λ (block : Block). not (is_window block)) (λ (block : Block). block.len ≤ 2 ^ 32) load.placed is.ranges in
     record {
       few = omega (arith, both, first, second, fixed_count, fixed_few, block_count, block_few, regions_few, blocks_few);

@@ -122,23 +122,23 @@ step_at : (link : LinkState EndState) (found : Option End) (caller follows : ℕ
     → IsFieldLinkStep (on_lanes link found (λ lanes. lanes_step (list_form side_meaning) side_meaning link.era lanes caller follows wished))
 step_at link (Some side.Host) caller follows wished sound is wishes =
     let left = lanes_fields link.era is.inc (lanes_of link side.Host)
-        (record {
-          outgoing = sound.to_remote.lane;
-          incoming = sound.to_host.lane;
-          sender = holder_small link.callers side.Host link.to_remote.sender is.callers sound.to_remote.sender;
-          receiver = holder_small link.callers side.Host link.to_host.receiver is.callers sound.to_host.receiver;
-        })
-        (record { outgoing = is.to_remote; incoming = is.to_host }) caller follows wished wishes in
+    (record {
+      outgoing = sound.to_remote.lane;
+      incoming = sound.to_host.lane;
+      sender = holder_small link.callers side.Host link.to_remote.sender is.callers sound.to_remote.sender;
+      receiver = holder_small link.callers side.Host link.to_host.receiver is.callers sound.to_host.receiver;
+    })
+    (record { outgoing = is.to_remote; incoming = is.to_host }) caller follows wished wishes in
     record { state = record { inc = is.inc; to_host = left.lanes.incoming; to_remote = left.lanes.outgoing; callers = is.callers }; outcome = left.outcome }
 step_at link (Some side.Remote) caller follows wished sound is wishes =
     let left = lanes_fields link.era is.inc (lanes_of link side.Remote)
-        (record {
-          outgoing = sound.to_host.lane;
-          incoming = sound.to_remote.lane;
-          sender = holder_small link.callers side.Remote link.to_host.sender is.callers sound.to_host.sender;
-          receiver = holder_small link.callers side.Remote link.to_remote.receiver is.callers sound.to_remote.receiver;
-        })
-        (record { outgoing = is.to_host; incoming = is.to_remote }) caller follows wished wishes in
+    (record {
+      outgoing = sound.to_host.lane;
+      incoming = sound.to_remote.lane;
+      sender = holder_small link.callers side.Remote link.to_host.sender is.callers sound.to_host.sender;
+      receiver = holder_small link.callers side.Remote link.to_remote.receiver is.callers sound.to_remote.receiver;
+    })
+    (record { outgoing = is.to_host; incoming = is.to_remote }) caller follows wished wishes in
     record { state = record { inc = is.inc; to_host = left.lanes.outgoing; to_remote = left.lanes.incoming; callers = is.callers }; outcome = left.outcome }
 step_at link None caller follows wished sound is wishes = record { state = is; outcome = omega arith }
 

@@ -70,22 +70,22 @@ use Rattle.journal.specs.declared.events.Event.{Event}
 use Rattle.journal.specs.declared.events.Event.TheVariants as event
 use Rattle.journal.specs.declared.tables.TableLine.{TableLine}
 use Rattle.journal.specs.declared.tables.TableLine.TheVariants as entry
-use Rattle.script_run.specs.declared.acts.CoreAct.{CoreAct}
-use Rattle.script_run.specs.declared.acts.CoreAct.TheVariants as act
-use Rattle.script_run.specs.declared.acts.LinkView.{LinkView}
-use Rattle.script_run.specs.declared.acts.LinkView.TheVariants as view
-use Rattle.script_run.specs.declared.acts.NamedAct.{NamedAct}
-use Rattle.script_run.specs.declared.acts.NamedAct.TheVariants as under
-use Rattle.script_run.specs.CallEvents.{end_event}
-use Rattle.script_run.specs.CoreCommands.{core_act_effect, core_effect}
-use Rattle.script_run.specs.CoreDrives.{actor_end_events, crash_events, drive_effect, drive_steps, driven_events, is_crashed, rest_event, rests_or, step_events, step_then}
-use Rattle.script_run.specs.CoreEffects.{CoreEffect, add_fault_event, added_effect, core_tells, declared_effect, driver_effect, driver_fault_event, region_effect, recovery_effect, state_effect}
-use Rattle.script_run.specs.CoreLinks.{core_link_effect, core_ring_effect, core_shown_effect, core_turn_holder, core_view_effect, found_ring_effect, found_view_effect}
-use Rattle.script_run.specs.CoreLives.{boot_effect, booted_image, core_fault_events, core_stops, crash_effect, detach_effect, fault_at, found_image, handover_effect, leave_events, life_fault_event, load_fault_event, may_step, recover_effect, report_events, shutdown_effect, start_event, start_events, found_or_told, image_bytes}
-use Rattle.script_run.specs.CoreViews.{loaded_table_effect, mem_effect, shown_memory_event, shown_trace_event, table_effect, table_event, trace_bytes, trace_effect}
-use Rattle.script_run.specs.NamedCores.{NamedCoreState}
-use Rattle.script_run.specs.NamedImages.{ImageState}
-use Rattle.script_run.specs.Stores.{Answer}
+use Rattle.command_run.specs.declared.acts.CoreAct.{CoreAct}
+use Rattle.command_run.specs.declared.acts.CoreAct.TheVariants as act
+use Rattle.command_run.specs.declared.acts.LinkView.{LinkView}
+use Rattle.command_run.specs.declared.acts.LinkView.TheVariants as view
+use Rattle.command_run.specs.declared.acts.NamedAct.{NamedAct}
+use Rattle.command_run.specs.declared.acts.NamedAct.TheVariants as under
+use Rattle.command_run.specs.CallEvents.{end_event}
+use Rattle.command_run.specs.CoreCommands.{core_act_effect, core_effect}
+use Rattle.command_run.specs.CoreDrives.{actor_end_events, crash_events, drive_effect, drive_steps, driven_events, is_crashed, rest_event, rests_or, step_events, step_then}
+use Rattle.command_run.specs.CoreEffects.{CoreEffect, add_fault_event, added_effect, core_tells, declared_effect, driver_effect, driver_fault_event, region_effect, recovery_effect, state_effect}
+use Rattle.command_run.specs.CoreLinks.{core_link_effect, core_ring_effect, core_shown_effect, core_turn_holder, core_view_effect, found_ring_effect, found_view_effect}
+use Rattle.command_run.specs.CoreLives.{boot_effect, booted_image, core_fault_events, core_stops, crash_effect, detach_effect, fault_at, found_image, handover_effect, leave_events, life_fault_event, load_fault_event, may_step, recover_effect, report_events, shutdown_effect, start_event, start_events, found_or_told, image_bytes}
+use Rattle.command_run.specs.CoreViews.{loaded_table_effect, mem_effect, shown_memory_event, shown_trace_event, table_effect, table_event, trace_bytes, trace_effect}
+use Rattle.command_run.specs.NamedCores.{NamedCoreState}
+use Rattle.command_run.specs.NamedImages.{ImageState}
+use Rattle.command_run.specs.Stores.{Answer}
 use Rattle.way_laws.proofs.CoreRungs.{IsRung, IsRungCore}
 use Rattle.std.specs.Result.{IfOk}
 use Rattle.rp_base.specs.declared.kinds.Switch.{Switch}

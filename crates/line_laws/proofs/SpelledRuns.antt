@@ -28,21 +28,21 @@ use Rattle.core_laws.specs.BenchMoves.{IsReachedBench, IsReachedCore}
 use Rattle.journal.specs.Reading.{IsWritten}
 use Rattle.journal.specs.declared.events.Event.{Event}
 use Rattle.journal.specs.declared.events.Event.TheVariants as event
-use Rattle.script_run.specs.declared.acts.Line.{Line}
-use Rattle.script_run.specs.declared.acts.Line.TheVariants as line
-use Rattle.script_run.specs.declared.acts.Making.{Making}
-use Rattle.script_run.specs.declared.acts.Making.TheVariants as making
-use Rattle.script_run.specs.declared.acts.NamedAct.{NamedAct}
-use Rattle.script_run.specs.declared.acts.NamedAct.TheVariants as under
-use Rattle.script_run.specs.declared.dumps.TheConstants.{DUMPS_MOST}
-use Rattle.script_run.specs.declared.statuses.Stop.{Stop}
-use Rattle.script_run.specs.Acts.{line_of}
-use Rattle.script_run.specs.Dumps.{bytes_answer, core_answer, crashed_load, kept_dumps, load_answer}
-use Rattle.script_run.specs.NamedCores.{NamedCoreState}
-use Rattle.script_run.specs.NamedImages.{ImageState}
-use Rattle.script_run.specs.NamedLinks.{NamedLink}
-use Rattle.script_run.specs.Runs.{ObjectsState, Run, RunEffect, RunState, asked_name, core_located_effect, core_made_effect, core_named, core_place, dump_answer, dump_effect, dumped_effect, effect_of, find_core, found_core_effect, found_effect, has_image, image_effect, is_full, line_effect, located_effect, made_effect, making_effect, name_effect, new_end, new_run, place_of, quiet_effect, regions_of, run_from, run_of, run_on, run_tells, run_told, unnamed_effect, with_image, without_link_effect}
-use Rattle.script_run.specs.Stores.{Answer, Shelf, Told, answer_for, later_told, told_answer}
+use Rattle.command_run.specs.declared.acts.Line.{Line}
+use Rattle.command_run.specs.declared.acts.Line.TheVariants as line
+use Rattle.command_run.specs.declared.acts.Making.{Making}
+use Rattle.command_run.specs.declared.acts.Making.TheVariants as making
+use Rattle.command_run.specs.declared.acts.NamedAct.{NamedAct}
+use Rattle.command_run.specs.declared.acts.NamedAct.TheVariants as under
+use Rattle.command_run.specs.declared.dumps.TheConstants.{DUMPS_MOST}
+use Rattle.command_run.specs.declared.stops.Stop.{Stop}
+use Rattle.command_run.specs.Acts.{line_of}
+use Rattle.command_run.specs.Dumps.{bytes_answer, core_answer, crashed_load, kept_dumps, load_answer}
+use Rattle.command_run.specs.NamedCores.{NamedCoreState}
+use Rattle.command_run.specs.NamedImages.{ImageState}
+use Rattle.command_run.specs.NamedLinks.{NamedLink}
+use Rattle.command_run.specs.Runs.{ObjectsState, Run, RunEffect, RunState, asked_name, core_located_effect, core_made_effect, core_named, core_place, dump_answer, dump_effect, dumped_effect, effect_of, find_core, found_core_effect, found_effect, has_image, image_effect, is_full, line_effect, located_effect, made_effect, making_effect, name_effect, new_end, new_run, place_of, quiet_effect, regions_of, run_from, run_of, run_on, run_tells, run_told, unnamed_effect, with_image, without_link_effect}
+use Rattle.command_run.specs.Stores.{Answer, Shelf, Told, answer_for, later_told, told_answer}
 use Rattle.run_laws.specs.Reached.{AreReached}
 use Rattle.run_laws.proofs.CoreWalks.{FitsNamed}
 use Rattle.run_laws.proofs.RunWalks.{item_at}
@@ -186,11 +186,15 @@ module _ (answer : Answer) (told_are : IfOk answer AreBytes) (run : RunState) (n
       let came = item_at (λ (at : NamedLink). IsReachedBench at.bench) run.objects.links place on found reached.links in
       let left = link_spelled on run.steps wanted is.name knows is.tale.tale.sound (record { reached = came; fields = is.bench }) in
       record {
-        left = record { links = All-set IsFieldNamedLink run.objects.links place _ (record {
-          name = is.name;
-          bench = left.bench;
-          tale = record { account = _; tale = link_tale side.Host on run.steps wanted is.tale.account (fits_named wanted knows) came is.tale.tale };
-        }) are.links; cores = are.cores; images = are.images };
+        left = record {
+          links = All-set IsFieldNamedLink run.objects.links place _ (record {
+            name = is.name;
+            bench = left.bench;
+            tale = record { account = _; tale = link_tale side.Host on run.steps wanted is.tale.account (fits_named wanted knows) came is.tale.tale };
+          }) are.links;
+          cores = are.cores;
+          images = are.images;
+        };
         events = left.events;
       }
 

@@ -4,8 +4,8 @@ ghost use Rattle.std.specs.Prelude.{List, All};
 ghost use Rattle.script_lang.specs.declared.commands.Command.{Command};
 ghost use Rattle.script_lang.specs.Grammar.{IsScript};
 ghost use Rattle.journal.specs.Reading.{IsWritten};
-ghost use Rattle.script_run.specs.Stores.{Told};
-ghost use Rattle.script_run.specs.Runs.{run_of};
+ghost use Rattle.command_run.specs.Stores.{Told};
+ghost use Rattle.command_run.specs.Runs.{run_of};
 ghost use Rattle.line_laws.specs.ReadLines.{TellsBytes};
 
 /// Each event of the run of a script, over a store whose images are bytes, is one that `read_line` reads back from its line.
