@@ -1,4 +1,4 @@
--- When the line of an event is read back as that event, and what is left to a reader of it (own).
+-- What a store tells of images (own).
 use Rattle.std.specs.Prelude.{ℕ, ◌<◌, ◌≤◌, ◌^◌, List, length, Option, IfSome}
 use Rattle.std.specs.Result.{IfOk}
 use Rattle.journal.specs.declared.events.Event.{Event}
