@@ -1,8 +1,8 @@
 -- The dump of a core is not large.
-use Rattle.std.proofs.Common.{◌≡◌, ℕ, suc, ◌+◌, ◌-◌, ◌*◌, ◌<◌, ◌≤◌, ◌^◌, List, [], ◌∷◌, ◌++◌, length, map, drop, not, Option, Some, None, IfSome, slice_range, arith}
-use Rattle.std.specs.Prelude.{All, filter, option_map, sum_by}
+use Rattle.std.specs.Prelude.{All, filter, option_map}
 use Rattle.std.specs.List.{cons_option, filter_map}
 use Rattle.std.specs.Option.{option_and_then}
+use Rattle.std.proofs.Common.{ℕ, suc, ◌+◌, ◌-◌, ◌*◌, ◌<◌, ◌≤◌, ◌^◌, List, [], ◌∷◌, length, map, drop, not, Option, Some, None, IfSome, slice_range, arith}
 use Rattle.std.proofs.lemmas.List.{length-append, length-map, length-take}
 use Rattle.std.proofs.lemmas.List.Elements.{All-append, All-filter, All-head, All-map, All-nil, All-tail}
 use Rattle.std.proofs.lemmas.List.Sums.{count_by-le-length, length-filter, sum_by-cons}
@@ -86,7 +86,7 @@ memory_few regions load sound is =
     let regions_few = sound.few in
     let blocks_few = is.few in
     let region_short = All-filter (λ (region : Region). not (is_pool region)) (λ (region : Region). region.len ≤ 2 ^ 32) regions
-        (λ at other within. let device = (sound.ranges at other within).device in omega (arith, device)) in
+    (λ at other within. let device = (sound.ranges at other within).device in omega (arith, device)) in
     let block_short = All-filter (λ (block : Block). not (is_window block)) (λ (block : Block). block.len ≤ 2 ^ 32) load.placed is.ranges in
     record {
       few = omega (arith, both, first, second, fixed_count, fixed_few, block_count, block_few, regions_few, blocks_few);

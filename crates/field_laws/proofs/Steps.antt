@@ -1,6 +1,6 @@
 -- A step of a caller keeps the numbers and bytes of its link within their types, and so does what it tells.
-use Rattle.std.proofs.Common.{◌≡◌, ℕ, ◌+◌, ◌<◌, ◌≤◌, ◌^◌, Bool, true, false, cond, List, length, Option, Some, None, IfSome, slice_get, refl, arith}
 use Rattle.std.specs.Option.{option_and_then}
+use Rattle.std.proofs.Common.{◌≡◌, ℕ, ◌<◌, ◌≤◌, ◌^◌, List, length, Option, Some, None, IfSome, slice_get, refl, arith}
 use Rattle.std.proofs.lemmas.Bool.{cond_both}
 use Rattle.std.proofs.lemmas.Option.{slice_get_within}
 use Rattle.rp_base.specs.declared.kinds.End.{End}
@@ -8,9 +8,7 @@ use Rattle.rp_base.specs.declared.kinds.End.TheVariants as side
 use Rattle.rp_base.specs.declared.kinds.Era.{Era}
 use Rattle.lane_model.specs.declared.states.LaneState.{LaneState}
 use Rattle.lane_model.specs.declared.stages.GiveStage.TheVariants as give_stage
-use Rattle.lane_model.specs.declared.stages.Receiving.{Receiving}
 use Rattle.lane_model.specs.declared.stages.SendStage.TheVariants as stage
-use Rattle.lane_model.specs.declared.stages.Sending.{Sending}
 use Rattle.lane_model.specs.declared.stages.TakeStage.TheVariants as take_stage
 use Rattle.lane_model.specs.declared.stages.Turn.{Turn}
 use Rattle.lane_model.specs.declared.stages.Turn.TheVariants as turn
@@ -23,8 +21,8 @@ use Rattle.lane_model.specs.Lanes.{Stepped, has_call, holder}
 use Rattle.lane_model.specs.Links.{Lanes, LinkState, begun_outcome, caller_step, end_of, lanes_of, lanes_step, on_lanes, receive_first, receive_later, send_later}
 use Rattle.lane_model.specs.Soundness.{IsSoundLane, IsSoundTurn, IsUser, SoundLink}
 use Rattle.channel_bus.specs.Sides.{EndState, side_meaning}
-use Rattle.field_laws.specs.Fields.{IsFieldLane, IsFieldLink, IsFieldOutcome, IsFieldReceiving, IsFieldSending, IsFieldTurn, IsFieldWish, IsFieldWork}
-use Rattle.field_laws.proofs.Lanes.{IsFieldStep, receiver_fields, sender_fields, taken_fields}
+use Rattle.field_laws.specs.Fields.{IsFieldLane, IsFieldLink, IsFieldOutcome, IsFieldReceiving, IsFieldSending, IsFieldWish, IsFieldWork}
+use Rattle.field_laws.proofs.Lanes.{receiver_fields, sender_fields, taken_fields}
 
 -- ---- who has a turn
 
@@ -122,23 +120,23 @@ step_at : (link : LinkState EndState) (found : Option End) (caller follows : ℕ
     → IsFieldLinkStep (on_lanes link found (λ lanes. lanes_step (list_form side_meaning) side_meaning link.era lanes caller follows wished))
 step_at link (Some side.Host) caller follows wished sound is wishes =
     let left = lanes_fields link.era is.inc (lanes_of link side.Host)
-        (record {
-          outgoing = sound.to_remote.lane;
-          incoming = sound.to_host.lane;
-          sender = holder_small link.callers side.Host link.to_remote.sender is.callers sound.to_remote.sender;
-          receiver = holder_small link.callers side.Host link.to_host.receiver is.callers sound.to_host.receiver;
-        })
-        (record { outgoing = is.to_remote; incoming = is.to_host }) caller follows wished wishes in
+    (record {
+      outgoing = sound.to_remote.lane;
+      incoming = sound.to_host.lane;
+      sender = holder_small link.callers side.Host link.to_remote.sender is.callers sound.to_remote.sender;
+      receiver = holder_small link.callers side.Host link.to_host.receiver is.callers sound.to_host.receiver;
+    })
+    (record { outgoing = is.to_remote; incoming = is.to_host }) caller follows wished wishes in
     record { state = record { inc = is.inc; to_host = left.lanes.incoming; to_remote = left.lanes.outgoing; callers = is.callers }; outcome = left.outcome }
 step_at link (Some side.Remote) caller follows wished sound is wishes =
     let left = lanes_fields link.era is.inc (lanes_of link side.Remote)
-        (record {
-          outgoing = sound.to_host.lane;
-          incoming = sound.to_remote.lane;
-          sender = holder_small link.callers side.Remote link.to_host.sender is.callers sound.to_host.sender;
-          receiver = holder_small link.callers side.Remote link.to_remote.receiver is.callers sound.to_remote.receiver;
-        })
-        (record { outgoing = is.to_host; incoming = is.to_remote }) caller follows wished wishes in
+    (record {
+      outgoing = sound.to_host.lane;
+      incoming = sound.to_remote.lane;
+      sender = holder_small link.callers side.Remote link.to_host.sender is.callers sound.to_host.sender;
+      receiver = holder_small link.callers side.Remote link.to_remote.receiver is.callers sound.to_remote.receiver;
+    })
+    (record { outgoing = is.to_host; incoming = is.to_remote }) caller follows wished wishes in
     record { state = record { inc = is.inc; to_host = left.lanes.outgoing; to_remote = left.lanes.incoming; callers = is.callers }; outcome = left.outcome }
 step_at link None caller follows wished sound is wishes = record { state = is; outcome = omega arith }
 

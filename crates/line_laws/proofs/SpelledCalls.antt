@@ -1,7 +1,7 @@
 -- What is told of a link is spelled as lines have it.
-use Rattle.std.proofs.Common.{◌≡◌, ℕ, zero, suc, ◌+◌, ◌-◌, ◌*◌, ◌/◌, ◌<◌, ◌≤◌, ◌^◌, ◌==◌, List, [], ◌∷◌, ◌++◌, length, take, drop, Option, Some, None, IfSome, refl, arith}
 use Rattle.std.specs.Prelude.{All}
 use Rattle.std.specs.List.{list_all, slice_index_or}
+use Rattle.std.proofs.Common.{◌≡◌, ℕ, zero, suc, ◌+◌, ◌*◌, ◌<◌, ◌≤◌, ◌^◌, ◌==◌, List, [], ◌∷◌, length, take, drop, Option, Some, None, IfSome, refl, arith}
 use Rattle.std.proofs.lemmas.Bool.{cond_both}
 use Rattle.std.proofs.lemmas.List.{length-drop, length-take}
 use Rattle.std.proofs.lemmas.List.Elements.{All-append, All-cons, All-map}
@@ -25,8 +25,10 @@ use Rattle.lane_model.specs.Lanes.{holder, is_live_in}
 use Rattle.lane_model.specs.Links.{LinkState, end_of}
 use Rattle.lane_model.specs.Recoveries.{unclosed_by, unopened_by}
 use Rattle.lane_model.specs.Soundness.{IsSoundLane, SoundLink}
+use Rattle.lane_laws.specs.SoundRingLinks.{HasSoundRings}
 use Rattle.name_service.specs.declared.channels.Channel.{Channel}
 use Rattle.channel_bus.specs.Sides.{EndState}
+use Rattle.journal.specs.declared.events.Event.TheVariants as event
 use Rattle.link_bench.specs.declared.acts.ActAnswer.{ActAnswer}
 use Rattle.link_bench.specs.declared.acts.ActAnswer.TheVariants as answer
 use Rattle.link_bench.specs.declared.bench_crashes.Reclaim.{Reclaim}
@@ -37,15 +39,13 @@ use Rattle.link_bench.specs.declared.benches.Reach.{Reach}
 use Rattle.link_bench.specs.declared.benches.Reach.TheVariants as reach
 use Rattle.link_bench.specs.declared.turns.TurnEnd.{TurnEnd}
 use Rattle.link_bench.specs.declared.turns.TurnEnd.TheVariants as turn_end
-use Rattle.link_bench.specs.Acts.{IsFitAct, link_act}
+use Rattle.link_bench.specs.Acts.{link_act}
 use Rattle.link_bench.specs.Benches.{BenchState, taken_on}
 use Rattle.link_bench.specs.BenchCrashes.{after_close}
 use Rattle.link_bench.specs.BenchRings.{first_holder, lane_base, lane_bytes, lane_words, turn_holder}
 use Rattle.link_bench.specs.Watchers.{nobody_sees}
-use Rattle.lane_laws.specs.SoundRingLinks.{HasSoundRings}
 use Rattle.core_laws.specs.BenchMoves.{IsShortLink}
 use Rattle.core_laws.proofs.KeptCrashes.{reached_sound}
-use Rattle.journal.specs.declared.events.Event.TheVariants as event
 use Rattle.script_run.specs.declared.acts.LinkView.{LinkView}
 use Rattle.script_run.specs.declared.acts.LinkView.TheVariants as view
 use Rattle.script_run.specs.declared.acts.ManagerAct.{ManagerAct}
