@@ -1,8 +1,8 @@
 -- What comes of an act on a link has its numbers and bytes within their types, and so has the link that it leaves.
+use Rattle.std.proofs.Common.{◌≡◌, ℕ, zero, suc, ◌+◌, ◌<◌, ◌≤◌, ◌^◌, ◌&&◌, ◌||◌, eqb, Bool, true, false, cond, ltb, nat_le, nat_lt, List, [], ◌∷◌, length, Option, Some, None, IfSome, is_some, option_map, Result, Ok, Err, refl, sym, ap, ◌∙◌, arith}
 use Rattle.std.specs.List.{position_or_len}
 use Rattle.std.specs.Prelude.{is_none}
 use Rattle.std.specs.Option.{option_and_then, option_or}
-use Rattle.std.proofs.Common.{◌≡◌, ℕ, zero, suc, ◌+◌, ◌<◌, ◌≤◌, ◌^◌, ◌&&◌, ◌||◌, eqb, Bool, true, false, cond, ltb, nat_le, nat_lt, List, [], ◌∷◌, length, Option, Some, None, IfSome, is_some, option_map, Result, Ok, Err, refl, sym, ap, ◌∙◌, arith}
 use Rattle.std.proofs.lemmas.Option.{same_Some}
 use Rattle.std.proofs.lemmas.Bool.{cond_both, eqb-true, ltb-true, true≢false}
 use Rattle.rp_base.specs.declared.kinds.End.{End}

@@ -1,7 +1,7 @@
 -- What calls and the manager leave of a bench has its numbers and bytes within their types, and so has what calls reach.
+use Rattle.std.proofs.Common.{◌≡◌, ℕ, zero, suc, ◌+◌, ◌-◌, ◌<◌, ◌^◌, eqb, Bool, true, false, cond, List, length, Option, Some, None, IfSome, is_some, slice_get, slice_set, refl, ap, subst, arith}
 use Rattle.std.specs.Prelude.{All}
 use Rattle.std.specs.Option.{option_map, option_or}
-use Rattle.std.proofs.Common.{◌≡◌, ℕ, zero, suc, ◌+◌, ◌-◌, ◌<◌, ◌^◌, eqb, Bool, true, false, cond, List, length, Option, Some, None, IfSome, is_some, slice_get, slice_set, refl, ap, subst, arith}
 use Rattle.std.proofs.lemmas.Bool.{cond_both, eqb-false, true≢false}
 use Rattle.std.proofs.lemmas.List.{length-set}
 use Rattle.std.proofs.lemmas.List.Elements.{All-replicate, All-set}

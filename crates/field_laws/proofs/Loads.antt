@@ -1,8 +1,8 @@
 -- What is loaded of an image that is bytes is bytes.
+use Rattle.std.proofs.Common.{ℕ, ◌+◌, ◌-◌, List, [], ◌∷◌, ◌++◌, length, take, drop, replicate, Option, Some, None, Ok, Err, unwrap_or}
 use Rattle.std.specs.Prelude.{All, IfSome, option_map}
 use Rattle.std.specs.List.{slice_index_or}
 use Rattle.std.specs.Result.{IfOk, result_ok}
-use Rattle.std.proofs.Common.{ℕ, ◌+◌, ◌-◌, List, [], ◌∷◌, ◌++◌, length, take, drop, replicate, Option, Some, None, Ok, Err, unwrap_or}
 use Rattle.std.proofs.lemmas.List.Elements.{All-head, All-map, All-nil, All-tail}
 use Rattle.elf_image.specs.declared.sections.Section.{Section}
 use Rattle.elf_image.specs.Layout.{layout_of}

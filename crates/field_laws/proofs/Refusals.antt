@@ -1,9 +1,9 @@
 -- What an image is refused for that is bytes is numbered within 64 bits: a program header, or an entry of its table.
+use Rattle.std.proofs.Common.{◌≡◌, ℕ, zero, suc, ◌+◌, ◌-◌, ◌*◌, ◌<◌, ◌≤◌, ◌^◌, ◌==◌, ◌&&◌, ◌||◌, not, Bool, List, [], ◌∷◌, ◌++◌, length, take, map, Option, Some, None, IfSome, Result, Ok, Err, refl, arith}
 use Rattle.std.specs.Prelude.{All, bytes_eq, filter, is_none, nat_lt, option_map, slice_index}
 use Rattle.std.specs.List.{list_any, range_with_len, slice_index_or}
 use Rattle.std.specs.Option.{option_or}
 use Rattle.std.specs.Result.{IfErr}
-use Rattle.std.proofs.Common.{◌≡◌, ℕ, zero, suc, ◌+◌, ◌-◌, ◌*◌, ◌<◌, ◌≤◌, ◌^◌, ◌==◌, ◌&&◌, ◌||◌, not, Bool, List, [], ◌∷◌, ◌++◌, length, take, map, Option, Some, None, IfSome, Result, Ok, Err, refl, arith}
 use Rattle.std.proofs.lemmas.Bool.{cond_both}
 use Rattle.std.proofs.lemmas.List.Elements.{All-append, All-cons, All-filter, All-head, All-map, All-nil, All-tail}
 use Rattle.rp_base.specs.Faults.{fault_if, first_fault}

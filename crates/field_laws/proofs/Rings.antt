@@ -1,6 +1,6 @@
 -- The bytes of a ring are bytes.
-use Rattle.std.specs.List.{flat_map, range_with_len, slice_index_or}
 use Rattle.std.proofs.Common.{ℕ, ◌+◌, ◌*◌, ◌-◌, Bool, cond, ◌++◌, replicate}
+use Rattle.std.specs.List.{flat_map, range_with_len, slice_index_or}
 use Rattle.byteorder.specs.Endian.{little_bytes}
 use Rattle.vring_layout.specs.declared.words.RingWords.{RingWords}
 use Rattle.vring_layout.specs.declared.words.UsedWord.{UsedWord}

@@ -1,10 +1,10 @@
 -- What stands behind a receiver's turn keeps its numbers and bytes within their types.
+use Rattle.std.proofs.Common.{◌≡◌, ℕ, zero, suc, ◌+◌, ◌-◌, ◌<◌, ◌≤◌, ◌^◌, ◌==◌, ◌&&◌, ◌||◌, not, Bool, true, false, cond, List, [], ◌∷◌, length, take, filter, Option, Some, None, IfSome, Result, Ok, Err, unwrap_or, arith}
 use Rattle.std.specs.Prelude.{All, find, insert, nat_le, ok_or}
 use Rattle.std.specs.Bool.{then_some}
 use Rattle.std.specs.List.{range_with_len}
 use Rattle.std.specs.Option.{option_and_then, option_map}
 use Rattle.std.specs.Result.{result_ok}
-use Rattle.std.proofs.Common.{◌≡◌, ℕ, zero, suc, ◌+◌, ◌-◌, ◌<◌, ◌≤◌, ◌^◌, ◌==◌, ◌&&◌, ◌||◌, not, Bool, true, false, cond, List, [], ◌∷◌, length, take, filter, Option, Some, None, IfSome, Result, Ok, Err, unwrap_or, arith}
 use Rattle.std.proofs.lemmas.Bool.{cond_both, leb-false, or_parts}
 use Rattle.std.proofs.lemmas.List.Elements.{All-cons, All-filter, All-head, All-nil, All-push, All-tail}
 use Rattle.std.proofs.lemmas.List.Sorted.{All-permutation, IsPermutation-insert, length_permutation}

@@ -1,6 +1,6 @@
 -- Events whose words are good, each word by itself.
-use Rattle.std.specs.Prelude.{All}
 use Rattle.std.proofs.Common.{◌≡◌, ℕ, true, List, [], ◌∷◌, map, sym, ap, ◌∙◌}
+use Rattle.std.specs.Prelude.{All}
 use Rattle.std.proofs.lemmas.List.Elements.{All-nil, All-cons}
 use Rattle.word_kinds.specs.Spellings.{is_name}
 use Rattle.word_kinds.specs.Texts.{Word, Fixed, Name}

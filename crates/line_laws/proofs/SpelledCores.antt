@@ -1,9 +1,9 @@
 -- What is told of a core is spelled as lines have it.
+use Rattle.std.proofs.Common.{sym, subst, ◌≡◌, ℕ, zero, suc, ◌+◌, ◌<◌, ◌≤◌, ◌^◌, ◌==◌, Bool, true, false, cond, List, [], ◌∷◌, ◌++◌, length, Option, Some, None, IfSome, Result, Ok, Err, unwrap_or, arith, ap, is_some, leb, refl, take}
 use Rattle.std.specs.Prelude.{All, bytes_eq, find, nat_le, nat_lt, option_map, slice_get}
 use Rattle.std.specs.List.{slice_index_or}
 use Rattle.std.specs.Option.{option_and_then, option_or}
 use Rattle.std.specs.Result.{IfOk}
-use Rattle.std.proofs.Common.{sym, subst, ◌≡◌, ℕ, zero, suc, ◌+◌, ◌<◌, ◌≤◌, ◌^◌, ◌==◌, Bool, true, false, cond, List, [], ◌∷◌, ◌++◌, length, Option, Some, None, IfSome, Result, Ok, Err, unwrap_or, arith, ap, is_some, leb, refl, take}
 use Rattle.std.proofs.lemmas.Bool.{cond_both, leb-false, true≢false}
 use Rattle.std.proofs.lemmas.List.Elements.{All-append, All-cons, All-map, All-nil, All-head, All-tail, All-take}
 use Rattle.rp_base.specs.declared.limits.TheConstants.{STEPS_MOST, IMAGE_MOST}

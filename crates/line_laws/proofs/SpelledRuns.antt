@@ -1,7 +1,7 @@
 -- The events of a run are spelled as lines have them, and so each is read back.
+use Rattle.std.proofs.Common.{◌≡◌, ℕ, suc, ◌<◌, ◌^◌, Bool, false, List, [], ◌∷◌, length, Option, Some, None, IfSome, Result, Ok, Err, slice_get, refl, arith}
 use Rattle.std.specs.Prelude.{All, nat_le, nat_lt}
 use Rattle.std.specs.Result.{IfOk}
-use Rattle.std.proofs.Common.{◌≡◌, ℕ, suc, ◌<◌, ◌^◌, Bool, false, List, [], ◌∷◌, length, Option, Some, None, IfSome, Result, Ok, Err, slice_get, refl, arith}
 use Rattle.std.proofs.lemmas.Bool.{cond_both}
 use Rattle.std.proofs.lemmas.List.Elements.{All-append, All-nil, All-push, All-set, All-weaker}
 use Rattle.rp_base.specs.declared.limits.TheConstants.{IMAGE_MOST}
