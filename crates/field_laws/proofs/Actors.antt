@@ -1,12 +1,11 @@
 -- What the actors of a core are yet to call has its bytes and its numbers within their types.
-use Rattle.std.proofs.Common.{◌≡◌, ℕ, zero, ◌+◌, ◌<◌, ◌^◌, ◌==◌, ◌&&◌, not, Bool, true, false, cond, ltb, List, [], ◌∷◌, ◌++◌, length, drop, Option, Some, None, IfSome, Result, Ok, Err, is_some, slice_range, codes, refl, arith}
+use Rattle.std.proofs.Common.{◌≡◌, ℕ, ◌+◌, ◌<◌, ◌^◌, ◌==◌, ◌&&◌, not, Bool, true, false, cond, List, [], ◌∷◌, ◌++◌, drop, Option, Some, None, IfSome, Result, Ok, Err, slice_range, refl, arith}
 use Rattle.std.specs.Prelude.{All, nat_lt}
 use Rattle.std.specs.List.{list_all}
 use Rattle.std.specs.Option.{option_and_then}
 use Rattle.std.specs.Result.{IfOk}
 use Rattle.std.proofs.lemmas.Bool.{cond_both, ltb-true}
 use Rattle.std.proofs.lemmas.List.Elements.{All-append, All-cons, All-drop, All-nil}
-use Rattle.byteorder.specs.Endian.{little_bytes}
 use Rattle.rp_base.specs.declared.kinds.DriverKind.{DriverKind}
 use Rattle.rp_base.specs.declared.kinds.DriverKind.TheVariants.{Sink, Echo, Sample}
 use Rattle.rp_base.specs.declared.kinds.End.{End}
@@ -17,31 +16,32 @@ use Rattle.rp_base.specs.declared.kinds.NsKind.TheVariants.{Created, Duplicate, 
 use Rattle.rp_base.specs.declared.kinds.Verdict.{Verdict}
 use Rattle.rp_base.specs.declared.kinds.Verdict.TheVariants as verdict
 use Rattle.rpmsg_header.specs.Headers.{payload_of, source_of}
+use Rattle.byteorder.specs.Endian.{little_bytes}
+use Rattle.addr_translate.specs.Maps.{Mapping}
+use Rattle.remote_code.specs.declared.faults.WorkerFault.{WorkerFault}
+use Rattle.remote_code.specs.declared.faults.WorkerFault.TheVariants as worker_fault
+use Rattle.remote_code.specs.declared.records.Record.{Record}
+use Rattle.remote_code.specs.declared.records.Record.TheVariants as code
+use Rattle.remote_code.specs.Records.{a_of, b_of, c_of, n_of, op_of, record_of}
+use Rattle.remote_core.specs.declared.workers.Work.{Work}
+use Rattle.remote_core.specs.declared.workers.Work.TheVariants as work
+use Rattle.remote_core.specs.Named.{bytes_from, memory_place, named_bytes, named_place, written_from}
+use Rattle.remote_core.specs.Records.{admitted, has_large_operand, names_memory, needs_link, next_record, record_address, record_at, record_from, tested, with_memory}
+use Rattle.remote_core.specs.Workers.{WorkerState}
+use Rattle.remote_core.specs.Works.{announcement, destination, memory_after, memory_after_next, memory_after_record, service_address, work_of, work_of_next, work_of_record}
+use Rattle.host_driver.specs.declared.driven.DrivenEndpoint.{DrivenEndpoint}
+use Rattle.host_driver.specs.Drivers.{DriversState, created_answer, driven_at, kind_for, message_from, newly_driven, probe_message, reply_to, sample_count, sample_text, with_delivery}
 use Rattle.lane_model.specs.declared.calls.CallEnd.{CallEnd}
 use Rattle.lane_model.specs.declared.calls.CallEnd.TheVariants as end
 use Rattle.lane_model.specs.declared.calls.Wish.{Wish}
 use Rattle.lane_model.specs.declared.calls.Wish.TheVariants as wish
 use Rattle.lane_model.specs.Links.{LinkState, end_of}
 use Rattle.channel_bus.specs.Sides.{EndState}
-use Rattle.addr_translate.specs.Maps.{Mapping}
-use Rattle.remote_code.specs.Records.{a_of, b_of, c_of, n_of, op_of, record_of}
-use Rattle.remote_code.specs.declared.faults.WorkerFault.{WorkerFault}
-use Rattle.remote_code.specs.declared.faults.WorkerFault.TheVariants as worker_fault
-use Rattle.remote_code.specs.declared.records.Record.{Record}
-use Rattle.remote_code.specs.declared.records.Record.TheVariants as code
-use Rattle.host_driver.specs.declared.driven.DrivenEndpoint.{DrivenEndpoint}
-use Rattle.host_driver.specs.Drivers.{DriversState, created_answer, delivered_answer, driven_at, kind_for, message_from, newly_driven, probe_message, reply_to, sample_count, sample_text, with_delivery}
-use Rattle.remote_core.specs.Named.{bytes_from, memory_place, named_bytes, named_place, written_from}
-use Rattle.remote_core.specs.Records.{admitted, has_large_operand, names_memory, needs_link, next_record, record_address, record_at, record_from, tested, with_memory}
-use Rattle.remote_core.specs.Workers.{WorkerState}
-use Rattle.remote_core.specs.Works.{announcement, destination, memory_after, memory_after_next, memory_after_record, service_address, work_of, work_of_next, work_of_record}
-use Rattle.remote_core.specs.declared.workers.Work.{Work}
-use Rattle.remote_core.specs.declared.workers.Work.TheVariants as work
 use Rattle.link_bench.specs.declared.benches.Reach.{Reach}
 use Rattle.link_bench.specs.declared.benches.Reach.TheVariants as reach
 use Rattle.link_bench.specs.Benches.{BenchState, is_in_call, taken_on}
 use Rattle.core_actors.specs.Actors.{ActorsState}
-use Rattle.core_actors.specs.ActorEnds.{actors_after_end, actors_at_end, channel_answer, driven_on, end_answer, endpoint_answer, gives_of, host_ended, is_tried_again, left_of, message_numbered, message_of, number_taken, sends_of, verdict_answer, worker_ended}
+use Rattle.core_actors.specs.ActorEnds.{actors_after_end, actors_at_end, channel_answer, driven_on, end_answer, endpoint_answer, gives_of, host_ended, is_tried_again, left_of, message_numbered, message_of, number_taken, sends_of, verdict_answer}
 use Rattle.core_actors.specs.ActorSteps.{actors_after_record, asked_by, first_or_take, host_begun, host_begun_as, host_reached, worker_reached}
 use Rattle.field_laws.specs.Fields.{AreBytes, IsFieldEnd, IsFieldLink, IsFieldWish}
 use Rattle.field_laws.specs.FieldBenches.{IsFieldReach}

@@ -1,15 +1,14 @@
 -- What comes of an act on a link has its numbers and bytes within their types, and so has the link that it leaves.
-use Rattle.std.proofs.Common.{◌≡◌, ℕ, zero, suc, ◌+◌, ◌<◌, ◌≤◌, ◌^◌, ◌==◌, ◌&&◌, ◌||◌, eqb, Bool, true, false, cond, ltb, nat_le, nat_lt, List, [], ◌∷◌, length, Option, Some, None, IfSome, IsTrue, is_some, option_map, slice_get, Result, Ok, Err, refl, sym, ap, subst, ◌∙◌, arith}
+use Rattle.std.proofs.Common.{◌≡◌, ℕ, zero, suc, ◌+◌, ◌<◌, ◌≤◌, ◌^◌, ◌&&◌, ◌||◌, eqb, Bool, true, false, cond, ltb, nat_le, nat_lt, List, [], ◌∷◌, length, Option, Some, None, IfSome, is_some, option_map, Result, Ok, Err, refl, sym, ap, ◌∙◌, arith}
 use Rattle.std.specs.List.{position_or_len}
 use Rattle.std.specs.Prelude.{is_none}
-use Rattle.std.proofs.lemmas.Option.{same_Some}
 use Rattle.std.specs.Option.{option_and_then, option_or}
+use Rattle.std.proofs.lemmas.Option.{same_Some}
 use Rattle.std.proofs.lemmas.Bool.{cond_both, eqb-true, ltb-true, true≢false}
 use Rattle.rp_base.specs.declared.kinds.End.{End}
 use Rattle.rp_base.specs.declared.kinds.End.TheVariants as side
 use Rattle.rp_base.specs.declared.limits.TheConstants.{PAYLOAD_MOST, STEPS_MOST}
 use Rattle.byteorder.specs.Endian.{little_bytes}
-use Rattle.lane_model.specs.declared.calls.CallEnd.{CallEnd}
 use Rattle.lane_model.specs.declared.calls.CallEnd.TheVariants as end
 use Rattle.lane_model.specs.declared.calls.Wish.{Wish}
 use Rattle.lane_model.specs.declared.calls.Wish.TheVariants as wish
@@ -38,10 +37,9 @@ use Rattle.link_bench.specs.declared.benches.BenchFault.TheVariants as fault
 use Rattle.link_bench.specs.declared.benches.Reach.{Reach}
 use Rattle.link_bench.specs.declared.benches.Reach.TheVariants as reach
 use Rattle.link_bench.specs.declared.turns.TurnEnd.{TurnEnd}
-use Rattle.link_bench.specs.declared.turns.TurnEnd.TheVariants as turn_end
-use Rattle.link_bench.specs.Acts.{Acted, IsFitAct, call_act, caller_act, first_refusal, free_act, link_act, made_call, misfit, own_caller, own_in, pump_act, pump_refusal, reclaim_act, reclaimed, side_refusal, step_act, unless_own, unless_refused, wish_of}
+use Rattle.link_bench.specs.Acts.{Acted, IsFitAct, call_act, caller_act, first_refusal, free_act, link_act, made_call, misfit, own_caller, own_in, pump_act, pump_refusal, reclaimed, side_refusal, step_act, unless_own, unless_refused, wish_of}
 use Rattle.link_bench.specs.BenchCrashes.{reclaim_answer}
-use Rattle.link_bench.specs.Benches.{BenchState, IsSendable, advance_fault, advance_walk, begin_fault, call_walk, caller_fault, calling_fault, is_in_call, ready_fault, step_fault, used_fault, wish_fault, with_begun}
+use Rattle.link_bench.specs.Benches.{BenchState, IsSendable, advance_fault, begin_fault, call_walk, caller_fault, calling_fault, is_in_call, ready_fault, step_fault, used_fault, wish_fault}
 use Rattle.link_bench.specs.Turns.{Pumped, TurnCall, Turns, ended_by, give_turn, is_whole, one_turn, pump_turns, reach_number, take_turn, tested_call, then_more, turn_call, turn_message}
 use Rattle.link_bench.specs.Watchers.{Seeing, watched}
 use Rattle.link_bench.proofs.Begun.{begin_may}
@@ -49,8 +47,8 @@ use Rattle.core_laws.specs.BenchMoves.{IsReachedBench}
 use Rattle.core_laws.proofs.BenchMoves.{advanced, begun_reached, called, enlisted, reclaim_tried}
 use Rattle.core_laws.proofs.KeptActs.{AreKeptSteps, FitCalls, act_kept, calls_sendable}
 use Rattle.core_laws.proofs.KeptCrashes.{reached_sound}
-use Rattle.field_laws.specs.Fields.{AreBytes, IsFieldEnd, IsFieldLink, IsFieldWish}
-use Rattle.field_laws.specs.FieldBenches.{IsFieldAct, IsFieldActed, IsFieldBench, IsFieldBenchFault, IsFieldCall, IsFieldReach, IsFieldReclaim, IsFieldTurnEnd}
+use Rattle.field_laws.specs.Fields.{AreBytes, IsFieldLink, IsFieldWish}
+use Rattle.field_laws.specs.FieldBenches.{IsFieldAct, IsFieldActed, IsFieldBench, IsFieldBenchFault, IsFieldCall, IsFieldReach, IsFieldTurnEnd}
 use Rattle.field_laws.proofs.Benches.{advance_fields, begun_fields, call_fields, caller_fields, tried_fields}
 use Rattle.field_laws.proofs.Bytes.{message_bytes, number_bytes}
 use Rattle.field_laws.proofs.Lanes.{counts_small}

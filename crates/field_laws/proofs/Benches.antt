@@ -1,8 +1,7 @@
 -- What calls and the manager leave of a bench has its numbers and bytes within their types, and so has what calls reach.
-use Rattle.std.proofs.Common.{◌≡◌, ℕ, zero, suc, ◌+◌, ◌-◌, ◌<◌, ◌≤◌, ◌^◌, ◌==◌, eqb, Bool, true, false, cond, List, [], ◌∷◌, length, Option, Some, None, IfSome, is_some, slice_get, slice_set, refl, sym, ap, subst, arith}
-use Rattle.std.specs.Prelude.{All, fold}
-use Rattle.std.specs.List.{range_with_len}
-use Rattle.std.specs.Option.{option_and_then, option_map, option_or}
+use Rattle.std.proofs.Common.{◌≡◌, ℕ, zero, suc, ◌+◌, ◌-◌, ◌<◌, ◌^◌, eqb, Bool, true, false, cond, List, length, Option, Some, None, IfSome, is_some, slice_get, slice_set, refl, ap, subst, arith}
+use Rattle.std.specs.Prelude.{All}
+use Rattle.std.specs.Option.{option_map, option_or}
 use Rattle.std.proofs.lemmas.Bool.{cond_both, eqb-false, true≢false}
 use Rattle.std.proofs.lemmas.List.{length-set}
 use Rattle.std.proofs.lemmas.List.Elements.{All-replicate, All-set}
@@ -17,7 +16,6 @@ use Rattle.lane_model.specs.declared.calls.Wish.{Wish}
 use Rattle.lane_model.specs.declared.recoveries.ReclaimRefusal.{ReclaimRefusal}
 use Rattle.lane_model.specs.declared.recoveries.ReopenFault.{ReopenFault}
 use Rattle.lane_model.specs.declared.recoveries.ReopenFault.TheVariants as reopen_fault
-use Rattle.lane_model.specs.declared.stages.Sending.{Sending}
 use Rattle.lane_model.specs.declared.stages.Turn.{Turn}
 use Rattle.lane_model.specs.declared.stages.Turn.TheVariants as turn
 use Rattle.lane_model.specs.declared.states.Holding.{Holding}
@@ -25,16 +23,15 @@ use Rattle.lane_model.specs.declared.states.LaneState.{LaneState}
 use Rattle.lane_model.specs.Conditions.{MayStep, is_calling}
 use Rattle.lane_model.specs.Crashes.{after_receive_end, after_send_end, ended_turn, least_held, opened_lane, turn_out}
 use Rattle.lane_model.specs.Forms.{list_form}
-use Rattle.lane_model.specs.Lanes.{has_call, is_live_in, message_at}
-use Rattle.lane_model.specs.Links.{LinkState, caller_step, end_of, free_number, opened_link, with_caller}
-use Rattle.lane_model.specs.Recoveries.{link_after_close, link_after_reclaim, link_after_reopen, unopened_by, unreclaimed_by, without_caller}
+use Rattle.lane_model.specs.Lanes.{has_call, is_live_in}
+use Rattle.lane_model.specs.Links.{LinkState, caller_step, end_of, free_number, with_caller}
+use Rattle.lane_model.specs.Recoveries.{unopened_by, unreclaimed_by, without_caller}
 use Rattle.lane_model.specs.Soundness.{SoundLink}
 use Rattle.lane_model.specs.WholeCalls.{WhereOn}
 use Rattle.lane_laws.specs.Moves.{Step}
 use Rattle.lane_laws.proofs.LinkRuns.{move_sound}
 use Rattle.channel_bus.specs.Sides.{EndState, side_meaning}
 use Rattle.link_bench.specs.declared.benches.BegunCall.{BegunCall}
-use Rattle.link_bench.specs.declared.benches.Reach.{Reach}
 use Rattle.link_bench.specs.declared.benches.Reach.TheVariants as reach
 use Rattle.link_bench.specs.BenchCrashes.{after_close, after_reclaim, after_reopen, left_by_reclaim, reclaim_leaves}
 use Rattle.link_bench.specs.BenchEnds.{crashed_bench, is_first, is_remote, readied_bench, renewed_unless, with_fresh_caller, without_one, without_other, without_others, without_remote}
@@ -44,11 +41,11 @@ use Rattle.core_laws.specs.BenchMoves.{IsReachedBench}
 use Rattle.core_laws.proofs.BenchMoves.{begun_at, begun_or, calling_may}
 use Rattle.core_laws.proofs.CallMoves.{next_may}
 use Rattle.core_laws.proofs.KeptCrashes.{reached_sound}
-use Rattle.field_laws.specs.Fields.{AreBytes, IsFieldEnd, IsFieldLane, IsFieldLink, IsFieldOutcome, IsFieldReceiving, IsFieldSending, IsFieldSide, IsFieldTurn, IsFieldWish}
+use Rattle.field_laws.specs.Fields.{IsFieldLane, IsFieldLink, IsFieldOutcome, IsFieldReceiving, IsFieldSending, IsFieldSide, IsFieldTurn, IsFieldWish}
 use Rattle.field_laws.specs.FieldBenches.{IsFieldBegun, IsFieldBench, IsFieldReach}
 use Rattle.field_laws.proofs.Bytes.{no_bytes}
 use Rattle.field_laws.proofs.Sides.{fresh_fields}
-use Rattle.field_laws.proofs.Steps.{IsFieldLinkStep, step_fields}
+use Rattle.field_laws.proofs.Steps.{step_fields}
 
 -- ---- calls
 

@@ -1,18 +1,18 @@
 -- Bytes stay bytes, and the numbers that they are fit into their widths.
-use Rattle.std.proofs.Common.{◌≡◌, ℕ, zero, suc, ◌+◌, ◌-◌, ◌*◌, ◌/◌, ◌%◌, ◌<◌, ◌≤◌, ◌^◌, ◌==◌, not, Bool, true, false, cond, List, [], ◌∷◌, ◌++◌, length, take, drop, replicate, slice_range, refl, sym, subst, arith}
+use Rattle.std.proofs.Common.{◌≡◌, ℕ, zero, suc, ◌+◌, ◌-◌, ◌/◌, ◌%◌, ◌<◌, ◌≤◌, ◌^◌, ◌==◌, not, true, List, [], ◌∷◌, ◌++◌, length, take, drop, replicate, slice_range, sym, subst, arith}
 use Rattle.std.specs.Prelude.{All, slice_index}
 use Rattle.std.specs.List.{flat_map}
 use Rattle.std.specs.Int.{bytes_low_first, byte_at}
 use Rattle.std.proofs.lemmas.Bool.{cond_both}
 use Rattle.std.proofs.lemmas.List.{length-take}
 use Rattle.std.proofs.Math.Nat.{min-le_left}
-use Rattle.std.proofs.lemmas.List.Elements.{All-append, All-cons, All-drop, All-get_or, All-head, All-nil, All-replicate, All-same, All-tail, All-take}
+use Rattle.std.proofs.lemmas.List.Elements.{All-append, All-cons, All-drop, All-head, All-nil, All-replicate, All-same, All-tail, All-take}
 use Rattle.std.proofs.lemmas.List.Sums.{take_while-cons}
-use Rattle.byteorder.specs.Endian.{little_bytes, little_from, little_number}
 use Rattle.rp_base.specs.Fields.{number_at, with_number}
 use Rattle.rp_base.specs.Texts.{padded_name, text_before_zero}
 use Rattle.rp_base.proofs.Zeros.{is_text}
 use Rattle.rpmsg_header.specs.Headers.{head_bytes, header_bytes, payload_length, payload_of}
+use Rattle.byteorder.specs.Endian.{little_bytes, little_from}
 use Rattle.field_laws.specs.Fields.{AreBytes}
 
 abbrev IsByte : ℕ → Type 0

@@ -1,8 +1,8 @@
 -- What the calls of a core leave and answer has its numbers and bytes within their types.
-use Rattle.std.proofs.Common.{◌≡◌, ℕ, zero, suc, ◌+◌, ◌-◌, ◌<◌, ◌≤◌, ◌^◌, ◌==◌, eqb, Bool, true, false, cond, List, [], ◌∷◌, length, Option, Some, None, IfSome, Result, Ok, Err, is_some, slice_get, refl, sym, ap, ◌∙◌, subst, arith}
-use Rattle.std.specs.Prelude.{All, find, fold, nat_lt}
+use Rattle.std.proofs.Common.{◌≡◌, ℕ, zero, suc, ◌+◌, ◌-◌, ◌<◌, ◌≤◌, ◌^◌, ◌==◌, Bool, true, false, cond, List, [], ◌∷◌, length, Option, Some, None, IfSome, Result, Ok, Err, is_some, refl, sym, ap, ◌∙◌, subst, arith}
+use Rattle.std.specs.Prelude.{All, fold, nat_lt}
 use Rattle.std.specs.List.{range_with_len}
-use Rattle.std.specs.Option.{option_and_then, option_map, option_map_or, option_or}
+use Rattle.std.specs.Option.{option_and_then, option_map, option_or}
 use Rattle.std.specs.Result.{IfOk}
 use Rattle.std.proofs.lemmas.Bool.{cond_both, eqb-false, true≢false}
 use Rattle.std.proofs.lemmas.List.Elements.{All-cons, All-head, All-nil, All-tail}
@@ -10,12 +10,8 @@ use Rattle.rp_base.specs.declared.kinds.End.{End}
 use Rattle.rp_base.specs.declared.kinds.End.TheVariants as side
 use Rattle.rp_base.specs.declared.kinds.LifeState.{LifeState}
 use Rattle.rp_base.specs.declared.kinds.LifeState.TheVariants.{Offline, Running, Crashed, Attached, Detached}
-use Rattle.memory_pool.specs.Soundness.{SoundRegions}
-use Rattle.fw_load.specs.declared.faults.LoadFault.{LoadFault}
-use Rattle.fw_load.specs.Loading.{load_fault}
 use Rattle.rp_io.specs.declared.faults.FetchFault.{FetchFault}
 use Rattle.rp_io.specs.declared.faults.FetchFault.TheVariants as fetch
-use Rattle.fw_load.specs.declared.rings.RingPair.{RingPair}
 use Rattle.proc_state.specs.declared.answers.Left.{Left}
 use Rattle.proc_state.specs.declared.answers.Left.TheVariants as left
 use Rattle.proc_state.specs.declared.answers.LifeFault.{LifeFault}
@@ -24,40 +20,38 @@ use Rattle.proc_state.specs.declared.answers.Power.{Power}
 use Rattle.proc_state.specs.declared.answers.Power.TheVariants as power
 use Rattle.proc_state.specs.declared.answers.Report.{Report}
 use Rattle.proc_state.specs.declared.answers.Report.TheVariants as report
-use Rattle.proc_state.specs.Lives.{CoreLife, Outcome, boot_to, crash_as, first_start, handover_to, is_offline, is_up, leave_to, life_after_boot, life_after_crash, life_after_detach, life_after_handover, life_after_recovery, life_after_shutdown, line_of, most, new_life, recovery_to, refusal_of, with_user, without_user}
+use Rattle.proc_state.specs.Lives.{CoreLife, Outcome, boot_to, crash_as, first_start, handover_to, is_offline, is_up, leave_to, life_after_boot, life_after_crash, life_after_detach, life_after_handover, life_after_shutdown, line_of, most, new_life, recovery_to, refusal_of, with_user}
+use Rattle.memory_pool.specs.declared.regions.Region.{Region}
+use Rattle.memory_pool.specs.Soundness.{SoundRegions}
+use Rattle.fw_load.specs.declared.faults.LoadFault.{LoadFault}
+use Rattle.fw_load.specs.declared.rings.RingPair.{RingPair}
+use Rattle.fw_load.specs.Loading.{load_fault}
+use Rattle.host_driver.specs.Drivers.{Declared}
 use Rattle.lane_model.specs.declared.recoveries.ReclaimRefusal.{ReclaimRefusal}
 use Rattle.lane_model.specs.declared.recoveries.ReclaimRefusal.TheVariants as refusal
 use Rattle.lane_model.specs.declared.recoveries.ReopenFault.{ReopenFault}
 use Rattle.lane_model.specs.declared.recoveries.ReopenFault.TheVariants as reopen
 use Rattle.lane_model.specs.declared.states.Holding.{Holding}
 use Rattle.lane_model.specs.declared.states.LaneState.{LaneState}
-use Rattle.lane_model.specs.declared.stages.Turn.{Turn}
 use Rattle.lane_model.specs.Crashes.{least_held, lesser, turn_out}
 use Rattle.lane_model.specs.Lanes.{holder}
-use Rattle.lane_model.specs.Links.{LinkState, end_of, free_number}
+use Rattle.lane_model.specs.Links.{LinkState}
 use Rattle.lane_model.specs.Recoveries.{unopened_by, unreclaimed_by}
 use Rattle.lane_model.specs.Soundness.{AreHandedOnce, AreUsers, IsSoundTurn, SoundLink}
-use Rattle.memory_pool.specs.declared.regions.Region.{Region}
-use Rattle.host_driver.specs.Drivers.{Declared}
 use Rattle.channel_bus.specs.Sides.{EndState}
 use Rattle.link_bench.specs.BenchCrashes.{after_reopen}
-use Rattle.link_bench.specs.BenchEnds.{crashed_bench, readied_bench, renewed_unless, reopen_refusal_of, unopened_unless, unready_for, with_new_host}
+use Rattle.link_bench.specs.BenchEnds.{crashed_bench, readied_bench, renewed_unless, reopen_refusal_of, unopened_unless, with_new_host}
 use Rattle.link_bench.specs.BenchHolds.{caller_out, is_out}
 use Rattle.link_bench.specs.Benches.{BenchState, new_bench_of, with_new_caller}
-use Rattle.core_actors.specs.Actors.{ActorsState, driver_names, fresh_actors}
+use Rattle.core_actors.specs.Actors.{driver_names, fresh_actors}
 use Rattle.crash_recover.specs.declared.core_answers.Crash.{Crash}
-use Rattle.crash_recover.specs.declared.core_answers.Crash.TheVariants as crash
-use Rattle.crash_recover.specs.declared.core_answers.Leave.{Leave}
-use Rattle.crash_recover.specs.declared.core_answers.Leave.TheVariants as leave
-use Rattle.crash_recover.specs.declared.core_answers.Start.{Start}
-use Rattle.crash_recover.specs.declared.core_answers.Start.TheVariants as start
 use Rattle.crash_recover.specs.declared.core_faults.CoreFault.{CoreFault}
 use Rattle.crash_recover.specs.declared.core_faults.CoreFault.TheVariants as fault
 use Rattle.crash_recover.specs.CoreBoots.{Found, boot_as, boot_of, config_of, core_bench, core_fault_of_fetch, first_boot, fresh_end, handover_as, handover_of, image_fault, loaded_in, started_core, with_load}
-use Rattle.crash_recover.specs.CoreCrashes.{after_report, crashed_core, first_report, report_as, report_of}
+use Rattle.crash_recover.specs.CoreCrashes.{crashed_core, first_report, report_as, report_of}
 use Rattle.crash_recover.specs.CoreLeaves.{close_or, detach_of, detached_core, leave_as, live_inc, shutdown_of, unloaded_core}
-use Rattle.crash_recover.specs.CoreRecoveries.{after_recovery, fault_with, link_fault, readied_core, recovery_fault, recovery_of, reload_fault, reopen_fault, reopened_core, rings_fault, spent_fault, unrecovered_to}
-use Rattle.crash_recover.specs.Cores.{CoreOutcome, CoreState, LoadState, loaded_rings, new_core, refuse_or}
+use Rattle.crash_recover.specs.CoreRecoveries.{fault_with, readied_core, recovery_fault, recovery_of, reload_fault, reopen_fault, rings_fault, spent_fault, unrecovered_to}
+use Rattle.crash_recover.specs.Cores.{CoreOutcome, CoreState, loaded_rings, new_core, refuse_or}
 use Rattle.core_laws.specs.BenchMoves.{IsReachedBench, IsReachedCore}
 use Rattle.core_laws.proofs.CoreMoves.{readied}
 use Rattle.core_laws.proofs.Outcomes.{none_mapped, starts_up}

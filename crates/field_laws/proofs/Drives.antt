@@ -1,12 +1,11 @@
 -- Steps of a core's actors, and acts on its link, keep the numbers and bytes of the core within their types.
-use Rattle.std.proofs.Common.{◌≡◌, ℕ, ◌+◌, ◌<◌, ◌≤◌, ◌^◌, Bool, true, false, cond, List, length, Option, Some, None, IfSome, is_some, refl, sym, ap, ◌∙◌, arith}
+use Rattle.std.proofs.Common.{◌≡◌, ℕ, ◌<◌, ◌^◌, true, false, cond, List, Option, Some, None, IfSome, is_some, refl, sym, ap, ◌∙◌, arith}
 use Rattle.std.proofs.lemmas.Bool.{cond_both, true≢false}
-use Rattle.lane_model.specs.declared.calls.Wish.{Wish}
-use Rattle.memory_pool.specs.declared.regions.Region.{Region}
-use Rattle.addr_translate.specs.Maps.{Mapping}
-use Rattle.remote_core.specs.Works.{memory_after, work_of}
+use Rattle.memory_pool.specs.Regions.{memory_len}
 use Rattle.remote_core.specs.declared.workers.Work.{Work}
 use Rattle.remote_core.specs.declared.workers.Work.TheVariants as work
+use Rattle.remote_core.specs.Works.{work_of}
+use Rattle.lane_model.specs.declared.calls.Wish.{Wish}
 use Rattle.lane_model.specs.Links.{free_number}
 use Rattle.lane_model.specs.Recoveries.{unreclaimed_by}
 use Rattle.link_bench.specs.declared.acts.LinkAct.{LinkAct}
@@ -23,7 +22,6 @@ use Rattle.core_actors.specs.Actors.{ActorsState}
 use Rattle.core_actors.specs.ActorEnds.{actors_after_end}
 use Rattle.core_actors.specs.ActorSteps.{driven_by, driven_by_work, first_or_take, has_calls, host_begun, link_step}
 use Rattle.crash_recover.specs.CoreActs.{act_on_core, acted_core}
-use Rattle.crash_recover.specs.CoreCrashes.{after_report}
 use Rattle.crash_recover.specs.Cores.{CoreState, LoadState}
 use Rattle.crash_recover.specs.Drives.{DriveStep, acting, actor_step, drive_step, host_step, is_idle, placed_map, record_run, record_step, reported_by, with_turn_after, worker_call, worker_step}
 use Rattle.core_laws.specs.BenchMoves.{IsReachedBench, IsReachedCore}
@@ -38,7 +36,6 @@ use Rattle.field_laws.proofs.Acts.{HoldsBench, IsFit, act_told, call_holds, fit_
 use Rattle.field_laws.proofs.Benches.{HoldsBenchWalk, advance_fields, begun_fields, caller_fields, start_fields, tried_fields}
 use Rattle.field_laws.proofs.Cores.{report_fields}
 use Rattle.field_laws.proofs.Rooms.{memory_longer}
-use Rattle.memory_pool.specs.Regions.{memory_len}
 
 -- a step of the actors, and what it was
 pub record HoldsDrive (step : DriveStep) : Type 0 where

@@ -1,6 +1,6 @@
 -- The dump of a core is not large.
-use Rattle.std.proofs.Common.{◌≡◌, ℕ, suc, ◌+◌, ◌-◌, ◌*◌, ◌<◌, ◌≤◌, ◌^◌, List, [], ◌∷◌, ◌++◌, length, map, drop, not, Option, Some, None, IfSome, slice_range, arith}
-use Rattle.std.specs.Prelude.{All, filter, option_map, sum_by}
+use Rattle.std.proofs.Common.{ℕ, suc, ◌+◌, ◌-◌, ◌*◌, ◌<◌, ◌≤◌, ◌^◌, List, [], ◌∷◌, length, map, drop, not, Option, Some, None, IfSome, slice_range, arith}
+use Rattle.std.specs.Prelude.{All, filter, option_map}
 use Rattle.std.specs.List.{cons_option, filter_map}
 use Rattle.std.specs.Option.{option_and_then}
 use Rattle.std.proofs.lemmas.List.{length-append, length-map, length-take}

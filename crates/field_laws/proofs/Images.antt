@@ -1,34 +1,32 @@
 -- The images of recipes and the dumps of cores are bytes.
-use Rattle.std.proofs.Common.{◌≡◌, ℕ, ◌+◌, ◌*◌, ◌<◌, ◌≤◌, ◌^◌, ◌==◌, Bool, true, false, List, [], ◌∷◌, ◌++◌, length, map, Option, Some, None, IfSome, codes, refl, arith}
-use Rattle.std.specs.Prelude.{All, filter, option_map}
-use Rattle.std.specs.List.{cons_option, filter_map, flat_map, slice_index_or}
+use Rattle.std.proofs.Common.{◌≡◌, ℕ, ◌+◌, ◌*◌, ◌<◌, ◌≤◌, ◌^◌, ◌==◌, List, [], ◌∷◌, ◌++◌, length, Option, Some, None, IfSome, refl, arith}
+use Rattle.std.specs.Prelude.{All, option_map}
+use Rattle.std.specs.List.{cons_option, filter_map, slice_index_or}
 use Rattle.std.specs.Option.{option_and_then}
 use Rattle.std.proofs.lemmas.Bool.{cond_both}
-use Rattle.std.proofs.lemmas.List.{append-nil, length-append}
+use Rattle.std.proofs.lemmas.List.{length-append}
 use Rattle.std.proofs.lemmas.List.Elements.{All-cons, All-head, All-nil, All-tail}
 use Rattle.rp_base.specs.declared.limits.TheConstants.{SCRIPT_LINES_MOST}
 use Rattle.rp_base.specs.Texts.{padded_name}
-use Rattle.script_lang.specs.declared.recipes.RecipeLine.{RecipeLine}
-use Rattle.script_lang.specs.declared.recipes.RecipeLine.TheVariants as recipe
-use Rattle.script_lang.specs.Runnable.{IsRecipe}
 use Rattle.elf_writer.specs.Fields.{byte_field, half_field, word_field, word_fields}
 use Rattle.elf_writer.specs.Headers.{file_header, identification, load_header}
 use Rattle.elf_writer.specs.Loads.{Load, load_headers}
-use Rattle.core_dump.specs.Dumps.{data_start as dump_start, dump_of, loads_from, part_bytes}
-use Rattle.core_dump.specs.Parts.{MemoryPart}
-use Rattle.memory_pool.specs.declared.blocks.Block.{Block}
-use Rattle.memory_pool.specs.declared.regions.Region.{Region}
 use Rattle.fw_load.specs.Memory.{memory_at}
+use Rattle.script_lang.specs.declared.recipes.RecipeLine.{RecipeLine}
+use Rattle.script_lang.specs.declared.recipes.RecipeLine.TheVariants as recipe
+use Rattle.script_lang.specs.Runnable.{IsRecipe}
 use Rattle.image_maker.specs.Images.{data_end, data_start, entry_address, image_of, image_with, section_headers, section_names, segments_part, table_address}
 use Rattle.image_maker.specs.Segments.{code_of, data_of, program_header, program_headers, record_fields, segment_bytes, segment_count}
 use Rattle.image_maker.specs.Tables.{entries, entries_of, entry_bytes, entry_count, entry_len, offset_of, offsets, rings_in_front, table_bytes, table_len}
 use Rattle.image_maker.proofs.Lengths.{short_image}
-use Rattle.image_maker.proofs.ReadImages.{HasParts, parts_are}
+use Rattle.image_maker.proofs.ReadImages.{parts_are}
 use Rattle.image_maker.proofs.ReadTable.{length_table}
+use Rattle.core_dump.specs.Dumps.{data_start as dump_start, dump_of, loads_from, part_bytes}
+use Rattle.core_dump.specs.Parts.{MemoryPart}
 use Rattle.crash_recover.specs.CoreParts.{core_parts, core_ranges, part_at}
 use Rattle.crash_recover.specs.Cores.{CoreState, LoadState, bytes_at, core_memory}
 use Rattle.field_laws.specs.Fields.{AreBytes}
-use Rattle.field_laws.specs.FieldCores.{IsFieldCore, IsFieldLoad}
+use Rattle.field_laws.specs.FieldCores.{IsFieldLoad}
 use Rattle.field_laws.proofs.Actors.{tested_bytes}
 use Rattle.field_laws.proofs.Bytes.{both_bytes, each_bytes, no_bytes, number_bytes, padded_bytes, range_bytes}
 

@@ -1,5 +1,5 @@
 -- A step of a call keeps the numbers and bytes of its lane within their types, and so does what it tells.
-use Rattle.std.proofs.Common.{◌≡◌, ℕ, zero, suc, ◌+◌, ◌<◌, ◌≤◌, ◌^◌, ◌==◌, eqb, Bool, true, false, cond, List, [], ◌∷◌, ◌++◌, length, Option, Some, None, IfSome, Result, Ok, Err, subst, arith}
+use Rattle.std.proofs.Common.{ℕ, zero, suc, ◌+◌, ◌<◌, ◌^◌, ◌==◌, eqb, cond, List, [], ◌∷◌, ◌++◌, length, Result, Ok, Err, arith}
 use Rattle.std.proofs.lemmas.Bool.{cond_both}
 use Rattle.rp_base.specs.declared.kinds.BindFault.{BindFault}
 use Rattle.rp_base.specs.declared.kinds.Endpoint.{Endpoint}
@@ -27,8 +27,7 @@ use Rattle.lane_model.specs.Sends.{send_step, sender_step}
 use Rattle.lane_model.specs.Receives.{after_handing, desk_end, desk_step, give_step, receive_step, receiver_step, take_step}
 use Rattle.lane_model.specs.Soundness.{IsSoundLane}
 use Rattle.channel_bus.specs.Sides.{EndState, after_side_bind, after_side_unbind, side_bind_answer, side_meaning, side_unbind_answer}
-use Rattle.field_laws.specs.Fields.{AreBytes, IsFieldEnd, IsFieldEndpoint, IsFieldFault, IsFieldLane, IsFieldOutcome, IsFieldReceiving, IsFieldSending, IsFieldSide, IsFieldTurn, IsFieldWork}
-use Rattle.field_laws.proofs.Bytes.{no_bytes}
+use Rattle.field_laws.specs.Fields.{AreBytes, IsFieldEnd, IsFieldEndpoint, IsFieldLane, IsFieldOutcome, IsFieldReceiving, IsFieldSending, IsFieldSide, IsFieldTurn, IsFieldWork}
 use Rattle.field_laws.proofs.Sides.{IsFieldAnswer, message_fields, side_bind_fields, side_bound_fields, side_unbind_fields, side_unbound_fields, verdict_fields}
 
 -- what a step leaves of a lane and tells

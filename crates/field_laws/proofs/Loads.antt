@@ -1,11 +1,11 @@
 -- What is loaded of an image that is bytes is bytes.
-use Rattle.std.proofs.Common.{ℕ, ◌+◌, ◌-◌, List, [], ◌∷◌, ◌++◌, length, take, drop, map, replicate, Option, Some, None, Result, Ok, Err, unwrap_or}
-use Rattle.std.specs.Prelude.{All, IfSome, filter, option_map}
+use Rattle.std.proofs.Common.{ℕ, ◌+◌, ◌-◌, List, [], ◌∷◌, ◌++◌, length, take, drop, replicate, Option, Some, None, Ok, Err, unwrap_or}
+use Rattle.std.specs.Prelude.{All, IfSome, option_map}
 use Rattle.std.specs.List.{slice_index_or}
 use Rattle.std.specs.Result.{IfOk, result_ok}
 use Rattle.std.proofs.lemmas.List.Elements.{All-head, All-map, All-nil, All-tail}
-use Rattle.elf_image.specs.Layout.{layout_of}
 use Rattle.elf_image.specs.declared.sections.Section.{Section}
+use Rattle.elf_image.specs.Layout.{layout_of}
 use Rattle.elf_image.specs.Headers.{file_header}
 use Rattle.elf_image.specs.Segments.{SegmentAt, loaded_from as headers_from, segment_at, segments_by, segments_of}
 use Rattle.resource_table.specs.Entries.{entries_of}
@@ -15,7 +15,7 @@ use Rattle.memory_pool.specs.declared.regions.Region.{Region}
 use Rattle.memory_pool.specs.Placements.{placement}
 use Rattle.memory_pool.specs.Regions.{memory_len}
 use Rattle.addr_translate.specs.Bytes.{with_bytes}
-use Rattle.fw_load.specs.Memory.{memory_at, memory_of, segment_bytes, with_at, with_segments, with_table}
+use Rattle.fw_load.specs.Memory.{memory_at, segment_bytes, with_at, with_segments, with_table}
 use Rattle.fw_load.specs.Tables.{bytes_in, entries_in, fixes_of, patched_in, table_of, table_section}
 use Rattle.crash_recover.specs.CoreBoots.{Found, loaded_at, loaded_from, loaded_in}
 use Rattle.crash_recover.specs.Cores.{CoreState}

@@ -1,5 +1,5 @@
 -- What an image is refused for that is bytes is numbered within 64 bits: a program header, or an entry of its table.
-use Rattle.std.proofs.Common.{◌≡◌, ℕ, zero, suc, ◌+◌, ◌-◌, ◌*◌, ◌<◌, ◌≤◌, ◌^◌, ◌==◌, ◌&&◌, ◌||◌, not, Bool, true, false, cond, List, [], ◌∷◌, ◌++◌, length, take, map, Option, Some, None, IfSome, Result, Ok, Err, is_some, refl, arith}
+use Rattle.std.proofs.Common.{◌≡◌, ℕ, zero, suc, ◌+◌, ◌-◌, ◌*◌, ◌<◌, ◌≤◌, ◌^◌, ◌==◌, ◌&&◌, ◌||◌, not, Bool, List, [], ◌∷◌, ◌++◌, length, take, map, Option, Some, None, IfSome, Result, Ok, Err, refl, arith}
 use Rattle.std.specs.Prelude.{All, bytes_eq, filter, is_none, nat_lt, option_map, slice_index}
 use Rattle.std.specs.List.{list_any, range_with_len, slice_index_or}
 use Rattle.std.specs.Option.{option_or}
@@ -7,26 +7,25 @@ use Rattle.std.specs.Result.{IfErr}
 use Rattle.std.proofs.lemmas.Bool.{cond_both}
 use Rattle.std.proofs.lemmas.List.Elements.{All-append, All-cons, All-filter, All-head, All-map, All-nil, All-tail}
 use Rattle.rp_base.specs.Faults.{fault_if, first_fault}
+use Rattle.rp_base.specs.Limits.{is_ring_size}
 use Rattle.elf_image.specs.declared.faults.ElfFault.{ElfFault}
 use Rattle.elf_image.specs.declared.faults.ElfFault.TheVariants as elf_fault
 use Rattle.elf_image.specs.declared.sections.Section.{Section}
 use Rattle.elf_image.specs.Faults.{fault_index as elf_index}
 use Rattle.elf_image.specs.Headers.{file_header}
 use Rattle.elf_image.specs.Images.{contents_fault, entry_of as entry_address, header_fault, header_size_of, identification_fault, image_fault}
-use Rattle.elf_image.specs.Layout.{class_of, elf32, elf64, layout_for, layout_of}
+use Rattle.elf_image.specs.Layout.{elf32, elf64, layout_for, layout_of}
 use Rattle.elf_image.specs.Segments.{SegmentAt, is_loaded, is_wide, loaded_from, numbered_header, segment_at, segment_fault, segments_by, segments_fault, segments_of}
 use Rattle.elf_image.specs.Sections.{has_sections, section_header_at, sections_fault}
 use Rattle.resource_table.specs.declared.entries.Entry.{Entry}
 use Rattle.resource_table.specs.declared.entries.Entry.TheVariants as entry
-use Rattle.resource_table.specs.declared.entries.Ring.{Ring}
 use Rattle.resource_table.specs.declared.entries.Vdev.{Vdev}
 use Rattle.resource_table.specs.declared.faults.TableFault.{TableFault}
 use Rattle.resource_table.specs.declared.faults.TableFault.TheVariants as table_fault
-use Rattle.resource_table.specs.Entries.{entries_of, entry_count, ring_count, start_of, type_at, vring_at, vring_start}
+use Rattle.resource_table.specs.Entries.{entry_count, ring_count, start_of, type_at, vring_at, vring_start}
 use Rattle.resource_table.specs.Faults.{fault_index as table_index}
 use Rattle.resource_table.specs.Layout.{field, fw_rsc_hdr, resource_table}
-use Rattle.rp_base.specs.Limits.{is_ring_size}
-use Rattle.resource_table.specs.Tables.{device_fault, device_size, earlier_spans, entry_span, fixed_size, has_wrong_offsets, has_wrong_ring_count, is_ring_align, is_rpmsg, spans_meet, uses_reserved, entries_fault, entry_fault, form_fault, header_fault as table_header_fault, ring_fault, ring_fault_at, rings_fault, table_fault as fault_of_table, varying_fault}
+use Rattle.resource_table.specs.Tables.{device_fault, device_size, earlier_spans, entry_span, fixed_size, has_wrong_offsets, has_wrong_ring_count, is_ring_align, is_rpmsg, spans_meet, uses_reserved, entries_fault, entry_fault, form_fault, header_fault as table_header_fault, ring_fault_at, rings_fault, table_fault as fault_of_table, varying_fault}
 use Rattle.memory_pool.specs.declared.blocks.Block.{Block}
 use Rattle.memory_pool.specs.declared.blocks.Use.{Use}
 use Rattle.memory_pool.specs.declared.blocks.Use.TheVariants as usage
@@ -40,7 +39,6 @@ use Rattle.memory_pool.specs.Ranges.{meets_block, meets_region}
 use Rattle.memory_pool.specs.Wanted.{buffers_wanted, in_order, is_anywhere, memory_wanted, ring_wanted, rings_wanted, wanted_by, wanted_from}
 use Rattle.fw_load.specs.declared.faults.LoadFault.{LoadFault}
 use Rattle.fw_load.specs.declared.faults.LoadFault.TheVariants as fault
-use Rattle.fw_load.specs.Faults.{load_fault_index}
 use Rattle.fw_load.specs.Loading.{entry_unmapped, load_fault, mapped_fault, placed_fault, segment_unmapped, segments_unmapped}
 use Rattle.fw_load.specs.Memory.{memory_at}
 use Rattle.fw_load.specs.Tables.{bytes_in, entries_in, section_fault, table_of, table_section}

@@ -1,11 +1,10 @@
 -- The bytes of a ring are bytes.
-use Rattle.std.proofs.Common.{ℕ, ◌+◌, ◌*◌, ◌-◌, Bool, true, false, cond, List, ◌++◌, replicate}
-use Rattle.std.specs.Prelude.{All}
+use Rattle.std.proofs.Common.{ℕ, ◌+◌, ◌*◌, ◌-◌, Bool, cond, ◌++◌, replicate}
 use Rattle.std.specs.List.{flat_map, range_with_len, slice_index_or}
 use Rattle.byteorder.specs.Endian.{little_bytes}
-use Rattle.vring_layout.specs.Sizes.{available_end, used_start}
 use Rattle.vring_layout.specs.declared.words.RingWords.{RingWords}
 use Rattle.vring_layout.specs.declared.words.UsedWord.{UsedWord}
+use Rattle.vring_layout.specs.Sizes.{available_end, used_start}
 use Rattle.vring_layout.specs.Rings.{available_ring, descriptor_bytes, descriptor_table, ring_layout, used_entry_bytes, used_ring}
 use Rattle.field_laws.specs.Fields.{AreBytes}
 use Rattle.field_laws.proofs.Bytes.{both_bytes, each_bytes, number_bytes, zero_bytes}

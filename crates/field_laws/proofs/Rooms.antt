@@ -1,19 +1,18 @@
 -- A range of device addresses that has a place stands within the memory of the regions, and a load has at least so much memory.
-use Rattle.std.proofs.Common.{◌≡◌, ℕ, ◌+◌, ◌-◌, ◌<◌, ◌≤◌, List, [], ◌∷◌, ◌++◌, length, take, drop, map, replicate, Option, Some, None, IfSome, Bool, true, false, Result, Ok, Err, not, is_some, slice_range, unwrap_or, subst, sym, ap, ◌∙◌, arith}
-use Rattle.std.specs.Prelude.{All, filter, min}
+use Rattle.std.proofs.Common.{◌≡◌, ℕ, ◌+◌, ◌-◌, ◌≤◌, List, [], ◌∷◌, ◌++◌, length, take, drop, map, replicate, Option, Some, None, IfSome, Bool, Result, Ok, Err, not, is_some, slice_range, unwrap_or, subst, sym, ap, ◌∙◌, arith}
+use Rattle.std.specs.Prelude.{All, filter}
 use Rattle.std.specs.Result.{result_ok}
 use Rattle.std.proofs.lemmas.Bool.{cond_both, true≢false}
 use Rattle.std.proofs.lemmas.List.{length-append, length-drop, length-replicate, length-take}
 use Rattle.std.proofs.lemmas.List.Elements.{All-append, All-contains, All-map}
-use Rattle.std.proofs.Math.Nat.{min-le_left}
-use Rattle.elf_image.specs.Segments.{SegmentAt, segments_of}
 use Rattle.elf_image.specs.declared.sections.Section.{Section}
-use Rattle.memory_pool.specs.Soundness.{SoundRegions}
+use Rattle.elf_image.specs.Segments.{SegmentAt, segments_of}
 use Rattle.memory_pool.specs.declared.faults.PlaceFault.{PlaceFault}
 use Rattle.memory_pool.specs.declared.blocks.Block.{Block}
 use Rattle.memory_pool.specs.declared.blocks.Use.{Use}
 use Rattle.memory_pool.specs.declared.blocks.Use.TheVariants as usage
 use Rattle.memory_pool.specs.declared.regions.Region.{Region}
+use Rattle.memory_pool.specs.Soundness.{SoundRegions}
 use Rattle.memory_pool.specs.Placements.{placement}
 use Rattle.memory_pool.specs.Regions.{is_pool, memory_len}
 use Rattle.memory_pool.proofs.Meets.{within_ends}
@@ -22,11 +21,11 @@ use Rattle.addr_translate.specs.Mapped.{mapped_block, mapped_blocks, mapped_regi
 use Rattle.addr_translate.specs.Maps.{Mapping}
 use Rattle.addr_translate.specs.OrderedMaps.{IsInMemory}
 use Rattle.addr_translate.proofs.Sound.{place_inside}
-use Rattle.fw_load.specs.Memory.{memory_at, memory_of, segment_bytes, with_at, with_segments, with_table}
+use Rattle.fw_load.specs.Memory.{memory_at, segment_bytes, with_at, with_segments, with_table}
 use Rattle.fw_load.specs.Tables.{entries_in, patched_in, table_of, table_section}
 use Rattle.fw_load.specs.Loading.{load_fault}
 use Rattle.load_laws.proofs.LoadParts.{parts_fit, placed_is_sound}
-use Rattle.load_laws.proofs.PlaceParts.{StandsIn, stands_in}
+use Rattle.load_laws.proofs.PlaceParts.{stands_in}
 use Rattle.remote_code.specs.declared.faults.WorkerFault.{WorkerFault}
 use Rattle.remote_code.specs.declared.records.Record.{Record}
 use Rattle.remote_code.specs.declared.records.Record.TheVariants as code
@@ -36,7 +35,7 @@ use Rattle.remote_core.specs.Workers.{WorkerState}
 use Rattle.remote_core.specs.Works.{memory_after, memory_after_next, memory_after_record}
 use Rattle.crash_recover.specs.declared.core_faults.CoreFault.TheVariants as fault
 use Rattle.crash_recover.specs.CoreBoots.{Found, image_fault, loaded_at, loaded_from, loaded_in}
-use Rattle.crash_recover.specs.Cores.{CoreState, LoadState}
+use Rattle.crash_recover.specs.Cores.{CoreState}
 use Rattle.crash_recover.proofs.PlacedCounts.{loads_few}
 use Rattle.core_laws.proofs.Outcomes.{none_mapped}
 use Rattle.field_laws.specs.FieldCores.{IsFieldPlaced}

@@ -1,12 +1,12 @@
 -- What stands behind a receiver's turn keeps its numbers and bytes within their types.
-use Rattle.std.proofs.Common.{◌≡◌, ℕ, zero, suc, ◌+◌, ◌-◌, ◌<◌, ◌≤◌, ◌^◌, ◌==◌, ◌&&◌, ◌||◌, not, Bool, true, false, cond, List, [], ◌∷◌, ◌++◌, length, take, filter, Option, Some, None, IfSome, Result, Ok, Err, unwrap_or, refl, arith}
-use Rattle.std.specs.Prelude.{All, find, insert, is_some, nat_le, nat_lt, ok_or}
+use Rattle.std.proofs.Common.{◌≡◌, ℕ, zero, suc, ◌+◌, ◌-◌, ◌<◌, ◌≤◌, ◌^◌, ◌==◌, ◌&&◌, ◌||◌, not, Bool, true, false, cond, List, [], ◌∷◌, length, take, filter, Option, Some, None, IfSome, Result, Ok, Err, unwrap_or, arith}
+use Rattle.std.specs.Prelude.{All, find, insert, nat_le, ok_or}
 use Rattle.std.specs.Bool.{then_some}
 use Rattle.std.specs.List.{range_with_len}
 use Rattle.std.specs.Option.{option_and_then, option_map}
 use Rattle.std.specs.Result.{result_ok}
 use Rattle.std.proofs.lemmas.Bool.{cond_both, leb-false, or_parts}
-use Rattle.std.proofs.lemmas.List.Elements.{All-append, All-cons, All-filter, All-head, All-nil, All-push, All-tail}
+use Rattle.std.proofs.lemmas.List.Elements.{All-cons, All-filter, All-head, All-nil, All-push, All-tail}
 use Rattle.std.proofs.lemmas.List.Sorted.{All-permutation, IsPermutation-insert, length_permutation}
 use Rattle.rp_base.specs.declared.kinds.BindFault.{BindFault}
 use Rattle.rp_base.specs.declared.kinds.BindFault.TheVariants as fault
@@ -14,12 +14,11 @@ use Rattle.rp_base.specs.declared.kinds.BoundEndpoint.{BoundEndpoint}
 use Rattle.rp_base.specs.declared.kinds.Endpoint.{Endpoint}
 use Rattle.rp_base.specs.declared.kinds.NsKind.{NsKind}
 use Rattle.rp_base.specs.declared.kinds.NsKind.TheVariants.{Created, Duplicate, Destroyed, Unknown, ChannelsFull}
-use Rattle.rp_base.specs.declared.kinds.Verdict.{Verdict}
 use Rattle.rp_base.specs.declared.kinds.Verdict.TheVariants as verdict
 use Rattle.rp_base.specs.declared.limits.TheConstants.{ENDPOINTS_MOST}
+use Rattle.rpmsg_header.specs.declared.services.NsMessage.{NsMessage}
 use Rattle.rpmsg_header.specs.Headers.{destination_of, is_whole, payload_of}
 use Rattle.rpmsg_header.specs.Services.{service_in, service_of}
-use Rattle.rpmsg_header.specs.declared.services.NsMessage.{NsMessage}
 use Rattle.endpoint_map.specs.Bindings.{Bindings, address_for, after_bind, after_unbind, any_address, bind_answer, bound_at, endpoint_of, first_dynamic, is_at, is_bound, is_full, least_free, next_endpoint, no_bindings, place_of, unbind_answer, with_endpoint}
 use Rattle.name_service.specs.declared.channels.Channel.{Channel}
 use Rattle.name_service.specs.Channels.{Key, after_service as channels_after, channel_at, endpoint_at, has_channel, is_full as channels_full, is_same_key, key_in, key_of, kind_of, naming, with_channel, with_endpoint as channel_with_endpoint, without}

@@ -1,5 +1,5 @@
 -- A step of a caller keeps the numbers and bytes of its link within their types, and so does what it tells.
-use Rattle.std.proofs.Common.{◌≡◌, ℕ, ◌+◌, ◌<◌, ◌≤◌, ◌^◌, Bool, true, false, cond, List, length, Option, Some, None, IfSome, slice_get, refl, arith}
+use Rattle.std.proofs.Common.{◌≡◌, ℕ, ◌<◌, ◌≤◌, ◌^◌, List, length, Option, Some, None, IfSome, slice_get, refl, arith}
 use Rattle.std.specs.Option.{option_and_then}
 use Rattle.std.proofs.lemmas.Bool.{cond_both}
 use Rattle.std.proofs.lemmas.Option.{slice_get_within}
@@ -8,9 +8,7 @@ use Rattle.rp_base.specs.declared.kinds.End.TheVariants as side
 use Rattle.rp_base.specs.declared.kinds.Era.{Era}
 use Rattle.lane_model.specs.declared.states.LaneState.{LaneState}
 use Rattle.lane_model.specs.declared.stages.GiveStage.TheVariants as give_stage
-use Rattle.lane_model.specs.declared.stages.Receiving.{Receiving}
 use Rattle.lane_model.specs.declared.stages.SendStage.TheVariants as stage
-use Rattle.lane_model.specs.declared.stages.Sending.{Sending}
 use Rattle.lane_model.specs.declared.stages.TakeStage.TheVariants as take_stage
 use Rattle.lane_model.specs.declared.stages.Turn.{Turn}
 use Rattle.lane_model.specs.declared.stages.Turn.TheVariants as turn
@@ -23,8 +21,8 @@ use Rattle.lane_model.specs.Lanes.{Stepped, has_call, holder}
 use Rattle.lane_model.specs.Links.{Lanes, LinkState, begun_outcome, caller_step, end_of, lanes_of, lanes_step, on_lanes, receive_first, receive_later, send_later}
 use Rattle.lane_model.specs.Soundness.{IsSoundLane, IsSoundTurn, IsUser, SoundLink}
 use Rattle.channel_bus.specs.Sides.{EndState, side_meaning}
-use Rattle.field_laws.specs.Fields.{IsFieldLane, IsFieldLink, IsFieldOutcome, IsFieldReceiving, IsFieldSending, IsFieldTurn, IsFieldWish, IsFieldWork}
-use Rattle.field_laws.proofs.Lanes.{IsFieldStep, receiver_fields, sender_fields, taken_fields}
+use Rattle.field_laws.specs.Fields.{IsFieldLane, IsFieldLink, IsFieldOutcome, IsFieldReceiving, IsFieldSending, IsFieldWish, IsFieldWork}
+use Rattle.field_laws.proofs.Lanes.{receiver_fields, sender_fields, taken_fields}
 
 -- ---- who has a turn
 

@@ -1,5 +1,5 @@
 -- The entries of a resource table that is bytes have their numbers and names within their types.
-use Rattle.std.proofs.Common.{ℕ, ◌+◌, ◌*◌, ◌<◌, ◌^◌, ◌==◌, List, length, take, drop, map, arith}
+use Rattle.std.proofs.Common.{ℕ, ◌+◌, ◌<◌, ◌^◌, ◌==◌, List, length, take, drop, arith}
 use Rattle.std.specs.Prelude.{All, nat_lt}
 use Rattle.std.specs.List.{range_with_len, slice_index_or}
 use Rattle.std.proofs.lemmas.Bool.{cond_both}
@@ -7,9 +7,7 @@ use Rattle.std.proofs.lemmas.List.Elements.{All-map}
 use Rattle.std.proofs.lemmas.List.FromFn.{length-map-range_with_len}
 use Rattle.rp_base.specs.Fields.{number_at}
 use Rattle.resource_table.specs.Entries.{device_at, entries_of, entry_at, entry_count, entry_of_type, name_at, no_ring, ring_count, ring_of, start_of, vring_at, vring_start}
-use Rattle.resource_table.specs.Layout.{Field, field, fw_rsc_hdr}
-use Rattle.resource_table.specs.declared.entries.Entry.{Entry}
-use Rattle.resource_table.specs.declared.entries.Ring.{Ring}
+use Rattle.resource_table.specs.Layout.{field, fw_rsc_hdr}
 use Rattle.field_laws.specs.Fields.{AreBytes, IsChannelName}
 use Rattle.field_laws.specs.FieldTables.{IsFieldDevice, IsFieldEntry, IsFieldRing}
 use Rattle.field_laws.proofs.Bytes.{dropped_bytes, name_short, number_small, taken_bytes, text_bytes, word_small}

@@ -1,17 +1,17 @@
 -- The numbers and the bytes of a core that are within their types (own).
-use Rattle.std.specs.Prelude.{◌≡◌, true, ◌<◌, ◌≤◌, ◌^◌, ℕ, List, length, Option, None, IfSome, All}
-use Rattle.fw_load.specs.declared.faults.LoadFault.{LoadFault}
-use Rattle.fw_load.specs.Faults.{load_fault_index}
-use Rattle.lane_model.specs.declared.calls.Wish.{Wish}
-use Rattle.lane_model.specs.declared.recoveries.ReopenFault.{ReopenFault}
-use Rattle.lane_model.specs.declared.recoveries.ReopenFault.TheVariants as reopen
+use Rattle.std.specs.Prelude.{◌≡◌, true, ◌<◌, ◌≤◌, ◌^◌, ℕ, List, length, None, IfSome, All}
+use Rattle.word_kinds.specs.Spellings.{is_name}
+use Rattle.proc_state.specs.Lives.{CoreLife, is_offline, most}
 use Rattle.memory_pool.specs.declared.blocks.Block.{Block}
 use Rattle.memory_pool.specs.declared.regions.Region.{Region}
 use Rattle.memory_pool.specs.Regions.{memory_len}
-use Rattle.proc_state.specs.Lives.{CoreLife, is_offline, most}
-use Rattle.core_actors.specs.Actors.{ActorsState}
+use Rattle.fw_load.specs.declared.faults.LoadFault.{LoadFault}
+use Rattle.fw_load.specs.Faults.{load_fault_index}
+use Rattle.lane_model.specs.declared.recoveries.ReopenFault.{ReopenFault}
+use Rattle.lane_model.specs.declared.recoveries.ReopenFault.TheVariants as reopen
 use Rattle.core_actors.specs.declared.progress.Driven.{Driven}
 use Rattle.core_actors.specs.declared.progress.Driven.TheVariants as driven
+use Rattle.core_actors.specs.Actors.{ActorsState}
 use Rattle.crash_recover.specs.declared.core_answers.Crash.{Crash}
 use Rattle.crash_recover.specs.declared.core_answers.Crash.TheVariants as crash
 use Rattle.crash_recover.specs.declared.core_answers.Leave.{Leave}
@@ -21,7 +21,6 @@ use Rattle.crash_recover.specs.declared.core_answers.Start.TheVariants as start
 use Rattle.crash_recover.specs.declared.core_faults.CoreFault.{CoreFault}
 use Rattle.crash_recover.specs.declared.core_faults.CoreFault.TheVariants as fault
 use Rattle.crash_recover.specs.Cores.{CoreState, LoadState, blocks_most}
-use Rattle.word_kinds.specs.Spellings.{is_name}
 use Rattle.field_laws.specs.Fields.{AreBytes, IsFieldEnd, IsFieldWish}
 use Rattle.field_laws.specs.FieldBenches.{IsFieldBench}
 

@@ -1,5 +1,5 @@
 -- The numbers and the names of a resource table that are within their types (own).
-use Rattle.std.specs.Prelude.{◌<◌, ◌^◌, ℕ}
+use Rattle.std.specs.Prelude.{◌<◌, ◌^◌}
 use Rattle.resource_table.specs.declared.entries.Entry.{Entry}
 use Rattle.resource_table.specs.declared.entries.Entry.TheVariants as entry
 use Rattle.resource_table.specs.declared.entries.Ring.{Ring}

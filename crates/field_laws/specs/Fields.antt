@@ -1,5 +1,5 @@
 -- The numbers and the bytes of a link that are within their types: bytes of 8 bits, addresses and incarnations of 32, counts of 64 (own).
-use Rattle.std.specs.Prelude.{◌≡◌, ℕ, ◌+◌, ◌<◌, ◌≤◌, ◌^◌, List, length, Option, IfSome, All}
+use Rattle.std.specs.Prelude.{◌≡◌, ℕ, ◌<◌, ◌≤◌, ◌^◌, List, length, IfSome, All}
 use Rattle.rp_base.specs.declared.kinds.BindFault.{BindFault}
 use Rattle.rp_base.specs.declared.kinds.BindFault.TheVariants as bind_fault
 use Rattle.rp_base.specs.declared.kinds.BoundEndpoint.{BoundEndpoint}
@@ -7,7 +7,6 @@ use Rattle.rp_base.specs.declared.kinds.Endpoint.{Endpoint}
 use Rattle.rp_base.specs.declared.kinds.Verdict.{Verdict}
 use Rattle.rp_base.specs.declared.kinds.Verdict.TheVariants as verdict
 use Rattle.rp_base.specs.declared.limits.TheConstants.{ENDPOINTS_MOST}
-use Rattle.endpoint_map.specs.Bindings.{Bindings}
 use Rattle.lane_model.specs.declared.calls.CallEnd.{CallEnd}
 use Rattle.lane_model.specs.declared.calls.CallEnd.TheVariants as end
 use Rattle.lane_model.specs.declared.calls.Outcome.{Outcome}
@@ -23,6 +22,7 @@ use Rattle.lane_model.specs.declared.stages.Work.TheVariants as work
 use Rattle.lane_model.specs.declared.states.LaneState.{LaneState}
 use Rattle.lane_model.specs.Lanes.{message_at}
 use Rattle.lane_model.specs.Links.{LinkState}
+use Rattle.endpoint_map.specs.Bindings.{Bindings}
 use Rattle.name_service.specs.declared.channels.Channel.{Channel}
 use Rattle.channel_bus.specs.Sides.{EndState}
 

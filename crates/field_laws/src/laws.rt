@@ -7,8 +7,8 @@ ghost use Rattle.lane_model.specs.Soundness.{SoundLink};
 ghost use Rattle.channel_bus.specs.Sides.{EndState, side_meaning};
 ghost use Rattle.field_laws.specs.Fields.{IsFieldLink, IsFieldOutcome, IsFieldWish};
 
-/// A step that may be taken keeps the numbers and the bytes of a link within their types, where those of what its caller
-/// wishes are, and what it tells is within them too.
+/// A step keeps the numbers and the bytes of a sound link within their types, where those of what its caller wishes are
+/// within them, and what it tells is within them too.
 pub fn steps_keep_fields()
     ensures kept { (link : LinkState EndState) (caller follows : ℕ) (wished : Option Wish) → SoundLink link
         → IsFieldLink link → IfSome wished IsFieldWish → IsFieldLink (caller_step side_meaning link caller follows wished).state }

@@ -1,5 +1,5 @@
 -- What is known of what a command of a script is about: its names, its bytes and its numbers.
-use Rattle.std.proofs.Common.{ℕ, ◌-◌, ◌<◌, ◌≤◌, ◌^◌, List, [], ◌∷◌, length, arith}
+use Rattle.std.proofs.Common.{ℕ, ◌<◌, ◌≤◌, ◌^◌, List, [], ◌∷◌, length, arith}
 use Rattle.std.specs.Prelude.{All}
 use Rattle.script_lang.specs.declared.commands.Command.{Command}
 use Rattle.script_lang.specs.declared.commands.Command.TheVariants as command
@@ -22,7 +22,6 @@ use Rattle.command_run.specs.declared.acts.NamedAct.TheVariants as under
 use Rattle.command_run.specs.Acts.{line_of}
 use Rattle.run_laws.proofs.RunsReached.{line_fits}
 use Rattle.way_laws.proofs.RunTales.{FitsMaking}
-use Rattle.field_laws.specs.Fields.{AreBytes}
 use Rattle.field_laws.specs.FieldBenches.{IsFieldAct}
 use Rattle.field_laws.proofs.Images.{IsBytesLine, image_small}
 use Rattle.line_laws.proofs.Spelled.{IsName}

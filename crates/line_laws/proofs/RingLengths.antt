@@ -1,8 +1,7 @@
 -- The bytes of a ring are few.
-use Rattle.std.proofs.Common.{◌≡◌, ℕ, ◌+◌, ◌-◌, ◌%◌, ◌≤◌, ◌^◌, ◌==◌, ◌&&◌, Bool, true, false, Option, Some, None, IfSome, length, leb, ◌∙◌, arith}
-use Rattle.std.specs.Prelude.{nat_le, option_map}
+use Rattle.std.proofs.Common.{◌≡◌, ℕ, ◌-◌, ◌%◌, ◌≤◌, ◌^◌, ◌==◌, ◌&&◌, Bool, true, false, length, ◌∙◌, arith}
+use Rattle.std.specs.Prelude.{nat_le}
 use Rattle.std.specs.Int.{is_power_of_two}
-use Rattle.std.specs.Option.{option_and_then}
 use Rattle.std.proofs.lemmas.Bool.{cond_both, leb-true}
 use Rattle.std.proofs.lemmas.List.{length-map}
 use Rattle.std.proofs.Math.Nat.{mod-le}
@@ -11,19 +10,19 @@ use Rattle.rp_base.specs.Limits.{ring_capacity}
 use Rattle.resource_table.specs.declared.entries.Ring.{Ring}
 use Rattle.resource_table.specs.Tables.{IsSoundRing}
 use Rattle.resource_table.proofs.Sound.{both_true}
+use Rattle.fw_load.specs.declared.rings.RingPair.{RingPair}
+use Rattle.fw_load.specs.Rings.{IsSoundPair}
 use Rattle.vring_layout.specs.declared.words.RingWords.{RingWords}
 use Rattle.vring_layout.specs.Rings.{ring_layout}
 use Rattle.vring_layout.specs.Sizes.{available_end}
 use Rattle.vring_layout.proofs.Lengths.{length-ring_layout}
+use Rattle.lane_laws.specs.SoundRingLinks.{HasSoundRings}
 use Rattle.ring_core.specs.declared.states.RingState.{RingState}
 use Rattle.ring_core.specs.declared.states.Rings.{Rings}
 use Rattle.ring_core.specs.RingWords.{device_sends, ring_of, words_of}
 use Rattle.ring_core.specs.SoundRings.{IsSoundRings}
-use Rattle.fw_load.specs.declared.rings.RingPair.{RingPair}
-use Rattle.fw_load.specs.Rings.{IsSoundPair}
 use Rattle.channel_bus.specs.Sides.{EndState}
-use Rattle.lane_laws.specs.SoundRingLinks.{HasSoundRings}
-use Rattle.link_bench.specs.Benches.{BenchState, RingsState}
+use Rattle.link_bench.specs.Benches.{RingsState}
 use Rattle.link_bench.specs.BenchRings.{lane_base, lane_bytes, lane_words}
 use Rattle.crash_recover.specs.CoreRings.{pair_bytes, ring_of_lane}
 

@@ -1,13 +1,13 @@
 -- What the grammar of scripts says of the names and the bytes of a command: names are spelled as names, and bytes are bytes.
-use Rattle.std.proofs.Common.{◌≡◌, ℕ, suc, ◌+◌, ◌*◌, ◌<◌, ◌≤◌, ◌==◌, ◌&&◌, ◌||◌, Bool, true, false, not, cond, length, List, [], ◌∷◌, ◌++◌, drop, replicate, Option, Some, None, IfSome, Result, Ok, Err, inl, inr, refl, sym, ap, subst, ◌∙◌, bytes_eq, codes, arith}
 use lib.Dec.{ltb as nat_lt}
-use Rattle.std.specs.Prelude.{All, find, nat_le, option_map, unwrap_or}
+use Rattle.std.proofs.Common.{◌≡◌, ℕ, suc, ◌+◌, ◌<◌, ◌≤◌, ◌==◌, ◌&&◌, ◌||◌, Bool, true, false, not, cond, length, List, [], ◌∷◌, ◌++◌, drop, Option, Some, None, IfSome, Result, Ok, Err, inl, inr, refl, sym, ap, subst, ◌∙◌, bytes_eq, codes, arith}
+use Rattle.std.specs.Prelude.{All, nat_le, option_map, unwrap_or}
 use Rattle.std.specs.List.{list_all}
 use Rattle.std.specs.Result.{IfOk}
 use Rattle.std.proofs.lemmas.Bool.{cases_lt, cond_both, ltb-false}
 use Rattle.std.proofs.lemmas.Bool.Decides.{nat_tests}
 use Rattle.std.proofs.lemmas.List.{drop_more, drop_all, length-append}
-use Rattle.std.proofs.lemmas.List.Elements.{All-append, All-cons, All-from_recursion, All-nil, All-push, All-replicate}
+use Rattle.std.proofs.lemmas.List.Elements.{All-from_recursion, All-nil, All-push, All-replicate}
 use Rattle.rp_base.specs.declared.limits.TheConstants.{SCRIPT_MOST, SCRIPT_LINES_MOST}
 use Rattle.word_kinds.specs.declared.causes.Cause.{Cause}
 use Rattle.word_kinds.specs.declared.causes.Cause.TheVariants as cause
@@ -15,13 +15,13 @@ use Rattle.word_kinds.specs.declared.kinds.Kind.{Kind}
 use Rattle.word_kinds.specs.declared.kinds.Kind.TheVariants as kind
 use Rattle.word_kinds.specs.Kinds.{is_of, are_of}
 use Rattle.word_kinds.specs.Payloads.{byte_of, bytes_in, bytes_of_pairs, is_repeated, repeated_bytes}
-use Rattle.word_kinds.specs.Places.{bytes_at, name_at, word_at}
+use Rattle.word_kinds.specs.Places.{name_at, word_at}
 use Rattle.word_kinds.specs.Spellings.{decimal_of, hex_value, is_digit, is_letter, is_name, is_name_byte, words_of}
 use Rattle.script_lang.specs.declared.commands.Command.{Command}
 use Rattle.script_lang.specs.declared.recipes.RecipeLine.{RecipeLine}
 use Rattle.script_lang.specs.CallForms.{begin_command, begin_kinds, call_form_named, call_forms, call_keyword}
 use Rattle.script_lang.specs.Forms.{command_of, form_named, keyword, kinds, plain_forms}
-use Rattle.script_lang.specs.Lines.{begin_form, fitting_form, fitting_line, form_of, form_of_line, form_or, inside_cause, is_printable, is_skipped, misfit, outside_cause, recipe_form_of_line, unless_misfit}
+use Rattle.script_lang.specs.Lines.{begin_form, form_of, form_of_line, form_or, inside_cause, is_printable, is_skipped, misfit, outside_cause, recipe_form_of_line, unless_misfit}
 use Rattle.script_lang.specs.Recipes.{context_after, is_allowed, recipe_form_named, recipe_forms, recipe_keyword, recipe_kinds, recipe_line}
 use Rattle.script_lang.specs.Steps.{OpenImage, Step, added_step, closed_step, command_step, end_kinds, image_kinds, line_step, opened_step, words_step}
 use Rattle.script_lang.specs.Grammar.{IsScript, Refusal, at_end, bad_line, commands_from, image_behind, lines_of, onto, script_of, step_and_more}

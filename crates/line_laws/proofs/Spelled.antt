@@ -1,12 +1,12 @@
 -- Events whose words are good, each word by itself.
-use Rattle.std.proofs.Common.{◌≡◌, ℕ, ◌<◌, true, List, [], ◌∷◌, map, sym, ap, ◌∙◌}
+use Rattle.std.proofs.Common.{◌≡◌, ℕ, true, List, [], ◌∷◌, map, sym, ap, ◌∙◌}
 use Rattle.std.specs.Prelude.{All}
 use Rattle.std.proofs.lemmas.List.Elements.{All-nil, All-cons}
-use Rattle.script_lang.proofs.Ranges.{both}
 use Rattle.word_kinds.specs.Spellings.{is_name}
-use Rattle.word_kinds.specs.Texts.{Word, Fixed, Name, Number, Digits, Offset, Bytes, Row, Escaped, Trace, Lane, Bound, Dotted, Side, Open, Service, State, Driver, OnOff}
+use Rattle.word_kinds.specs.Texts.{Word, Fixed, Name}
 use Rattle.word_kinds.specs.Readings.{IsGood, is_clean, kind_of}
 use Rattle.word_kinds.specs.Rows.{AreGood, are_fixed}
+use Rattle.script_lang.proofs.Ranges.{both}
 use Rattle.journal.specs.declared.events.Event.{Event}
 use Rattle.journal.specs.Lines.{words_of}
 use Rattle.journal.specs.Reading.{HasEra, IsWritten}

@@ -1,5 +1,5 @@
 -- What is told of a link is spelled as lines have it.
-use Rattle.std.proofs.Common.{◌≡◌, ℕ, zero, suc, ◌+◌, ◌-◌, ◌*◌, ◌/◌, ◌<◌, ◌≤◌, ◌^◌, ◌==◌, List, [], ◌∷◌, ◌++◌, length, take, drop, Option, Some, None, IfSome, refl, arith}
+use Rattle.std.proofs.Common.{◌≡◌, ℕ, zero, suc, ◌+◌, ◌*◌, ◌<◌, ◌≤◌, ◌^◌, ◌==◌, List, [], ◌∷◌, length, take, drop, Option, Some, None, IfSome, refl, arith}
 use Rattle.std.specs.Prelude.{All}
 use Rattle.std.specs.List.{list_all, slice_index_or}
 use Rattle.std.proofs.lemmas.Bool.{cond_both}
@@ -25,8 +25,10 @@ use Rattle.lane_model.specs.Lanes.{holder, is_live_in}
 use Rattle.lane_model.specs.Links.{LinkState, end_of}
 use Rattle.lane_model.specs.Recoveries.{unclosed_by, unopened_by}
 use Rattle.lane_model.specs.Soundness.{IsSoundLane, SoundLink}
+use Rattle.lane_laws.specs.SoundRingLinks.{HasSoundRings}
 use Rattle.name_service.specs.declared.channels.Channel.{Channel}
 use Rattle.channel_bus.specs.Sides.{EndState}
+use Rattle.journal.specs.declared.events.Event.TheVariants as event
 use Rattle.link_bench.specs.declared.acts.ActAnswer.{ActAnswer}
 use Rattle.link_bench.specs.declared.acts.ActAnswer.TheVariants as answer
 use Rattle.link_bench.specs.declared.bench_crashes.Reclaim.{Reclaim}
@@ -37,14 +39,14 @@ use Rattle.link_bench.specs.declared.benches.Reach.{Reach}
 use Rattle.link_bench.specs.declared.benches.Reach.TheVariants as reach
 use Rattle.link_bench.specs.declared.turns.TurnEnd.{TurnEnd}
 use Rattle.link_bench.specs.declared.turns.TurnEnd.TheVariants as turn_end
-use Rattle.link_bench.specs.Acts.{IsFitAct, link_act}
+use Rattle.link_bench.specs.Acts.{link_act}
 use Rattle.link_bench.specs.Benches.{BenchState, taken_on}
 use Rattle.link_bench.specs.BenchCrashes.{after_close}
 use Rattle.link_bench.specs.BenchRings.{first_holder, lane_base, lane_bytes, lane_words, turn_holder}
 use Rattle.link_bench.specs.Watchers.{nobody_sees}
-use Rattle.lane_laws.specs.SoundRingLinks.{HasSoundRings}
 use Rattle.core_laws.specs.BenchMoves.{IsShortLink}
 use Rattle.core_laws.proofs.KeptCrashes.{reached_sound}
+<<<<<<< HEAD
 use Rattle.journal.specs.declared.events.Event.TheVariants as event
 use Rattle.command_run.specs.declared.acts.LinkView.{LinkView}
 use Rattle.command_run.specs.declared.acts.LinkView.TheVariants as view
@@ -59,6 +61,21 @@ use Rattle.command_run.specs.LinkCommands.{lane_event, link_effect, manager_effe
 use Rattle.command_run.specs.NamedLinks.{NamedLink}
 use Rattle.command_run.specs.Recoveries.{close_effect, close_event, opened_effect, reopen_effect, reopen_events}
 use Rattle.command_run.specs.RingDumps.{bench_ring_events, dump_rows, ring_events, row_count, row_events, shown_ring}
+=======
+use Rattle.command_run.specs.declared.acts.LinkView.{LinkView}
+use Rattle.command_run.specs.declared.acts.LinkView.TheVariants as view
+use Rattle.command_run.specs.declared.acts.ManagerAct.{ManagerAct}
+use Rattle.command_run.specs.declared.acts.ManagerAct.TheVariants as manager
+use Rattle.command_run.specs.declared.acts.NamedAct.{NamedAct}
+use Rattle.command_run.specs.declared.acts.NamedAct.TheVariants as under
+use Rattle.command_run.specs.CallEvents.{end_event, fault_event, reach_events, refused_event, took_event}
+use Rattle.command_run.specs.ChannelLists.{channel_event, channels_events, listed_channels}
+use Rattle.command_run.specs.Effects.{Effect, answer_events, reclaim_event, tells, turn_events}
+use Rattle.command_run.specs.LinkCommands.{lane_event, link_effect, manager_effect, view_events}
+use Rattle.command_run.specs.NamedLinks.{NamedLink}
+use Rattle.command_run.specs.Recoveries.{close_effect, close_event, opened_effect, reopen_effect, reopen_events}
+use Rattle.command_run.specs.RingDumps.{bench_ring_events, dump_rows, ring_events, row_count, row_events, shown_ring}
+>>>>>>> 294919009c3b7d3094b4975f1b786c4cc8d2974b
 use Rattle.field_laws.specs.Fields.{AreBytes, IsFieldChannel, IsFieldEnd, IsFieldFault, IsFieldLane, IsFieldLink, IsFieldVerdict}
 use Rattle.field_laws.specs.FieldBenches.{IsFieldActed, IsFieldBench, IsFieldBenchFault, IsFieldReach, IsFieldReclaim, IsFieldTurnEnd}
 use Rattle.field_laws.specs.FieldCores.{IsFieldReopen}

@@ -1,49 +1,66 @@
 -- What is told of a core is spelled as lines have it.
-use Rattle.std.proofs.Common.{sym, subst, ◌≡◌, ℕ, zero, suc, ◌+◌, ◌-◌, ◌<◌, ◌≤◌, ◌^◌, ◌==◌, not, Bool, true, false, cond, List, [], ◌∷◌, ◌++◌, length, drop, slice_range, Option, Some, None, IfSome, Result, Ok, Err, unwrap_or, arith, ap, is_some, leb, refl, take}
+use Rattle.std.proofs.Common.{sym, subst, ◌≡◌, ℕ, zero, suc, ◌+◌, ◌<◌, ◌≤◌, ◌^◌, ◌==◌, Bool, true, false, cond, List, [], ◌∷◌, ◌++◌, length, Option, Some, None, IfSome, Result, Ok, Err, unwrap_or, arith, ap, is_some, leb, refl, take}
 use Rattle.std.specs.Prelude.{All, bytes_eq, find, nat_le, nat_lt, option_map, slice_get}
 use Rattle.std.specs.List.{slice_index_or}
 use Rattle.std.specs.Option.{option_and_then, option_or}
+use Rattle.std.specs.Result.{IfOk}
 use Rattle.std.proofs.lemmas.Bool.{cond_both, leb-false, true≢false}
-use Rattle.std.proofs.lemmas.List.{length-take}
-use Rattle.std.proofs.lemmas.List.Elements.{All-append, All-cons, All-map, All-nil, All-same, All-head, All-tail, All-take}
-use Rattle.std.proofs.lemmas.List.Sums.{take_while-cons}
-use Rattle.std.proofs.Math.Nat.{min-le_left}
+use Rattle.std.proofs.lemmas.List.Elements.{All-append, All-cons, All-map, All-nil, All-head, All-tail, All-take}
 use Rattle.rp_base.specs.declared.limits.TheConstants.{STEPS_MOST, IMAGE_MOST}
 use Rattle.rp_base.specs.declared.kinds.CrashKind.{CrashKind}
 use Rattle.rp_base.specs.declared.kinds.CrashKind.TheVariants as crash_kind
 use Rattle.rp_base.specs.declared.kinds.DriverKind.{DriverKind}
-use Rattle.rp_base.specs.Texts.{text_before_zero}
-use Rattle.rp_base.proofs.Zeros.{is_text}
+use Rattle.rp_base.specs.declared.kinds.Switch.{Switch}
+use Rattle.rp_base.specs.Limits.{ring_capacity}
 use Rattle.rp_io.specs.declared.faults.FetchFault.TheVariants as fetch
-use Rattle.memory_pool.specs.declared.regions.Region.{Region}
-use Rattle.fw_load.specs.Memory.{memory_at}
-use Rattle.fw_load.specs.declared.faults.LoadFault.{LoadFault}
-use Rattle.fw_load.specs.declared.faults.LoadFault.TheVariants as load
+use Rattle.proc_state.specs.declared.answers.LifeFault.{LifeFault}
+use Rattle.proc_state.specs.declared.answers.LifeFault.TheVariants as life
+use Rattle.proc_state.specs.Lives.{is_up, is_offline}
 use Rattle.elf_image.specs.declared.faults.ElfFault.{ElfFault}
 use Rattle.elf_image.specs.declared.faults.ElfFault.TheVariants as elf_fault
 use Rattle.elf_image.specs.Faults as elf
 use Rattle.resource_table.specs.declared.faults.TableFault.{TableFault}
 use Rattle.resource_table.specs.declared.faults.TableFault.TheVariants as table_fault
+use Rattle.resource_table.specs.declared.entries.Entry.{Entry}
+use Rattle.resource_table.specs.declared.entries.Entry.TheVariants as table_entry
+use Rattle.resource_table.specs.declared.entries.Ring.{Ring}
+use Rattle.resource_table.specs.declared.entries.Vdev.{Vdev}
 use Rattle.resource_table.specs.Faults as table
+use Rattle.resource_table.specs.Entries.{entries_of}
+use Rattle.memory_pool.specs.declared.regions.Region.{Region}
 use Rattle.memory_pool.specs.declared.faults.PlaceFault.{PlaceFault}
 use Rattle.memory_pool.specs.declared.faults.PlaceFault.TheVariants as place_fault
 use Rattle.memory_pool.specs.declared.faults.RegionFault.{RegionFault}
 use Rattle.memory_pool.specs.declared.faults.RegionFault.TheVariants as region_fault
+use Rattle.memory_pool.specs.declared.TheConstants.{REGIONS_MOST}
 use Rattle.memory_pool.specs.Faults.{place_fault_number, region_fault_number}
+use Rattle.memory_pool.specs.Regions.{memory_len, region_fault}
+use Rattle.memory_pool.specs.Soundness.{SoundRegions}
+use Rattle.fw_load.specs.declared.faults.LoadFault.{LoadFault}
+use Rattle.fw_load.specs.declared.faults.LoadFault.TheVariants as load
+use Rattle.fw_load.specs.declared.rings.RingPair.{RingPair}
+use Rattle.fw_load.specs.declared.traces.TraceAt.{TraceAt}
+use Rattle.fw_load.specs.Memory.{memory_at}
+use Rattle.fw_load.specs.Faults.{load_fault_index, load_fault_number}
+use Rattle.fw_load.specs.Rings.{IsSoundPair}
 use Rattle.remote_code.specs.declared.faults.WorkerFault.{WorkerFault}
 use Rattle.remote_code.specs.declared.faults.WorkerFault.TheVariants as worker_fault
 use Rattle.remote_code.specs.Faults as worker
-use Rattle.fw_load.specs.Faults.{load_fault_index, load_fault_number}
-use Rattle.proc_state.specs.declared.answers.LifeFault.{LifeFault}
-use Rattle.proc_state.specs.declared.answers.LifeFault.TheVariants as life
-use Rattle.proc_state.specs.Lives.{is_up, is_offline}
 use Rattle.lane_model.specs.declared.calls.CallEnd.{CallEnd}
+use Rattle.lane_laws.specs.SoundRingLinks.{HasSoundRings}
+use Rattle.journal.specs.declared.events.Event.{Event}
+use Rattle.journal.specs.declared.events.Event.TheVariants as event
+use Rattle.journal.specs.declared.tables.TableLine.{TableLine}
+use Rattle.journal.specs.declared.tables.TableLine.TheVariants as entry
+use Rattle.journal.specs.TableLines.{table_words}
+use Rattle.image_report.specs.TableRows.{table_rows, device_rows, entry_rows, is_available, ring_row, rows_from, trace_row, traces_behind}
 use Rattle.link_bench.specs.declared.acts.LinkAct.{LinkAct}
 use Rattle.link_bench.specs.Acts.{IsFitAct}
 use Rattle.link_bench.specs.Benches.{BenchState}
-use Rattle.core_actors.specs.ActorEnds.{actors_after_end}
+use Rattle.link_bench.specs.BenchRings.{lane_base, lane_words, turn_holder}
 use Rattle.core_actors.specs.declared.progress.Driven.{Driven}
 use Rattle.core_actors.specs.declared.progress.Driven.TheVariants as driven
+use Rattle.core_actors.specs.ActorEnds.{actors_after_end}
 use Rattle.crash_recover.specs.declared.core_answers.Crash.{Crash}
 use Rattle.crash_recover.specs.declared.core_answers.Crash.TheVariants as crash
 use Rattle.crash_recover.specs.declared.core_answers.Leave.{Leave}
@@ -54,6 +71,7 @@ use Rattle.crash_recover.specs.declared.core_faults.AddFault.{AddFault}
 use Rattle.crash_recover.specs.declared.core_faults.AddFault.TheVariants as add
 use Rattle.crash_recover.specs.declared.core_faults.CoreFault.{CoreFault}
 use Rattle.crash_recover.specs.declared.core_faults.CoreFault.TheVariants as fault
+use Rattle.crash_recover.specs.declared.core_faults.TheConstants.{CALLER_OUT, RINGS_CHANGED}
 use Rattle.crash_recover.specs.CoreActs.{act_on_core}
 use Rattle.crash_recover.specs.CoreBoots.{boot_of, handover_of}
 use Rattle.crash_recover.specs.CoreCrashes.{report_of}
@@ -65,6 +83,7 @@ use Rattle.crash_recover.specs.Drives.{drive_step, is_idle}
 use Rattle.core_laws.specs.BenchMoves.{IsReachedBench, IsReachedCore}
 use Rattle.core_laws.proofs.CoreActs.{acted_reached}
 use Rattle.core_laws.proofs.CoreMoves.{core_driven}
+<<<<<<< HEAD
 use Rattle.image_report.specs.TableRows.{table_rows, device_rows, entry_rows, is_available, ring_row, rows_from, trace_row, traces_behind}
 use Rattle.journal.specs.declared.events.Event.{Event}
 use Rattle.journal.specs.declared.events.Event.TheVariants as event
@@ -86,31 +105,31 @@ use Rattle.command_run.specs.CoreViews.{loaded_table_effect, mem_effect, shown_m
 use Rattle.command_run.specs.NamedCores.{NamedCoreState}
 use Rattle.command_run.specs.NamedImages.{ImageState}
 use Rattle.command_run.specs.Stores.{Answer}
-use Rattle.way_laws.proofs.CoreRungs.{IsRung, IsRungCore}
-use Rattle.std.specs.Result.{IfOk}
-use Rattle.rp_base.specs.declared.kinds.Switch.{Switch}
-use Rattle.memory_pool.specs.declared.TheConstants.{REGIONS_MOST}
-use Rattle.memory_pool.specs.Regions.{memory_len, region_fault}
-use Rattle.memory_pool.specs.Soundness.{SoundRegions}
-use Rattle.field_laws.proofs.Rooms.{range_in, slice_some}
-use Rattle.resource_table.specs.Entries.{entries_of}
-use Rattle.resource_table.specs.declared.entries.Entry.{Entry}
-use Rattle.resource_table.specs.declared.entries.Entry.TheVariants as table_entry
-use Rattle.resource_table.specs.declared.entries.Ring.{Ring}
-use Rattle.resource_table.specs.declared.entries.Vdev.{Vdev}
-use Rattle.lane_laws.specs.SoundRingLinks.{HasSoundRings}
-use Rattle.fw_load.specs.Rings.{IsSoundPair}
-use Rattle.fw_load.specs.declared.rings.RingPair.{RingPair}
-use Rattle.fw_load.specs.declared.traces.TraceAt.{TraceAt}
-use Rattle.journal.specs.TableLines.{table_words}
-use Rattle.link_bench.specs.BenchRings.{lane_base, lane_words, turn_holder}
-use Rattle.rp_base.specs.Limits.{ring_capacity}
-use Rattle.crash_recover.specs.declared.core_faults.TheConstants.{CALLER_OUT, RINGS_CHANGED}
+=======
 use Rattle.core_laws.proofs.KeptCrashes.{reached_sound}
+use Rattle.command_run.specs.declared.acts.CoreAct.{CoreAct}
+use Rattle.command_run.specs.declared.acts.CoreAct.TheVariants as act
+use Rattle.command_run.specs.declared.acts.LinkView.{LinkView}
+use Rattle.command_run.specs.declared.acts.LinkView.TheVariants as view
+use Rattle.command_run.specs.declared.acts.NamedAct.{NamedAct}
+use Rattle.command_run.specs.declared.acts.NamedAct.TheVariants as under
+use Rattle.command_run.specs.CallEvents.{end_event}
+use Rattle.command_run.specs.CoreCommands.{core_act_effect, core_effect}
+use Rattle.command_run.specs.CoreDrives.{actor_end_events, crash_events, drive_effect, drive_steps, driven_events, is_crashed, rest_event, rests_or, step_events, step_then}
+use Rattle.command_run.specs.CoreEffects.{CoreEffect, add_fault_event, added_effect, core_tells, declared_effect, driver_effect, driver_fault_event, region_effect, recovery_effect, state_effect}
+use Rattle.command_run.specs.CoreLinks.{core_link_effect, core_ring_effect, core_shown_effect, core_turn_holder, core_view_effect, found_ring_effect, found_view_effect}
+use Rattle.command_run.specs.CoreLives.{boot_effect, booted_image, core_fault_events, core_stops, crash_effect, detach_effect, fault_at, found_image, handover_effect, leave_events, life_fault_event, load_fault_event, may_step, recover_effect, report_events, shutdown_effect, start_event, start_events, found_or_told, image_bytes}
+use Rattle.command_run.specs.CoreViews.{loaded_table_effect, mem_effect, shown_memory_event, shown_trace_event, table_effect, table_event, trace_bytes, trace_effect}
+use Rattle.command_run.specs.NamedCores.{NamedCoreState}
+use Rattle.command_run.specs.NamedImages.{ImageState}
+use Rattle.command_run.specs.Stores.{Answer}
+>>>>>>> 294919009c3b7d3094b4975f1b786c4cc8d2974b
+use Rattle.way_laws.proofs.CoreRungs.{IsRung, IsRungCore}
 use Rattle.field_laws.specs.Fields.{AreBytes, IsFieldEnd}
 use Rattle.field_laws.specs.FieldBenches.{IsFieldAct, IsFieldBench}
 use Rattle.field_laws.specs.FieldCores.{IsFieldCore, IsFieldCoreFault, IsFieldCrash, IsFieldDriven, IsFieldLeave, IsFieldLoad, IsFieldPlaced, IsFieldStart}
 use Rattle.field_laws.specs.FieldTables.{IsFieldDevice, IsFieldEntry, IsFieldRing}
+use Rattle.field_laws.proofs.Rooms.{range_in, slice_some}
 use Rattle.field_laws.proofs.Bytes.{range_bytes, text_bytes}
 use Rattle.field_laws.proofs.Cores.{IsFieldResult, boot_fields, detach_fields, handover_fields, recovery_fields, report_fields, shutdown_fields}
 use Rattle.field_laws.proofs.DumpSizes.{loaded_short}

@@ -1,15 +1,13 @@
 -- The events of a run are spelled as lines have them, and so each is read back.
-use Rattle.std.proofs.Common.{◌≡◌, ℕ, zero, suc, ◌<◌, ◌≤◌, ◌^◌, Bool, false, List, [], ◌∷◌, ◌++◌, length, Option, Some, None, IfSome, Result, Ok, Err, slice_get, refl, arith}
+use Rattle.std.proofs.Common.{◌≡◌, ℕ, suc, ◌<◌, ◌^◌, Bool, false, List, [], ◌∷◌, length, Option, Some, None, IfSome, Result, Ok, Err, slice_get, refl, arith}
 use Rattle.std.specs.Prelude.{All, nat_le, nat_lt}
 use Rattle.std.specs.Result.{IfOk}
-use Rattle.std.proofs.lemmas.Bool.{cond_both, ltb-false}
+use Rattle.std.proofs.lemmas.Bool.{cond_both}
 use Rattle.std.proofs.lemmas.List.Elements.{All-append, All-nil, All-push, All-set, All-weaker}
 use Rattle.rp_base.specs.declared.limits.TheConstants.{IMAGE_MOST}
 use Rattle.rp_base.specs.declared.kinds.End.TheVariants as side
-use Rattle.rp_base.specs.declared.kinds.LifeState.{LifeState}
-use Rattle.rp_base.specs.declared.kinds.LifeState.TheVariants.{Crashed}
 use Rattle.rp_base.specs.declared.kinds.Switch.{Switch}
-use Rattle.rp_io.specs.declared.faults.FetchFault.TheVariants as fetch
+use Rattle.memory_pool.specs.Soundness.{SoundRegions}
 use Rattle.lane_model.specs.declared.calls.LinkConfig.{LinkConfig}
 use Rattle.script_lang.specs.declared.commands.Command.{Command}
 use Rattle.script_lang.specs.declared.commands.RegionSet.{RegionSet}
@@ -17,7 +15,9 @@ use Rattle.script_lang.specs.declared.recipes.RecipeLine.{RecipeLine}
 use Rattle.script_lang.specs.Grammar.{IsScript}
 use Rattle.script_lang.specs.Runnable.{AreRunnable, IsBook, IsRunnable}
 use Rattle.script_lang.proofs.Runnable.{are_runnable}
-use Rattle.memory_pool.specs.Soundness.{SoundRegions}
+use Rattle.journal.specs.declared.events.Event.{Event}
+use Rattle.journal.specs.declared.events.Event.TheVariants as event
+use Rattle.journal.specs.Reading.{IsWritten}
 use Rattle.image_maker.specs.Images.{image_of}
 use Rattle.core_dump.specs.Dumps.{dump_of}
 use Rattle.link_bench.specs.Acts.{IsFitAct}
@@ -25,6 +25,7 @@ use Rattle.link_bench.specs.Benches.{BenchState, new_bench_of}
 use Rattle.crash_recover.specs.CoreParts.{core_parts}
 use Rattle.crash_recover.specs.Cores.{CoreState, LoadState}
 use Rattle.core_laws.specs.BenchMoves.{IsReachedBench, IsReachedCore}
+<<<<<<< HEAD
 use Rattle.journal.specs.Reading.{IsWritten}
 use Rattle.journal.specs.declared.events.Event.{Event}
 use Rattle.journal.specs.declared.events.Event.TheVariants as event
@@ -43,6 +44,23 @@ use Rattle.command_run.specs.NamedImages.{ImageState}
 use Rattle.command_run.specs.NamedLinks.{NamedLink}
 use Rattle.command_run.specs.Runs.{ObjectsState, Run, RunEffect, RunState, asked_name, core_located_effect, core_made_effect, core_named, core_place, dump_answer, dump_effect, dumped_effect, effect_of, find_core, found_core_effect, found_effect, has_image, image_effect, is_full, line_effect, located_effect, made_effect, making_effect, name_effect, new_end, new_run, place_of, quiet_effect, regions_of, run_from, run_of, run_on, run_tells, run_told, unnamed_effect, with_image, without_link_effect}
 use Rattle.command_run.specs.Stores.{Answer, Shelf, Told, answer_for, later_told, told_answer}
+=======
+use Rattle.command_run.specs.declared.acts.Line.{Line}
+use Rattle.command_run.specs.declared.acts.Line.TheVariants as line
+use Rattle.command_run.specs.declared.acts.Making.{Making}
+use Rattle.command_run.specs.declared.acts.Making.TheVariants as making
+use Rattle.command_run.specs.declared.acts.NamedAct.{NamedAct}
+use Rattle.command_run.specs.declared.acts.NamedAct.TheVariants as under
+use Rattle.command_run.specs.declared.dumps.TheConstants.{DUMPS_MOST}
+use Rattle.command_run.specs.declared.stops.Stop.{Stop}
+use Rattle.command_run.specs.Acts.{line_of}
+use Rattle.command_run.specs.Dumps.{bytes_answer, core_answer, crashed_load, kept_dumps, load_answer}
+use Rattle.command_run.specs.NamedCores.{NamedCoreState}
+use Rattle.command_run.specs.NamedImages.{ImageState}
+use Rattle.command_run.specs.NamedLinks.{NamedLink}
+use Rattle.command_run.specs.Runs.{ObjectsState, Run, RunEffect, RunState, asked_name, core_located_effect, core_made_effect, core_named, core_place, dump_answer, dump_effect, dumped_effect, effect_of, find_core, found_core_effect, found_effect, has_image, image_effect, is_full, line_effect, located_effect, made_effect, making_effect, name_effect, new_end, new_run, place_of, quiet_effect, regions_of, run_from, run_of, run_on, run_tells, run_told, unnamed_effect, with_image, without_link_effect}
+use Rattle.command_run.specs.Stores.{Answer, Shelf, Told, later_told, told_answer}
+>>>>>>> 294919009c3b7d3094b4975f1b786c4cc8d2974b
 use Rattle.run_laws.specs.Reached.{AreReached}
 use Rattle.run_laws.proofs.CoreWalks.{FitsNamed}
 use Rattle.run_laws.proofs.RunWalks.{item_at}
@@ -54,14 +72,13 @@ use Rattle.way_laws.proofs.LinkTales.{link_tale, made_tale}
 use Rattle.way_laws.proofs.RunTales.{FitsMaking}
 use Rattle.field_laws.specs.Fields.{AreBytes}
 use Rattle.field_laws.specs.FieldBenches.{IsFieldBench}
-use Rattle.field_laws.specs.FieldCores.{IsFieldCore, IsFieldLoad}
-use Rattle.field_laws.proofs.Acts.{HoldsBench}
+use Rattle.field_laws.specs.FieldCores.{IsFieldCore}
 use Rattle.field_laws.proofs.Benches.{new_fields}
 use Rattle.field_laws.proofs.Cores.{new_core_fields}
 use Rattle.field_laws.proofs.DumpSizes.{dump_small}
 use Rattle.field_laws.proofs.Images.{IsBytesLine, dump_are, image_are}
 use Rattle.field_laws.proofs.Sides.{find_has, fresh_fields}
-use Rattle.line_laws.specs.ReadLines.{TellsBytes}
+use Rattle.line_laws.specs.ByteStores.{TellsBytes}
 use Rattle.line_laws.proofs.Known.{AreKnown, IsKnownAct, IsKnownLine, IsKnownMaking, are_known}
 use Rattle.line_laws.proofs.Spelled.{IsName, IsSpelled, none, one, read_back}
 use Rattle.line_laws.proofs.SpelledCalls.{link_spelled}

@@ -1,1 +1,1 @@
-pub mod ReadLines
+pub mod ByteStores

@@ -1,14 +1,26 @@
 //! Laws of the lines that a run tells. Each is the contract of an empty function, and speaks of definitions alone.
 
-ghost use Rattle.std.specs.Prelude.{List, All};
+ghost use Rattle.std.specs.Prelude.{◌≡◌, List, All};
 ghost use Rattle.script_lang.specs.declared.commands.Command.{Command};
 ghost use Rattle.script_lang.specs.Grammar.{IsScript};
+ghost use Rattle.journal.specs.declared.events.Event.{Event};
+ghost use Rattle.journal.specs.Lines.{line};
 ghost use Rattle.journal.specs.Reading.{IsWritten};
+<<<<<<< HEAD
 ghost use Rattle.command_run.specs.Stores.{Told};
 ghost use Rattle.command_run.specs.Runs.{run_of};
 ghost use Rattle.line_laws.specs.ReadLines.{TellsBytes};
+=======
+ghost use Rattle.command_run.specs.Stores.{Told};
+ghost use Rattle.command_run.specs.Runs.{run_of};
+ghost use Rattle.line_laws.specs.ByteStores.{TellsBytes};
+>>>>>>> 294919009c3b7d3094b4975f1b786c4cc8d2974b
 
-/// Each event of the run of a script, over a store whose images are bytes, is one that `read_line` reads back from its line.
+/// Each event of the run of a script, over a store whose images are bytes, is one that `read_line` reads back from its line,
+/// and no other such event has that line.
 pub fn lines_read_back()
-    ensures { (told : Told) (commands : List Command) → TellsBytes told → IsScript commands → All IsWritten (run_of told commands).events }
+    ensures written { (told : Told) (commands : List Command) → TellsBytes told → IsScript commands
+        → All IsWritten (run_of told commands).events }
+    ensures alone { (told : Told) (commands : List Command) → TellsBytes told → IsScript commands
+        → All (λ event. (other : Event) → IsWritten other → line other ≡ line event → other ≡ event) (run_of told commands).events }
 {}

@@ -1,4 +1,4 @@
-// Laws of the lines of runs: each event of a run is read back from its line, where its fields are within their types.
+// Laws of the lines of runs: each event of a run is read back from its line.
 #![tactic(auto)]
 
 mod laws;
