@@ -83,29 +83,6 @@ use Rattle.crash_recover.specs.Drives.{drive_step, is_idle}
 use Rattle.core_laws.specs.BenchMoves.{IsReachedBench, IsReachedCore}
 use Rattle.core_laws.proofs.CoreActs.{acted_reached}
 use Rattle.core_laws.proofs.CoreMoves.{core_driven}
-<<<<<<< HEAD
-use Rattle.image_report.specs.TableRows.{table_rows, device_rows, entry_rows, is_available, ring_row, rows_from, trace_row, traces_behind}
-use Rattle.journal.specs.declared.events.Event.{Event}
-use Rattle.journal.specs.declared.events.Event.TheVariants as event
-use Rattle.journal.specs.declared.tables.TableLine.{TableLine}
-use Rattle.journal.specs.declared.tables.TableLine.TheVariants as entry
-use Rattle.command_run.specs.declared.acts.CoreAct.{CoreAct}
-use Rattle.command_run.specs.declared.acts.CoreAct.TheVariants as act
-use Rattle.command_run.specs.declared.acts.LinkView.{LinkView}
-use Rattle.command_run.specs.declared.acts.LinkView.TheVariants as view
-use Rattle.command_run.specs.declared.acts.NamedAct.{NamedAct}
-use Rattle.command_run.specs.declared.acts.NamedAct.TheVariants as under
-use Rattle.command_run.specs.CallEvents.{end_event}
-use Rattle.command_run.specs.CoreCommands.{core_act_effect, core_effect}
-use Rattle.command_run.specs.CoreDrives.{actor_end_events, crash_events, drive_effect, drive_steps, driven_events, is_crashed, rest_event, rests_or, step_events, step_then}
-use Rattle.command_run.specs.CoreEffects.{CoreEffect, add_fault_event, added_effect, core_tells, declared_effect, driver_effect, driver_fault_event, region_effect, recovery_effect, state_effect}
-use Rattle.command_run.specs.CoreLinks.{core_link_effect, core_ring_effect, core_shown_effect, core_turn_holder, core_view_effect, found_ring_effect, found_view_effect}
-use Rattle.command_run.specs.CoreLives.{boot_effect, booted_image, core_fault_events, core_stops, crash_effect, detach_effect, fault_at, found_image, handover_effect, leave_events, life_fault_event, load_fault_event, may_step, recover_effect, report_events, shutdown_effect, start_event, start_events, found_or_told, image_bytes}
-use Rattle.command_run.specs.CoreViews.{loaded_table_effect, mem_effect, shown_memory_event, shown_trace_event, table_effect, table_event, trace_bytes, trace_effect}
-use Rattle.command_run.specs.NamedCores.{NamedCoreState}
-use Rattle.command_run.specs.NamedImages.{ImageState}
-use Rattle.command_run.specs.Stores.{Answer}
-=======
 use Rattle.core_laws.proofs.KeptCrashes.{reached_sound}
 use Rattle.command_run.specs.declared.acts.CoreAct.{CoreAct}
 use Rattle.command_run.specs.declared.acts.CoreAct.TheVariants as act
@@ -123,7 +100,6 @@ use Rattle.command_run.specs.CoreViews.{loaded_table_effect, mem_effect, shown_m
 use Rattle.command_run.specs.NamedCores.{NamedCoreState}
 use Rattle.command_run.specs.NamedImages.{ImageState}
 use Rattle.command_run.specs.Stores.{Answer}
->>>>>>> 294919009c3b7d3094b4975f1b786c4cc8d2974b
 use Rattle.way_laws.proofs.CoreRungs.{IsRung, IsRungCore}
 use Rattle.field_laws.specs.Fields.{AreBytes, IsFieldEnd}
 use Rattle.field_laws.specs.FieldBenches.{IsFieldAct, IsFieldBench}

@@ -6,15 +6,9 @@ ghost use Rattle.script_lang.specs.Grammar.{IsScript};
 ghost use Rattle.journal.specs.declared.events.Event.{Event};
 ghost use Rattle.journal.specs.Lines.{line};
 ghost use Rattle.journal.specs.Reading.{IsWritten};
-<<<<<<< HEAD
-ghost use Rattle.command_run.specs.Stores.{Told};
-ghost use Rattle.command_run.specs.Runs.{run_of};
-ghost use Rattle.line_laws.specs.ReadLines.{TellsBytes};
-=======
 ghost use Rattle.command_run.specs.Stores.{Told};
 ghost use Rattle.command_run.specs.Runs.{run_of};
 ghost use Rattle.line_laws.specs.ByteStores.{TellsBytes};
->>>>>>> 294919009c3b7d3094b4975f1b786c4cc8d2974b
 
 /// Each event of the run of a script, over a store whose images are bytes, is one that `read_line` reads back from its line,
 /// and no other such event has that line.
