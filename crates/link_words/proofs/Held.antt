@@ -217,7 +217,7 @@ module _ {B : Type 0} {kc : Coded B} {kz : DeskTables} (cd : Coded (PlacedDesk k
               (λ i held j l u there theirs. let same = minds x i held in free_for_all m e 0 free u.number u.call (minds_has e u.call (subst (λ (q : End). has_for_manager q u.call ≡ true) same theirs)) (r.turns.calls j l u there))
               r.turns.keepers)
               (keepers_lane m e s' st.views id me.0 (with_pass me.0 o (with_call o.pass w) (Some (copied cd (with_lane m e s')))) o (with_call o.pass w) at refl
-            (λ was. inl was) (λ _. inr (loud x)) (λ i _ has. absurd (true-false (sym has ∙ plain.0 i))) (λ i _ has. absurd (true-false (sym has ∙ plain.1 i))) r.turns.some_keeper),
+              (λ was. inl was) (λ _. inr (loud x)) (λ i _ has. absurd (true-false (sym has ∙ plain.0 i))) (λ i _ has. absurd (true-false (sym has ∙ plain.1 i))) r.turns.some_keeper),
           (x, refl),
           read_by (receiver_word e) cd desk z st m r id me o (with_call o.pass w) (ManagerTakes lane_turn.Receiver e) (with_lane m e s') ((receiver_slot e, Receiver x) ∷ me.1) at tt deed has,
         )
