@@ -2,7 +2,7 @@
 use Rattle.link_words.proofs.Users.{nothing_latest}
 use Rattle.link_words.specs.declared.codes.DeskTables.{DeskTables}
 use Rattle.link_words.specs.PlacedDesks.{PlacedDesk, right_to}
-use Rattle.std.proofs.Common.{◌≡◌, ◌≢◌, ℕ, zero, suc, ◌+◌, ◌<◌, Bool, true, false, List, [], ◌∷◌, ◌++◌, map, length, get_or, set, refl, sym, ap, ◌∙◌, subst, inl, inr, arith, length-append}
+use Rattle.std.proofs.Common.{◌≡◌, ◌≢◌, ℕ, zero, suc, ◌+◌, ◌<◌, ◌≤◌, Bool, true, false, List, [], ◌∷◌, ◌++◌, map, length, get_or, set, refl, sym, ap, ◌∙◌, subst, inl, inr, arith, length-append}
 use Rattle.std.proofs.lemmas.List.{length-map}
 use Rattle.std.specs.Prelude.{Option, Some}
 use mathlib.Core.Option.{some, some-injective, some-ne-none}
@@ -56,7 +56,7 @@ use Rattle.link_words.proofs.Frames.{some_copy, each_set, numbers_set, keepers_s
 use Rattle.link_words.proofs.Kept.{deed_kept}
 use Rattle.link_words.proofs.Keepers.{all_before, both_minds, keepers_same, no_turns}
 use Rattle.link_words.proofs.Sends.{true-false, some_number}
-use Rattle.link_words.proofs.Parts.{state_in, sizes_in, told_in, buffers_in, put_together, one_more}
+use Rattle.link_words.proofs.Parts.{state_in, sizes_in, told_in, buffers_in, put_together, one_more, rings_at}
 
 reset_one : (p : ℕ) (fresh old : List ℕ) (x : ℕ) → length fresh ≡ length old → get_elem? fresh p ≡ some x → set (reset_first p fresh old) p x ≡ reset_first (suc p) fresh old
 reset_one zero [] old x same e = absurd (some-ne-none x (sym e))
@@ -192,6 +192,7 @@ module _ {B : Type 0} {kc : Coded B} {kz : DeskTables} (cd : Coded (PlacedDesk k
         own = λ k q there. subst (λ (t : ℕ × (End → LaneBooks)). HasHistory t.0 t.1 q.number q.first q.own) (λ i. (sym knows.inc i, λ e. books e i)) (r.histories.own id k q (me.0, at, there));
         unused = λ n none not e. subst (λ (t : LaneBooks). (entries_by n 0 t.accepted ≡ []) × (takes_by n 0 t.takers ≡ [])) (books e) (knows.unused n (ap (λ (us : List (Option End)). end_of us n) (sym knows.users) ∙ none) not e);
         ended = λ k q there. subst (λ (t : ℕ × (End → LaneBooks)). HasHistory t.0 t.1 q.number q.first q.own) (λ i. (sym knows.inc i, λ e. books e i)) (knows.ended k q there).history;
+        back = λ e. subst (λ (t : LaneBooks). t.returned ≤ length t.takers) (books e) (let is = (rings_at r e).counted.back in omega (arith, is));
       }
         where
           books : (e : End) → books_of (lane_to m e) ≡ books_by (sides_at e (both_sides x y) (both_sides u v))

@@ -194,11 +194,12 @@ abbrev pub books_by : LaneSides → LaneBooks
 books_by g = record { accepted = sent_by g.sender; takers = taken_by g.receiver; held = map holding_of (hands_by g.receiver); returned = back_by g.receiver }
 
 -- books of an incarnation are told by a view: each pass that it has did what they say of it, and so did each that was reclaimed in this incarnation; and they
--- say nothing of a number that is not in use and was not freed in this incarnation
+-- say nothing of a number that is not in use and was not freed in this incarnation. No more buffers are back than were handed over
 pub record AreBooksOf (v : View) (books : End → LaneBooks) : Type 0 where
   pub own : (k : ℕ) (q : Pass) → get_elem? v.passes k ≡ some q → HasHistory v.inc books q.number q.first q.own
   pub unused : (n : ℕ) → end_of v.users n ≡ None → (HasNumber v.reclaims n → ⊥) → (e : End) → (entries_by n 0 (books e).accepted ≡ []) × (takes_by n 0 (books e).takers ≡ [])
   pub ended : (k : ℕ) (p : Pass) → get_elem? v.ended k ≡ some p → HasHistory v.inc books p.number p.first p.own
+  pub back : (e : End) → (books e).returned ≤ length (books e).takers
 
 -- the manager, which has all side states, loads the era: where it is closed, a reopening begins, and the books are told
 abbrev pub BeginsReopening : SeatState → ℕ → SeatState → Type 0
