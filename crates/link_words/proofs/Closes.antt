@@ -31,7 +31,7 @@ use Rattle.link_words.specs.Histories.{IsCurrent, IsCurrentTake, IsOfNow}
 use Rattle.link_words.proofs.Books.{history_shut, none_shut}
 use Rattle.link_words.specs.Deeds.{Closes, Deed, after_deed, MayDo, IsStill, IsSoundState}
 use Rattle.link_words.specs.Rule.{IsCallOf, HasCall, HistoryOf, HandsOf, Shows, WordsRule, LatestOf}
-use Rattle.link_words.specs.Parts.{has_for_manager, HoldsBuffers}
+use Rattle.link_words.specs.Parts.{HoldsBuffers}
 use Rattle.link_words.specs.Codes.{copied}
 use Rattle.link_words.specs.Passes.{Mover, with_pass, with_call}
 use Rattle.link_words.specs.Calls.{SeatState}

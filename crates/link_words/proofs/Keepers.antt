@@ -1,6 +1,6 @@
 -- Some pass has each turn that is the manager's: what keeps that.
 use native.Mathlib.Decide.{ℕ_discrete}
-use Rattle.std.proofs.Common.{◌≡◌, ◌≢◌, ◌⊎◌, ℕ, zero, suc, ◌+◌, ◌-◌, ◌<◌, ◌||◌, Bool, true, false, cond, eqb, List, [], ◌∷◌, ◌++◌, length, set, refl, sym, ap, ◌∙◌, subst, inl, inr, ⊎_elim, arith}
+use Rattle.std.proofs.Common.{◌≡◌, ◌≢◌, ◌⊎◌, ℕ, zero, suc, ◌+◌, ◌<◌, Bool, true, false, cond, eqb, List, [], ◌∷◌, ◌++◌, length, set, refl, sym, ap, ◌∙◌, subst, inl, inr, ⊎_elim, arith}
 use Rattle.std.specs.Prelude.{Option, Some, None, slice_set}
 use mathlib.Core.Option.{some, some-injective, some-ne-none}
 use lib.ListN.{get_elem?}
@@ -26,7 +26,6 @@ use Rattle.lane_model.specs.declared.stages.Work.{Work}
 use Rattle.lane_model.specs.declared.stages.Work.TheVariants as work
 use Rattle.lane_model.specs.declared.states.Lane.{Lane}
 use Rattle.lane_model.specs.declared.states.LaneState.{LaneState}
-use Rattle.lane_model.specs.Crashes.{ended_turn}
 use Rattle.lane_model.specs.Desks.{DeskMeaning}
 use Rattle.lane_model.specs.Lanes.{has_call, is_live_in, taken_by}
 use Rattle.lane_model.specs.Links.{Lanes, end_of, lanes_of, with_lanes, with_caller, free_number, on_lanes, lanes_step, send_later, receive_later}
@@ -44,7 +43,7 @@ use Rattle.link_words.specs.declared.rule.SenderSide.{SenderSide}
 use Rattle.link_words.specs.declared.rule.View.{View}
 use Rattle.link_words.specs.Deeds.{Deed, Nothing, EndsCall, ManagerTakes, ManagerLeaves, LeavesTurn, Opens, Enlists, Frees, Steps, Closes, after_deed, lanes_after_end, after_leave_without, AreManagers}
 use Rattle.link_words.specs.Parts.{HasKeepers, IsKept, has_for_manager, has_sender_for_manager}
-use Rattle.link_words.specs.Passes.{PassAt, Mover, all_but_last, last_pass_only, only_last, spent_view, with_passes_from, without_last, without_pass, after_end_at}
+use Rattle.link_words.specs.Passes.{PassAt, Mover, all_but_last, last_pass_only, only_last, spent_view, with_passes_from, without_last, without_pass}
 use Rattle.link_words.specs.PlacedDesks.{PlacedDesk}
 use Rattle.link_words.specs.Reopens.{both_sides}
 use Rattle.link_words.specs.Turns.{LinkTurns, is_manager, turns_in}

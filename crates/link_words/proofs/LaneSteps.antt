@@ -40,7 +40,7 @@ use Rattle.link_words.specs.Histories.{IsCurrent, IsOfNow}
 use Rattle.link_words.specs.Rule.{IsHistory}
 use Rattle.link_words.specs.Deeds.{Deed, after_deed, MayDo, AreManagers, IsSoundState}
 use Rattle.link_words.specs.Rule.{HistoryOf, HandsOf, LatestOf, IsCallOf, HasCall, fresh_block, Shows, WordsRule}
-use Rattle.link_words.specs.Parts.{has_for_manager, AreKeepersApart, HasKeepers, SendsAt, HoldsBuffers}
+use Rattle.link_words.specs.Parts.{AreKeepersApart, HasKeepers, SendsAt, HoldsBuffers}
 use Rattle.link_words.specs.Histories.{hands_of}
 use Rattle.link_words.proofs.Frames.{some_copy, each_set, numbers_set, keepers_set, manager_set, each_lane, words_seen, homes_seen, same_lane, same_shelf}
 use Rattle.link_words.proofs.Books.{history_kept, none_same}
