@@ -6,12 +6,10 @@ use lib.ListN.{get_elem?}
 use Rattle.rp_base.specs.declared.kinds.End.{End}
 use Rattle.rp_base.specs.declared.kinds.End.TheVariants as side
 use Rattle.rp_base.specs.declared.kinds.Era.{Era}
-use Rattle.lane_laws.specs.Parts.{manager_takes, manager_leaves, with_manager, without_manager}
 use Rattle.lane_model.specs.declared.calls.CallEnd.TheVariants as end
 use Rattle.lane_model.specs.declared.calls.Wish.{Wish}
 use Rattle.lane_model.specs.declared.calls.Wish.TheVariants as wish
 use Rattle.lane_model.specs.declared.lane_links.LaneLink.{LaneLink}
-use Rattle.lane_model.specs.declared.recoveries.LaneTurn.{LaneTurn}
 use Rattle.lane_model.specs.declared.recoveries.LaneTurn.TheVariants as lane_turn
 use Rattle.lane_model.specs.declared.stages.GiveStage.TheVariants as give_stage
 use Rattle.lane_model.specs.declared.stages.Receiving.{Receiving}

@@ -18,4 +18,5 @@ pub mod CloseSteps
 pub mod EndSteps
 pub mod PartSteps
 pub mod Gathering
+pub mod Refusals
 pub mod Reopening

@@ -22,7 +22,7 @@ use Rattle.link_words.specs.Calls.{SeatState, with_pass_at}
 use Rattle.link_words.specs.Deeds.{ManagerTakes}
 use Rattle.link_words.specs.Layouts.{place_in}
 use Rattle.link_words.specs.Passes.{with_call, place_of_number}
-use Rattle.link_words.specs.Reopens.{ManagerDoes, both_sides, gathered}
+use Rattle.link_words.specs.Reopens.{ManagerDoes, SomeInUse, both_sides, gathered}
 use Rattle.link_words.specs.Sides.{no_sides, sides_at}
 use Rattle.link_words.specs.Steps.{HasWord, turn_number}
 use Rattle.link_words.specs.Words.{sender_slot, receiver_slot}
@@ -49,9 +49,9 @@ PutsSide lane f slot me me' = (v : View) (a b : LaneSides) (slots : List (ℕ ×
 abbrev pub Meets : {D : Type 0} → Coded D → DeskMeaning D → LaneTurn → End → ℕ → SeatState → Type 0
 Meets coded meaning which lane holder me = ManagerDoes coded meaning me (HasWord (place_in (turn_number which lane)) (holder + 1)) (ManagerTakes which lane) me
 
--- who has a turn is the manager itself, or a caller that is in use
+-- who has a turn is a caller that is in use; or the manager has it, by the seat of a caller that is in use
 abbrev pub IsHolderIn : View → ℕ → Type 0
-IsHolderIn v holder = (holder ≡ 64) ⊎ ((e : End) × (end_of v.users holder ≡ Some e))
+IsHolderIn v holder = ((e : End) × (end_of v.users holder ≡ Some e)) ⊎ ((holder ≡ 64) × SomeInUse v)
 
 -- the slots of both side states of a lane are out, with nothing in them
 abbrev pub lane_slots : End → List (ℕ × Slot) → List (ℕ × Slot)
