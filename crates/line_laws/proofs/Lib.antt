@@ -5,3 +5,4 @@ pub mod RingLengths
 pub mod SpelledCalls
 pub mod SpelledCores
 pub mod SpelledRuns
+pub mod Transcripts
