@@ -1,4 +1,5 @@
 -- The steps of a send at which a buffer goes out and comes home, on either lane: from the sender's own list or from the return ring.
+use Rattle.link_words.specs.Parts.{has_for_manager, has_sender_for_manager}
 use Rattle.link_words.specs.declared.codes.DeskTables.{DeskTables}
 use Rattle.link_words.specs.PlacedDesks.{PlacedDesk}
 use Rattle.std.proofs.Common.{◌≡◌, ℕ, ◌+◌, ◌<◌, true, List, ◌∷◌, length, get_or, set, refl, sym, ap, ◌∙◌, subst, arith, length-set, le_refl}
@@ -117,7 +118,7 @@ module _ {B : Type 0} {kc : Coded B} {kz : DeskTables} (cd : Coded (PlacedDesk k
               home = λ j under mine theirs. let ho = q.home j under (λ out. absurd (true-false (sym out))) theirs in (ho.0, set_else (shelf_to r.shelves e) own j none (mine refl) ∙ ho.1);
             })
             mine
-            (others_send desk m e s' t o.pass.number h.1.0 h.1.1 refl refl refl (λ _. refl) (λ k apart. no_call desk t' o.pass.number k h.1.1 apart)) refl refl refl refl (λ i k. absurd (true-false (sym k))),
+            (others_send desk m e s' t o.pass.number h.1.0 h.1.1 refl refl refl (λ _. refl) (λ k apart. no_call desk t' o.pass.number k h.1.1 apart)) refl refl refl refl (refl, ((λ i. ap (has_sender_for_manager i) call), λ i. ap (has_for_manager i) call)),
         (
           (y, λ k. (with_pass me.0 o (with_call o.pass (Sends e t' x (sym id_is k))) (Some (copied cd (with_lane m e s'))), (buffer_slot first e (sym id_is k), y) ∷ me.1)),
           read_by i cd desk z st m r id me o (with_call o.pass w) (Steps o.pass.number 0 None) (with_lane m e s') ((buffer_slot first e own, y) ∷ me.1) at may deed mine,

@@ -31,7 +31,7 @@ use Rattle.link_words.specs.Histories.{IsCurrent, IsCurrentTake, IsOfNow}
 use Rattle.link_words.proofs.Books.{history_shut, none_shut}
 use Rattle.link_words.specs.Deeds.{Closes, Deed, after_deed, MayDo, IsStill, IsSoundState}
 use Rattle.link_words.specs.Rule.{IsCallOf, HasCall, HistoryOf, HandsOf, Shows, WordsRule, LatestOf}
-use Rattle.link_words.specs.Parts.{has_for_manager, HoldsBuffers}
+use Rattle.link_words.specs.Parts.{HoldsBuffers}
 use Rattle.link_words.specs.Codes.{copied}
 use Rattle.link_words.specs.Passes.{Mover, with_pass, with_call}
 use Rattle.link_words.specs.Calls.{SeatState}
@@ -40,6 +40,8 @@ use Rattle.link_words.specs.Seats.{is_closed_behind}
 use Rattle.link_words.proofs.Frames.{some_copy, each_set, numbers_set, keepers_set, manager_set}
 use Rattle.link_words.proofs.Kept.{deed_kept}
 use Rattle.link_words.proofs.Quiet.{ended_by}
+use Rattle.link_words.proofs.Keepers.{SameMinds, keepers_same, no_turns, same_turns}
+use Rattle.link_words.specs.Turns.{turns_in}
 use Rattle.link_words.proofs.Parts.{state_in, told_in, buffers_in, put_together, one_more}
 
 -- an era can be read off its word
@@ -104,8 +106,8 @@ shut_shelved m inc F each side.Remote = each side.Remote
 module _ {B : Type 0} {kc : Coded B} {kz : DeskTables} (cd : Coded (PlacedDesk kc kz)) (desk : DeskMeaning (PlacedDesk kc kz)) (z : LinkSizes) where
   -- a deed that changes nothing, whatever a reopening has reset
   pub stays_at : (st : State Slot View) (m : LaneLink (RingState (PlacedDesk kc kz))) (p : ℕ) → Shows cd desk z st m p → (i n id : ℕ) (cs : List (ℕ × Slot)) (v : View) (o : Mover v) (call : Call) (d : Deed) → get_elem? st.views id ≡ some v → n ≡ get_or st.words i 0
-      → MayDo desk m d → m ≡ after_deed desk m d → IsCallOf m p o.pass.number call → ((i : End) → has_for_manager i call ≡ true → has_for_manager i o.pass.call ≡ true) → WordsRule cd desk z (stepped st i n id cs (with_pass v o (with_call o.pass call) (Some (copied cd m))) keeps)
-  stays_at st m p r i n id cs v o call d at found may deed has quiet =
+      → MayDo desk m d → m ≡ after_deed desk m d → IsCallOf m p o.pass.number call → SameMinds o.pass.call call → WordsRule cd desk z (stepped st i n id cs (with_pass v o (with_call o.pass call) (Some (copied cd m))) keeps)
+  stays_at st m p r i n id cs v o call d at found may deed has minds =
       let w = with_call o.pass call in let u = with_pass v o w (Some (copied cd m)) in let each = each_set st.views id v u o w at refl in (
         m,
         p,
@@ -114,7 +116,8 @@ module _ {B : Type 0} {kc : Coded B} {kz : DeskTables} (cd : Coded (PlacedDesk k
             (state_in r) (told_in r) (buffers_in r) (one_more desk m _ d r.reached may deed)
             (record {
               calls = each (HasCall m p) (HasCall m p) r.numbers.places r.turns.calls (λ j l q there apart had. had) has;
-              keepers = keepers_set st.views id v u o w at refl refl quiet r.turns.keepers;
+              keepers = keepers_set st.views id v u o w at refl refl (λ i k. minds.1 i ∙ k) r.turns.keepers;
+              some_keeper = keepers_same st.views id v u o w at refl (turns_in m) (turns_in m) (no_turns m) minds r.turns.some_keeper;
               still = r.turns.still;
             })
             (record {
@@ -142,6 +145,7 @@ module _ {B : Type 0} {kc : Coded B} {kz : DeskTables} (cd : Coded (PlacedDesk k
         (record {
           calls = r.turns.calls;
           keepers = r.turns.keepers;
+          some_keeper = r.turns.some_keeper;
           still = r.turns.still;
         })
         (record {
@@ -170,6 +174,7 @@ module _ {B : Type 0} {kc : Coded B} {kz : DeskTables} (cd : Coded (PlacedDesk k
             (record {
               calls = each (HasCall m p) (HasCall m p) r.numbers.places r.turns.calls (λ j l q there apart had. had) (r.turns.calls id o.place o.pass (v, at, o.here));
               keepers = keepers_set st.views id v u o o.pass at again refl (λ i k. k) r.turns.keepers;
+              some_keeper = keepers_same st.views id v u o o.pass at again (turns_in m) (turns_in m) (no_turns m) ((λ i. refl), λ i. refl) r.turns.some_keeper;
               still = r.turns.still;
             })
             (record {
@@ -208,6 +213,7 @@ module _ {B : Type 0} {kc : Coded B} {kz : DeskTables} (cd : Coded (PlacedDesk k
               (record {
                 calls = each (HasCall m 0) (HasCall m' 0) r.numbers.places r.turns.calls (λ j l q there apart. shut_call m inc q.number q.call era) (shut_call m inc o.pass.number o.pass.call era (r.turns.calls id o.place o.pass (me.0, at, o.here)));
                 keepers = keepers_set st.views id me.0 u o o.pass at again refl (λ i k. k) r.turns.keepers;
+                some_keeper = keepers_same st.views id me.0 u o o.pass at again (turns_in m) (turns_in m') (same_turns m (record { inc = inc; is_live = false }) m.callers) ((λ i. refl), λ i. refl) r.turns.some_keeper;
                 still = inl refl;
               })
               (record {

@@ -34,6 +34,7 @@ use Rattle.link_words.proofs.Parts.{state_in}
 use Rattle.link_words.specs.Rule.{HasCall, IsCallOf, HistoryOf, HandsOf, Shows, WordsRule, LatestOf}
 use Rattle.link_words.specs.Parts.{Knows, ManagerKnows}
 use Rattle.link_words.specs.Histories.{hands_of, HasEnded, IsQuiet}
+use Rattle.link_words.proofs.Keepers.{Onto, onto_ended, onto_same, onto_without}
 use Rattle.link_words.proofs.Quiet.{ended_more, ended_with, quiet_apart, quiet_uncalled}
 use Rattle.lane_model.specs.Links.{link_of}
 use Rattle.lane_model.specs.Soundness.{SoundLink}
@@ -139,17 +140,17 @@ module _ {B : Type 0} {kc : Coded B} {kz : DeskTables} (cd : Coded (PlacedDesk k
       quiet side.Remote side.Remote rests = quiet_apart m.callers side.Host side.Remote m.to_remote.lane.sender q.number sound.to_remote.sender rests.0 host_remote
 
   -- the number n is free, and its pass is in no view
-  freed : (st : State Slot View) (m : LaneLink (RingState (PlacedDesk kc kz))) (p : ℕ) (r : Shows cd desk z st m p) (views : List View) (went : Spot → Spot) → From st.views views went → (e : End) (n : ℕ)
+  freed : (st : State Slot View) (m : LaneLink (RingState (PlacedDesk kc kz))) (p : ℕ) (r : Shows cd desk z st m p) (views : List View) (went : Spot → Spot) → From st.views views went → Onto st.views views → (e : End) (n : ℕ)
       → ((j l : ℕ) (q : Pass) → PassAt views j l q → n ≢ q.number) → ManagerKnows cd (record m { callers = slice_set m.callers n None }) views → m.era.is_live ≡ false → IsCallOf m p n (Rests e) → hands_of n (lane_to m e).lane.lane.held ≡ []
       → WordsRule cd desk z (with_views st views)
-  freed st m p r views went from e n gone manager shut rests bare =
+  freed st m p r views went from onto e n gone manager shut rests bare =
       let cs = slice_set m.callers n None in let m' : LaneLink (RingState (PlacedDesk kc kz)) = record m { callers = cs } in let many = r.numbers.many in
       recast cd desk z st m p r cs (Frees e n) views (frees_may m p e n shut rests bare) refl (length-set m.callers n None ∙ many)
       (each_from st.views views went from (HasCall m p) (HasCall m' p) r.turns.calls (λ j l q at has. call_with m cs p q.number q.call (end_else m.callers n q.number None (gone j l q at)) has))
       (each_from st.views views went from (HistoryOf m) (HistoryOf m') r.histories.own (λ j l q at has. history_with m cs q has))
       (each_from st.views views went from (HandsOf m) (HandsOf m') r.histories.hands (λ j l q at has. hands_with m cs q (end_else m.callers n q.number None (gone j l q at)) has))
       (each_from st.views views went from (LatestOf m) (LatestOf m) r.histories.latest (λ j l q at has. has))
-      (numbers_from st.views views went from r.numbers.places) (keepers_from st.views views went from r.turns.keepers) manager
+      (numbers_from st.views views went from r.numbers.places) (keepers_from st.views views went from r.turns.keepers) onto manager
 
   -- a carried caller ends
   pub ends : (st : State Slot View) (m : LaneLink (RingState (PlacedDesk kc kz))) (p : ℕ) (r : Shows cd desk z st m p) (id : ℕ) (v : View) (o : Mover v) (e : End) → get_elem? st.views id ≡ some v → Manages v → v.is_closed ≡ true → o.pass.call ≡ Rests e → o.pass.hands ≡ []
@@ -157,7 +158,7 @@ module _ {B : Type 0} {kc : Coded B} {kz : DeskTables} (cd : Coded (PlacedDesk k
   ends st m p r id v o e at manages shut call bare =
       let n = o.pass.number in let known = r.numbers.manager id v at manages in let m' : LaneLink (RingState (PlacedDesk kc kz)) = record m { callers = slice_set m.callers n None } in let u = after_end_at v o (Some (copied cd m')) in let views = set st.views id u in
       let rests : IsCallOf m p n (Rests e) = subst (IsCallOf m p n) call (r.turns.calls id o.place o.pass (v, at, o.here)) in let from = end_from st.views id v o (Some (copied cd m')) at in
-      freed st m p r views (one_gone id o.place) (λ j l q there. let s = from j l q there in (s.0, s.1, s.2)) e n
+      freed st m p r views (one_gone id o.place) (λ j l q there. let s = from j l q there in (s.0, s.1, s.2)) (onto_without st.views id v at u o e call refl) e n
       (λ j l q there same. let s = from j l q there in let a = r.numbers.places id o.place s.0.0 s.0.1 o.pass q (v, at, o.here) s.1 same in s.3 (sym a.0) (sym a.1))
       (λ i y ey manages_y. ⊎_elim
       (λ (x : (i ≡ id) × (u ≡ y)). subst (λ (b : View). Knows cd m' views i b) x.1 (record {
@@ -199,7 +200,7 @@ module _ {B : Type 0} {kc : Coded B} {kz : DeskTables} (cd : Coded (PlacedDesk k
       (λ (y : (j ≢ id) × (get_elem? st.views j ≡ some here.0)). ((here.0, y.1, here.2), x.0))
       (at_set st.views id j u here.0 x.1))
       (at_set (set st.views id u) other j spent_view here.0 here.1) in
-      freed st m p r views (λ s. s) (λ j l a here. ((j, l), (before j l a here).0, refl)) e n
+      freed st m p r views (λ s. s) (λ j l a here. ((j, l), (before j l a here).0, refl)) (onto_ended st.views id v at other w u q e apart there refl only call) e n
       (λ j l a here same. let b = before j l a here in b.1 (sym (r.numbers.places other 0 j l q a mine b.0 same).0))
       (λ i y ey manages_y. ⊎_elim
       (λ (x : (i ≡ other) × (spent_view ≡ y)). let none_there = subst Manages (sym x.1) manages_y in absurd (some-ne-none none_there.1 (sym none_there.2)))
@@ -234,7 +235,7 @@ module _ {B : Type 0} {kc : Coded B} {kz : DeskTables} (cd : Coded (PlacedDesk k
         keeps,
         tt,
         subst (λ (ws : List ℕ). WordsRule cd desk z (record { words = ws; homes = st.homes; views = views })) (sym (set-get_or st.words 1 0))
-            (rebuilt cd desk z st m p r views (λ s. s) (λ j l a here. ((j, l), before j l a here, refl)) (λ i y ey manages_y. ⊎_elim
+            (rebuilt cd desk z st m p r views (λ s. s) (λ j l a here. ((j, l), before j l a here, refl)) (onto_same st.views id me.0 at u refl) (λ i y ey manages_y. ⊎_elim
             (λ (x : (i ≡ id) × (u ≡ y)). subst (λ (c : View). Knows cd m views i c) x.1 (record {
               users = known.users;
               inc = known.inc;
@@ -284,7 +285,7 @@ module _ {B : Type 0} {kc : Coded B} {kz : DeskTables} (cd : Coded (PlacedDesk k
         keeps,
         tt,
         subst (λ (ws : List ℕ). WordsRule cd desk z (record { words = ws; homes = st.homes; views = views })) (sym (set-get_or st.words 0 0))
-            (rebuilt cd desk z st m p r views (λ s. s) (λ j l a here. ((j, l), before j l a here, refl)) (λ i y ey manages_y. ⊎_elim
+            (rebuilt cd desk z st m p r views (λ s. s) (λ j l a here. ((j, l), before j l a here, refl)) (onto_same st.views id me.0 at u refl) (λ i y ey manages_y. ⊎_elim
             (λ (x : (i ≡ id) × (u ≡ y)). subst (λ (c : View). Knows cd m views i c) x.1 (record {
               users = known.users;
               inc = known.inc;

@@ -178,12 +178,12 @@ module _ {B : Type 0} {kc : Coded B} {kz : DeskTables} (cd : Coded (PlacedDesk k
   ends_sender : (lane : End) (place : ℕ) → place ≡ place_in (sender_word lane) → me.0.sizes ≡ z → (call : Call) (s : StandsIn me call) → MayEnd lane_turn.Sender lane s.mover.pass.number me call → LeaveTold place
   ends_sender lane place at sized (EndsSend e t x b) s has = leaves_by (EndsSend e t x b) s lane_turn.Sender e place (at ∙ ap (λ (i : End). place_in (sender_word i)) (sym has.0))
       (sender_left e t x b (EndsSend e t x b) (Rests (other e)) s.mover s.is sized (sender_is_out t) refl has.2
-      (ends_bare cd desk z n id me s.mover e t x b (EndsSend e t x b) (Rests (other e)) s.is has.1 (λ m p h. (h.0, h.1, h.2)) (λ m sound h. ends_send cd desk z m e s.mover.pass.number t x b sound h) (λ i k. k))
-      (ends_out cd desk z n id me s.mover e t x b (EndsSend e t x b) (Rests (other e)) s.is has.1 (λ m p h. (h.0, h.1, h.2)) (λ m sound h. ends_send cd desk z m e s.mover.pass.number t x b sound h) (λ i k. k)))
+      (ends_bare cd desk z n id me s.mover e t x b (EndsSend e t x b) (Rests (other e)) s.is has.1 (λ m p h. (h.0, h.1, h.2)) (λ m sound h. ends_send cd desk z m e s.mover.pass.number t x b sound h) ((λ i. refl), λ i. refl))
+      (ends_out cd desk z n id me s.mover e t x b (EndsSend e t x b) (Rests (other e)) s.is has.1 (λ m p h. (h.0, h.1, h.2)) (λ m sound h. ends_send cd desk z m e s.mover.pass.number t x b sound h) ((λ i. refl), λ i. refl)))
   ends_sender lane place at sized (EndsBoth e t x b y) s has = leaves_by (EndsBoth e t x b y) s lane_turn.Sender e place (at ∙ ap (λ (i : End). place_in (sender_word i)) (sym has.0))
       (sender_left e t x b (EndsBoth e t x b y) (EndsHeld (other e) y) s.mover s.is sized (sender_is_out t) refl has.2
-      (ends_bare cd desk z n id me s.mover e t x b (EndsBoth e t x b y) (EndsHeld (other e) y) s.is has.1 (λ m p h. (h.0, h.1, h.2)) (λ m sound h held. ends_beside cd desk z m e s.mover.pass.number t x b y h) (λ i k. k))
-      (ends_out cd desk z n id me s.mover e t x b (EndsBoth e t x b y) (EndsHeld (other e) y) s.is has.1 (λ m p h. (h.0, h.1, h.2)) (λ m sound h held. ends_beside cd desk z m e s.mover.pass.number t x b y h) (λ i k. k)))
+      (ends_bare cd desk z n id me s.mover e t x b (EndsBoth e t x b y) (EndsHeld (other e) y) s.is has.1 (λ m p h. (h.0, h.1, h.2)) (λ m sound h held. ends_beside cd desk z m e s.mover.pass.number t x b y h) ((λ i. refl), λ i. refl))
+      (ends_out cd desk z n id me s.mover e t x b (EndsBoth e t x b y) (EndsHeld (other e) y) s.is has.1 (λ m p h. (h.0, h.1, h.2)) (λ m sound h held. ends_beside cd desk z m e s.mover.pass.number t x b y h) ((λ i. refl), λ i. refl)))
   ends_sender lane place at sized Idle s has = absurd has
   ends_sender lane place at sized (Rests e) s has = absurd has
   ends_sender lane place at sized (Sends e t x b) s has = absurd has

@@ -207,7 +207,7 @@ pub side_set : (e : End) (x : Option Slot) (a b : LaneHomes) → set (homes_at e
 side_set side.Host x a b = refl
 side_set side.Remote x a b = refl
 
-at_add : {A : Type 0} (xs ys : List A) (i : ℕ) → get_elem? (xs ++ ys) (length xs + i) ≡ get_elem? ys i
+pub at_add : {A : Type 0} (xs ys : List A) (i : ℕ) → get_elem? (xs ++ ys) (length xs + i) ≡ get_elem? ys i
 at_add [] ys i = ap (get_elem? ys) (let e : 0 + i ≡ i = omega arith in e)
 at_add (x ∷ xs) ys i = ap (get_elem? (x ∷ (xs ++ ys))) (let e : suc (length xs) + i ≡ suc (length xs + i) = omega arith in e) ∙ at_add xs ys i
 

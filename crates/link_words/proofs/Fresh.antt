@@ -1,4 +1,7 @@
 -- The rule holds of a new table.
+use Rattle.link_words.proofs.Keepers.{not_manager}
+use Rattle.link_words.specs.Parts.{IsKept, has_for_manager, has_sender_for_manager}
+use Rattle.lane_model.specs.declared.stages.Turn.TheVariants as turn
 use Rattle.link_words.specs.declared.codes.DeskTables.{DeskTables}
 use Rattle.link_words.specs.PlacedDesks.{PlacedDesk, right_to}
 use Rattle.link_words.specs.Histories.{NoneOf}
@@ -84,6 +87,7 @@ module _ {B : Type 0} {kc : Coded B} {kz : DeskTables} (cd : Coded (PlacedDesk k
             (record {
               calls = λ j l q there. subst (HasCall m 0) (first z j l q there).2 (refl, refl, gathered_none _, gathered_none _);
               keepers = λ e i k j l p q ep eq _ _. ap (λ (x : Pass). x.number) (sym (first z i k p ep).2 ∙ (first z j l q eq).2);
+              some_keeper = record { senders = λ e. no_sender e; receivers = λ e. no_receiver e };
               still = inl refl;
             })
             (record {
@@ -99,6 +103,14 @@ module _ {B : Type 0} {kc : Coded B} {kz : DeskTables} (cd : Coded (PlacedDesk k
             }),
       )
     where
+      no_sender : (e : End) → (lane_to (opened_ring_link config host remote) e).lane.sender ≡ turn.Manager → IsKept (has_sender_for_manager e) (first_view (record { to_host = sizes_of config.num0 true; to_remote = sizes_of config.num1 false; book = config.book; first = config.first; desks = kz }) 64 ∷ [])
+      no_sender side.Host is = not_manager turn.Free refl is
+      no_sender side.Remote is = not_manager turn.Free refl is
+
+      no_receiver : (e : End) → (lane_to (opened_ring_link config host remote) e).lane.receiver ≡ turn.Manager → IsKept (has_for_manager e) (first_view (record { to_host = sizes_of config.num0 true; to_remote = sizes_of config.num1 false; book = config.book; first = config.first; desks = kz }) 64 ∷ [])
+      no_receiver side.Host is = not_manager turn.Free refl is
+      no_receiver side.Remote is = not_manager turn.Free refl is
+
       nothing : (n : ℕ) → NoneOf (opened_ring_link config host remote) n
       nothing n side.Host = (refl, refl)
       nothing n side.Remote = (refl, refl)

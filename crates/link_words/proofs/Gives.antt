@@ -1,4 +1,6 @@
 -- The later steps of a give: the return entry, and the return index; and step 2 of a binding or an unbinding.
+use Rattle.link_words.proofs.Keepers.{keepers_by}
+use Rattle.link_words.specs.Parts.{has_for_manager, has_sender_for_manager}
 use Rattle.link_words.proofs.Users.{user_latest}
 use Rattle.link_words.specs.declared.codes.DeskTables.{DeskTables}
 use Rattle.link_words.specs.PlacedDesks.{PlacedDesk, right_to}
@@ -134,7 +136,7 @@ module _ {B : Type 0} {kc : Coded B} {kz : DeskTables} (cd : Coded (PlacedDesk k
             refl
             (record { long = q.long; full = q.full; home = q.home })
             mine
-            (others_receive desk m e s' t o.pass.number h.1.0 h.1.1 refl refl refl refl (λ i apart. no_call desk t' o.pass.number i h.1.1 apart)) refl refl refl refl (λ i l. absurd (true-false (sym l))),
+            (others_receive desk m e s' t o.pass.number h.1.0 h.1.1 refl refl refl refl (λ i apart. no_call desk t' o.pass.number i h.1.1 apart)) refl refl refl refl (refl, ((λ i. ap (has_sender_for_manager i) call), λ i. ap (has_for_manager i) call)),
         (
           refl,
           write_by (entry_number z e ring.Return count) new cd desk z st m r id me o (with_call o.pass w) (Steps o.pass.number 0 None) (with_lane m e s') me.1
@@ -183,16 +185,17 @@ module _ {B : Type 0} {kc : Coded B} {kz : DeskTables} (cd : Coded (PlacedDesk k
             (inr (inr refl))
             (hands_here m e s' pass h.0 ((λ i. hands_of (sym who i) (without s.lane.lane.held k c)) ∙ (hands_given c k s.lane.lane.held ∙ (λ i. hands_but (hands_of (who i) s.lane.lane.held) k) ∙ ap (λ (l : List ℕ). hands_but l k) held_now)))
             (λ u apart. hands_kept desk m e s' u (λ was. hands_stay c k u.number s.lane.lane.held (λ same_one. apart (sym who ∙ same_one)) ∙ (ap (λ (y : RingState (PlacedDesk kc kz)). hands_of u.number y.lane.lane.held) (sym is) ∙ was)))
-            (keepers_set st.views id me.0 (with_pass me.0 o pass (Some (copied cd (with_lane m e s')))) o pass at refl refl (λ i l. absurd (true-false (sym l))) r.turns.keepers),
+            (keepers_set st.views id me.0 (with_pass me.0 o pass (Some (copied cd (with_lane m e s')))) o pass at refl refl (λ i l. absurd (true-false (sym l))) r.turns.keepers)
+            (keepers_by desk m (with_lane m e s') (Steps o.pass.number 0 None) deed st.views id me.0 (with_pass me.0 o pass (Some (copied cd (with_lane m e s')))) o pass at refl (refl, ((λ i. ap (has_sender_for_manager i) call), λ i. ap (has_for_manager i) call)) r.turns.some_keeper),
         ((m.era.inc, user_latest m o.pass e h.0 r.numbers.many (r.histories.latest id o.place o.pass (me.0, at, o.here)), record { not_below = omega (arith, back, saw_returned); none_later = past.none_later }, refl), write_by (return_word e) new cd desk z st m r id me o pass (Steps o.pass.number 0 None) (with_lane m e s') me.1 (index ∙ return_in m e s') at may deed mine),
       )
 
   -- step 2 of a binding or an unbinding, where the call ends so and leaves this desk
-  binds_with : (st : State Slot View) (m : LaneLink (RingState (PlacedDesk kc kz))) (r : Shows cd desk z st m 0) (id : ℕ) (me : SeatState) (o : Mover me.0) (e : End) (w : Work) (f c : ℕ) (x : ReceiverSide) (b : ℕ) (msg : List ℕ) (ended : CallEnd) (left : PlacedDesk kc kz) (x' : ReceiverSide) → x' ≡ record (receiver_side (lane_to m e)) { desk = right_to left } → get_elem? st.views id ≡ some me.0
+  binds_with : (st : State Slot View) (m : LaneLink (RingState (PlacedDesk kc kz))) (r : Shows cd desk z st m 0) (id : ℕ) (me : SeatState) (o : Mover me.0) (e : End) (w : Work) (f c : ℕ) (x : ReceiverSide) (b : ℕ) (msg : List ℕ) (ended : CallEnd) (left : PlacedDesk kc kz) (x' : ReceiverSide) → o.pass.call ≡ Receives e (turn.Taken c (record { follows = f; work = w })) x b msg → x' ≡ record (receiver_side (lane_to m e)) { desk = right_to left } → get_elem? st.views id ≡ some me.0
       → IsCallOf m 0 o.pass.number (Receives e (turn.Taken c (record { follows = f; work = w })) x b msg) → work_is_out w ≡ false
       → (ring_form desk).received_on (with_receiver (lane_to m e) (turn.Taken c (record { follows = f; work = w }))) m.era ≡ record { lane = record (lane_to m e).lane { receiver = turn.Leaving c ended; desk = left }; rings = (lane_to m e).rings }
       → (v : View) × WordsRule cd desk z (stepped st 1 (get_or st.words 1 0) id me.1 v keeps) × (v ≡ with_pass me.0 o (with_call o.pass (Receives e (turn.Leaving c ended) x' b msg)) v.copy) × StepBy cd desk (ReadsAt 1 (get_or st.words 1 0)) me o (Steps o.pass.number 0 None) (v, me.1)
-  binds_with st m r id me o e w f c x b msg ended left x' side at h inside does =
+  binds_with st m r id me o e w f c x b msg ended left x' is_call side at h inside does =
       let t : Turn Receiving = turn.Taken c (record { follows = f; work = w }) in let s₀ = lane_to m e in let s = with_receiver s₀ t in let is : s₀ ≡ s = λ i. with_receiver s₀ (h.1.0 i) in
       let t' : Turn Receiving = turn.Leaving c ended in let s' : RingState (PlacedDesk kc kz) = record { lane = record s₀.lane { receiver = t'; desk = left }; rings = s₀.rings } in let call : Call = Receives e t' x' b msg in
       let has : has_call s₀.lane.receiver o.pass.number ≡ true = has_of s₀.lane.receiver o.pass.number (ap holder h.1.0 ∙ h.1.1) (ap is_manager h.1.0) in
@@ -208,7 +211,7 @@ module _ {B : Type 0} {kc : Coded B} {kz : DeskTables} (cd : Coded (PlacedDesk k
             refl
             (shelved_receiver s₀ s' (shelf_to r.shelves e) (ap receiver_is_out h.1.0 ∙ inside) refl refl refl refl refl refl refl ((buffers_in r) e))
             mine
-            (others_receive desk m e s' t o.pass.number h.1.0 h.1.1 refl refl refl refl (λ i apart. no_call desk t' o.pass.number i h.1.1 apart)) refl refl refl refl (λ i l. absurd (true-false (sym l))),
+            (others_receive desk m e s' t o.pass.number h.1.0 h.1.1 refl refl refl refl (λ i apart. no_call desk t' o.pass.number i h.1.1 apart)) refl refl refl refl (refl, ((λ i. ap (has_sender_for_manager i) is_call), λ i. ap (has_for_manager i) is_call)),
         refl,
         read_by 1 cd desk z st m r id me o (with_call o.pass call) (Steps o.pass.number 0 None) (with_lane m e s') me.1 at may deed mine,
       )
@@ -232,7 +235,7 @@ module _ {B : Type 0} {kc : Coded B} {kz : DeskTables} (cd : Coded (PlacedDesk k
           × StepBy cd desk (ReadsAt 1 (get_or st.words 1 0)) me o (Steps o.pass.number 0 None) (v, carried_after me.1 a))
       go true is_live h r word =
           let s = lane_to m e in let d : PlacedDesk kc kz = s.lane.desk in let hd = length s.lane.lane.takers in let nth : x.handed ≡ hd = ap (λ (y : ReceiverSide). y.handed) h.1.2 in
-          let all = binds_with st m r id me o e w f c x b msg (says d x.handed) (leaves d hd) (record x { desk = right_to (leaves d x.handed) }) (λ i. record (h.1.2 i) { desk = right_to (leaves d (nth i)) }) at h inside
+          let all = binds_with st m r id me o e w f c x b msg (says d x.handed) (leaves d hd) (record x { desk = right_to (leaves d x.handed) }) call (λ i. record (h.1.2 i) { desk = right_to (leaves d (nth i)) }) at h inside
           (does s m.era ∙ λ i. record { lane = cond (is_live i) (record s.lane { receiver = turn.Leaving c (says d (sym nth i)); desk = leaves d hd }) (record s.lane { receiver = turn.Leaving c (end.Dead m.era) }); rings = s.rings }) in (
             all.0,
             keeps,
@@ -252,7 +255,7 @@ module _ {B : Type 0} {kc : Coded B} {kz : DeskTables} (cd : Coded (PlacedDesk k
           )
       go false is_dead h r word =
           let s = lane_to m e in let d : PlacedDesk kc kz = s.lane.desk in let hd = length s.lane.lane.takers in
-          let all = binds_with st m r id me o e w f c x b msg (end.Dead m.era) d x h.1.2 at h inside
+          let all = binds_with st m r id me o e w f c x b msg (end.Dead m.era) d x call h.1.2 at h inside
           (does s m.era ∙ λ i. record { lane = cond (is_dead i) (record s.lane { receiver = turn.Leaving c (says d hd); desk = leaves d hd }) (record s.lane { receiver = turn.Leaving c (end.Dead m.era) }); rings = s.rings }) in (
             all.0,
             keeps,

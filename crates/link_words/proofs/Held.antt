@@ -1,5 +1,7 @@
 -- A reclaim of a caller that is in no call and holds buffers: the manager takes its receiver's turn with the caller's own seat, finds the era
 -- closed while it has it, and leaves it without what the caller held.
+use Rattle.link_words.proofs.Keepers.{SameMinds, keepers_lane}
+use Rattle.link_words.specs.Parts.{has_for_manager, has_sender_for_manager}
 use Rattle.link_words.proofs.Gathered.{there}
 use Rattle.lane_model.specs.declared.recoveries.LaneTurn.TheVariants as lane_turn
 use Rattle.link_words.specs.declared.codes.DeskTables.{DeskTables}
@@ -190,7 +192,8 @@ module _ {B : Type 0} {kc : Coded B} {kz : DeskTables} (cd : Coded (PlacedDesk k
 
   module _ (n id : ℕ) (me : SeatState) (o : Mover me.0) (e : End) (next : ReceiverSide → Call)
       (minds : (x : ReceiverSide) (i : End) → has_for_manager i (next x) ≡ true → i ≡ e)
-      (mine : (m : LaneLink (RingState (PlacedDesk kc kz))) → IsCallOf m 0 o.pass.number o.pass.call → IsCallOf (with_lane m e (with_receiver (lane_to m e) turn.Manager)) 0 o.pass.number (next (receiver_side (lane_to m e)))) where
+      (mine : (m : LaneLink (RingState (PlacedDesk kc kz))) → IsCallOf m 0 o.pass.number o.pass.call → IsCallOf (with_lane m e (with_receiver (lane_to m e) turn.Manager)) 0 o.pass.number (next (receiver_side (lane_to m e))))
+      (loud : (x : ReceiverSide) → has_for_manager e (next x) ≡ true) (plain : SameMinds o.pass.call (Rests e)) where
     claims_free : (st : State Slot View) (m : LaneLink (RingState (PlacedDesk kc kz))) (r : Shows cd desk z st m 0) → get_elem? st.views id ≡ some me.0 → (lane_to m e).lane.receiver ≡ turn.Free
         → (w : View) × (a : Act Slot) × Valid st.homes me.1 a × WordsRule cd desk z (stepped st (receiver_word e) 65 id me.1 w a)
         × ((x : ReceiverSide) × Path (Me Slot View) (w, carried_after me.1 a) (with_pass me.0 o (with_call o.pass (next x)) w.copy, (receiver_slot e, Receiver x) ∷ me.1))
@@ -212,16 +215,18 @@ module _ {B : Type 0} {kc : Coded B} {kz : DeskTables} (cd : Coded (PlacedDesk k
               refl refl refl refl (r.histories.latest id o.place o.pass (me.0, at, o.here)) (hands_kept desk m e s' o.pass (λ was. was) (r.histories.hands id o.place o.pass (me.0, at, o.here))) (λ u apart. hands_kept desk m e s' u (λ was. was))
               (keepers_new st.views id me.0 (with_pass me.0 o (with_call o.pass w) (Some (copied cd (with_lane m e s')))) o (with_call o.pass w) at refl
               (λ i held j l u there theirs. let same = minds x i held in free_for_all m e 0 free u.number u.call (minds_has e u.call (subst (λ (q : End). has_for_manager q u.call ≡ true) same theirs)) (r.turns.calls j l u there))
-              r.turns.keepers),
+              r.turns.keepers)
+              (keepers_lane m e s' st.views id me.0 (with_pass me.0 o (with_call o.pass w) (Some (copied cd (with_lane m e s')))) o (with_call o.pass w) at refl
+              (λ was. inl was) (λ _. inr (loud x)) (λ i _ has. absurd (true-false (sym has ∙ plain.0 i))) (λ i _ has. absurd (true-false (sym has ∙ plain.1 i))) r.turns.some_keeper),
           (x, refl),
           read_by (receiver_word e) cd desk z st m r id me o (with_call o.pass w) (ManagerTakes lane_turn.Receiver e) (with_lane m e s') ((receiver_slot e, Receiver x) ∷ me.1) at tt deed has,
         )
 
     -- where the turn is another's, the pass is in this call, and nothing has changed
-    claims_from : (busy : Call) → ((m : LaneLink (RingState (PlacedDesk kc kz))) → IsCallOf m 0 o.pass.number o.pass.call → IsCallOf m 0 o.pass.number busy) → ((i : End) → has_for_manager i busy ≡ true → has_for_manager i o.pass.call ≡ true)
+    claims_from : (busy : Call) → ((m : LaneLink (RingState (PlacedDesk kc kz))) → IsCallOf m 0 o.pass.number o.pass.call → IsCallOf m 0 o.pass.number busy) → SameMinds o.pass.call busy
         → ((st : State Slot View) (m : LaneLink (RingState (PlacedDesk kc kz))) (p : ℕ) (r : Shows cd desk z st m p) → get_elem? st.views id ≡ some me.0 → IsCallOf m p o.pass.number busy × IsCallOf m 0 o.pass.number o.pass.call)
         → Allows (WordsRule cd desk z) n id me (receiver_word e) (λ y. either (eqb y 0) 65 y) (λ y me'. ClaimsBy me o e next busy y me' × (y ≤ 65) × StepBy cd desk (ReadsAt (receiver_word e) y) me o (ManagerTakes lane_turn.Receiver e) me')
-    claims_from busy goes_back quiet stands st (m, p, r₀) wide at _ =
+    claims_from busy goes_back minds_same stands st (m, p, r₀) wide at _ =
         let y : ℕ = get_or st.words (receiver_word e) 0 in
         let found : y ≡ turn_word (lane_to m e).lane.receiver = ap (λ (ws : List ℕ). get_or ws (receiver_word e) 0) r₀.words_are ∙ seen_receiver m p e in
         let held : y ≤ 65 = subst (λ (k : ℕ). k ≤ 65) (sym found) (receiver_word_most desk m e r₀.numbers.many r₀.sound) in
@@ -238,7 +243,7 @@ module _ {B : Type 0} {kc : Coded B} {kz : DeskTables} (cd : Coded (PlacedDesk k
           _,
           keeps,
           tt,
-          stays_at cd desk z st m p r₀ (receiver_word e) y id me.1 me.0 o busy (ManagerTakes lane_turn.Receiver e) at refl tt same is.0 quiet,
+          stays_at cd desk z st m p r₀ (receiver_word e) y id me.1 me.0 o busy (ManagerTakes lane_turn.Receiver e) at refl tt same is.0 minds_same,
           (
             ((λ hit. absurd (miss hit)), λ _. refl),
             held,
@@ -252,7 +257,7 @@ module _ {B : Type 0} {kc : Coded B} {kz : DeskTables} (cd : Coded (PlacedDesk k
   claims n id me o e call =
       claims_from n id me o e (Reclaims e) (λ x i. same_end_is i e)
       (λ m has. let rests : IsCallOf m 0 o.pass.number (Rests e) = subst (IsCallOf m 0 o.pass.number) call has in minded m e (with_receiver (lane_to m e) turn.Manager) o.pass.number rests.0 refl rests.1)
-      (Rests e) (λ m. subst (IsCallOf m 0 o.pass.number) call) (λ i k. absurd (true-false (sym k)))
+      (λ x. same_self e) ((λ i. ap (has_sender_for_manager i) call), λ i. ap (has_for_manager i) call) (Rests e) (λ m. subst (IsCallOf m 0 o.pass.number) call) ((λ i. ap (has_sender_for_manager i) call), λ i. ap (has_for_manager i) call)
       (λ st m p r at. let rests : IsCallOf m p o.pass.number (Rests e) = subst (IsCallOf m p o.pass.number) call (r.turns.calls id o.place o.pass (me.0, at, o.here)) in (rests, subst (IsCallOf m 0 o.pass.number) (sym call) rests))
 
   both_minded : (m : LaneLink (RingState (PlacedDesk kc kz))) (i : End) (number : ℕ) (t : Turn Sending) (x : SenderSide) (b : ℕ) → IsCallOf m 0 number (EndsSend i t x b)
@@ -266,7 +271,7 @@ module _ {B : Type 0} {kc : Coded B} {kz : DeskTables} (cd : Coded (PlacedDesk k
   claims_beside n id me o i t x b call bare =
       claims_from n id me o (other i) (EndsBoth i t x b) (λ y j. same_end_is j (other i))
       (λ m has. both_minded m i o.pass.number t x b (subst (IsCallOf m 0 o.pass.number) call has))
-      (Sends i t x b) (λ m has. let h : IsCallOf m 0 o.pass.number (EndsSend i t x b) = subst (IsCallOf m 0 o.pass.number) call has in (h.0, h.1, h.3)) (λ j k. absurd (true-false (sym k)))
+      (λ y. same_self (other i)) ((λ j. ap (has_sender_for_manager j) call), λ j. ap (has_for_manager j) call) (Sends i t x b) (λ m has. let h : IsCallOf m 0 o.pass.number (EndsSend i t x b) = subst (IsCallOf m 0 o.pass.number) call has in (h.0, h.1, h.3)) ((λ j. ap (has_sender_for_manager j) call), λ j. ap (has_for_manager j) call)
       (λ st m p r at. let h : IsCallOf m p o.pass.number (EndsSend i t x b) = subst (IsCallOf m p o.pass.number) call (r.turns.calls id o.place o.pass (me.0, at, o.here)) in ((h.0, h.1, h.3), subst (IsCallOf m 0 o.pass.number) (sym call) h))
 
   -- the era again, while the seat has the turn
@@ -274,7 +279,7 @@ module _ {B : Type 0} {kc : Coded B} {kz : DeskTables} (cd : Coded (PlacedDesk k
       → Allows (WordsRule cd desk z) n id me 1 (λ y. y) (λ y me'. FindsClosedBy me o (EndsHeld e x) y me' × StepBy cd desk (ReadsAt 1 y) me o Nothing me')
   shuts n id me o e x call st (m, p, r₀) wide at _ =
       let h : IsCallOf m p o.pass.number (Reclaims e x) = subst (IsCallOf m p o.pass.number) call (r₀.turns.calls id o.place o.pass (me.0, at, o.here)) in
-      finds_closed cd desk z n id me o (EndsHeld e x) st m (subst (Shows cd desk z st m) h.3 r₀) at (λ shut. (h.0, h.1, h.2, refl, shut, h.4)) (λ i k. ap (has_for_manager i) call ∙ k)
+      finds_closed cd desk z n id me o (EndsHeld e x) st m (subst (Shows cd desk z st m) h.3 r₀) at (λ shut. (h.0, h.1, h.2, refl, shut, h.4)) ((λ i. ap (has_sender_for_manager i) call), λ i. ap (has_for_manager i) call)
 
   -- where it was found live, the turn is left again
   pub releases : (n id : ℕ) (me : SeatState) (o : Mover me.0) (e : End) (x : ReceiverSide) → o.pass.call ≡ Reclaims e x → me.1 ≡ (receiver_slot e, Receiver x) ∷ rest me.1
@@ -299,7 +304,9 @@ module _ {B : Type 0} {kc : Coded B} {kz : DeskTables} (cd : Coded (PlacedDesk k
             mine
             (λ j l u there apart. others_beside desk m e s' refl refl refl u.number refl u.call (λ having had. alone st m r e id me.0 o at minds h.1 j l u there apart having had))
             refl refl refl refl (r.histories.latest id o.place o.pass (me.0, at, o.here)) (hands_kept desk m e s' o.pass (λ was. was) (r.histories.hands id o.place o.pass (me.0, at, o.here))) (λ u apart. hands_kept desk m e s' u (λ was. was))
-            (keepers_set st.views id me.0 (with_pass me.0 o (with_call o.pass (Rests e)) (Some (copied cd (with_lane m e s')))) o (with_call o.pass (Rests e)) at refl refl (λ i k. absurd (true-false (sym k))) r.turns.keepers),
+            (keepers_set st.views id me.0 (with_pass me.0 o (with_call o.pass (Rests e)) (Some (copied cd (with_lane m e s')))) o (with_call o.pass (Rests e)) at refl refl (λ i k. absurd (true-false (sym k))) r.turns.keepers)
+            (keepers_lane m e s' st.views id me.0 (with_pass me.0 o (with_call o.pass (Rests e)) (Some (copied cd (with_lane m e s')))) o (with_call o.pass (Rests e)) at refl
+            (λ was. inl was) (λ never. absurd (true-false (sym (ap is_manager never)))) (λ i _ has. absurd (true-false (sym has ∙ ap (has_sender_for_manager i) call))) (λ i still has. absurd (true-false (sym (ap is_manager (still (same_end_is i e (sym (ap (has_for_manager i) call) ∙ has))))))) r.turns.some_keeper),
         (refl, write_by (receiver_word e) 0 cd desk z st m r id me o (with_call o.pass (Rests e)) (ManagerLeaves lane_turn.Receiver e) (with_lane m e s') (rest me.1) (receiver_in m e s') at tt deed mine),
       )
 
@@ -329,6 +336,8 @@ module _ {B : Type 0} {kc : Coded B} {kz : DeskTables} (cd : Coded (PlacedDesk k
             mine
             (λ j l u there apart. others_beside desk m e s' refl refl refl u.number refl u.call (λ having had. alone st m r e id me.0 o at minds h.1 j l u there apart having had))
             refl refl refl refl (inr (inl refl)) (hands_here m e s' (with_call_and_hands o.pass (Rests e) []) h.0 (hands_none c s₀.lane.lane.held)) (λ u apart. hands_kept desk m e s' u (λ was. hands_others c u.number s₀.lane.lane.held apart ∙ was))
-            (keepers_set st.views id me.0 (with_pass me.0 o (with_call_and_hands o.pass (Rests e) []) (Some (copied cd (with_lane m e s')))) o (with_call_and_hands o.pass (Rests e) []) at refl refl (λ i k. absurd (true-false (sym k))) r.turns.keepers),
+            (keepers_set st.views id me.0 (with_pass me.0 o (with_call_and_hands o.pass (Rests e) []) (Some (copied cd (with_lane m e s')))) o (with_call_and_hands o.pass (Rests e) []) at refl refl (λ i k. absurd (true-false (sym k))) r.turns.keepers)
+            (keepers_lane m e s' st.views id me.0 (with_pass me.0 o (with_call_and_hands o.pass (Rests e) []) (Some (copied cd (with_lane m e s')))) o (with_call_and_hands o.pass (Rests e) []) at refl
+            (λ was. inl was) (λ never. absurd (true-false (sym (ap is_manager never)))) (λ i _ has. absurd (true-false (sym has ∙ ap (has_sender_for_manager i) call))) (λ i still has. absurd (true-false (sym (ap is_manager (still (same_end_is i e (sym (ap (has_for_manager i) call) ∙ has))))))) r.turns.some_keeper),
         (refl, write_by (receiver_word e) 0 cd desk z st m r id me o (with_call_and_hands o.pass (Rests e) []) (LeavesTurn e c) (with_lane m e s') (rest me.1) (receiver_in m e s') at (h.4, h.0, h.1) deed mine),
       )

@@ -40,14 +40,15 @@ use Rattle.link_words.specs.Histories.{IsCurrent, IsOfNow}
 use Rattle.link_words.specs.Rule.{IsHistory}
 use Rattle.link_words.specs.Deeds.{Deed, after_deed, MayDo, AreManagers, IsSoundState}
 use Rattle.link_words.specs.Rule.{HistoryOf, HandsOf, LatestOf, IsCallOf, HasCall, fresh_block, Shows, WordsRule}
-use Rattle.link_words.specs.Parts.{has_for_manager, AreKeepersApart, SendsAt, HoldsBuffers}
+use Rattle.link_words.specs.Parts.{AreKeepersApart, HasKeepers, SendsAt, HoldsBuffers}
 use Rattle.link_words.specs.Histories.{hands_of}
 use Rattle.link_words.proofs.Frames.{some_copy, each_set, numbers_set, keepers_set, manager_set, each_lane, words_seen, homes_seen, same_lane, same_shelf}
 use Rattle.link_words.proofs.Books.{history_kept, none_same}
 use Rattle.link_words.proofs.Kept.{deed_kept}
 use Rattle.link_words.proofs.Quiet.{ended_by}
+use Rattle.link_words.proofs.Keepers.{KeepsMinds, keepers_by}
 use Rattle.link_words.proofs.Parts.{state_in, told_in, IsAsTold, buffers_in, put_together, one_more}
-use Rattle.link_words.specs.Turns.{turns_of}
+use Rattle.link_words.specs.Turns.{turns_in, turns_of}
 
 -- the pass in another call, with another list and other numbers in hand
 abbrev pub with_step : Pass → Call → List Event → List ℕ → Pass
@@ -234,9 +235,9 @@ module _ {B : Type 0} {kc : Coded B} {kz : DeskTables} (cd : Coded (PlacedDesk k
       → HoldsBuffers s' l' → IsCallOf (with_lane m e s') 0 w.number w.call → ((j l : ℕ) (q : Pass) → PassAt st.views j l q → o.pass.number ≢ q.number → IsCallOf m 0 q.number q.call → IsCallOf (with_lane m e s') 0 q.number q.call)
       → w.number ≡ o.pass.number → Path (RingSizes × ℕ) (s'.rings.sizes, s'.lane.lane.book) (s.rings.sizes, s.lane.lane.book)
       → HistoryOf (with_lane m e s') w → ((q : Pass) → o.pass.number ≢ q.number → HistoryOf m q → HistoryOf (with_lane m e s') q)
-      → IsOfNow m.era.inc w.number w.hands w.own → HandsOf (with_lane m e s') w → ((q : Pass) → o.pass.number ≢ q.number → HandsOf m q → HandsOf (with_lane m e s') q) → ((n : ℕ) → end_of m.callers n ≡ None → NoneOf m n → NoneOf (with_lane m e s') n) → AreKeepersApart (set st.views id (with_pass v o w (Some (copied cd (with_lane m e s')))))
+      → IsOfNow m.era.inc w.number w.hands w.own → HandsOf (with_lane m e s') w → ((q : Pass) → o.pass.number ≢ q.number → HandsOf m q → HandsOf (with_lane m e s') q) → ((n : ℕ) → end_of m.callers n ≡ None → NoneOf m n → NoneOf (with_lane m e s') n) → AreKeepersApart (set st.views id (with_pass v o w (Some (copied cd (with_lane m e s'))))) → HasKeepers (turns_in (with_lane m e s')) (set st.views id (with_pass v o w (Some (copied cd (with_lane m e s')))))
       → WordsRule cd desk z (stepped st i n id cs (with_pass v o w (Some (copied cd (with_lane m e s')))) a)
-  lane_moves_with z st m r e s s' is i n id cs v o w a d l' at may deed words homes shelved mine others number sizes history histories latest hand hands fresh keepers =
+  lane_moves_with z st m r e s s' is i n id cs v o w a d l' at may deed words homes shelved mine others number sizes history histories latest hand hands fresh keepers some_keeper =
       let each = each_set st.views id v (with_pass v o w (Some (copied cd (with_lane m e s')))) o w at refl in
       let kept = ended_by desk m (with_lane m e s') d deed (λ shut. ap (λ (x : Era). x.is_live) (era_same desk m e s') ∙ shut) in (
         with_lane m e s',
@@ -253,6 +254,7 @@ module _ {B : Type 0} {kc : Coded B} {kz : DeskTables} (cd : Coded (PlacedDesk k
             (record {
               calls = each (HasCall m 0) (HasCall (with_lane m e s') 0) r.numbers.places r.turns.calls others mine;
               keepers = keepers;
+              some_keeper = some_keeper;
               still = inl refl;
             })
             (record {
@@ -280,13 +282,13 @@ module _ {B : Type 0} {kc : Coded B} {kz : DeskTables} (cd : Coded (PlacedDesk k
       → HoldsBuffers s' l' → IsCallOf (with_lane m e s') 0 o.pass.number call → ((j l : ℕ) (q : Pass) → PassAt st.views j l q → o.pass.number ≢ q.number → IsCallOf m 0 q.number q.call → IsCallOf (with_lane m e s') 0 q.number q.call)
       → Path (RingSizes × ℕ) (s'.rings.sizes, s'.lane.lane.book) (s.rings.sizes, s.lane.lane.book) → s'.lane.lane.accepted ≡ s.lane.lane.accepted → s'.lane.lane.takers ≡ s.lane.lane.takers → s.lane.lane.returned ≤ s'.lane.lane.returned
       → IsHistory (with_lane m e s') o.pass.number o.pass.first own → IsOfNow m.era.inc o.pass.number hands own
-      → HandsOf (with_lane m e s') (with_step o.pass call own hands) → ((q : Pass) → o.pass.number ≢ q.number → HandsOf m q → HandsOf (with_lane m e s') q) → AreKeepersApart (set st.views id (with_pass v o (with_step o.pass call own hands) (Some (copied cd (with_lane m e s')))))
+      → HandsOf (with_lane m e s') (with_step o.pass call own hands) → ((q : Pass) → o.pass.number ≢ q.number → HandsOf m q → HandsOf (with_lane m e s') q) → AreKeepersApart (set st.views id (with_pass v o (with_step o.pass call own hands) (Some (copied cd (with_lane m e s'))))) → HasKeepers (turns_in (with_lane m e s')) (set st.views id (with_pass v o (with_step o.pass call own hands) (Some (copied cd (with_lane m e s')))))
       → WordsRule cd desk z (stepped st i n id cs (with_pass v o (with_step o.pass call own hands) (Some (copied cd (with_lane m e s')))) a)
-  lane_moves_noting z st m r e s s' is i n id cs v o call own hands a d l' at may deed words homes shelved mine others sizes book handed back history latest hand others_hands keepers =
+  lane_moves_noting z st m r e s s' is i n id cs v o call own hands a d l' at may deed words homes shelved mine others sizes book handed back history latest hand others_hands keepers some_keeper =
       let books : s'.lane.lane.accepted ≡ (lane_to m e).lane.lane.accepted = book ∙ ap (λ (x : RingState (PlacedDesk kc kz)). x.lane.lane.accepted) (sym is) in
       let takers : s'.lane.lane.takers ≡ (lane_to m e).lane.lane.takers = handed ∙ ap (λ (x : RingState (PlacedDesk kc kz)). x.lane.lane.takers) (sym is) in
       lane_moves_with z st m r e s s' is i n id cs v o (with_step o.pass call own hands) a d l' at may deed words homes shelved mine others refl sizes history
-      (λ q apart has. history_kept m e s' books takers (subst (λ (x : RingState (PlacedDesk kc kz)). x.lane.lane.returned ≤ s'.lane.lane.returned) (sym is) back) q.number q.first q.own has) latest hand others_hands (λ n none. none_same m e s' books takers n) keepers
+      (λ q apart has. history_kept m e s' books takers (subst (λ (x : RingState (PlacedDesk kc kz)). x.lane.lane.returned ≤ s'.lane.lane.returned) (sym is) back) q.number q.first q.own has) latest hand others_hands (λ n none. none_same m e s' books takers n) keepers some_keeper
 
   -- a history on a lane that is as it was, but that buffers may be back
   history_stays : (m : LaneLink (RingState (PlacedDesk kc kz))) (e : End) (s s' : RingState (PlacedDesk kc kz)) → lane_to m e ≡ s → s'.lane.lane.accepted ≡ s.lane.lane.accepted → s'.lane.lane.takers ≡ s.lane.lane.takers → s.lane.lane.returned ≤ s'.lane.lane.returned
@@ -303,12 +305,12 @@ module _ {B : Type 0} {kc : Coded B} {kz : DeskTables} (cd : Coded (PlacedDesk k
       → homes_after (homes_at e (lane_homes s (shelf_to r.shelves e)) (lane_homes (lane_to m (other e)) (shelf_to r.shelves (other e)))) cs a ≡ homes_at e (lane_homes s' l') (lane_homes (lane_to m (other e)) (shelf_to r.shelves (other e)))
       → HoldsBuffers s' l' → IsCallOf (with_lane m e s') 0 o.pass.number call → ((j l : ℕ) (q : Pass) → PassAt st.views j l q → o.pass.number ≢ q.number → IsCallOf m 0 q.number q.call → IsCallOf (with_lane m e s') 0 q.number q.call)
       → Path (RingSizes × ℕ) (s'.rings.sizes, s'.lane.lane.book) (s.rings.sizes, s.lane.lane.book) → s'.lane.lane.accepted ≡ s.lane.lane.accepted → s'.lane.lane.takers ≡ s.lane.lane.takers → s'.lane.lane.returned ≡ s.lane.lane.returned → IsOfNow m.era.inc o.pass.number hands o.pass.own
-      → HandsOf (with_lane m e s') (with_call_and_hands o.pass call hands) → ((q : Pass) → o.pass.number ≢ q.number → HandsOf m q → HandsOf (with_lane m e s') q) → AreKeepersApart (set st.views id (with_pass v o (with_call_and_hands o.pass call hands) (Some (copied cd (with_lane m e s')))))
+      → HandsOf (with_lane m e s') (with_call_and_hands o.pass call hands) → ((q : Pass) → o.pass.number ≢ q.number → HandsOf m q → HandsOf (with_lane m e s') q) → AreKeepersApart (set st.views id (with_pass v o (with_call_and_hands o.pass call hands) (Some (copied cd (with_lane m e s'))))) → HasKeepers (turns_in (with_lane m e s')) (set st.views id (with_pass v o (with_call_and_hands o.pass call hands) (Some (copied cd (with_lane m e s')))))
       → WordsRule cd desk z (stepped st i n id cs (with_pass v o (with_call_and_hands o.pass call hands) (Some (copied cd (with_lane m e s')))) a)
-  lane_moves_by z st m r e s s' is i n id cs v o call hands a d l' at may deed words homes shelved mine others sizes book handed back latest hand others_hands keepers =
+  lane_moves_by z st m r e s s' is i n id cs v o call hands a d l' at may deed words homes shelved mine others sizes book handed back latest hand others_hands keepers some_keeper =
       let least : s.lane.lane.returned ≤ s'.lane.lane.returned = omega (arith, back) in
       lane_moves_noting z st m r e s s' is i n id cs v o call o.pass.own hands a d l' at may deed words homes shelved mine others sizes book handed least
-      (history_stays m e s s' is book handed least o.pass.number o.pass.first o.pass.own (r.histories.own id o.place o.pass (v, at, o.here))) latest hand others_hands keepers
+      (history_stays m e s s' is book handed least o.pass.number o.pass.first o.pass.own (r.histories.own id o.place o.pass (v, at, o.here))) latest hand others_hands keepers some_keeper
 
   -- by numbers, where nothing is accepted, comes into a hand or leaves it, and the mover's list becomes this one
   pub lane_looks : (z : LinkSizes) (st : State Slot View) (m : LaneLink (RingState (PlacedDesk kc kz))) (r : Shows cd desk z st m 0) (e : End) (s s' : RingState (PlacedDesk kc kz)) → lane_to m e ≡ s
@@ -317,14 +319,15 @@ module _ {B : Type 0} {kc : Coded B} {kz : DeskTables} (cd : Coded (PlacedDesk k
       → set (words_at e (era_word m.era) (lane_words s) (lane_words (lane_to m (other e)))) i n ≡ words_at e (era_word m.era) (lane_words s') (lane_words (lane_to m (other e)))
       → homes_after (homes_at e (lane_homes s (shelf_to r.shelves e)) (lane_homes (lane_to m (other e)) (shelf_to r.shelves (other e)))) cs a ≡ homes_at e (lane_homes s' l') (lane_homes (lane_to m (other e)) (shelf_to r.shelves (other e)))
       → HoldsBuffers s' l' → IsCallOf (with_lane m e s') 0 o.pass.number call → ((k : ℕ) → o.pass.number ≢ k → (c : Call) → IsCallOf m 0 k c → IsCallOf (with_lane m e s') 0 k c)
-      → Path (RingSizes × ℕ) (s'.rings.sizes, s'.lane.lane.book) (s.rings.sizes, s.lane.lane.book) → s'.lane.lane.accepted ≡ s.lane.lane.accepted → s'.lane.lane.takers ≡ s.lane.lane.takers → Path (List Holding × ℕ) (s'.lane.lane.held, s'.lane.lane.returned) (s.lane.lane.held, s.lane.lane.returned) → IsHistory (with_lane m e s') o.pass.number o.pass.first own → IsOfNow m.era.inc o.pass.number o.pass.hands own → ((i : End) → has_for_manager i call ≡ true → has_for_manager i o.pass.call ≡ true)
+      → Path (RingSizes × ℕ) (s'.rings.sizes, s'.lane.lane.book) (s.rings.sizes, s.lane.lane.book) → s'.lane.lane.accepted ≡ s.lane.lane.accepted → s'.lane.lane.takers ≡ s.lane.lane.takers → Path (List Holding × ℕ) (s'.lane.lane.held, s'.lane.lane.returned) (s.lane.lane.held, s.lane.lane.returned) → IsHistory (with_lane m e s') o.pass.number o.pass.first own → IsOfNow m.era.inc o.pass.number o.pass.hands own → KeepsMinds d o.pass.call call
       → WordsRule cd desk z (stepped st i n id cs (with_pass v o (with_step o.pass call own o.pass.hands) (Some (copied cd (with_lane m e s')))) a)
-  lane_looks z st m r e s s' is i n id cs v o call own a d l' at may deed words homes shelved mine others sizes book handed still history latest quiet =
+  lane_looks z st m r e s s' is i n id cs v o call own a d l' at may deed words homes shelved mine others sizes book handed still history latest minds =
       let stays = λ (q : Pass) (has : HandsOf m q). hands_kept desk m e s' q (λ was. ap (hands_of q.number) (ap (λ (t : List Holding × ℕ). t.0) still ∙ ap (λ (x : RingState (PlacedDesk kc kz)). x.lane.lane.held) (sym is)) ∙ was) has in
       let back = ap (λ (t : List Holding × ℕ). t.1) still in
       lane_moves_noting z st m r e s s' is i n id cs v o call own o.pass.hands a d l' at may deed words homes shelved mine (λ j l q there apart has. others q.number apart q.call has) sizes book handed (omega (arith, back)) history latest
       (stays o.pass (r.histories.hands id o.place o.pass (v, at, o.here))) (λ q apart. stays q)
-      (keepers_set st.views id v (with_pass v o (with_step o.pass call own o.pass.hands) (Some (copied cd (with_lane m e s')))) o (with_step o.pass call own o.pass.hands) at refl refl quiet r.turns.keepers)
+      (keepers_set st.views id v (with_pass v o (with_step o.pass call own o.pass.hands) (Some (copied cd (with_lane m e s')))) o (with_step o.pass call own o.pass.hands) at refl refl (λ i k. minds.1.1 i ∙ k) r.turns.keepers)
+      (keepers_by desk m (with_lane m e s') d deed st.views id v (with_pass v o (with_step o.pass call own o.pass.hands) (Some (copied cd (with_lane m e s')))) o (with_step o.pass call own o.pass.hands) at refl minds r.turns.some_keeper)
 
   -- by numbers, where nothing is accepted, no step is of the own list and nothing comes into a hand or leaves it
   pub lane_moves : (z : LinkSizes) (st : State Slot View) (m : LaneLink (RingState (PlacedDesk kc kz))) (r : Shows cd desk z st m 0) (e : End) (s s' : RingState (PlacedDesk kc kz)) → lane_to m e ≡ s
@@ -333,9 +336,9 @@ module _ {B : Type 0} {kc : Coded B} {kz : DeskTables} (cd : Coded (PlacedDesk k
       → set (words_at e (era_word m.era) (lane_words s) (lane_words (lane_to m (other e)))) i n ≡ words_at e (era_word m.era) (lane_words s') (lane_words (lane_to m (other e)))
       → homes_after (homes_at e (lane_homes s (shelf_to r.shelves e)) (lane_homes (lane_to m (other e)) (shelf_to r.shelves (other e)))) cs a ≡ homes_at e (lane_homes s' l') (lane_homes (lane_to m (other e)) (shelf_to r.shelves (other e)))
       → HoldsBuffers s' l' → IsCallOf (with_lane m e s') 0 o.pass.number call → ((k : ℕ) → o.pass.number ≢ k → (c : Call) → IsCallOf m 0 k c → IsCallOf (with_lane m e s') 0 k c)
-      → Path (RingSizes × ℕ) (s'.rings.sizes, s'.lane.lane.book) (s.rings.sizes, s.lane.lane.book) → s'.lane.lane.accepted ≡ s.lane.lane.accepted → s'.lane.lane.takers ≡ s.lane.lane.takers → Path (List Holding × ℕ) (s'.lane.lane.held, s'.lane.lane.returned) (s.lane.lane.held, s.lane.lane.returned) → ((i : End) → has_for_manager i call ≡ true → has_for_manager i o.pass.call ≡ true)
+      → Path (RingSizes × ℕ) (s'.rings.sizes, s'.lane.lane.book) (s.rings.sizes, s.lane.lane.book) → s'.lane.lane.accepted ≡ s.lane.lane.accepted → s'.lane.lane.takers ≡ s.lane.lane.takers → Path (List Holding × ℕ) (s'.lane.lane.held, s'.lane.lane.returned) (s.lane.lane.held, s.lane.lane.returned) → KeepsMinds d o.pass.call call
       → WordsRule cd desk z (stepped st i n id cs (with_pass v o (with_call o.pass call) (Some (copied cd (with_lane m e s')))) a)
-  lane_moves z st m r e s s' is i n id cs v o call a d l' at may deed words homes shelved mine others sizes book handed still quiet =
+  lane_moves z st m r e s s' is i n id cs v o call a d l' at may deed words homes shelved mine others sizes book handed still minds =
       let back = ap (λ (t : List Holding × ℕ). t.1) still in
       lane_looks z st m r e s s' is i n id cs v o call o.pass.own a d l' at may deed words homes shelved mine others sizes book handed still
-      (history_stays m e s s' is book handed (omega (arith, back)) o.pass.number o.pass.first o.pass.own (r.histories.own id o.place o.pass (v, at, o.here))) (r.histories.latest id o.place o.pass (v, at, o.here)) quiet
+      (history_stays m e s s' is book handed (omega (arith, back)) o.pass.number o.pass.first o.pass.own (r.histories.own id o.place o.pass (v, at, o.here))) (r.histories.latest id o.place o.pass (v, at, o.here)) minds

@@ -1,4 +1,5 @@
 -- steps 3 and 5 of a send: the look for room, and the forward entry, on either lane.
+use Rattle.link_words.specs.Parts.{has_for_manager, has_sender_for_manager}
 use Rattle.link_words.specs.declared.codes.DeskTables.{DeskTables}
 use Rattle.link_words.specs.PlacedDesks.{PlacedDesk}
 use Rattle.std.proofs.Common.{◌≡◌, ℕ, zero, suc, ◌+◌, ◌*◌, ◌%◌, ◌<◌, ◌≤◌, Bool, true, false, cond, eqb, List, [], ◌∷◌, ◌++◌, map, length, get_or, set, refl, sym, ap, ◌∙◌, subst, inr, arith, le_refl, length-set}
@@ -174,7 +175,7 @@ module _ {B : Type 0} {kc : Coded B} {kz : DeskTables} (cd : Coded (PlacedDesk k
             (looked_word full over c a k sending) (looked_home full over c a k sending) (looked_out full over c a k sending)
             mine
             (history_counted m e (with_turn s t') refl refl (le_refl k) o.pass.number o.pass.first f (Room x.accepted k) o.pass.own (h.2 refl) (record { accepted = omega (arith, side); handed = omega arith; returned = le_refl k }) past) (inr (inr (h.2 refl)))
-            (λ i l. absurd (true-false (sym l))) (looked_holder full over c a k sending ∙ h.1.1),
+            (refl, ((λ i. ap (has_sender_for_manager i) call), λ i. ap (has_for_manager i) call)) (looked_holder full over c a k sending ∙ h.1.1),
         (
           (
             k,
@@ -222,7 +223,7 @@ module _ {B : Type 0} {kc : Coded B} {kz : DeskTables} (cd : Coded (PlacedDesk k
             refl
             (record { long = q.long; full = λ k from to other. ap (get_elem? (shelf_to r.shelves e)) (stands k from to) ∙ q.full k from to other; home = q.home })
             mine
-            (others_send desk m e s' t o.pass.number h.1.0 h.1.1 refl refl refl (λ _. refl) (λ k apart. no_call desk t' o.pass.number k h.1.1 apart)) refl refl refl refl (λ i k. absurd (true-false (sym k))),
+            (others_send desk m e s' t o.pass.number h.1.0 h.1.1 refl refl refl (λ _. refl) (λ k apart. no_call desk t' o.pass.number k h.1.1 apart)) refl refl refl refl (refl, ((λ i. ap (has_sender_for_manager i) call), λ i. ap (has_for_manager i) call)),
         (
           refl,
           write_by word new cd desk z st m r id me o (with_call o.pass w) (Steps o.pass.number 0 None) (with_lane m e s') me.1

@@ -25,7 +25,7 @@ use Rattle.link_words.specs.declared.rule.ReceiverSide.{ReceiverSide}
 use Rattle.link_words.specs.declared.rule.Slot.{Slot}
 use Rattle.link_words.specs.declared.rule.Slot.TheVariants.{Receiver, Sender}
 use Rattle.link_words.specs.PlacedDesks.{PlacedDesk, placed_meaning, right_at, right_to, table_at, IsRightTo}
-use Rattle.link_words.specs.Words.{sender_slot, receiver_slot, sender_word, receiver_word}
+use Rattle.link_words.specs.Words.{other, sender_slot, receiver_slot, sender_word, receiver_word}
 use Rattle.link_words.specs.Layouts.{place_in}
 use Rattle.link_words.specs.Passes.{Mover, with_call, with_pass}
 use Rattle.link_words.specs.Fresh.{fresh_of}
@@ -34,7 +34,8 @@ use Rattle.link_words.specs.Rule.{WordsRule, PlacedRule}
 use Rattle.link_words.specs.Calls.{SeatState, Becomes, call_at, number_at, with_pass_at}
 use Rattle.link_words.specs.declared.copies.LinkCopy.{LinkCopy}
 use Rattle.link_words.specs.Steps.{IsStepOf, HasWord, StoresWord, turn_number}
-use Rattle.link_words.specs.Reopens.{gathers_or, reopens_or, sides_of, manager_place, manager_call, ManagerAt, both_sides, gathered, ManagerTakesSender, ManagerTakesReceiver, ManagerLeavesSender, ManagerLeavesReceiver, ManagerTakesTurn, ManagerLeavesTurn, MayGather, MayLeaveTurn, MayBegin, AreBooksOf, books_by, BeginsReopening, MayReset, ResetsWord, MayOpen, right_by, opened_sides, opened_view, OpensEra, IsOpeningOf, KeepsCopy}
+use Rattle.link_words.specs.Parts.{has_for_manager, has_sender_for_manager}
+use Rattle.link_words.specs.Reopens.{IsHoldersWord, gathers_or, reopens_or, sides_of, manager_place, manager_call, ManagerAt, both_sides, gathered, ManagerTakesSender, ManagerTakesReceiver, ManagerLeavesSender, ManagerLeavesReceiver, ManagerTakesTurn, ManagerLeavesTurn, MayGather, MayLeaveTurn, MayBegin, AreBooksOf, books_by, BeginsReopening, MayReset, ResetsWord, MayOpen, right_by, opened_sides, opened_view, OpensEra, IsOpeningOf, KeepsCopy}
 use Rattle.link_words.proofs.Apart.{apart, entry_place_is, sender_low, receiver_low}
 use Rattle.link_words.proofs.Exact.{StepBy, ReadsAt, WritesAt, becomes, passes_at, call_is, step_told, read_there, written_there}
 use Rattle.link_words.proofs.ManagerTurns.{TakesSenderBy, takes_sender, leaves_sender_turn, TakesReceiverBy, takes_receiver, leaves_receiver_turn, looks}
@@ -79,11 +80,11 @@ module _ {B : Type 0} {kc : Coded B} {kz : DeskTables} (cd : Coded (PlacedDesk k
   manager_takes_turn lane_turn.Sender e place g is =
       exchanges (sender_word e) place (λ y. either (eqb y 0) 65 y) g.at.mover g.at.here (ManagerTakes lane_turn.Sender e) (TakesSenderBy cd desk z me g.at.mover e g.to_host g.to_remote) (ManagerTakesSender e me) is
       (takes_sender cd desk z n id me g.at.mover e g.to_host g.to_remote g.at.in_call)
-      (λ y me' t. ((λ hit. let h = t.0 hit in (h.0, called me (Gathers g.to_host g.to_remote) g.at (λ c. gathers_or c (gathered e (λ s. record s { sender = Some h.0 })) c) ((sender_slot e, Sender h.0) ∷ me.1) me' h.1)), t.1, t.2, t.3))
+      (λ y me' t. ((λ hit. let h = t.0 hit in (h.0, called me (Gathers g.to_host g.to_remote) g.at (λ c. gathers_or c (gathered e (λ s. record s { sender = Some h.0 })) c) ((sender_slot e, Sender h.0) ∷ me.1) me' h.1)), t.1, t.2, λ held. subst (λ (c : Call). IsHoldersWord me.0 (has_sender_for_manager e c) (other e) y) (sym (call_here me (Gathers g.to_host g.to_remote) g.at)) (t.3 held)))
   manager_takes_turn lane_turn.Receiver e place g is =
       exchanges (receiver_word e) place (λ y. either (eqb y 0) 65 y) g.at.mover g.at.here (ManagerTakes lane_turn.Receiver e) (TakesReceiverBy cd desk z me g.at.mover e g.to_host g.to_remote) (ManagerTakesReceiver e me) is
       (takes_receiver cd desk z n id me g.at.mover e g.to_host g.to_remote g.at.in_call)
-      (λ y me' t. ((λ hit. let h = t.0 hit in (h.0, called me (Gathers g.to_host g.to_remote) g.at (λ c. gathers_or c (gathered e (λ s. record s { receiver = Some h.0 })) c) ((receiver_slot e, Receiver h.0) ∷ me.1) me' h.1, h.2)), t.1, t.2, t.3))
+      (λ y me' t. ((λ hit. let h = t.0 hit in (h.0, called me (Gathers g.to_host g.to_remote) g.at (λ c. gathers_or c (gathered e (λ s. record s { receiver = Some h.0 })) c) ((receiver_slot e, Receiver h.0) ∷ me.1) me' h.1, h.2)), t.1, t.2, λ held. subst (λ (c : Call). IsHoldersWord me.0 (has_for_manager e c) e y) (sym (call_here me (Gathers g.to_host g.to_remote) g.at)) (t.3 held)))
 
   pub manager_leaves_turn : (which : LaneTurn) (e : End) (place : ℕ) → MayLeaveTurn which e me → place ≡ place_in (turn_number which e)
       → Allows (PlacedRule cd desk z) n id me place (λ _. 0) (λ _ me'. ManagerLeavesTurn which e me me' × Does (StoresWord place 0) (ManagerLeaves which e) me')

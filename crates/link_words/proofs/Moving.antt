@@ -43,6 +43,8 @@ use Rattle.link_words.specs.Codes.{copied}
 use Rattle.link_words.proofs.Frames.{some_copy}
 use Rattle.link_words.proofs.Kept.{deed_kept}
 use Rattle.link_words.proofs.Quiet.{ended_with}
+use Rattle.link_words.proofs.Keepers.{Onto, keepers_onto, keepers_turns, onto_joined, onto_longer, onto_split, same_turns}
+use Rattle.link_words.specs.Turns.{turns_in}
 use Rattle.link_words.proofs.Froms.{Spot, From, each_from, numbers_from, keepers_from, one_manager, one_goes, split_from, joined, join_from, last_at, at_new, stands_left, stands_right, numbers_at}
 use Rattle.link_words.proofs.Users.{free_is, end_here, end_else, call_with, history_with, hands_with, unused_turn, unused_hands, in_use}
 use Rattle.link_words.proofs.Parts.{state_in, told_in, buffers_in, put_together, one_more}
@@ -73,8 +75,8 @@ made_link m e n = record m { callers = slice_set m.callers n (Some e) }
 
 module _ {B : Type 0} {kc : Coded B} {kz : DeskTables} (cd : Coded (PlacedDesk kc kz)) (desk : DeskMeaning (PlacedDesk kc kz)) (z : LinkSizes) where
   -- passes go to other places, and nothing else changes
-  pub rebuilt : (st : State Slot View) (m : LaneLink (RingState (PlacedDesk kc kz))) (p : ℕ) (r : Shows cd desk z st m p) (views : List View) (went : Spot → Spot) → From st.views views went → ManagerKnows cd m views → WordsRule cd desk z (with_views st views)
-  rebuilt st m p r views went from manager = (
+  pub rebuilt : (st : State Slot View) (m : LaneLink (RingState (PlacedDesk kc kz))) (p : ℕ) (r : Shows cd desk z st m p) (views : List View) (went : Spot → Spot) → From st.views views went → Onto st.views views → ManagerKnows cd m views → WordsRule cd desk z (with_views st views)
+  rebuilt st m p r views went from onto manager = (
     m,
     p,
     put_together r.words_are
@@ -83,6 +85,7 @@ module _ {B : Type 0} {kc : Coded B} {kz : DeskTables} (cd : Coded (PlacedDesk k
         (record {
           calls = each_from st.views views went from (HasCall m p) (HasCall m p) r.turns.calls (λ j l q at has. has);
           keepers = keepers_from st.views views went from r.turns.keepers;
+          some_keeper = keepers_onto (turns_in m) st.views views onto r.turns.some_keeper;
           still = r.turns.still;
         })
         (record {
@@ -102,7 +105,7 @@ module _ {B : Type 0} {kc : Coded B} {kz : DeskTables} (cd : Coded (PlacedDesk k
   pub splits : (id : ℕ) (v : View) → Manages v → ((p : Pass) → get_elem? v.passes (length v.passes - 1) ≡ some p → p.number ≢ 64) → Splits (WordsRule cd desk z) id v (without_last v) (only_last v)
   splits id v manages not_own st (m, p, r) at =
       let left = set st.views id (without_last v) in let known = r.numbers.manager id v at manages in
-      rebuilt st m p r (left ++ only_last v ∷ []) (one_goes (id, length v.passes - 1) (length left, 0)) (split_from st.views id v at) (λ i y ey manages_y. ⊎_elim
+      rebuilt st m p r (left ++ only_last v ∷ []) (one_goes (id, length v.passes - 1) (length left, 0)) (split_from st.views id v at) (onto_split st.views id v at) (λ i y ey manages_y. ⊎_elim
       (λ (was : get_elem? left i ≡ some y). ⊎_elim
       (λ (x : (i ≡ id) × (without_last v ≡ y)). subst (λ (u : View). Knows cd m (left ++ only_last v ∷ []) i u) x.1 (record {
         users = known.users;
@@ -130,7 +133,7 @@ module _ {B : Type 0} {kc : Coded B} {kz : DeskTables} (cd : Coded (PlacedDesk k
   joins id other v w manages st (m, p, r) at apart seen =
       let known = r.numbers.manager id v at manages in let there : get_elem? st.views other ≡ some w = sym (set_else st.views id other (with_passes_from v w) apart) ∙ seen in
       let after = set (set st.views id (with_passes_from v w)) other spent_view in
-      rebuilt st m p r after (joined id (length v.passes) other) (join_from st.views id other v w at apart there) (λ i y ey manages_y. ⊎_elim
+      rebuilt st m p r after (joined id (length v.passes) other) (join_from st.views id other v w at apart there) (onto_joined st.views id v at other w apart there) (λ i y ey manages_y. ⊎_elim
       (λ (x : (i ≡ other) × (spent_view ≡ y)). let none_there = subst Manages (sym x.1) manages_y in absurd (some-ne-none none_there.1 (sym none_there.2)))
       (λ (x : (i ≢ other) × (get_elem? (set st.views id (with_passes_from v w)) i ≡ some y)). ⊎_elim
       (λ (b : (i ≡ id) × (with_passes_from v w ≡ y)). subst (λ (u : View). Knows cd m after i u) b.1 (record {
@@ -154,9 +157,9 @@ module _ {B : Type 0} {kc : Coded B} {kz : DeskTables} (cd : Coded (PlacedDesk k
 
   -- the callers are others, and the parts over views hold of the new views
   pub recast : (st : State Slot View) (m : LaneLink (RingState (PlacedDesk kc kz))) (p : ℕ) (r : Shows cd desk z st m p) (cs : List (Option End)) (d : Deed) (views : List View) → MayDo desk m d → record m { callers = cs } ≡ after_deed desk m d → length cs ≡ 64
-      → EachPass (HasCall (record m { callers = cs }) p) views → EachPass (HistoryOf (record m { callers = cs })) views → EachPass (HandsOf (record m { callers = cs })) views → EachPass (LatestOf m) views → AreNumbersApart views → AreKeepersApart views → ManagerKnows cd (record m { callers = cs }) views
+      → EachPass (HasCall (record m { callers = cs }) p) views → EachPass (HistoryOf (record m { callers = cs })) views → EachPass (HandsOf (record m { callers = cs })) views → EachPass (LatestOf m) views → AreNumbersApart views → AreKeepersApart views → Onto st.views views → ManagerKnows cd (record m { callers = cs }) views
       → WordsRule cd desk z (with_views st views)
-  recast st m p r cs d views may deed many calls histories hands latest numbers keepers manager = (
+  recast st m p r cs d views may deed many calls histories hands latest numbers keepers onto manager = (
     record m { callers = cs },
     p,
     put_together r.words_are
@@ -165,6 +168,7 @@ module _ {B : Type 0} {kc : Coded B} {kz : DeskTables} (cd : Coded (PlacedDesk k
         (record {
           calls = calls;
           keepers = keepers;
+          some_keeper = keepers_turns (turns_in m) (turns_in (record m { callers = cs })) views (same_turns m m.era cs) (keepers_onto (turns_in m) st.views views onto r.turns.some_keeper);
           still = ⊎_elim (λ (x : p ≡ 0). inl x) (λ (x : IsStill m). inr (x.0, record { host_sender = x.1.host_sender; host_receiver = x.1.host_receiver; remote_sender = x.1.remote_sender; remote_receiver = x.1.remote_receiver })) r.turns.still;
         })
         (record {
@@ -256,6 +260,7 @@ module _ {B : Type 0} {kc : Coded B} {kz : DeskTables} (cd : Coded (PlacedDesk k
       (λ (y : (l ≡ id) × (h ≡ length v.passes) × (new ≡ b)). absurd (not_minding i (ap (λ (c : Pass). has_for_manager i c.call) y.2 ∙ kb))) (after l h b eb))
       (λ (x : (j ≡ id) × (k ≡ length v.passes) × (new ≡ a)). absurd (not_minding i (ap (λ (c : Pass). has_for_manager i c.call) x.2 ∙ ka)))
       (after j k a ea))
+      (onto_longer st.views id v at u new refl)
       (λ i y ey manages_y. ⊎_elim
       (λ (x : (i ≡ id) × (u ≡ y)). subst (λ (b : View). Knows cd m' views i b) x.1 (record {
         users = ap (λ (us : List (Option End)). slice_set us n (Some e)) known.users;

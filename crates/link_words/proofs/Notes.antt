@@ -23,6 +23,8 @@ use Rattle.link_words.specs.Rule.{HasCall, HistoryOf, HandsOf, LatestOf, WordsRu
 use Rattle.link_words.specs.Steps.{IsStepOf, IsCloseOf}
 use Rattle.link_words.proofs.Frames.{each_set, keepers_set, numbers_set, manager_stays}
 use Rattle.link_words.proofs.Parts.{state_in, told_in, buffers_in, put_together}
+use Rattle.link_words.proofs.Keepers.{keepers_same, no_turns}
+use Rattle.link_words.specs.Turns.{turns_in}
 
 -- the view after the note
 abbrev pub noted_view : Made → ℕ → View → View
@@ -92,6 +94,7 @@ module _ {B : Type 0} {kc : Coded B} {kz : DeskTables} (cd : Coded (PlacedDesk k
             (record {
               calls = each (HasCall m p) (HasCall m p) r.numbers.places r.turns.calls (λ j l q there apart had. had) (r.turns.calls id o.place o.pass (v, at, o.here));
               keepers = keepers_set st.views id v u o w at refl refl (λ i k. k) r.turns.keepers;
+              some_keeper = keepers_same st.views id v u o w at refl (turns_in m) (turns_in m) (no_turns m) ((λ i. refl), λ i. refl) r.turns.some_keeper;
               still = r.turns.still;
             })
             (record {

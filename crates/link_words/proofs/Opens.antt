@@ -2,7 +2,7 @@
 use Rattle.link_words.proofs.Users.{nothing_latest}
 use Rattle.link_words.specs.declared.codes.DeskTables.{DeskTables}
 use Rattle.link_words.specs.PlacedDesks.{PlacedDesk, right_to}
-use Rattle.std.proofs.Common.{◌≡◌, ◌≢◌, ℕ, zero, suc, ◌+◌, ◌<◌, Bool, true, false, List, [], ◌∷◌, ◌++◌, map, length, get_or, set, refl, sym, ap, ◌∙◌, subst, inl, inr, arith, length-append}
+use Rattle.std.proofs.Common.{◌≡◌, ◌≢◌, ℕ, zero, suc, ◌+◌, ◌<◌, ◌≤◌, Bool, true, false, List, [], ◌∷◌, ◌++◌, map, length, get_or, set, refl, sym, ap, ◌∙◌, subst, inl, inr, arith, length-append}
 use Rattle.std.proofs.lemmas.List.{length-map}
 use Rattle.std.specs.Prelude.{Option, Some}
 use mathlib.Core.Option.{some, some-injective, some-ne-none}
@@ -28,7 +28,7 @@ use Rattle.link_words.specs.declared.rule.Slot.TheVariants.{Sender, Receiver}
 use Rattle.link_words.specs.declared.rule.ReceiverSide.{ReceiverSide}
 use Rattle.link_words.specs.declared.rule.SenderSide.{SenderSide}
 use Rattle.link_words.specs.declared.rule.LaneSides.{LaneSides}
-use Rattle.link_words.specs.Turns.{turns_of}
+use Rattle.link_words.specs.Turns.{turns_in, turns_of}
 use Rattle.link_words.specs.declared.rule.LinkSizes.{LinkSizes}
 use Rattle.link_words.specs.declared.rule.Call.{Call}
 use Rattle.link_words.specs.declared.rule.Call.TheVariants.{Idle, Sends, Rests, Reclaims, EndsHeld, Receives, EndsReceive, EndsSend, EndsBoth, Reopens, Gathers}
@@ -40,7 +40,7 @@ use Rattle.link_words.specs.Fresh.{fresh_lane, fresh_of, opened_sender, opened_r
 use Rattle.link_words.proofs.Books.{history_opened, none_opened}
 use Rattle.link_words.specs.Deeds.{Nothing, Opens, MayDo, AreManagers, HoldsNothing, IsSoundState, link_after_opening}
 use Rattle.link_words.specs.Rule.{IsCallOf, HasCall, HistoryOf, HandsOf, fresh_block, WordsRule, LatestOf}
-use Rattle.link_words.specs.Parts.{has_for_manager, HasGathered, HoldsBuffers, Knows}
+use Rattle.link_words.specs.Parts.{has_for_manager, has_sender_for_manager, HasGathered, HoldsBuffers, Knows}
 use Rattle.ring_core.specs.SoundRings.{IsSoundRings}
 use Rattle.link_words.specs.Histories.{LaneBooks, HasHistory, hands_of, entries_by, takes_by, books_of}
 use Rattle.link_words.specs.declared.copies.LinkCopy.{LinkCopy}
@@ -54,8 +54,9 @@ use Rattle.link_words.specs.Sides.{sides_at}
 use Rattle.link_words.proofs.Closes.{stays, stays_at}
 use Rattle.link_words.proofs.Frames.{some_copy, each_set, numbers_set, keepers_set, manager_set}
 use Rattle.link_words.proofs.Kept.{deed_kept}
+use Rattle.link_words.proofs.Keepers.{all_before, both_minds, keepers_same, no_turns}
 use Rattle.link_words.proofs.Sends.{true-false, some_number}
-use Rattle.link_words.proofs.Parts.{state_in, sizes_in, told_in, buffers_in, put_together, one_more}
+use Rattle.link_words.proofs.Parts.{state_in, sizes_in, told_in, buffers_in, put_together, one_more, rings_at}
 
 reset_one : (p : ℕ) (fresh old : List ℕ) (x : ℕ) → length fresh ≡ length old → get_elem? fresh p ≡ some x → set (reset_first p fresh old) p x ≡ reset_first (suc p) fresh old
 reset_one zero [] old x same e = absurd (some-ne-none x (sym e))
@@ -186,15 +187,12 @@ module _ {B : Type 0} {kc : Coded B} {kz : DeskTables} (cd : Coded (PlacedDesk k
       let word : get_or st.words 1 0 ≡ era_word m.era = ap (λ (ws : List ℕ). get_or ws 1 0) r.words_are in
       go h knows word m.era.is_live refl
     where
-      minds : (x u : SenderSide) (y v : ReceiverSide) (i : End) → has_for_manager i (Gathers (both_sides x y) (both_sides u v)) ≡ true
-      minds x u y v side.Host = refl
-      minds x u y v side.Remote = refl
-
       told : IsCallOf m p o.pass.number (Gathers (both_sides x y) (both_sides u v)) → Knows cd m st.views id me.0 → AreBooksOf me.0 (λ e. books_by (sides_at e (both_sides x y) (both_sides u v)))
       told h knows = record {
         own = λ k q there. subst (λ (t : ℕ × (End → LaneBooks)). HasHistory t.0 t.1 q.number q.first q.own) (λ i. (sym knows.inc i, λ e. books e i)) (r.histories.own id k q (me.0, at, there));
         unused = λ n none not e. subst (λ (t : LaneBooks). (entries_by n 0 t.accepted ≡ []) × (takes_by n 0 t.takers ≡ [])) (books e) (knows.unused n (ap (λ (us : List (Option End)). end_of us n) (sym knows.users) ∙ none) not e);
         ended = λ k q there. subst (λ (t : ℕ × (End → LaneBooks)). HasHistory t.0 t.1 q.number q.first q.own) (λ i. (sym knows.inc i, λ e. books e i)) (knows.ended k q there).history;
+        back = λ e. subst (λ (t : LaneBooks). t.returned ≤ length t.takers) (books e) (let is = (rings_at r e).counted.back in omega (arith, is));
       }
         where
           books : (e : End) → books_of (lane_to m e) ≡ books_by (sides_at e (both_sides x y) (both_sides u v))
@@ -216,7 +214,7 @@ module _ {B : Type 0} {kc : Coded B} {kz : DeskTables} (cd : Coded (PlacedDesk k
           h.2,
           h.3,
         )
-            (λ i k. ap (has_for_manager i) call ∙ minds x u y v i),
+            (let same = both_minds 0 m.era.inc (both_sides x y) (both_sides u v) x u y v in ((λ i. ap (has_sender_for_manager i) call ∙ sym (same.0 i)), λ i. ap (has_for_manager i) call ∙ sym (same.1 i))),
         ((m.era, word, sym knows.inc, r.numbers.short, knows.closed, (λ _. (refl, told h knows)), λ live. absurd (true-false (sym live ∙ shut))), λ k none_out was. ap Some (sym (knows.copy k was none_out))),
       )
       go h knows word true live = (
@@ -250,6 +248,7 @@ module _ {B : Type 0} {kc : Coded B} {kz : DeskTables} (cd : Coded (PlacedDesk k
                 calls = each (HasCall m p) (HasCall m (suc p)) r.numbers.places r.turns.calls
                     (λ j l u there apart. still_call m m p (suc p) h.2.1 u.number (λ same. apart (h.0 ∙ same)) u.call (λ kept. apart (r.turns.keepers side.Host id o.place j l o.pass u (me.0, at, o.here) there (ap (has_for_manager side.Host) call) kept)) (λ kept. apart (r.turns.keepers side.Remote id o.place j l o.pass u (me.0, at, o.here) there (ap (has_for_manager side.Remote) call) kept)) refl h.2.1) (h.0, ap suc h.1, h.2, h.3, h.4, h.5, h.6);
                 keepers = keepers_set st.views id me.0 (with_pass me.0 o (with_call o.pass w) (Some (copied cd m))) o (with_call o.pass w) at refl refl (λ i k. ap (has_for_manager i) call) r.turns.keepers;
+                some_keeper = keepers_same st.views id me.0 (with_pass me.0 o (with_call o.pass w) (Some (copied cd m))) o (with_call o.pass w) at refl (turns_in m) (turns_in m) (no_turns m) ((λ i. ap (has_sender_for_manager i) call), λ i. ap (has_for_manager i) call) r.turns.some_keeper;
                 still = inr h.2;
               })
               (record {
@@ -297,6 +296,8 @@ module _ {B : Type 0} {kc : Coded B} {kz : DeskTables} (cd : Coded (PlacedDesk k
                       gathered_both (turns_of m'.to_remote) (opened_sender z.book) (opened_receiver z.book remote) refl (ap opened_sender (sym r.to_remote.book)) refl (ap (λ (k : ℕ). opened_receiver k remote) (sym r.to_remote.book)),
                     );
                 keepers = keepers_set st.views id me.0 seen o (with_call o.pass w) at refl refl (λ i k. ap (has_for_manager i) call) r.turns.keepers;
+                some_keeper = keepers_same st.views id me.0 seen o (with_call o.pass w) at refl (turns_in m) (turns_in m') (all_before m m' a)
+                    (let same = both_minds q inc (both_sides x y) (both_sides u v) (opened_sender z.book) (opened_sender z.book) (opened_receiver z.book host) (opened_receiver z.book remote) in ((λ i. ap (has_sender_for_manager i) call ∙ same.0 i), λ i. ap (has_for_manager i) call ∙ same.1 i)) r.turns.some_keeper;
                 still = inl refl;
               })
               (record {

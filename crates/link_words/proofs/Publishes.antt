@@ -1,4 +1,6 @@
 -- step 6 of a send: the message is accepted and its buffer comes home, on either lane.
+use Rattle.link_words.proofs.Keepers.{keepers_by}
+use Rattle.link_words.specs.Parts.{has_for_manager, has_sender_for_manager}
 use Rattle.link_words.specs.declared.codes.DeskTables.{DeskTables}
 use Rattle.link_words.specs.PlacedDesks.{PlacedDesk}
 use Rattle.std.proofs.Common.{◌≡◌, ℕ, zero, suc, ◌+◌, ◌%◌, ◌<◌, ◌≤◌, true, List, [], ◌∷◌, ◌++◌, length, set, refl, sym, ap, ◌∙◌, subst, arith, length-set, length-append, inr}
@@ -147,6 +149,7 @@ module _ {B : Type 0} {kc : Coded B} {kz : DeskTables} (cd : Coded (PlacedDesk k
             (hands_kept desk m e s' o.pass (λ was. ap (λ (u : RingState (PlacedDesk kc kz)). hands_of o.pass.number u.lane.lane.held) (sym is) ∙ was) (r.histories.hands id o.place o.pass (me.0, at, o.here)))
             (λ u apart. hands_kept desk m e s' u (λ was. ap (λ (y : RingState (PlacedDesk kc kz)). hands_of u.number y.lane.lane.held) (sym is) ∙ was))
             (λ n none. none_published m e s' entry (sym (ap (λ (y : RingState (PlacedDesk kc kz)). y.lane.lane.accepted ++ entry ∷ []) is)) (sym (ap (λ (y : RingState (PlacedDesk kc kz)). y.lane.lane.takers) is)) n (λ same. not_used m.callers o.pass.number n (other e) h.0 none (sym who ∙ same)))
-            (keepers_set st.views id me.0 (with_pass me.0 o w (Some (copied cd (with_lane m e s')))) o w at refl refl (λ i k. absurd (true-false (sym k))) r.turns.keepers),
+            (keepers_set st.views id me.0 (with_pass me.0 o w (Some (copied cd (with_lane m e s')))) o w at refl refl (λ i k. absurd (true-false (sym k))) r.turns.keepers)
+            (keepers_by desk m (with_lane m e s') (Steps o.pass.number 0 None) deed st.views id me.0 (with_pass me.0 o w (Some (copied cd (with_lane m e s')))) o w at refl (refl, ((λ i. ap (has_sender_for_manager i) call), λ i. ap (has_for_manager i) call)) r.turns.some_keeper),
         ((subst (λ (u : SenderSide). u.accepted < u.room) (sym h.1.2) (sound.room refl).1, refl), write_by (forward_word e) new cd desk z st m r id me o w (Steps o.pass.number 0 None) (with_lane m e s') (rest me.1) (index ∙ forward_in m e s') at may deed mine),
       )

@@ -1,4 +1,6 @@
 -- A send's leave, and the leave by which a reclaim ends a send from each of its steps: what was out comes home.
+use Rattle.link_words.proofs.Keepers.{SameMinds}
+use Rattle.link_words.specs.Parts.{has_for_manager, has_sender_for_manager}
 use Rattle.link_words.specs.declared.codes.DeskTables.{DeskTables}
 use Rattle.link_words.specs.PlacedDesks.{PlacedDesk}
 use Rattle.std.proofs.Common.{◌≡◌, ℕ, ◌+◌, ◌<◌, Bool, true, false, cond, List, ◌∷◌, length, get_or, set, refl, sym, ap, ◌∙◌, subst, arith}
@@ -86,16 +88,16 @@ module _ {B : Type 0} {kc : Coded B} {kz : DeskTables} (cd : Coded (PlacedDesk k
             ∙ (side_set e (some (Sender x)) (lane_homes s (shelf_to r.shelves e)) (lane_homes (lane_to m (other e)) (shelf_to r.shelves (other e)))
             ∙ ap (λ (u : SenderSide). homes_at e (record (lane_homes s (shelf_to r.shelves e)) { sender = some (Sender u) }) (lane_homes (lane_to m (other e)) (shelf_to r.shelves (other e)))) h.1.2))
             (shelved_turn cd desk z s turn.Free (shelf_to r.shelves e) refl (subst (λ (u : RingState (PlacedDesk kc kz)). HoldsBuffers u (shelf_to r.shelves e)) is ((buffers_in r) e)))
-            mine (others_send desk m e s' t o.pass.number h.1.0 h.1.1 refl refl refl (λ _. refl) (λ k apart. refl)) refl refl refl refl (λ i k. absurd (true-false (sym k))),
+            mine (others_send desk m e s' t o.pass.number h.1.0 h.1.1 refl refl refl (λ _. refl) (λ k apart. refl)) refl refl refl refl (refl, ((λ i. ap (has_sender_for_manager i) call), λ i. ap (has_for_manager i) call)),
         (refl, write_by (sender_word e) 0 cd desk z st m r id me o (with_call o.pass w) (Steps o.pass.number 0 None) (with_lane m e s') (rest me.1) (sender_in m e s') at may deed mine),
       )
 
   -- a seat that has a turn loads the era: where it is closed, its pass is in this call from then on
   pub finds_closed : (n id : ℕ) (me : SeatState) (o : Mover me.0) (next : Call) (st : State Slot View) (m : LaneLink (RingState (PlacedDesk kc kz))) (r : Shows cd desk z st m 0) → get_elem? st.views id ≡ some me.0
-      → (m.era.is_live ≡ false → IsCallOf m 0 o.pass.number next) → ((i : End) → has_for_manager i next ≡ true → has_for_manager i o.pass.call ≡ true)
+      → (m.era.is_live ≡ false → IsCallOf m 0 o.pass.number next) → SameMinds o.pass.call next
       → (w : View) × (a : Act Slot) × Valid st.homes me.1 a × WordsRule cd desk z (stepped st 1 (get_or st.words 1 0) id me.1 w a)
       × (FindsClosedBy me o next (get_or st.words 1 0) (w, carried_after me.1 a) × StepBy cd desk (ReadsAt 1 (get_or st.words 1 0)) me o Nothing (w, carried_after me.1 a))
-  finds_closed n id me o next st m r at mine quiet = go m.era.is_live refl (ap (λ (ws : List ℕ). get_or ws 1 0) r.words_are)
+  finds_closed n id me o next st m r at mine minds = go m.era.is_live refl (ap (λ (ws : List ℕ). get_or ws 1 0) r.words_are)
     where
       go : (live : Bool) → m.era.is_live ≡ live → get_or st.words 1 0 ≡ era_word m.era
           → (w : View) × (a : Act Slot) × Valid st.homes me.1 a × WordsRule cd desk z (stepped st 1 (get_or st.words 1 0) id me.1 w a)
@@ -104,7 +106,7 @@ module _ {B : Type 0} {kc : Coded B} {kz : DeskTables} (cd : Coded (PlacedDesk k
         _,
         keeps,
         tt,
-        stays_at cd desk z st m 0 r 1 (get_or st.words 1 0) id me.1 me.0 o next Nothing at refl tt refl (mine shut) quiet,
+        stays_at cd desk z st m 0 r 1 (get_or st.words 1 0) id me.1 me.0 o next Nothing at refl tt refl (mine shut) minds,
         (
           (m.era, word, r.numbers.short, (λ _. refl), λ live. absurd (true-false (sym live ∙ shut))),
           read_by 1 cd desk z st m r id me o (with_call o.pass next) Nothing m me.1 at tt refl (mine shut),
@@ -126,13 +128,13 @@ module _ {B : Type 0} {kc : Coded B} {kz : DeskTables} (cd : Coded (PlacedDesk k
       → Allows (WordsRule cd desk z) n id me 1 (λ y. y) (λ y me'. FindsClosedBy me o (EndsSend e t x b) y me' × StepBy cd desk (ReadsAt 1 y) me o Nothing me')
   dooms n id me o e t x b call bare st (m, p, r₀) wide at _ =
       let h : IsCallOf m p o.pass.number (Sends e t x b) = subst (IsCallOf m p o.pass.number) call (r₀.turns.calls id o.place o.pass (me.0, at, o.here)) in
-      finds_closed n id me o (EndsSend e t x b) st m (at_zero cd desk z st m p e t h.1.0 bare r₀) at (λ shut. (h.0, h.1, shut, h.2)) (λ i k. absurd (true-false (sym k)))
+      finds_closed n id me o (EndsSend e t x b) st m (at_zero cd desk z st m p e t h.1.0 bare r₀) at (λ shut. (h.0, h.1, shut, h.2)) ((λ i. ap (has_sender_for_manager i) call), λ i. ap (has_for_manager i) call)
 
   -- the end of a send in a reclaim: its turn is left, and its pass goes from this call to that one
   module _ (n id : ℕ) (me : SeatState) (o : Mover me.0) (e : End) (t : Turn Sending) (x : SenderSide) (b : ℕ) (call w : Call) (is_call : o.pass.call ≡ call) (bare : is_manager t ≡ false)
       (known : (m : LaneLink (RingState (PlacedDesk kc kz))) (p : ℕ) → IsCallOf m p o.pass.number call → (end_of m.callers o.pass.number ≡ Some (other e)) × SendsAt (turns_of (lane_to m e)) o.pass.number t x b × (m.era.is_live ≡ false))
       (mine : (m : LaneLink (RingState (PlacedDesk kc kz))) → SoundLink (link_of (ring_form desk) m) → IsCallOf m 0 o.pass.number call → has_call (lane_to m e).lane.sender o.pass.number ≡ true → IsCallOf (with_lane m e (with_turn (lane_to m e) turn.Free)) 0 o.pass.number w)
-      (quiet : (i : End) → has_for_manager i w ≡ true → has_for_manager i call ≡ true) where
+      (minds : SameMinds call w) where
     -- what both kinds share
     ended : (st : State Slot View) (m : LaneLink (RingState (PlacedDesk kc kz))) (r : Shows cd desk z st m 0) → get_elem? st.views id ≡ some me.0 → IsCallOf m 0 o.pass.number call → (a : Act Slot) (l' : List (Option_of Slot)) (left : List (ℕ × Slot))
         → homes_after (homes_at e (lane_homes (with_turn (lane_to m e) t) (shelf_to r.shelves e)) (lane_homes (lane_to m (other e)) (shelf_to r.shelves (other e)))) me.1 a
@@ -149,7 +151,7 @@ module _ {B : Type 0} {kc : Coded B} {kz : DeskTables} (cd : Coded (PlacedDesk k
               (h.2, h.0)
               deed
               (turn_set e (era_word m.era) 0 (lane_words s) (lane_words (lane_to m (other e))))
-              homes shelved next (others_send desk m e (with_turn s₀ turn.Free) t o.pass.number h.1.0 h.1.1 refl refl refl (λ _. refl) (λ k apart. refl)) refl refl refl refl (λ i k. ap (has_for_manager i) is_call ∙ quiet i k),
+              homes shelved next (others_send desk m e (with_turn s₀ turn.Free) t o.pass.number h.1.0 h.1.1 refl refl refl (λ _. refl) (λ k apart. refl)) refl refl refl refl (refl, ((λ i. ap (has_sender_for_manager i) is_call ∙ minds.0 i), λ i. ap (has_for_manager i) is_call ∙ minds.1 i)),
           write_by (sender_word e) 0 cd desk z st m r id me o (with_call o.pass w) (EndsCall (other e) o.pass.number) (with_lane m e (with_turn s₀ turn.Free)) left (sender_in m e (with_turn s₀ turn.Free)) at (h.2, h.0) deed next,
         )
 

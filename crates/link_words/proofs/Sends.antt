@@ -1,4 +1,6 @@
 -- Each step of a send is one of the ring form, on either lane.
+use Rattle.link_words.proofs.Keepers.{KeepsMinds}
+use Rattle.link_words.specs.Parts.{has_for_manager, has_sender_for_manager}
 use Rattle.link_words.specs.declared.codes.DeskTables.{DeskTables}
 use Rattle.link_words.specs.PlacedDesks.{PlacedDesk}
 use Rattle.std.proofs.Common.{◌≡◌, ℕ, suc, Bool, true, false, cond, eqb, ◌&&◌, List, get_or, set, refl, sym, ap, ◌∙◌, subst, ⊎_elim, eq-eqb, le_refl}
@@ -92,16 +94,16 @@ module _ {B : Type 0} {kc : Coded B} {kz : DeskTables} (cd : Coded (PlacedDesk k
       → MayDo desk m d → with_lane m e (with_turn (lane_to m e) t') ≡ after_deed desk m d
       → set (words_at e (era_word m.era) (lane_words (lane_to m e)) (lane_words (lane_to m (other e)))) i n ≡ words_at e (era_word m.era) (lane_words (lane_to m e)) (lane_words (lane_to m (other e)))
       → turn_word t' ≡ turn_word t → ((y : Slot) → home_if t' y ≡ home_if t y) → sender_is_out t' ≡ sender_is_out t
-      → IsCallOf (with_lane m e (with_turn (lane_to m e) t')) 0 o.pass.number call → IsHistory (with_lane m e (with_turn (lane_to m e) t')) o.pass.number o.pass.first own → IsOfNow m.era.inc o.pass.number o.pass.hands own → ((i : End) → has_for_manager i call ≡ true → has_for_manager i o.pass.call ≡ true) → holder t' ≡ Some o.pass.number
+      → IsCallOf (with_lane m e (with_turn (lane_to m e) t')) 0 o.pass.number call → IsHistory (with_lane m e (with_turn (lane_to m e) t')) o.pass.number o.pass.first own → IsOfNow m.era.inc o.pass.number o.pass.hands own → KeepsMinds d o.pass.call call → holder t' ≡ Some o.pass.number
       → WordsRule cd desk z (stepped st i n id cs (with_pass v o (with_step o.pass call own o.pass.hands) (Some (copied cd (with_lane m e (with_turn (lane_to m e) t'))))) keeps)
-  turn_noting st m r e t t' is i n id cs v o call own d at mine may deed word turns home out has history latest quiet held =
+  turn_noting st m r e t t' is i n id cs v o call own d at mine may deed word turns home out has history latest minds held =
       let s = lane_to m e in
       lane_looks cd desk z st m r e s (with_turn s t') refl i n id cs v o call own keeps d (shelf_to r.shelves e) at may deed
       (word ∙ ap (λ (k : ℕ). words_at e (era_word m.era) (record (lane_words s) { sender = k }) (lane_words (lane_to m (other e)))) (ap turn_word is ∙ sym turns))
       (ap (λ (h : Option_of Slot). homes_at e (record (lane_homes s (shelf_to r.shelves e)) { sender = h }) (lane_homes (lane_to m (other e)) (shelf_to r.shelves (other e))))
       (ap (λ (u : Turn Sending). home_if u (Sender (sender_side s))) is ∙ sym (home (Sender (sender_side s)))))
       (shelved_turn s t' (shelf_to r.shelves e) (out ∙ ap sender_is_out (sym is)) ((buffers_in r) e))
-      has (others_send desk m e (with_turn s t') t o.pass.number is mine refl refl refl (λ _. refl) (λ k apart. no_call desk t' o.pass.number k held apart)) refl refl refl refl history latest quiet
+      has (others_send desk m e (with_turn s t') t o.pass.number is mine refl refl refl (λ _. refl) (λ k apart. no_call desk t' o.pass.number k held apart)) refl refl refl refl history latest minds
 
   -- a load after which the sender's turn alone is another, with the same holder
   pub turn_only : (st : State Slot View) (m : LaneLink (RingState (PlacedDesk kc kz))) (r : Shows cd desk z st m 0) (e : End) (t t' : Turn Sending) → (lane_to m e).lane.sender ≡ t
@@ -109,11 +111,11 @@ module _ {B : Type 0} {kc : Coded B} {kz : DeskTables} (cd : Coded (PlacedDesk k
       → MayDo desk m d → with_lane m e (with_turn (lane_to m e) t') ≡ after_deed desk m d
       → set (words_at e (era_word m.era) (lane_words (lane_to m e)) (lane_words (lane_to m (other e)))) i n ≡ words_at e (era_word m.era) (lane_words (lane_to m e)) (lane_words (lane_to m (other e)))
       → turn_word t' ≡ turn_word t → ((y : Slot) → home_if t' y ≡ home_if t y) → sender_is_out t' ≡ sender_is_out t
-      → IsCallOf (with_lane m e (with_turn (lane_to m e) t')) 0 o.pass.number call → ((i : End) → has_for_manager i call ≡ true → has_for_manager i o.pass.call ≡ true) → holder t' ≡ Some o.pass.number
+      → IsCallOf (with_lane m e (with_turn (lane_to m e) t')) 0 o.pass.number call → KeepsMinds d o.pass.call call → holder t' ≡ Some o.pass.number
       → WordsRule cd desk z (stepped st i n id cs (with_pass v o (with_call o.pass call) (Some (copied cd (with_lane m e (with_turn (lane_to m e) t'))))) keeps)
-  turn_only st m r e t t' is i n id cs v o call d at mine may deed word turns home out has quiet held =
+  turn_only st m r e t t' is i n id cs v o call d at mine may deed word turns home out has minds held =
       turn_noting st m r e t t' is i n id cs v o call o.pass.own d at mine may deed word turns home out has
-      (history_kept m e (with_turn (lane_to m e) t') refl refl (le_refl _) o.pass.number o.pass.first o.pass.own (r.histories.own id o.place o.pass (v, at, o.here))) (r.histories.latest id o.place o.pass (v, at, o.here)) quiet held
+      (history_kept m e (with_turn (lane_to m e) t') refl refl (le_refl _) o.pass.number o.pass.first o.pass.own (r.histories.own id o.place o.pass (v, at, o.here))) (r.histories.latest id o.place o.pass (v, at, o.here)) minds held
 
   -- what an era decides leaves the holder
   era_word_of : (b : Bool) (c : ℕ) (s : Sending) (era : Era) → turn_word (cond b (turn.Taken c (record s { stage = stage.Era })) (turn.Leaving c (end.Dead era))) ≡ suc c
@@ -159,6 +161,6 @@ module _ {B : Type 0} {kc : Coded B} {kz : DeskTables} (cd : Coded (PlacedDesk k
             same_deed
             (ap (set (words_at e (era_word m.era) (lane_words (lane_to m e)) (lane_words (lane_to m (other e)))) 1) word ∙ era_again e (era_word m.era) (lane_words (lane_to m e)) (lane_words (lane_to m (other e))))
             (era_word_of live c sending m.era) (era_home_of live c sending m.era) (era_out_of live c sending m.era)
-            mine (λ i k. absurd (true-false (sym k))) (era_holder_of live c sending m.era ∙ h.1.1),
+            mine (refl, ((λ i. ap (has_sender_for_manager i) call), λ i. ap (has_for_manager i) call)) (era_holder_of live c sending m.era ∙ h.1.1),
         ((m.era, word, r.numbers.short, refl), read_by 1 cd desk z st m r id me o (with_call o.pass w) (Steps o.pass.number 0 None) m' me.1 at may same_deed mine),
       )

@@ -1,4 +1,5 @@
 -- Step 1 of a send: one attempt to take the sender's turn, on either lane. It needs that the caller is in no call, which its view says.
+use Rattle.link_words.specs.Parts.{has_for_manager, has_sender_for_manager}
 use Rattle.link_words.specs.declared.codes.DeskTables.{DeskTables}
 use Rattle.link_words.specs.PlacedDesks.{PlacedDesk}
 use Rattle.std.proofs.Common.{◌≡◌, ◌≢◌, ℕ, suc, ◌≤◌, Bool, true, false, eqb, ◌||◌, List, [], ◌∷◌, length, get_or, refl, sym, ap, ◌∙◌, subst, ⊎_elim}
@@ -119,7 +120,7 @@ module _ {B : Type 0} {kc : Coded B} {kz : DeskTables} (cd : Coded (PlacedDesk k
             (shelved_turn cd desk z s t' (shelf_to r.shelves e) refl (subst (λ (u : RingState (PlacedDesk kc kz)). HoldsBuffers u (shelf_to r.shelves e)) is ((buffers_in r) e)))
             mine
             (λ k apart. others_free_send desk m e s' free refl refl refl (λ _. refl) k (no_call desk t' c k refl apart))
-            refl refl refl refl (λ i k. absurd (true-false (sym k))),
+            refl refl refl refl (refl, ((λ i. ap (has_sender_for_manager i) call), λ i. ap (has_for_manager i) call)),
         (x, accepted_most s₀ (rings_at r e), refl),
         read_by (sender_word e) cd desk z st m r id me o (with_call o.pass w) (Steps c follows (Some (wish.Send message))) (with_lane m e s') ((sender_slot e, Sender x) ∷ me.1) at may deed mine,
       )

@@ -1,4 +1,6 @@
 -- A take's leave, and what a reclaim does to a caller that has the receiver's turn with no buffer out.
+use Rattle.link_words.proofs.Keepers.{keepers_by}
+use Rattle.link_words.specs.Parts.{has_for_manager, has_sender_for_manager}
 use Rattle.link_words.specs.declared.codes.DeskTables.{DeskTables}
 use Rattle.link_words.specs.PlacedDesks.{PlacedDesk}
 use Rattle.std.proofs.Common.{◌≡◌, ℕ, Bool, true, false, cond, List, [], ◌∷◌, refl, sym, ap, ◌∙◌, subst, inl, inr}
@@ -66,7 +68,7 @@ module _ {B : Type 0} {kc : Coded B} {kz : DeskTables} (cd : Coded (PlacedDesk k
             (ap (λ (cs : List (ℕ × Slot)). homes_after (homes_at e ha hb) cs gives) has_slot
             ∙ (receiver_side_set e (some (Receiver x)) ha hb ∙ ap (λ (u : ReceiverSide). homes_at e (record ha { receiver = some (Receiver u) }) hb) h.1.2))
             (shelved_receiver s₀ s' (shelf_to r.shelves e) (ap receiver_is_out h.1.0) refl refl refl refl refl refl refl ((buffers_in r) e))
-            mine (others_receive desk m e s' t o.pass.number h.1.0 h.1.1 refl refl refl refl (λ k apart. refl)) refl refl refl refl (λ i k. absurd (true-false (sym k))),
+            mine (others_receive desk m e s' t o.pass.number h.1.0 h.1.1 refl refl refl refl (λ k apart. refl)) refl refl refl refl (refl, ((λ i. ap (has_sender_for_manager i) call), λ i. ap (has_for_manager i) call)),
         (refl, write_by (receiver_word e) 0 cd desk z st m r id me o (with_call o.pass (Rests e)) (Steps o.pass.number 0 None) (with_lane m e s') (rest me.1) (receiver_in m e s') at may deed mine),
       )
 
@@ -75,7 +77,7 @@ module _ {B : Type 0} {kc : Coded B} {kz : DeskTables} (cd : Coded (PlacedDesk k
       → Allows (WordsRule cd desk z) n id me 1 (λ y. y) (λ y me'. FindsClosedBy me o (EndsReceive e t x b msg) y me' × StepBy cd desk (ReadsAt 1 y) me o Nothing me')
   dooms_receive n id me o e t x b msg call st (m, p, r₀) wide at _ =
       let h : IsCallOf m p o.pass.number (Receives e t x b msg) = subst (IsCallOf m p o.pass.number) call (r₀.turns.calls id o.place o.pass (me.0, at, o.here)) in
-      finds_closed cd desk z n id me o (EndsReceive e t x b msg) st m (at_zero' cd desk z st m p e t h.1.0 h.1.4 r₀) at (λ shut. (h.0, h.1, shut)) (λ i k. absurd (true-false (sym k)))
+      finds_closed cd desk z n id me o (EndsReceive e t x b msg) st m (at_zero' cd desk z st m p e t h.1.0 h.1.4 r₀) at (λ shut. (h.0, h.1, shut)) ((λ i. ap (has_sender_for_manager i) call), λ i. ap (has_for_manager i) call)
 
   -- part 3 of a reclaim of a caller that has the receiver's turn, with no buffer out: what it holds leaves `held`
   pub ends_receive_bare : (n id : ℕ) (me : SeatState) (o : Mover me.0) (e : End) (t : Turn Receiving) (x x' : ReceiverSide) (b : ℕ) (msg : List ℕ) → o.pass.call ≡ EndsReceive e t x b msg → receiver_is_out t ≡ false
@@ -102,6 +104,7 @@ module _ {B : Type 0} {kc : Coded B} {kz : DeskTables} (cd : Coded (PlacedDesk k
             (shelved_receiver s₀ s' (shelf_to r.shelves e) (ap receiver_is_out h.1.0 ∙ inside) refl refl refl refl refl refl refl ((buffers_in r) e))
             mine (λ j l u there apart. others_receive desk m e s' t c h.1.0 h.1.1 bare refl refl refl (λ k _. refl) u.number apart u.call)
             refl refl refl refl (inr (inl refl)) (hands_here m e s' (with_call_and_hands o.pass (Rests e) []) h.0 (hands_none c s₀.lane.lane.held)) (λ u apart. hands_kept desk m e s' u (λ was. hands_others c u.number s₀.lane.lane.held apart ∙ was))
-            (keepers_set st.views id me.0 (with_pass me.0 o (with_call_and_hands o.pass (Rests e) []) (Some (copied cd (with_lane m e s')))) o (with_call_and_hands o.pass (Rests e) []) at refl refl (λ i k. absurd (true-false (sym k))) r.turns.keepers),
+            (keepers_set st.views id me.0 (with_pass me.0 o (with_call_and_hands o.pass (Rests e) []) (Some (copied cd (with_lane m e s')))) o (with_call_and_hands o.pass (Rests e) []) at refl refl (λ i k. absurd (true-false (sym k))) r.turns.keepers)
+            (keepers_by desk m (with_lane m e s') (EndsCall e c) deed st.views id me.0 (with_pass me.0 o (with_call_and_hands o.pass (Rests e) []) (Some (copied cd (with_lane m e s')))) o (with_call_and_hands o.pass (Rests e) []) at refl (refl, ((λ i. ap (has_sender_for_manager i) call), λ i. ap (has_for_manager i) call)) r.turns.some_keeper),
         (refl, write_by (receiver_word e) 0 cd desk z st m r id me o (with_call_and_hands o.pass (Rests e) []) (EndsCall e c) (with_lane m e s') (rest me.1) (receiver_in m e s') at (h.2, h.0) deed mine),
       )

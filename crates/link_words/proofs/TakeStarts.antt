@@ -1,4 +1,6 @@
 -- The first three steps of a take: its turn, the era, and the look for a message.
+use Rattle.link_words.proofs.Keepers.{KeepsMinds}
+use Rattle.link_words.specs.Parts.{has_for_manager, has_sender_for_manager}
 use Rattle.link_words.specs.declared.codes.DeskTables.{DeskTables}
 use Rattle.link_words.specs.PlacedDesks.{PlacedDesk}
 use Rattle.std.proofs.Common.{◌≡◌, ℕ, suc, ◌≤◌, Bool, true, false, cond, eqb, List, [], ◌∷◌, length, get_or, refl, sym, ap, ◌∙◌, subst, inr, ⊎_elim, arith, le_refl}
@@ -179,7 +181,7 @@ module _ {B : Type 0} {kc : Coded B} {kz : DeskTables} (desk : DeskMeaning (Plac
               (shelved_receiver s₀ s' (shelf_to r.shelves e) (ap receiver_is_out free) inside refl refl refl refl refl refl ((buffers_in r) e))
               mine
               (λ k apart call had. others_beside desk m e s' refl refl refl k (no_call desk t' c k refl apart) call (λ having has. free_for_all cd desk z m e 0 free k call having has) had)
-              refl refl refl refl (λ i k. absurd (true-false (sym k))),
+              refl refl refl refl (refl, ((λ i. ap (has_sender_for_manager i) call), λ i. ap (has_for_manager i) call)),
           (x, handed_most s₀ (rings_at r e), returned_most s₀ (rings_at r e), refl),
           read_by (receiver_word e) cd desk z st m r id me o (with_call o.pass w) (Steps c follows (Some wished)) (with_lane m e s') ((receiver_slot e, Receiver x) ∷ me.1) at may deed mine,
         )
@@ -220,10 +222,10 @@ module _ {B : Type 0} {kc : Coded B} {kz : DeskTables} (cd : Coded (PlacedDesk k
       → (i id : ℕ) (me : SeatState) (o : Mover me.0) (call : Call) (own : List Event) → get_elem? st.views id ≡ some me.0 → holder t ≡ Some o.pass.number → is_manager t ≡ false → receiver_is_out t ≡ false → end_of m.callers o.pass.number ≡ Some e
       → (ring_form desk).received_on (with_receiver (lane_to m e) t) m.era ≡ with_receiver (lane_to m e) t'
       → turn_word t' ≡ turn_word t → ((y : Slot) → home_if t' y ≡ home_if t y) → receiver_is_out t' ≡ false
-      → IsCallOf (with_lane m e (with_receiver (lane_to m e) t')) 0 o.pass.number call → IsHistory (with_lane m e (with_receiver (lane_to m e) t')) o.pass.number o.pass.first own → IsOfNow m.era.inc o.pass.number o.pass.hands own → ((i : End) → has_for_manager i call ≡ true → has_for_manager i o.pass.call ≡ true) → holder t' ≡ Some o.pass.number
+      → IsCallOf (with_lane m e (with_receiver (lane_to m e) t')) 0 o.pass.number call → IsHistory (with_lane m e (with_receiver (lane_to m e) t')) o.pass.number o.pass.first own → IsOfNow m.era.inc o.pass.number o.pass.hands own → KeepsMinds (Steps o.pass.number 0 None) o.pass.call call → holder t' ≡ Some o.pass.number
       → WordsRule cd desk z (stepped st i (get_or st.words i 0) id me.1 (with_pass me.0 o (with_step o.pass call own o.pass.hands) (Some (copied cd (with_lane m e (with_receiver (lane_to m e) t'))))) keeps)
       × StepBy cd desk (ReadsAt i (get_or st.words i 0)) me o (Steps o.pass.number 0 None) (with_pass me.0 o (with_step o.pass call own o.pass.hands) (Some (copied cd (with_lane m e (with_receiver (lane_to m e) t')))), me.1)
-  receiver_noting st m r e t t' is i id me o call own at mine bare inside user does turns home out has history latest quiet held =
+  receiver_noting st m r e t t' is i id me o call own at mine bare inside user does turns home out has history latest minds held =
       let s = lane_to m e in let c = o.pass.number in
       let here : has_call s.lane.receiver c ≡ true = has_of s.lane.receiver c (ap holder is ∙ mine) (ap is_manager is ∙ bare) in
       let may = receive_may desk m e c 0 user here in
@@ -235,7 +237,7 @@ module _ {B : Type 0} {kc : Coded B} {kz : DeskTables} (cd : Coded (PlacedDesk k
             (ap (λ (h : Option_of Slot). homes_at e (record (lane_homes s (shelf_to r.shelves e)) { receiver = h }) (lane_homes (lane_to m (other e)) (shelf_to r.shelves (other e))))
             (ap (λ (u : Turn Receiving). home_if u (Receiver (receiver_side s))) is ∙ sym (home (Receiver (receiver_side s)))))
             (shelved_receiver s (with_receiver s t') (shelf_to r.shelves e) (ap receiver_is_out is ∙ inside) out refl refl refl refl refl refl ((buffers_in r) e))
-            has (others_receive desk m e (with_receiver s t') t c is mine bare refl refl refl (λ k apart. no_call desk t' c k held apart)) refl refl refl refl history latest quiet,
+            has (others_receive desk m e (with_receiver s t') t c is mine bare refl refl refl (λ k apart. no_call desk t' c k held apart)) refl refl refl refl history latest minds,
         read_by i cd desk z st m r id me o (with_step o.pass call own o.pass.hands) (Steps c 0 None) (with_lane m e (with_receiver s t')) me.1 at may deed has,
       )
 
@@ -244,12 +246,12 @@ module _ {B : Type 0} {kc : Coded B} {kz : DeskTables} (cd : Coded (PlacedDesk k
       → (i id : ℕ) (me : SeatState) (o : Mover me.0) (call : Call) → get_elem? st.views id ≡ some me.0 → holder t ≡ Some o.pass.number → is_manager t ≡ false → receiver_is_out t ≡ false → end_of m.callers o.pass.number ≡ Some e
       → (ring_form desk).received_on (with_receiver (lane_to m e) t) m.era ≡ with_receiver (lane_to m e) t'
       → turn_word t' ≡ turn_word t → ((y : Slot) → home_if t' y ≡ home_if t y) → receiver_is_out t' ≡ false
-      → IsCallOf (with_lane m e (with_receiver (lane_to m e) t')) 0 o.pass.number call → ((i : End) → has_for_manager i call ≡ true → has_for_manager i o.pass.call ≡ true) → holder t' ≡ Some o.pass.number
+      → IsCallOf (with_lane m e (with_receiver (lane_to m e) t')) 0 o.pass.number call → KeepsMinds (Steps o.pass.number 0 None) o.pass.call call → holder t' ≡ Some o.pass.number
       → WordsRule cd desk z (stepped st i (get_or st.words i 0) id me.1 (with_pass me.0 o (with_call o.pass call) (Some (copied cd (with_lane m e (with_receiver (lane_to m e) t'))))) keeps)
       × StepBy cd desk (ReadsAt i (get_or st.words i 0)) me o (Steps o.pass.number 0 None) (with_pass me.0 o (with_call o.pass call) (Some (copied cd (with_lane m e (with_receiver (lane_to m e) t')))), me.1)
-  receiver_only st m r e t t' is i id me o call at mine bare inside user does turns home out has quiet held =
+  receiver_only st m r e t t' is i id me o call at mine bare inside user does turns home out has minds held =
       receiver_noting st m r e t t' is i id me o call o.pass.own at mine bare inside user does turns home out has
-      (history_kept m e (with_receiver (lane_to m e) t') refl refl (le_refl _) o.pass.number o.pass.first o.pass.own (r.histories.own id o.place o.pass (me.0, at, o.here))) (r.histories.latest id o.place o.pass (me.0, at, o.here)) quiet held
+      (history_kept m e (with_receiver (lane_to m e) t') refl refl (le_refl _) o.pass.number o.pass.first o.pass.own (r.histories.own id o.place o.pass (me.0, at, o.here))) (r.histories.latest id o.place o.pass (me.0, at, o.here)) minds held
 
   -- step 2 of a take
   pub takes_era : (n id : ℕ) (me : SeatState) (o : Mover me.0) (e : End) (c f : ℕ) (x : ReceiverSide) (b : ℕ) (msg : List ℕ) → o.pass.call ≡ Receives e (turn.Taken c (record { follows = f; work = work.Take take_stage.Turn })) x b msg
@@ -263,7 +265,7 @@ module _ {B : Type 0} {kc : Coded B} {kz : DeskTables} (cd : Coded (PlacedDesk k
       let all = receiver_only st m r e t t' is 1 id me o w at h.1.1 refl refl h.0 refl (et_word live c q' ended) (et_home live c q' ended) (et_out live c q' ended refl)
       (here_receives desk m e (with_receiver (lane_to m e) t') o.pass.number t' x b msg h.0
       (refl, et_holder live c q' ended ∙ h.1.1, h.1.2, (λ out. absurd (true-false (sym out ∙ et_out live c q' ended refl))), et_bare live c q' ended) (et_current live c f m.era refl))
-      (λ i k. absurd (true-false (sym k))) (et_holder live c q' ended ∙ h.1.1) in (
+      (refl, ((λ i. ap (has_sender_for_manager i) call), λ i. ap (has_for_manager i) call)) (et_holder live c q' ended ∙ h.1.1) in (
         _,
         keeps,
         tt,
@@ -292,7 +294,7 @@ module _ {B : Type 0} {kc : Coded B} {kz : DeskTables} (cd : Coded (PlacedDesk k
       (here_receives desk m e (with_receiver s t') o.pass.number t' x b msg h.0
       (refl, es_holder (eqb hd a) c q' ended ∙ h.1.1, h.1.2, (λ out. absurd (true-false (sym out ∙ es_out (eqb hd a) c q' ended refl))), es_bare (eqb hd a) c q' ended) (es_current (eqb hd a) c f m.era.inc ended (h.2 refl)))
       (history_counted m e (with_receiver s t') refl refl (le_refl _) o.pass.number o.pass.first f (Waiting x.handed a) o.pass.own (h.2 refl) (record { accepted = le_refl a; handed = omega (arith, side); returned = omega arith }) past) (inr (inr (h.2 refl)))
-      (λ i k. absurd (true-false (sym k))) (es_holder (eqb hd a) c q' ended ∙ h.1.1) in (
+      (refl, ((λ i. ap (has_sender_for_manager i) call), λ i. ap (has_for_manager i) call)) (es_holder (eqb hd a) c q' ended ∙ h.1.1) in (
         _,
         keeps,
         tt,

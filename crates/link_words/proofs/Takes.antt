@@ -1,4 +1,6 @@
 -- The steps of a take at which a buffer goes out and comes home, with the era loaded again; and the leave by which a reclaim ends it.
+use Rattle.link_words.proofs.Keepers.{keepers_by}
+use Rattle.link_words.specs.Parts.{has_for_manager, has_sender_for_manager}
 use Rattle.link_words.proofs.Gathered.{there, gathered_receive}
 use Rattle.link_words.specs.Sides.{is_there, sides_at}
 use Rattle.link_words.specs.declared.codes.DeskTables.{DeskTables}
@@ -276,18 +278,18 @@ module _ {B : Type 0} {kc : Coded B} {kz : DeskTables} (cd : Coded (PlacedDesk k
               home = λ j under mine theirs. let ho = q.home j under mine (λ out. absurd (true-false (sym out))) in (ho.0, set_else (shelf_to r.shelves e) own j none (theirs refl) ∙ ho.1);
             })
             mine
-            (others_receive desk m e s' t o.pass.number h.1.0 h.1.1 refl refl refl refl (λ k apart. no_call desk t' o.pass.number k h.1.1 apart)) refl refl refl refl (λ i k. absurd (true-false (sym k))),
+            (others_receive desk m e s' t o.pass.number h.1.0 h.1.1 refl refl refl refl (λ k apart. no_call desk t' o.pass.number k h.1.1 apart)) refl refl refl refl (refl, ((λ i. ap (has_sender_for_manager i) call), λ i. ap (has_for_manager i) call)),
         (
           (message, λ k. (with_pass me.0 o (with_call o.pass (Receives e t' x (sym id_is k) message)) (Some (copied cd (with_lane m e s'))), (buffer_slot first e (sym id_is k), Buffer message) ∷ me.1)),
           read_by i cd desk z st m r id me o (with_call o.pass w) (Steps o.pass.number 0 None) (with_lane m e s') ((buffer_slot first e own, Buffer message) ∷ me.1) at may deed mine,
         ),
       )
 
-  hands_live : (n id : ℕ) (me : SeatState) (o : Mover me.0) (e : End) (c f : ℕ) (x : ReceiverSide) (b first : ℕ) (msg : List ℕ) → first ≡ z.to_host.capacity → me.1 ≡ (buffer_slot first e b, Buffer msg) ∷ rest me.1
+  hands_live : (n id : ℕ) (me : SeatState) (o : Mover me.0) (e : End) (c f : ℕ) (x : ReceiverSide) (b first : ℕ) (msg : List ℕ) → o.pass.call ≡ Receives e (turn.Taken c (record { follows = f; work = work.Take take_stage.Buffer })) x b msg → first ≡ z.to_host.capacity → me.1 ≡ (buffer_slot first e b, Buffer msg) ∷ rest me.1
       → (st : State Slot View) (m : LaneLink (RingState (PlacedDesk kc kz))) → is_live_in m.era f ≡ true → get_elem? st.views id ≡ some me.0
       → IsCallOf m 0 o.pass.number (Receives e (turn.Taken c (record { follows = f; work = work.Take take_stage.Buffer })) x b msg) → Shows cd desk z st m 0
       → (w : View) × (a : Act Slot) × Valid st.homes me.1 a × WordsRule cd desk z (stepped st 1 (get_or st.words 1 0) id me.1 w a) × (TakeHandsBy desk me o e c f x b msg (get_or st.words 1 0) (w, carried_after me.1 a) × StepBy cd desk (ReadsAt 1 (get_or st.words 1 0)) me o (Steps o.pass.number 0 None) (w, carried_after me.1 a))
-  hands_live n id me o e c f x b first msg first_at has_slot st m is_live at h r =
+  hands_live n id me o e c f x b first msg call first_at has_slot st m is_live at h r =
       let t : Turn Receiving = turn.Taken c (record { follows = f; work = work.Take take_stage.Buffer }) in
       let s₀ = lane_to m e in let s = with_receiver s₀ t in let is : s₀ ≡ s = λ k. with_receiver s₀ (h.1.0 k) in let era = m.era in
       let sound : IsSoundRings s = subst IsSoundRings is (rings_to m e (rings_in r)) in let q : HoldsBuffers s (shelf_to r.shelves e) = subst (λ (u : RingState (PlacedDesk kc kz)). HoldsBuffers u (shelf_to r.shelves e)) is ((buffers_in r) e) in
@@ -328,18 +330,19 @@ module _ {B : Type 0} {kc : Coded B} {kz : DeskTables} (cd : Coded (PlacedDesk k
             (hands_here m e s' pass h.0 (hands_more o.pass.number s.lane.lane.held new who ∙ (λ i. held_now i ++ sym nth i ∷ [])))
             (λ u apart. hands_kept desk m e s' u (λ was. hands_same u.number s.lane.lane.held new (λ same. apart (sym who ∙ same)) ∙ (ap (λ (y : RingState (PlacedDesk kc kz)). hands_of u.number y.lane.lane.held) (sym is) ∙ was)))
             (λ n none. none_handed m e s' c refl refl n (λ same. not_used m.callers o.pass.number n e h.0 none (sym who ∙ same)))
-            (keepers_set st.views id me.0 (with_pass me.0 o pass (Some (copied cd (with_lane m e s')))) o pass at refl refl (λ i k. absurd (true-false (sym k))) r.turns.keepers),
+            (keepers_set st.views id me.0 (with_pass me.0 o pass (Some (copied cd (with_lane m e s')))) o pass at refl refl (λ i k. absurd (true-false (sym k))) r.turns.keepers)
+            (keepers_by desk m (with_lane m e s') (Steps o.pass.number 0 None) deed st.views id me.0 (with_pass me.0 o pass (Some (copied cd (with_lane m e s')))) o pass at refl (refl, ((λ i. ap (has_sender_for_manager i) call), λ i. ap (has_for_manager i) call)) r.turns.some_keeper),
         (
           (m.era, word, r.numbers.short, few, sure, s.lane.desk, ap (λ (y : ReceiverSide). y.desk) h.1.2, (λ _. refl), λ dead. absurd (true-false (sym is_live ∙ dead))),
           read_by 1 cd desk z st m r id me o pass (Steps o.pass.number 0 None) (with_lane m e s') (rest me.1) at may deed mine,
         ),
       )
 
-  hands_dead : (n id : ℕ) (me : SeatState) (o : Mover me.0) (e : End) (c f : ℕ) (x : ReceiverSide) (b first : ℕ) (msg : List ℕ) → first ≡ z.to_host.capacity → me.1 ≡ (buffer_slot first e b, Buffer msg) ∷ rest me.1
+  hands_dead : (n id : ℕ) (me : SeatState) (o : Mover me.0) (e : End) (c f : ℕ) (x : ReceiverSide) (b first : ℕ) (msg : List ℕ) → o.pass.call ≡ Receives e (turn.Taken c (record { follows = f; work = work.Take take_stage.Buffer })) x b msg → first ≡ z.to_host.capacity → me.1 ≡ (buffer_slot first e b, Buffer msg) ∷ rest me.1
       → (st : State Slot View) (m : LaneLink (RingState (PlacedDesk kc kz))) → is_live_in m.era f ≡ false → get_elem? st.views id ≡ some me.0
       → IsCallOf m 0 o.pass.number (Receives e (turn.Taken c (record { follows = f; work = work.Take take_stage.Buffer })) x b msg) → Shows cd desk z st m 0
       → (w : View) × (a : Act Slot) × Valid st.homes me.1 a × WordsRule cd desk z (stepped st 1 (get_or st.words 1 0) id me.1 w a) × (TakeHandsBy desk me o e c f x b msg (get_or st.words 1 0) (w, carried_after me.1 a) × StepBy cd desk (ReadsAt 1 (get_or st.words 1 0)) me o (Steps o.pass.number 0 None) (w, carried_after me.1 a))
-  hands_dead n id me o e c f x b first msg first_at has_slot st m is_live at h r =
+  hands_dead n id me o e c f x b first msg call first_at has_slot st m is_live at h r =
       let t : Turn Receiving = turn.Taken c (record { follows = f; work = work.Take take_stage.Buffer }) in
       let s₀ = lane_to m e in let s = with_receiver s₀ t in let is : s₀ ≡ s = λ k. with_receiver s₀ (h.1.0 k) in let era = m.era in
       let sound : IsSoundRings s = subst IsSoundRings is (rings_to m e (rings_in r)) in let q : HoldsBuffers s (shelf_to r.shelves e) = subst (λ (u : RingState (PlacedDesk kc kz)). HoldsBuffers u (shelf_to r.shelves e)) is ((buffers_in r) e) in
@@ -366,7 +369,7 @@ module _ {B : Type 0} {kc : Coded B} {kz : DeskTables} (cd : Coded (PlacedDesk k
             (ap (λ (cs : List (ℕ × Slot)). homes_after (homes_at e (lane_homes s (shelf_to r.shelves e)) hb) cs gives) has_slot ∙ buffer_set e first b (some (Buffer msg)) (lane_homes s (shelf_to r.shelves e)) hb near (first_is cd desk z st m r e first first_at))
             (subst (λ (v : ℕ × List ℕ). HoldsBuffers s' (set (shelf_to r.shelves e) v.0 (some (Buffer v.1)))) (λ i. (is_b i, sym out.1 i)) (shelved_back s s' (shelf_to r.shelves e) sound refl q refl refl refl refl refl (le_refl hd)))
             mine
-            (others_receive desk m e s' t o.pass.number h.1.0 h.1.1 refl refl refl refl (λ k apart. no_call desk t' o.pass.number k h.1.1 apart)) refl refl refl refl (λ i k. absurd (true-false (sym k))),
+            (others_receive desk m e s' t o.pass.number h.1.0 h.1.1 refl refl refl refl (λ k apart. no_call desk t' o.pass.number k h.1.1 apart)) refl refl refl refl (refl, ((λ i. ap (has_sender_for_manager i) call), λ i. ap (has_for_manager i) call)),
         (
           (m.era, word, r.numbers.short, few, sure, s.lane.desk, ap (λ (y : ReceiverSide). y.desk) h.1.2, (λ live. absurd (true-false (sym live ∙ is_live))), λ _. refl),
           read_by 1 cd desk z st m r id me o (with_call o.pass w) (Steps o.pass.number 0 None) (with_lane m e s') (rest me.1) at may deed mine,
@@ -384,8 +387,8 @@ module _ {B : Type 0} {kc : Coded B} {kz : DeskTables} (cd : Coded (PlacedDesk k
     where
       go : (live : Bool) → is_live_in m.era f ≡ live → IsCallOf m 0 o.pass.number (Receives e (turn.Taken c (record { follows = f; work = work.Take take_stage.Buffer })) x b msg) → Shows cd desk z st m 0
           → (w : View) × (a : Act Slot) × Valid st.homes me.1 a × WordsRule cd desk z (stepped st 1 (get_or st.words 1 0) id me.1 w a) × (TakeHandsBy desk me o e c f x b msg (get_or st.words 1 0) (w, carried_after me.1 a) × StepBy cd desk (ReadsAt 1 (get_or st.words 1 0)) me o (Steps o.pass.number 0 None) (w, carried_after me.1 a))
-      go true live h r = hands_live n id me o e c f x b first msg first_at has_slot st m live at h r
-      go false dead h r = hands_dead n id me o e c f x b first msg first_at has_slot st m dead at h r
+      go true live h r = hands_live n id me o e c f x b first msg call first_at has_slot st m live at h r
+      go false dead h r = hands_dead n id me o e c f x b first msg call first_at has_slot st m dead at h r
 
   -- part 3 of a reclaim of a take that has its buffer out: the buffer comes home with its message, what the caller holds leaves `held`, and the turn is free
   pub ends_take_out : (n id : ℕ) (me : SeatState) (o : Mover me.0) (e : End) (t : Turn Receiving) (x x' : ReceiverSide) (b first : ℕ) (msg : List ℕ) → o.pass.call ≡ EndsReceive e t x b msg → is_manager t ≡ false → receiver_is_out t ≡ true → first ≡ z.to_host.capacity
@@ -418,6 +421,7 @@ module _ {B : Type 0} {kc : Coded B} {kz : DeskTables} (cd : Coded (PlacedDesk k
             (subst (λ (v : ℕ × List ℕ). HoldsBuffers s' (set (shelf_to r.shelves e) v.0 (some (Buffer v.1)))) (λ i. (taken i, sym is_b.1 i)) (shelved_back s₀ s' (shelf_to r.shelves e) sound out ((buffers_in r) e) refl refl refl refl refl (le_refl hd)))
             mine (λ j l u there apart. others_receive desk m e s' t c h.1.0 h.1.1 bare refl refl refl (λ k _. refl) u.number apart u.call)
             refl refl refl refl (inr (inl refl)) (hands_here m e s' (with_call_and_hands o.pass (Rests e) []) h.0 (hands_none c s₀.lane.lane.held)) (λ u apart. hands_kept desk m e s' u (λ was. hands_others c u.number s₀.lane.lane.held apart ∙ was))
-            (keepers_set st.views id me.0 (with_pass me.0 o (with_call_and_hands o.pass (Rests e) []) (Some (copied cd (with_lane m e s')))) o (with_call_and_hands o.pass (Rests e) []) at refl refl (λ i k. absurd (true-false (sym k))) r.turns.keepers),
+            (keepers_set st.views id me.0 (with_pass me.0 o (with_call_and_hands o.pass (Rests e) []) (Some (copied cd (with_lane m e s')))) o (with_call_and_hands o.pass (Rests e) []) at refl refl (λ i k. absurd (true-false (sym k))) r.turns.keepers)
+            (keepers_by desk m (with_lane m e s') (EndsCall e c) deed st.views id me.0 (with_pass me.0 o (with_call_and_hands o.pass (Rests e) []) (Some (copied cd (with_lane m e s')))) o (with_call_and_hands o.pass (Rests e) []) at refl (refl, ((λ i. ap (has_sender_for_manager i) call), λ i. ap (has_for_manager i) call)) r.turns.some_keeper),
         (refl, write_by (receiver_word e) 0 cd desk z st m r id me o (with_call_and_hands o.pass (Rests e) []) (EndsCall e c) (with_lane m e s') (rest (rest me.1)) (receiver_in m e s') at (h.2, h.0) deed mine),
       )

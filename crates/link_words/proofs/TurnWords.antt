@@ -33,11 +33,11 @@ turn_word_most callers e turn.Manager many is = omega arith
 held_by : (callers users : List (Option End)) (e : End) (c n : ℕ) → users ≡ callers → end_of callers c ≡ Some e → n ≡ suc c → end_of users (n - 1) ≡ Some e
 held_by callers users e c n same is word = (λ k. end_of (same k) (let at : n - 1 ≡ c = omega (arith, word) in at k)) ∙ is
 
-word_held : {C : Type 0} (callers users : List (Option End)) (e : End) (t : Turn C) (n : ℕ) → users ≡ callers → IsSoundTurn callers e t → n ≡ turn_word t → n ≢ 0 → (n ≡ 65) ⊎ (end_of users (n - 1) ≡ Some e)
+word_held : {C : Type 0} (callers users : List (Option End)) (e : End) (t : Turn C) (n : ℕ) → users ≡ callers → IsSoundTurn callers e t → n ≡ turn_word t → n ≢ 0 → (end_of users (n - 1) ≡ Some e) ⊎ ((n ≡ 65) × (t ≡ turn.Manager))
 word_held callers users e turn.Free n same is word held = absurd (held word)
-word_held callers users e (turn.Taken c x) n same is word held = inr (held_by callers users e c n same is word)
-word_held callers users e (turn.Leaving c x) n same is word held = inr (held_by callers users e c n same is word)
-word_held callers users e turn.Manager n same is word held = inl word
+word_held callers users e (turn.Taken c x) n same is word held = inl (held_by callers users e c n same is word)
+word_held callers users e (turn.Leaving c x) n same is word held = inl (held_by callers users e c n same is word)
+word_held callers users e turn.Manager n same is word held = inr (word, refl)
 
 users_hold : (callers : List (Option End)) (e : End) (hands : List Hand) → AreUsers callers e (map holding_of hands) → (k : ℕ) (h : Hand) → get_elem? hands k ≡ some h → end_of callers h.caller ≡ Some e
 users_hold callers e [] users k h at = absurd (some-ne-none h (sym at))
@@ -55,11 +55,11 @@ module _ {B : Type 0} {kc : Coded B} {kz : DeskTables} (desk : DeskMeaning (Plac
   receiver_word_most m side.Remote many sound = turn_word_most m.callers side.Remote m.to_remote.lane.receiver many sound.to_remote.receiver
 
   -- and it is the manager's, or that of a caller in use on the end that the turn belongs to
-  pub sender_word_held : (m : LaneLink (RingState (PlacedDesk kc kz))) (e : End) (users : List (Option End)) (n : ℕ) → users ≡ m.callers → SoundLink (link_of (ring_form desk) m) → n ≡ turn_word (lane_to m e).lane.sender → n ≢ 0 → (n ≡ 65) ⊎ (end_of users (n - 1) ≡ Some (other e))
+  pub sender_word_held : (m : LaneLink (RingState (PlacedDesk kc kz))) (e : End) (users : List (Option End)) (n : ℕ) → users ≡ m.callers → SoundLink (link_of (ring_form desk) m) → n ≡ turn_word (lane_to m e).lane.sender → n ≢ 0 → (end_of users (n - 1) ≡ Some (other e)) ⊎ ((n ≡ 65) × ((lane_to m e).lane.sender ≡ turn.Manager))
   sender_word_held m side.Host users n same sound is = word_held m.callers users side.Remote m.to_host.lane.sender n same sound.to_host.sender is
   sender_word_held m side.Remote users n same sound is = word_held m.callers users side.Host m.to_remote.lane.sender n same sound.to_remote.sender is
 
-  pub receiver_word_held : (m : LaneLink (RingState (PlacedDesk kc kz))) (e : End) (users : List (Option End)) (n : ℕ) → users ≡ m.callers → SoundLink (link_of (ring_form desk) m) → n ≡ turn_word (lane_to m e).lane.receiver → n ≢ 0 → (n ≡ 65) ⊎ (end_of users (n - 1) ≡ Some e)
+  pub receiver_word_held : (m : LaneLink (RingState (PlacedDesk kc kz))) (e : End) (users : List (Option End)) (n : ℕ) → users ≡ m.callers → SoundLink (link_of (ring_form desk) m) → n ≡ turn_word (lane_to m e).lane.receiver → n ≢ 0 → (end_of users (n - 1) ≡ Some e) ⊎ ((n ≡ 65) × ((lane_to m e).lane.receiver ≡ turn.Manager))
   receiver_word_held m side.Host users n same sound is = word_held m.callers users side.Host m.to_host.lane.receiver n same sound.to_host.receiver is
   receiver_word_held m side.Remote users n same sound is = word_held m.callers users side.Remote m.to_remote.lane.receiver n same sound.to_remote.receiver is
 

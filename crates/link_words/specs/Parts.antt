@@ -80,14 +80,39 @@ has_for_manager e (EndsHeld i x) = same_end e i
 has_for_manager e (Reopens q inc a b) = true
 has_for_manager e (Gathers a b) = is_there (sides_at e a b).receiver
 
+-- a call that has the sender's turn of the lane to this end for the manager: the manager's own alone
+abbrev pub has_sender_for_manager : End → Call → Bool
+has_sender_for_manager e Idle = false
+has_sender_for_manager e (Rests i) = false
+has_sender_for_manager e (Sends i u x buffer) = false
+has_sender_for_manager e (Receives i u x buffer message) = false
+has_sender_for_manager e (EndsSend i u x buffer) = false
+has_sender_for_manager e (EndsBoth i u x buffer y) = false
+has_sender_for_manager e (EndsReceive i u x buffer message) = false
+has_sender_for_manager e (Reclaims i x) = false
+has_sender_for_manager e (EndsHeld i x) = false
+has_sender_for_manager e (Reopens q inc a b) = true
+has_sender_for_manager e (Gathers a b) = is_there (sides_at e a b).sender
+
+-- some pass is in such a call
+abbrev pub IsKept : (Call → Bool) → List View → Type 0
+IsKept F views = (j : ℕ) × (l : ℕ) × (q : Pass) × PassAt views j l q × (F q.call ≡ true)
+
+-- some pass has each turn that is the manager's
+pub record HasKeepers (t : LinkTurns) (views : List View) : Type 0 where
+  pub senders : (e : End) → (t.lanes e).sender ≡ turn.Manager → IsKept (has_sender_for_manager e) views
+  pub receivers : (e : End) → (t.lanes e).receiver ≡ turn.Manager → IsKept (has_for_manager e) views
+
 -- no two passes have one turn for the manager
 abbrev pub AreKeepersApart : List View → Type 0
 AreKeepersApart views = (e : End) (i k j l : ℕ) (p q : Pass) → PassAt views i k p → PassAt views j l q → has_for_manager e p.call ≡ true → has_for_manager e q.call ≡ true → p.number ≡ q.number
 
--- the part on turns: each turn is that of the call of its holder's view, with its side state; while a reopening resets words nobody else has a turn
+-- the part on turns: each turn is that of the call of its holder's view, with its side state, and some pass has each that is the manager's; while a reopening
+-- resets words nobody else has a turn
 pub record TurnsPart (t : LinkTurns) (p : ℕ) (views : List View) : Type 0 where
   pub calls : EachPass (λ q. IsCallAt t p q.number q.call) views
   pub keepers : AreKeepersApart views
+  pub some_keeper : HasKeepers t views
   pub still : (p ≡ 0) ⊎ ((t.era.is_live ≡ false) × HasFourTurns (λ e. (t.lanes e).sender) (λ e. (t.lanes e).receiver))
 
 -- two counts of a lane are at most its capacity apart: a buffer is given back after it was accepted, and no more are out than there are.

@@ -1,6 +1,6 @@
 -- What the steps tell by which the manager takes the turns of a link, leaves them, and opens the next incarnation (own).
 use Rattle.std.specs.Option.{option_map_or}
-use Rattle.std.specs.Prelude.{nat_lt, fold, if◌then◌else◌, ◌≡◌, ◌≢◌, ◌⊎◌, ◌<◌, ◌≤◌, ◌+◌, ◌-◌, ℕ, suc, true, false, List, [], ◌∷◌, length, map, Option, Some, None}
+use Rattle.std.specs.Prelude.{Bool, nat_lt, fold, if◌then◌else◌, ◌≡◌, ◌≢◌, ◌⊎◌, ◌<◌, ◌≤◌, ◌+◌, ◌-◌, ℕ, suc, true, false, List, [], ◌∷◌, length, map, Option, Some, None}
 use mathlib.Core.Option.{some}
 use lib.ListN.{get_elem?}
 use base.Stored.{Coded}
@@ -30,6 +30,7 @@ use Rattle.link_words.specs.declared.rule.View.{View}
 use Rattle.link_words.specs.PlacedDesks.{PlacedDesk, placed_coded, placed_meaning, no_right, IsRightTo}
 use Rattle.link_words.specs.Words.{other, era_word, sender_slot, receiver_slot}
 use Rattle.link_words.specs.Sides.{no_sides, sides_at}
+use Rattle.link_words.specs.Parts.{has_for_manager, has_sender_for_manager}
 use Rattle.link_words.specs.Passes.{Mover, HasNumber, with_call, place_of_number}
 use Rattle.link_words.specs.Histories.{LaneBooks, HasHistory, entries_by, takes_by}
 use Rattle.link_words.specs.declared.copies.LinkCopy.{LinkCopy}
@@ -97,9 +98,13 @@ gathered side.Remote f a b = Gathers a (f b)
 abbrev pub with_gathered : End → (LaneSides → LaneSides) → Pass → Pass
 with_gathered e f p = with_call p (gathers_or p.call (gathered e f) p.call)
 
--- the word of a turn that somebody has: the manager, or a caller that is in use on this end
-abbrev pub IsHoldersWord : View → End → ℕ → Type 0
-IsHoldersWord v end n = (n ≡ 65) ⊎ (end_of v.users (n - 1) ≡ Some end)
+-- some caller is in use
+abbrev pub SomeInUse : View → Type 0
+SomeInUse v = (n : ℕ) × (e : End) × (end_of v.users n ≡ Some e)
+
+-- the word of a turn that somebody has: a caller that is in use on this end; or the manager, whose own call has it or which has it by the seat of a caller in use
+abbrev pub IsHoldersWord : View → Bool → End → ℕ → Type 0
+IsHoldersWord v is_own end n = (end_of v.users (n - 1) ≡ Some end) ⊎ ((n ≡ 65) × ((is_own ≡ true) ⊎ SomeInUse v))
 
 -- who has a buffer in hand is in use on this end
 abbrev pub AreInUse : View → End → List Hand → Type 0
@@ -107,11 +112,11 @@ AreInUse v end hands = (k : ℕ) (h : Hand) → get_elem? hands k ≡ some h →
 
 -- one attempt of the manager at the sender's turn of a lane: where it was free, its side state is out; else it was the one's whose number and 1 is the word
 abbrev pub ManagerTakesSender : End → SeatState → ℕ → SeatState → Type 0
-ManagerTakesSender e me n me' = (n ≡ 0 → (x : SenderSide) × Becomes (with_gathered e (λ g. record g { sender = Some x })) (manager_place me) ((sender_slot e, Sender x) ∷ me.1) me me') × (n ≢ 0 → me' ≡ me) × (n ≤ 65) × (n ≢ 0 → IsHoldersWord me.0 (other e) n)
+ManagerTakesSender e me n me' = (n ≡ 0 → (x : SenderSide) × Becomes (with_gathered e (λ g. record g { sender = Some x })) (manager_place me) ((sender_slot e, Sender x) ∷ me.1) me me') × (n ≢ 0 → me' ≡ me) × (n ≤ 65) × (n ≢ 0 → IsHoldersWord me.0 (has_sender_for_manager e (manager_call me)) (other e) n)
 
 -- the same at the receiver's turn
 abbrev pub ManagerTakesReceiver : End → SeatState → ℕ → SeatState → Type 0
-ManagerTakesReceiver e me n me' = (n ≡ 0 → (x : ReceiverSide) × Becomes (with_gathered e (λ g. record g { receiver = Some x })) (manager_place me) ((receiver_slot e, Receiver x) ∷ me.1) me me' × AreInUse me.0 e x.hands) × (n ≢ 0 → me' ≡ me) × (n ≤ 65) × (n ≢ 0 → IsHoldersWord me.0 e n)
+ManagerTakesReceiver e me n me' = (n ≡ 0 → (x : ReceiverSide) × Becomes (with_gathered e (λ g. record g { receiver = Some x })) (manager_place me) ((receiver_slot e, Receiver x) ∷ me.1) me me' × AreInUse me.0 e x.hands) × (n ≢ 0 → me' ≡ me) × (n ≤ 65) × (n ≢ 0 → IsHoldersWord me.0 (has_for_manager e (manager_call me)) e n)
 
 -- the manager leaves the sender's turn, and its side state is at home; the same of the receiver's
 abbrev pub ManagerLeavesSender : End → SeatState → SeatState → Type 0
@@ -189,11 +194,12 @@ abbrev pub books_by : LaneSides → LaneBooks
 books_by g = record { accepted = sent_by g.sender; takers = taken_by g.receiver; held = map holding_of (hands_by g.receiver); returned = back_by g.receiver }
 
 -- books of an incarnation are told by a view: each pass that it has did what they say of it, and so did each that was reclaimed in this incarnation; and they
--- say nothing of a number that is not in use and was not freed in this incarnation
+-- say nothing of a number that is not in use and was not freed in this incarnation. No more buffers are back than were handed over
 pub record AreBooksOf (v : View) (books : End → LaneBooks) : Type 0 where
   pub own : (k : ℕ) (q : Pass) → get_elem? v.passes k ≡ some q → HasHistory v.inc books q.number q.first q.own
   pub unused : (n : ℕ) → end_of v.users n ≡ None → (HasNumber v.reclaims n → ⊥) → (e : End) → (entries_by n 0 (books e).accepted ≡ []) × (takes_by n 0 (books e).takers ≡ [])
   pub ended : (k : ℕ) (p : Pass) → get_elem? v.ended k ≡ some p → HasHistory v.inc books p.number p.first p.own
+  pub back : (e : End) → (books e).returned ≤ length (books e).takers
 
 -- the manager, which has all side states, loads the era: where it is closed, a reopening begins, and the books are told
 abbrev pub BeginsReopening : SeatState → ℕ → SeatState → Type 0

@@ -1,5 +1,5 @@
 -- The manager's own call over its steps.
-use Rattle.std.proofs.Common.{◌≡◌, ◌⊎◌, ◌+◌, ◌-◌, ℕ, zero, suc, eqb, cond, List, [], ◌∷◌, refl, sym, ap, ◌∙◌, subst, inl, inr, ⊎_elim, arith}
+use Rattle.std.proofs.Common.{◌≡◌, ◌⊎◌, ◌+◌, ◌-◌, ℕ, zero, suc, Bool, true, false, eqb, cond, List, [], ◌∷◌, refl, sym, ap, ◌∙◌, subst, inl, inr, ⊎_elim, arith}
 use Rattle.std.specs.Prelude.{Option, Some, None}
 use mathlib.Core.Option.{some, some-injective, some-ne-none}
 use lib.ListN.{get_elem?}
@@ -18,8 +18,9 @@ use Rattle.link_words.specs.declared.rule.Slot.TheVariants.{Empty, Receiver, Sen
 use Rattle.link_words.specs.declared.rule.View.{View}
 use Rattle.link_words.specs.Calls.{SeatState, Becomes, with_pass_at}
 use Rattle.link_words.specs.Passes.{with_call, place_of_number}
-use Rattle.link_words.specs.Reopens.{AreInUse, IsHoldersWord, ManagerDoes, both_sides, gathers_or, manager_place, ManagerAt, gathered, ManagerTakesSender, ManagerTakesReceiver, ManagerLeavesSender, ManagerLeavesReceiver, MayGather, MayLeaveSender, MayLeaveReceiver}
-use Rattle.link_words.specs.Sides.{sides_at}
+use Rattle.link_words.specs.Parts.{has_for_manager, has_sender_for_manager}
+use Rattle.link_words.specs.Reopens.{AreInUse, IsHoldersWord, SomeInUse, ManagerDoes, both_sides, gathers_or, manager_place, ManagerAt, gathered, ManagerTakesSender, ManagerTakesReceiver, ManagerLeavesSender, ManagerLeavesReceiver, MayGather, MayLeaveSender, MayLeaveReceiver}
+use Rattle.link_words.specs.Sides.{is_there, no_sides, sides_at}
 use Rattle.link_words.specs.Words.{sender_slot, receiver_slot}
 use base.Stored.{Coded}
 use Rattle.lane_model.specs.Desks.{DeskMeaning}
@@ -29,6 +30,9 @@ use Rattle.link_words.specs.Deeds.{ManagerTakes}
 use Rattle.link_words.specs.Layouts.{place_in}
 use Rattle.link_words.specs.Steps.{HasWord, turn_number}
 use Rattle.split_ring.specs.Gathers.{called_view, IsCalling, TakesSide, PutsSide, Meets, IsHolderIn, lane_slots, TakesLane, PutsLane, IsAsBefore}
+
+true-false : true ≡ false → ⊥
+true-false e = absurd (cc)
 
 at_pass : (f : Pass → Pass) (k : ℕ) (ps : List Pass) (p : Pass) → get_elem? ps k ≡ some p → get_elem? (with_pass_at f k ps) k ≡ some (f p)
 at_pass f k [] p at = absurd (some-ne-none p (sym at))
@@ -100,16 +104,26 @@ out_in_use lane n k y side me me1 hit told at lent side_is =
     let same : side ≡ h.0 = side_is h.0 (within (receiver_slot lane) k (Receiver h.0) y me1.1 me.1 taken lent) in
     subst (λ (x : ReceiverSide). AreInUse me.0 lane x.hands) (sym same) h.2
 
--- the holder of a turn, by its word
-pub holder_in : (v : View) (e : End) (n : ℕ) → IsHoldersWord v e n → IsHolderIn v (n - 1)
-holder_in v e n held = ⊎_elim (λ (own : n ≡ 65). inl (omega (arith, own))) (λ (user : end_of v.users (n - 1) ≡ Some e). inr (e, user)) held
+-- the holder of a turn that the manager's own call doesn't have, by its word
+pub holder_in : (v : View) (is_own : Bool) (e : End) (n : ℕ) → IsHoldersWord v is_own e n → is_own ≡ false → IsHolderIn v (n - 1)
+holder_in v is_own e n held none = ⊎_elim
+    (λ (user : end_of v.users (n - 1) ≡ Some e). inl (e, user))
+    (λ (manager : (n ≡ 65) × ((is_own ≡ true) ⊎ SomeInUse v)). let is = manager.0 in inr (omega (arith, is), ⊎_elim (λ (own : is_own ≡ true). absurd (true-false (sym own ∙ none))) (λ (some : SomeInUse v). some) manager.1)) held
+
+-- a call that has no side state of a lane has no turn of it; with the sender's it has not the receiver's
+pub no_sender : (lane : End) (a b : LaneSides) → sides_at lane a b ≡ no_sides → has_sender_for_manager lane (Gathers a b) ≡ false
+no_sender lane a b none = ap (λ (g : LaneSides). is_there g.sender) none
+
+pub no_receiver : (lane : End) (x : SenderSide) (a b : LaneSides) → sides_at lane a b ≡ no_sides → has_for_manager lane (gathered lane (λ g. record g { sender = Some x }) a b) ≡ false
+no_receiver side.Host x a b none = ap (λ (g : LaneSides). is_there g.receiver) none
+no_receiver side.Remote x a b none = ap (λ (g : LaneSides). is_there g.receiver) none
 
 -- the callers in use, by the view that a seat's is but for the manager's own pass
 pub users_by : {v : View} {call call' : Call} {slots slots' : List (ℕ × Slot)} (me me' : SeatState) → IsCalling v call slots me → IsCalling v call' slots' me' → me'.0.users ≡ me.0.users
 users_by me me' c c' = ap (λ (s : SeatState). s.0.users) c'.is ∙ sym (ap (λ (s : SeatState). s.0.users) c.is)
 
 pub holder_by : (v w : View) (holder : ℕ) → w.users ≡ v.users → IsHolderIn w holder → IsHolderIn v holder
-holder_by v w holder same held = subst (λ (us : List (Option End)). (holder ≡ 64) ⊎ ((e : End) × (end_of us holder ≡ Some e))) same held
+holder_by v w holder same held = subst (λ (us : List (Option End)). ((e : End) × (end_of us holder ≡ Some e)) ⊎ ((holder ≡ 64) × ((n : ℕ) × (e : End) × (end_of us n ≡ Some e)))) same held
 
 pub in_use_by : (v w : View) (lane : End) (hands : List Hand) → w.users ≡ v.users → AreInUse w lane hands → AreInUse v lane hands
 in_use_by v w lane hands same users k h at = ap (λ (us : List (Option End)). end_of us h.caller) (sym same) ∙ users k h at

@@ -20,5 +20,6 @@ pub mod CloseSteps
 pub mod EndSteps
 pub mod PartSteps
 pub mod Gathering
+pub mod Refusals
 pub mod ManagerSteps
 pub mod Reopening

@@ -126,6 +126,7 @@ books_at v call slots me told c books =
       own = λ i q there. let kept = pass_kept k i v.passes q there in subst (λ (t : ℕ × ℕ × List Event). HasHistory v.inc told t.0 t.1 t.2) (λ j. (kept.2 j, kept.3 j, kept.4 j)) (all.own i kept.0 kept.1);
       unused = all.unused;
       ended = all.ended;
+      back = all.back;
     }
   where
     pass_kept : (k i : ℕ) (ps : List Pass) (q : Pass) → get_elem? ps i ≡ some q → (p : Pass) × (get_elem? (with_pass_at (λ q. with_call q call) k ps) i ≡ some p) × (p.number ≡ q.number) × (p.first ≡ q.first) × (p.own ≡ q.own)

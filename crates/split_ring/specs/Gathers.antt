@@ -22,7 +22,7 @@ use Rattle.link_words.specs.Calls.{SeatState, with_pass_at}
 use Rattle.link_words.specs.Deeds.{ManagerTakes, ManagerLeaves}
 use Rattle.link_words.specs.Layouts.{place_in}
 use Rattle.link_words.specs.Passes.{with_call, place_of_number}
-use Rattle.link_words.specs.Reopens.{ManagerDoes, both_sides, gathered}
+use Rattle.link_words.specs.Reopens.{ManagerDoes, SomeInUse, both_sides, gathered}
 use Rattle.link_words.specs.Sides.{no_sides, sides_at}
 use Rattle.link_words.specs.Steps.{HasWord, StoresWord, turn_number}
 use Rattle.link_words.specs.Words.{sender_slot, receiver_slot}
@@ -56,9 +56,9 @@ FindsTurnFree coded meaning which lane me me' = ManagerDoes coded meaning me (Ha
 abbrev pub FreesTurn : {D : Type 0} → Coded D → DeskMeaning D → LaneTurn → End → SeatState → SeatState → Type 0
 FreesTurn coded meaning which lane me me' = ManagerDoes coded meaning me (StoresWord (place_in (turn_number which lane)) 0) (ManagerLeaves which lane) me'
 
--- who has a turn is the manager itself, or a caller that is in use
+-- who has a turn is a caller that is in use; or the manager has it, by the seat of a caller that is in use
 abbrev pub IsHolderIn : View → ℕ → Type 0
-IsHolderIn v holder = (holder ≡ 64) ⊎ ((e : End) × (end_of v.users holder ≡ Some e))
+IsHolderIn v holder = ((e : End) × (end_of v.users holder ≡ Some e)) ⊎ ((holder ≡ 64) × SomeInUse v)
 
 -- the slots of both side states of a lane are out, with nothing in them
 abbrev pub lane_slots : End → List (ℕ × Slot) → List (ℕ × Slot)

@@ -1,5 +1,5 @@
 //! The manager takes the side states of the lanes with their turns, and leaves them again.
-ghost use Rattle.std.specs.Prelude.{◌≡◌, ℕ, List, ◌∷◌, [], IfOk, IfErr, Some, None};
+ghost use Rattle.std.specs.Prelude.{◌≡◌, false, ℕ, List, ◌∷◌, [], IfOk, IfErr, Some, None};
 ghost use Rattle.lane_model.specs.declared.recoveries.LaneTurn.TheVariants as lane_turn;
 ghost use Rattle.link_words.specs.declared.rule.Call.TheVariants.{Gathers};
 ghost use Rattle.link_words.specs.declared.rule.LaneSides.{LaneSides};
@@ -8,7 +8,8 @@ ghost use Rattle.link_words.specs.declared.rule.SenderSide.{SenderSide};
 ghost use Rattle.link_words.specs.declared.rule.Slot.{Slot};
 ghost use Rattle.link_words.specs.declared.rule.Slot.TheVariants.{Empty, Receiver, Sender};
 ghost use Rattle.link_words.specs.declared.rule.View.{View};
-ghost use Rattle.link_words.specs.Reopens.{AreInUse, MayGather, both_sides, gathered};
+ghost use Rattle.link_words.specs.Parts.{has_for_manager, has_sender_for_manager};
+ghost use Rattle.link_words.specs.Reopens.{AreInUse, MayGather, both_sides, gathered, manager_call};
 ghost use Rattle.link_words.specs.Sides.{no_sides, sides_at};
 ghost use Rattle.link_words.specs.Words.{sender_slot, receiver_slot};
 ghost use Rattle.split_ring.specs.Gathers.{IsCalling, TakesSide, PutsSide, FindsTurnFree, FreesTurn, Meets, IsHolderIn, lane_slots, TakesLane, IsAsBefore, MeetsLane, PutsLane};
@@ -65,7 +66,7 @@ impl<D: Desk> SharedLink<D> {
         ensures taken { IfOk result (λ side. TakesSide lane (λ g. record g { sender = Some side }) (sender_slot lane) seat.old.me seat.new.me) }
         ensures step { IfOk result (λ _. FindsTurnFree D.row.coded D.meaning lane_turn.Sender lane seat.old.me seat.new.me) }
         ensures met { IfErr result (λ holder. (seat.new.me ≡ seat.old.me) × Meets D.row.coded D.meaning lane_turn.Sender lane holder seat.old.me) }
-        ensures holder { IfErr result (λ holder. IsHolderIn seat.old.me.0 holder) }
+        ensures holder { IfErr result (λ holder. has_sender_for_manager lane (manager_call seat.old.me) ≡ false → IsHolderIn seat.old.me.0 holder) }
     {
         let table = &self.table.shared;
         let found = take_for_manager(table, seat, lane, LaneTurn::Sender);
@@ -89,7 +90,7 @@ impl<D: Desk> SharedLink<D> {
         ensures users { IfOk result (λ side. AreInUse seat.old.me.0 lane side.hands) }
         ensures step { IfOk result (λ _. FindsTurnFree D.row.coded D.meaning lane_turn.Receiver lane seat.old.me seat.new.me) }
         ensures met { IfErr result (λ holder. (seat.new.me ≡ seat.old.me) × Meets D.row.coded D.meaning lane_turn.Receiver lane holder seat.old.me) }
-        ensures holder { IfErr result (λ holder. IsHolderIn seat.old.me.0 holder) }
+        ensures holder { IfErr result (λ holder. has_for_manager lane (manager_call seat.old.me) ≡ false → IsHolderIn seat.old.me.0 holder) }
     {
         let table = &self.table.shared;
         let found = take_for_manager(table, seat, lane, LaneTurn::Receiver);

@@ -1,6 +1,5 @@
 pub mod BookSums
 pub mod Entries
-pub mod Faults
 pub mod LineTexts
 pub mod Lists
 pub mod Looks

@@ -1,5 +1,5 @@
 //! What a storm is made of.
-ghost use Rattle.std.specs.Prelude.{◌≡◌, ◌+◌, IfOk, OnOk};
+ghost use Rattle.std.specs.Prelude.{◌≡◌, ◌+◌, ◌*◌, max, IfOk, OnOk};
 ghost use Rattle.lane_model.specs.Conditions.{IsConfig};
 ghost use Rattle.split_ring.specs.Callers.{IsManagerOf};
 ghost use Rattle.storm_run.specs.Managers.{AreNewCallers, HasMade, end_at};
@@ -20,13 +20,16 @@ pub const COUNT_MOST: u32 = 8_192;
 /// The incarnation of a storm.
 pub(crate) const FIRST: Inc = 1;
 
-/// A storm: how many callers there are on each end, how many messages each of them sends, and how many entries each
-/// ring has.
+/// A storm.
 #[derive(Clone, Copy, Debug)]
 pub struct Plan {
+    /// How many callers the host's end has, from 1 to [`END_CALLERS_MOST`].
     pub hosts: u8,
+    /// How many the remote's end has, likewise.
     pub remotes: u8,
+    /// How many messages each caller sends, from 1 to [`COUNT_MOST`].
     pub count: u32,
+    /// How many entries each ring has, a power of two from 1 to 32,768.
     pub num: u32,
 }
 
@@ -35,6 +38,8 @@ impl Plan {
     pub(crate) fn config(&self) -> LinkConfig
         requires { IsPlan self.now }
         ensures config { IsConfig result }
+        ensures rings { (result.num0 ≡ self.now.num) × (result.num1 ≡ self.now.num) }
+        ensures book { result.book ≡ max self.now.hosts self.now.remotes * self.now.count }
         ensures first { result.first ≡ FIRST }
     {
         LinkConfig {

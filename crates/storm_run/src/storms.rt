@@ -20,7 +20,7 @@ use crate::rounds::round;
 use channel_bus::Side;
 use lane_model::{Books, ReopenFault};
 use rp_base::NoMemory;
-use split_ring::{Caller, Manager, Parts, Pauses, SharedLink};
+use split_ring::{Caller, Manager, Parts, SharedLink};
 use std::alloc::Global;
 use std::sync::Wait;
 use std::thread::Threads;
@@ -62,7 +62,7 @@ fn storm_books<R: Threads + Wait + Sync, G: Gate + Sync>(
     // Either way the link is closed then.
     let _ = link.close_by(&mut manager, FIRST);
     reclaim_all(alloc, &link, &mut manager, round.callers);
-    next_incarnation(rt, alloc, &link, &mut manager)
+    next_incarnation(alloc, &link, &mut manager)
 }
 
 /// Reclaims all callers of a closed link, of which none is in a call or holds anything.
@@ -98,10 +98,8 @@ fn reclaim_free(alloc: Global, link: &SharedLink<Side>, manager: &mut Manager, c
     }
 }
 
-/// Opens the next incarnation of a closed link that has no caller: the books of the one that was closed. It tries again while a
-/// turn is not free.
-fn next_incarnation<R: Wait>(
-    rt: &R,
+/// Opens the next incarnation of a closed link that has no caller: the books of the one that was closed.
+fn next_incarnation(
     alloc: Global,
     link: &SharedLink<Side>,
     manager: &mut Manager,
@@ -111,14 +109,9 @@ fn next_incarnation<R: Wait>(
     requires unused { (number : ℕ) → end_of manager.old.users number ≡ None }
     ensures { IfOk result (λ books. (told : End → LaneBooks) × AreBooksOf manager.old.seat.me.0 told × AreTold books told) }
 {
-    let mut pauses = Pauses::new();
-    for _ in rt.forever() {
-        match link.reopen(alloc, manager) {
-            Ok(books) => return Ok(books),
-            Err(ReopenFault::NoMemory) => return Err(NoMemory),
-            Err(ReopenFault::StillTurn(_)) => pauses.pause(),
-            Err(_) => unreachable!(),
-        }
+    match link.reopen(alloc, manager) {
+        Ok(books) => Ok(books),
+        Err(ReopenFault::NoMemory) => Err(NoMemory),
+        Err(_) => unreachable!(),
     }
-    unreachable!()
 }

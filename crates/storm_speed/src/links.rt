@@ -1,19 +1,18 @@
 //! Traffic over a shared link, timed.
 ghost use Rattle.std.specs.Prelude.{All, IfOk};
-ghost use Rattle.split_ring.specs.Callers.{Holds, IsCallerOf};
+ghost use Rattle.split_ring.specs.Callers.{Holds, IsCallerOf, IsManagerOf};
 
 use crate::work::{MESSAGES_MOST, Work};
 use channel_bus::Side;
 use crossbeam_utils::Backoff;
 use lane_model::{Held, LinkConfig};
-use rp_base::{Message, NoMemory};
-use split_ring::{Caller, Pauses, SharedLink, TakeFault};
+use rp_base::{End, Message, NoMemory};
+use split_ring::{Caller, Manager, Pauses, SharedLink, TakeFault};
 use std::alloc::Global;
 use std::sync::Wait;
 use std::thread;
 use std::thread::Threads;
 use std::time::{Clock, Duration, Instant};
-use storm_run::Plan;
 
 /// How long this work takes with messages of these bytes. There is none where the clock or the memory fails.
 pub fn time<R: Threads + Wait + Clock + Sync>(
@@ -43,17 +42,35 @@ fn link_with_callers(alloc: Global, work: Work) -> Result<(SharedLink<Side>, Vec
         first: 1,
         base: 0,
     };
-    let plan = Plan {
-        hosts: work.each,
-        remotes: work.each,
-        count: work.count,
-        num: 256,
-    };
     let host = Side::new(alloc, false, Vec::new(alloc))?;
     let remote = Side::new(alloc, false, Vec::new(alloc))?;
     let (link, mut manager) = SharedLink::make(alloc, config, host, remote)?;
-    let callers = plan.callers(alloc, &link, &mut manager)?;
+    let callers = callers(alloc, &link, &mut manager, work.each)?;
     Ok((link, callers))
+}
+
+/// So many callers on each end.
+fn callers(
+    alloc: Global,
+    link: &SharedLink<Side>,
+    manager: &mut Manager,
+    each: u8,
+) -> Result<Vec<Caller>, NoMemory>
+    requires { IsManagerOf link.now manager.old }
+    ensures { IfOk result (λ callers. All (λ caller. IsCallerOf link.now caller) callers.items) }
+{
+    let mut callers = Vec::new(alloc);
+    for place in 0..u16::from(each) * 2 {
+        let end = if place < u16::from(each) {
+            End::Host
+        } else {
+            End::Remote
+        };
+        if let Some(caller) = link.caller(manager, end) {
+            callers.push(caller)?;
+        }
+    }
+    Ok(callers)
 }
 
 /// Has each caller do its work on a thread of its own.

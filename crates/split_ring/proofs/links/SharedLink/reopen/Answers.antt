@@ -77,7 +77,7 @@ returns-in-None-clause-answer g c =
     let taken = c.in-Ok-take_lanes.ensures.taken v none in let h = c.in-Ok-take_lanes.lanes.0 in let r = c.in-Ok-take_lanes.lanes.1 in let me2 = c.take_lanes.new.seat.me in
     let next = c.open_next.ensures.next v taken (sym closed.0) in let t = c.open_next.ensures.books v taken (sym closed.0) refl in (
       t.0,
-      record { own = t.1.own; unused = t.1.unused; ended = t.1.ended },
+      record { own = t.1.own; unused = t.1.unused; ended = t.1.ended; back = t.1.back },
       t.2,
       c.open_next.ensures.inc ∙ closed.0,
       subst (λ (k : ℕ). k + 1 < 4294967296) closed.0 c.in-None.ensures.none.2,

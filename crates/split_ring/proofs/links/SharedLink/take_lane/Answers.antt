@@ -1,10 +1,14 @@
-use Rattle.std.proofs.Common.{◌∷◌, inl, inr, subst, sym}
+use Rattle.std.proofs.Common.{◌∷◌, ◌∙◌, ap, inl, inr, subst, sym}
 use Rattle.std.specs.Prelude.{Some}
 use Rattle.link_words.specs.declared.rule.Call.TheVariants.{Gathers}
 use Rattle.link_words.specs.Calls.{SeatState}
 use Rattle.link_words.specs.Words.{sender_slot}
 use Rattle.split_ring.specs.Gathers.{IsCalling, TakesSide}
-use Rattle.split_ring.proofs.Gathering.{holder_by, in_use_by, users_by, may_gather, may_gather_at, takes_both, as_before, sender_held}
+use Rattle.link_words.specs.Parts.{has_for_manager, has_sender_for_manager}
+use Rattle.link_words.specs.Reopens.{gathered}
+use Rattle.link_words.specs.declared.rule.Slot.TheVariants.{Empty}
+use Rattle.split_ring.proofs.Reopening.{manager_calls}
+use Rattle.split_ring.proofs.Gathering.{no_receiver, no_sender, holder_by, in_use_by, users_by, may_gather, may_gather_at, takes_both, as_before, sender_held}
 use Rattle.split_ring.proofs.links.SharedLink.take_lane.Goals as goal
 
 pub take_sender-requires-clause-manager : goal.take_sender-requires-clause-manager
@@ -36,7 +40,12 @@ returns-in-Ok-take_receiver-clause-users g c = let q = c.requires.manager in
     in_use_by c.args.seat.now.me.0 c.take_sender.new.seat.me.0 c.args.lane c.in-Ok-take_receiver.receiver.hands
     (users_by c.args.seat.now.me c.take_sender.new.seat.me q.4 (c.in-Ok.ensures.taken q.0 q.1 q.2 q.3 q.4)) c.in-Ok-take_receiver.ensures.users
 
+pub returns-in-Err-clause-holder : goal.returns-in-Err-clause-holder
+returns-in-Err-clause-holder g c = let q = c.requires.manager in let me = c.args.seat.now.me in let call = Gathers q.1 q.2 in
+    c.in-Err.ensures.holder (ap (has_sender_for_manager c.args.lane) (manager_calls q.0 call q.3 me q.4) ∙ no_sender c.args.lane q.1 q.2 q.5)
+
 pub returns-in-Err-take_receiver-clause-holder : goal.returns-in-Err-take_receiver-clause-holder
-returns-in-Err-take_receiver-clause-holder g c = let q = c.requires.manager in
-    holder_by c.args.seat.now.me.0 c.take_sender.new.seat.me.0 c.in-Err-take_receiver.holder
-    (users_by c.args.seat.now.me c.take_sender.new.seat.me q.4 (c.in-Ok.ensures.taken q.0 q.1 q.2 q.3 q.4)) c.in-Err-take_receiver.ensures.holder
+returns-in-Err-take_receiver-clause-holder g c = let q = c.requires.manager in let lane = c.args.lane in let me1 = c.take_sender.new.seat.me in let call = gathered lane (λ s. record s { sender = Some c.in-Ok.side }) q.1 q.2 in
+    let taken : IsCalling q.0 call ((sender_slot lane, Empty) ∷ q.3) me1 = c.in-Ok.ensures.taken q.0 q.1 q.2 q.3 q.4 in
+    holder_by c.args.seat.now.me.0 me1.0 c.in-Err-take_receiver.holder (users_by c.args.seat.now.me me1 q.4 taken)
+    (c.in-Err-take_receiver.ensures.holder (ap (has_for_manager lane) (manager_calls q.0 call ((sender_slot lane, Empty) ∷ q.3) me1 taken) ∙ no_receiver lane c.in-Ok.side q.1 q.2 q.5))

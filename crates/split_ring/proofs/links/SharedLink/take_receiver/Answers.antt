@@ -4,6 +4,8 @@ use Rattle.link_words.specs.Words.{receiver_slot}
 use Rattle.link_words.specs.declared.rule.Slot.TheVariants.{Receiver}
 use Rattle.split_ring.proofs.ManagerSteps.{finds_to}
 use Rattle.split_ring.proofs.Gathering.{holder_in, out_in_use, receiver_out, lent_at, took_receiver, meets}
+use Rattle.link_words.specs.Parts.{has_for_manager}
+use Rattle.link_words.specs.Reopens.{manager_call}
 use Rattle.split_ring.proofs.links.SharedLink.take_receiver.Goals as goal
 
 pub exchange-requires : goal.exchange-requires
@@ -22,7 +24,8 @@ returns-else-found-eq0-clause-met g c =
     meets g.row.D.coded g.D.Desk.meaning lane_turn.Receiver c.args.lane n (n - 1) me me1 (c.take_for_manager-found.ensures.told.1 busy) is c.take_for_manager-found.ensures.step
 
 pub returns-else-found-eq0-clause-holder : goal.returns-else-found-eq0-clause-holder
-returns-else-found-eq0-clause-holder g c = holder_in c.args.seat.now.me.0 c.args.lane c.take_for_manager-found.result (c.take_for_manager-found.ensures.told.3 c.if-found-eq0.false)
+returns-else-found-eq0-clause-holder g c = let me = c.args.seat.now.me in
+    holder_in me.0 (has_for_manager c.args.lane (manager_call me)) c.args.lane c.take_for_manager-found.result (c.take_for_manager-found.ensures.told.3 c.if-found-eq0.false)
 
 pub returns-then-found-eq0-clause-users : goal.returns-then-found-eq0-clause-users
 returns-then-found-eq0-clause-users g c =

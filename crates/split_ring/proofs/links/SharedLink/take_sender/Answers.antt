@@ -4,6 +4,8 @@ use Rattle.link_words.specs.Words.{other, sender_slot}
 use Rattle.link_words.specs.declared.rule.Slot.TheVariants.{Sender}
 use Rattle.split_ring.proofs.ManagerSteps.{finds_to}
 use Rattle.split_ring.proofs.Gathering.{holder_in, sender_out, lent_at, took_sender, meets}
+use Rattle.link_words.specs.Parts.{has_sender_for_manager}
+use Rattle.link_words.specs.Reopens.{manager_call}
 use Rattle.split_ring.proofs.links.SharedLink.take_sender.Goals as goal
 
 pub exchange-requires : goal.exchange-requires
@@ -22,7 +24,8 @@ returns-else-found-eq0-clause-met g c =
     meets g.row.D.coded g.D.Desk.meaning lane_turn.Sender c.args.lane n (n - 1) me me1 (c.take_for_manager-found.ensures.told.1 busy) is c.take_for_manager-found.ensures.step
 
 pub returns-else-found-eq0-clause-holder : goal.returns-else-found-eq0-clause-holder
-returns-else-found-eq0-clause-holder g c = holder_in c.args.seat.now.me.0 (other c.args.lane) c.take_for_manager-found.result (c.take_for_manager-found.ensures.told.3 c.if-found-eq0.false)
+returns-else-found-eq0-clause-holder g c = let me = c.args.seat.now.me in
+    holder_in me.0 (has_sender_for_manager c.args.lane (manager_call me)) (other c.args.lane) c.take_for_manager-found.result (c.take_for_manager-found.ensures.told.3 c.if-found-eq0.false)
 
 pub returns-then-found-eq0-clause-step : goal.returns-then-found-eq0-clause-step
 returns-then-found-eq0-clause-step g c =

@@ -1,0 +1,553 @@
+-- What the calls of a core leave and answer has its numbers and bytes within their types.
+use Rattle.std.proofs.Common.{◌≡◌, ℕ, zero, suc, ◌+◌, ◌-◌, ◌<◌, ◌≤◌, ◌^◌, ◌==◌, Bool, true, false, cond, List, [], ◌∷◌, length, Option, Some, None, IfSome, Result, Ok, Err, is_some, refl, sym, ap, ◌∙◌, subst, arith}
+use Rattle.std.specs.Prelude.{All, fold, nat_lt}
+use Rattle.std.specs.List.{range_with_len}
+use Rattle.std.specs.Option.{option_and_then, option_map, option_or}
+use Rattle.std.specs.Result.{IfOk}
+use Rattle.std.proofs.lemmas.Bool.{cond_both, eqb-false, true≢false}
+use Rattle.std.proofs.lemmas.List.Elements.{All-cons, All-head, All-nil, All-tail}
+use Rattle.rp_base.specs.declared.kinds.End.{End}
+use Rattle.rp_base.specs.declared.kinds.End.TheVariants as side
+use Rattle.rp_base.specs.declared.kinds.LifeState.{LifeState}
+use Rattle.rp_base.specs.declared.kinds.LifeState.TheVariants.{Offline, Running, Crashed, Attached, Detached}
+use Rattle.rp_io.specs.declared.faults.FetchFault.{FetchFault}
+use Rattle.rp_io.specs.declared.faults.FetchFault.TheVariants as fetch
+use Rattle.proc_state.specs.declared.answers.Left.{Left}
+use Rattle.proc_state.specs.declared.answers.Left.TheVariants as left
+use Rattle.proc_state.specs.declared.answers.LifeFault.{LifeFault}
+use Rattle.proc_state.specs.declared.answers.LifeFault.TheVariants as life_fault
+use Rattle.proc_state.specs.declared.answers.Power.{Power}
+use Rattle.proc_state.specs.declared.answers.Power.TheVariants as power
+use Rattle.proc_state.specs.declared.answers.Report.{Report}
+use Rattle.proc_state.specs.declared.answers.Report.TheVariants as report
+use Rattle.proc_state.specs.Lives.{CoreLife, Outcome, boot_to, crash_as, first_start, handover_to, is_offline, is_up, leave_to, life_after_boot, life_after_crash, life_after_detach, life_after_handover, life_after_shutdown, line_of, most, new_life, recovery_to, refusal_of, with_user}
+use Rattle.memory_pool.specs.declared.regions.Region.{Region}
+use Rattle.memory_pool.specs.Soundness.{SoundRegions}
+use Rattle.fw_load.specs.declared.faults.LoadFault.{LoadFault}
+use Rattle.fw_load.specs.declared.rings.RingPair.{RingPair}
+use Rattle.fw_load.specs.Loading.{load_fault}
+use Rattle.host_driver.specs.Drivers.{Declared}
+use Rattle.lane_model.specs.declared.recoveries.ReclaimRefusal.{ReclaimRefusal}
+use Rattle.lane_model.specs.declared.recoveries.ReclaimRefusal.TheVariants as refusal
+use Rattle.lane_model.specs.declared.recoveries.ReopenFault.{ReopenFault}
+use Rattle.lane_model.specs.declared.recoveries.ReopenFault.TheVariants as reopen
+use Rattle.lane_model.specs.declared.states.Holding.{Holding}
+use Rattle.lane_model.specs.declared.states.LaneState.{LaneState}
+use Rattle.lane_model.specs.Crashes.{least_held, lesser, turn_out}
+use Rattle.lane_model.specs.Lanes.{holder}
+use Rattle.lane_model.specs.Links.{LinkState}
+use Rattle.lane_model.specs.Recoveries.{unopened_by, unreclaimed_by}
+use Rattle.lane_model.specs.Soundness.{AreHandedOnce, AreUsers, IsSoundTurn, SoundLink}
+use Rattle.channel_bus.specs.Sides.{EndState}
+use Rattle.link_bench.specs.BenchCrashes.{after_reopen}
+use Rattle.link_bench.specs.BenchEnds.{crashed_bench, readied_bench, renewed_unless, reopen_refusal_of, unopened_unless, with_new_host}
+use Rattle.link_bench.specs.BenchHolds.{caller_out, is_out}
+use Rattle.link_bench.specs.Benches.{BenchState, new_bench_of, with_new_caller}
+use Rattle.core_actors.specs.Actors.{driver_names, fresh_actors}
+use Rattle.crash_recover.specs.declared.core_answers.Crash.{Crash}
+use Rattle.crash_recover.specs.declared.core_faults.CoreFault.{CoreFault}
+use Rattle.crash_recover.specs.declared.core_faults.CoreFault.TheVariants as fault
+use Rattle.crash_recover.specs.CoreBoots.{Found, boot_as, boot_of, config_of, core_bench, core_fault_of_fetch, first_boot, fresh_end, handover_as, handover_of, image_fault, loaded_in, started_core, with_load}
+use Rattle.crash_recover.specs.CoreCrashes.{crashed_core, first_report, report_as, report_of}
+use Rattle.crash_recover.specs.CoreLeaves.{close_or, detach_of, detached_core, leave_as, live_inc, shutdown_of, unloaded_core}
+use Rattle.crash_recover.specs.CoreRecoveries.{fault_with, readied_core, recovery_fault, recovery_of, reload_fault, reopen_fault, rings_fault, spent_fault, unrecovered_to}
+use Rattle.crash_recover.specs.Cores.{CoreOutcome, CoreState, loaded_rings, new_core, refuse_or}
+use Rattle.core_laws.specs.BenchMoves.{IsReachedBench, IsReachedCore}
+use Rattle.core_laws.proofs.CoreMoves.{readied}
+use Rattle.core_laws.proofs.Outcomes.{none_mapped, starts_up}
+use Rattle.core_laws.proofs.KeptCrashes.{reached_sound}
+use Rattle.field_laws.specs.Fields.{AreBytes, IsFieldLink, IsFieldWish}
+use Rattle.field_laws.specs.FieldBenches.{IsFieldBench}
+use Rattle.field_laws.specs.FieldCores.{AreFieldCalls, IsFieldCore, IsFieldCoreFault, IsFieldCrash, IsFieldLeave, IsFieldLife, IsFieldLoad, IsFieldPlaced, IsFieldRefused, IsFieldReopen, IsFieldStart, IsImageName}
+use Rattle.field_laws.proofs.Acts.{IsFieldRefusal, refusal_fields}
+use Rattle.field_laws.proofs.Benches.{caller_fields, crash_fields, new_fields, ready_fields, reopen_fields}
+use Rattle.field_laws.proofs.Lanes.{counts_small}
+use Rattle.field_laws.proofs.Loads.{load_fields}
+use Rattle.field_laws.proofs.Refusals.{refused_fields}
+use Rattle.field_laws.proofs.Rooms.{load_placed}
+use Rattle.field_laws.proofs.Sides.{find_has, fresh_fields}
+use Rattle.field_laws.proofs.Steps.{holder_small, user_small}
+
+-- ---- lives
+
+-- a life that a call leaves, and what it answers
+record HoldsLife {A : Type 0} (P : A → Type 0) (out : Outcome A) : Type 0 where
+  pub life : IsFieldLife out.life
+  pub answer : IfOk out.answer P
+
+refusal_life : {A : Type 0} (P : A → Type 0) (why : LifeFault) (life : CoreLife) → IsFieldLife life → HoldsLife P (refusal_of why life)
+refusal_life P why life is = record { life = is; answer = tt }
+
+first_life : {A : Type 0} (P : A → Type 0) (state : LifeState) (users : ℕ) (told : A) (life : CoreLife) → users ≤ most → P told → IsFieldLife life → HoldsLife P (first_start state users told life)
+first_life {A} P state users told life few is fields =
+    cond_both (life.incarnation == most) (refusal_of life_fault.IncarnationsSpent life) _ (HoldsLife P) (λ _. refusal_life P life_fault.IncarnationsSpent life fields)
+    (λ differ. let other = eqb-false life.incarnation most differ in
+    let before = fields.incarnation in
+    record { life = record { users = few; incarnation = omega (arith, before, other) }; answer = is })
+
+abbrev IsFieldPower : Power → Type 0
+IsFieldPower power.First = Unit {0}
+IsFieldPower (power.Counted users) = users < 2 ^ 64
+
+abbrev IsFieldLeft : Left → Type 0
+IsFieldLeft (left.Users users) = users < 2 ^ 64
+IsFieldLeft left.Last = Unit {0}
+
+abbrev Anything : {A : Type 0} → A → Type 0
+Anything it = Unit {0}
+
+user_life : (life : CoreLife) → IsFieldLife life → HoldsLife IsFieldPower (with_user life)
+user_life life is =
+    cond_both (life.users == most) (refusal_of life_fault.UsersFull life) _ (HoldsLife IsFieldPower) (λ _. refusal_life IsFieldPower life_fault.UsersFull life is)
+    (λ differ. let other = eqb-false life.users most differ in
+    let before = is.users in
+    record { life = record { users = omega (arith, before, other); incarnation = is.incarnation }; answer = omega (arith, before, other) })
+
+boot_to_life : (to : Option LifeState) (life : CoreLife) → IsFieldLife life → HoldsLife IsFieldPower (boot_to to life)
+boot_to_life None life is = user_life life is
+boot_to_life (Some state) life is = first_life IsFieldPower state 1 power.First life (omega arith) tt is
+
+leave_to_life : (why : LifeFault) (to : Option LifeState) (life : CoreLife) → IsFieldLife life → HoldsLife IsFieldLeft (leave_to why to life)
+leave_to_life why None life is = refusal_life IsFieldLeft why life is
+leave_to_life why (Some state) life is =
+    let few = is.users in
+    cond_both (life.users == 1) _ _ (HoldsLife IsFieldLeft) (λ _. record { life = record { users = omega arith; incarnation = is.incarnation }; answer = tt })
+    (λ _. record { life = record { users = omega (arith, few); incarnation = is.incarnation }; answer = omega (arith, few) })
+
+handover_life : (to : Option LifeState) (life : CoreLife) → IsFieldLife life → HoldsLife Anything (handover_to to life)
+handover_life None life is = refusal_life Anything life_fault.NotOffline life is
+handover_life (Some state) life is = record { life = record { users = is.users; incarnation = is.incarnation }; answer = tt }
+
+crash_life : (found : Option Report) (life : CoreLife) → IsFieldLife life → HoldsLife Anything (crash_as found life)
+crash_life None life is = refusal_life Anything life_fault.NotPowered life is
+crash_life (Some told) life is = record { life = record { users = is.users; incarnation = is.incarnation }; answer = tt }
+
+recovery_life : (to : Option LifeState) (life : CoreLife) → IsFieldLife life → HoldsLife Anything (recovery_to to life)
+recovery_life None life is = refusal_life Anything life_fault.NotCrashed life is
+recovery_life (Some state) life is =
+    cond_both life.recovery (first_start state life.users tt life) (refusal_of life_fault.RecoveryOff life) (HoldsLife Anything) (λ _. first_life Anything state life.users tt life is.users tt is)
+    (λ _. refusal_life Anything life_fault.RecoveryOff life is)
+
+pub new_life_fields : IsFieldLife new_life
+new_life_fields = record { users = omega arith; incarnation = omega arith }
+
+-- ---- which lives are offline
+
+off_up : (state : LifeState) → is_up state ≡ true → is_offline state ≡ true → ⊥
+off_up Offline up off = true≢false (sym up)
+off_up Running up off = true≢false (sym off)
+off_up Crashed up off = true≢false (sym up)
+off_up Attached up off = true≢false (sym off)
+off_up Detached up off = true≢false (sym up)
+
+-- a user more leaves a core offline only where it was
+user_off : (life : CoreLife) → is_offline (with_user life).life.state ≡ true → is_offline life.state ≡ true
+user_off life =
+    cond_both (life.users == most) (refusal_of life_fault.UsersFull life) _ (λ (out : Outcome Power). is_offline out.life.state ≡ true → is_offline life.state ≡ true) (λ _ off. off) (λ _ off. off)
+
+first_off : {A : Type 0} (state : LifeState) (users : ℕ) (told : A) (life : CoreLife) → (is_offline state ≡ true → ⊥) → is_offline (first_start state users told life).life.state ≡ true → is_offline life.state ≡ true
+first_off {A} state users told life up =
+    cond_both (life.incarnation == most) (refusal_of life_fault.IncarnationsSpent life) _ (λ (out : Outcome A). is_offline out.life.state ≡ true → is_offline life.state ≡ true) (λ _ off. off)
+    (λ _ off. absurd (up off))
+
+boot_off : (state : LifeState) (life : CoreLife) → is_offline (boot_to (line_of state).boot life).life.state ≡ true → is_offline life.state ≡ true
+boot_off Offline life off = first_off Running 1 power.First life (λ is. true≢false (sym is)) off
+boot_off Running life off = user_off life off
+boot_off Crashed life off = user_off life off
+boot_off Attached life off = user_off life off
+boot_off Detached life off = first_off Attached 1 power.First life (λ is. true≢false (sym is)) off
+
+-- a handover that is done leaves a core that isn't offline
+handed_off : (state : LifeState) (life : CoreLife) (done : Unit {0}) → (handover_to (line_of state).handover life).answer ≡ Ok done → is_offline (handover_to (line_of state).handover life).life.state ≡ true → ⊥
+handed_off Offline life done is off = true≢false (sym off)
+handed_off Running life done is off = absurd (cc)
+handed_off Crashed life done is off = absurd (cc)
+handed_off Attached life done is off = absurd (cc)
+handed_off Detached life done is off = absurd (cc)
+
+-- a core that is recovered isn't offline
+recovered_off : (state : LifeState) (life : CoreLife) → life.state ≡ state → unrecovered_to (line_of state).recovery life ≡ None → is_offline (recovery_to (line_of state).recovery life).life.state ≡ true → ⊥
+recovered_off Offline life is none off = true≢false (ap is_some none)
+recovered_off Running life is none off = true≢false (ap is_some none)
+recovered_off Attached life is none off = true≢false (ap is_some none)
+recovered_off Detached life is none off = true≢false (ap is_some none)
+recovered_off Crashed life is none off =
+    let was : is_offline life.state ≡ true → ⊥ = λ there. true≢false (sym there ∙ ap is_offline is) in
+    was (cond_both life.recovery (first_start Running life.users tt life) (refusal_of life_fault.RecoveryOff life) (λ (out : Outcome (Unit {0})). is_offline out.life.state ≡ true → is_offline life.state ≡ true)
+    (λ _ there. first_off Running life.users tt life (λ now. true≢false (sym now)) there) (λ _ there. there) off)
+
+crash_off : (found : Option Report) (life : CoreLife) → is_offline (crash_as found life).life.state ≡ true → is_offline life.state ≡ true
+crash_off None life off = off
+crash_off (Some told) life off = absurd (true≢false (sym off))
+
+-- a user who leaves others behind leaves a core offline only where it was
+users_off : (why : LifeFault) (to : Option LifeState) (life : CoreLife) (users : ℕ) → (leave_to why to life).answer ≡ Ok (left.Users users) → is_offline (leave_to why to life).life.state ≡ true → is_offline life.state ≡ true
+users_off why None life users is off = off
+users_off why (Some state) life users is off =
+    cond_both (life.users == 1) _ _ (λ (out : Outcome Left). out.answer ≡ Ok (left.Users users) → is_offline out.life.state ≡ true → is_offline life.state ≡ true)
+    (λ _ last. absurd (cc)) (λ _ more there. there) is off
+
+-- a detach leaves a core offline only where it was
+detach_off : (state : LifeState) (life : CoreLife) → is_offline (leave_to life_fault.NotAttached (line_of state).detach life).life.state ≡ true → is_offline life.state ≡ true
+detach_off Offline life off = off
+detach_off Running life off = off
+detach_off Crashed life off = off
+detach_off Detached life off = off
+detach_off Attached life off =
+    cond_both (life.users == 1) _ _ (λ (out : Outcome Left). is_offline out.life.state ≡ true → is_offline life.state ≡ true) (λ _ there. absurd (true≢false (sym there))) (λ _ there. there) off
+
+-- ---- why a link isn't reopened
+
+record IsFieldHolding (h : Holding) : Type 0 where
+  pub caller : h.caller < 2 ^ 64
+  pub number : h.number < 2 ^ 64
+
+holdings_fields : (callers : List (Option End)) (end : End) (handed : ℕ) (held : List Holding) → length callers ≡ 64 → handed < 2 ^ 64 → AreUsers callers end held → AreHandedOnce handed held → All IsFieldHolding held
+holdings_fields callers end handed [] len small users once = All-nil IsFieldHolding
+holdings_fields callers end handed (h ∷ hs) len small users once =
+    let caller = user_small callers end h.caller len users.0 in
+    let number = once.1 in
+    All-cons IsFieldHolding h hs (record { caller = omega (arith, caller); number = omega (arith, number, small) }) (holdings_fields callers end handed hs len small users.1 once.2)
+
+lesser_fields : (least : Option Holding) (h : Holding) → IfSome least IsFieldHolding → IsFieldHolding h → IfSome (lesser least h) IsFieldHolding
+lesser_fields None h found is = is
+lesser_fields (Some one) h found is =
+    cond_both (nat_lt h.number one.number) (Some h) (Some one) (λ (found : Option Holding). IfSome found IsFieldHolding) (λ _. is) (λ _. found)
+
+least_from : (least : Option Holding) (held : List Holding) → IfSome least IsFieldHolding → All IsFieldHolding held → IfSome (fold lesser least held) IsFieldHolding
+least_from least [] found all = found
+least_from least (h ∷ hs) found all = least_from (lesser least h) hs (lesser_fields least h found (All-head IsFieldHolding h hs all)) (All-tail IsFieldHolding h hs all)
+
+abbrev IsSmall : ℕ → Type 0
+IsSmall number = number ≤ 64
+
+or_has : {X : Type 0} (P : X → Type 0) (one other : Option X) → IfSome one P → IfSome other P → IfSome (option_or one other) P
+or_has P None other is rest = rest
+or_has P (Some item) other is rest = is
+
+turn_fields : (found : Option ℕ) → IfSome found IsSmall → IfSome (option_map reopen.StillTurn found) IsFieldReopen
+turn_fields None is = tt
+turn_fields (Some caller) is = omega (arith, is)
+
+held_fields : (found : Option Holding) → IfSome found IsFieldHolding → IfSome (option_map (λ (h : Holding). reopen.StillHeld h.caller h.number) found) IsFieldReopen
+held_fields None is = tt
+held_fields (Some h) is = (is.caller, is.number)
+
+lane_turn : (state : LaneState EndState) (callers : List (Option End)) (sends receives : End) → length callers ≡ 64 → IsSoundTurn callers sends state.sender → IsSoundTurn callers receives state.receiver
+    → IfSome (turn_out state) IsSmall
+lane_turn state callers sends receives len sender receiver =
+    or_has IsSmall (holder state.sender) (holder state.receiver) (holder_small callers sends state.sender len sender) (holder_small callers receives state.receiver len receiver)
+
+pub unopened_fields : (link : LinkState EndState) → SoundLink link → IsFieldLink link → IfSome (unopened_by link) IsFieldReopen
+unopened_fields link sound is =
+    let turns = or_has IsSmall (turn_out link.to_host) (turn_out link.to_remote) (lane_turn link.to_host link.callers side.Remote side.Host is.callers sound.to_host.sender sound.to_host.receiver)
+    (lane_turn link.to_remote link.callers side.Host side.Remote is.callers sound.to_remote.sender sound.to_remote.receiver) in
+    let host = least_from None link.to_host.lane.held tt
+    (holdings_fields link.callers side.Host (length link.to_host.lane.takers) link.to_host.lane.held is.callers (counts_small link.to_host sound.to_host.lane is.to_host).takers sound.to_host.users sound.to_host.lane.holdings) in
+    let remote = least_from None link.to_remote.lane.held tt
+    (holdings_fields link.callers side.Remote (length link.to_remote.lane.takers) link.to_remote.lane.held is.callers (counts_small link.to_remote sound.to_remote.lane is.to_remote).takers sound.to_remote.users sound.to_remote.lane.holdings) in
+    let held = or_has IsFieldHolding (least_held link.to_host.lane.held) (least_held link.to_remote.lane.held) host remote in
+    or_has IsFieldReopen (cond link.era.is_live (Some (reopen.StillOpen link.era)) None) _
+    (cond_both link.era.is_live (Some (reopen.StillOpen link.era)) None (λ (found : Option ReopenFault). IfSome found IsFieldReopen) (λ _. is.inc) (λ _. tt))
+    (or_has IsFieldReopen (option_map reopen.StillTurn (option_or (turn_out link.to_host) (turn_out link.to_remote))) _ (turn_fields (option_or (turn_out link.to_host) (turn_out link.to_remote)) turns)
+    (or_has IsFieldReopen (option_map (λ (h : Holding). reopen.StillHeld h.caller h.number) (option_or (least_held link.to_host.lane.held) (least_held link.to_remote.lane.held))) _
+    (held_fields (option_or (least_held link.to_host.lane.held) (least_held link.to_remote.lane.held)) held)
+    (cond_both (link.era.inc == 2 ^ 32 - 1) (Some reopen.IncarnationsSpent) None (λ (found : Option ReopenFault). IfSome found IsFieldReopen) (λ _. tt) (λ _. tt))))
+
+-- ---- outcomes
+
+abbrev pub IsFieldResult : {A : Type 0} → (A → Type 0) → Result A CoreFault → Type 0
+IsFieldResult P (Ok told) = P told
+IsFieldResult P (Err why) = IsFieldCoreFault why
+
+-- what a call leaves of a core, and what it answers
+pub record HoldsOut {A : Type 0} (P : A → Type 0) (out : CoreOutcome A CoreFault) : Type 0 where
+  pub core : IsFieldCore out.core
+  pub answer : IsFieldResult P out.answer
+
+refused : {A : Type 0} (P : A → Type 0) (core : CoreState) (why : Option CoreFault) (done : CoreOutcome A CoreFault) → IsFieldCore core → IfSome why IsFieldCoreFault → (why ≡ None → HoldsOut P done)
+    → HoldsOut P (refuse_or core why done)
+refused P core None done is fields rest = rest refl
+refused P core (Some why) done is fields rest = record { core = is; answer = fields }
+
+load_fault_fields : (found : Option LoadFault) → IfSome found IsFieldRefused → IfSome (option_map fault.Load found) IsFieldCoreFault
+load_fault_fields None is = tt
+load_fault_fields (Some why) is = is
+
+fetch_fields : (why : FetchFault) → IsFieldCoreFault (core_fault_of_fetch why)
+fetch_fields fetch.Missing = tt
+fetch_fields fetch.Failed = tt
+fetch_fields (fetch.TooLarge bytes) = tt
+fetch_fields fetch.NoMemory = tt
+
+image_fields : (core : CoreState) (found : Found) → IfOk found AreBytes → IfSome (image_fault core found) IsFieldCoreFault
+image_fields core (Ok image) are = load_fault_fields (load_fault image core.regions) (refused_fields image core.regions are)
+image_fields core (Err why) are = fetch_fields why
+
+life_fault_fields : (found : Option LifeFault) → IfSome (option_map fault.Life found) IsFieldCoreFault
+life_fault_fields None = tt
+life_fault_fields (Some why) = tt
+
+no_calls : (core : CoreState) (entry : ℕ) → AreFieldCalls (fresh_actors core.actors entry)
+no_calls core entry = record { host = All-nil IsFieldWish; worker = All-nil IsFieldWish }
+
+-- ---- boots
+
+rings_fields : (names : List (List ℕ)) (book first : ℕ) (rings : RingPair) → book < 2 ^ 64 → first < 2 ^ 32 → IsFieldBench (core_bench names book first rings)
+unfolding core_bench
+rings_fields names book first rings small few =
+    let new = new_bench_of (config_of rings book first) (fresh_end rings.service names) (fresh_end false []) in
+    caller_fields (with_new_caller new side.Host (Some 0)) side.Remote (Some 1)
+    (caller_fields new side.Host (Some 0)
+    (new_fields (config_of rings book first) (fresh_end rings.service names) (fresh_end false []) few small (fresh_fields (fresh_end rings.service names)) (fresh_fields (fresh_end false []))))
+
+pair_fields : (names : List (List ℕ)) (book first : ℕ) (found : Option RingPair) → book < 2 ^ 64 → first < 2 ^ 32 → IfSome (option_map (core_bench names book first) found) IsFieldBench
+pair_fields names book first None small few = tt
+pair_fields names book first (Some rings) small few = rings_fields names book first rings small few
+
+started_fields : (life : CoreLife) (core : CoreState) → IsFieldLife life → is_up life.state ≡ true → core.book < 2 ^ 64 → IfSome core.image IsImageName → IfSome core.loaded IsFieldLoad → IfSome core.loaded (IsFieldPlaced core.regions)
+    → IsFieldCore (started_core life core)
+started_fields life core is up small called loaded placed =
+    let few = is.incarnation in
+    record {
+      book = small;
+      life = is;
+      image = called;
+      loaded = loaded;
+      placed = placed;
+      rest = λ off. absurd (off_up life.state up off);
+      bench = pair_fields (driver_names core.actors) core.book life.incarnation (loaded_rings core.loaded) small (omega (arith, few));
+      calls = no_calls core _;
+    }
+
+first_at : (life : CoreLife) (core : CoreState) (name : List ℕ) (found : Found) → IsFieldLife life → is_up life.state ≡ true → IsImageName name → IfOk found AreBytes → SoundRegions core.regions → IsFieldCore core
+    → HoldsOut IsFieldStart (first_boot life core name found)
+first_at life core name found living up called are sound is =
+    let few = living.incarnation in
+    cond_both (is_offline core.life.state) _ _ (HoldsOut IsFieldStart)
+    (λ _. refused IsFieldStart core (image_fault core found) _ is (image_fields core found are)
+    (λ clear. record {
+      core = started_fields life (with_load core name (loaded_in core found)) living up is.book called (load_fields core found are) (load_placed core found sound clear);
+      answer = omega (arith, few);
+    }))
+    (λ _. record { core = started_fields life core living up is.book is.image is.loaded is.placed; answer = omega (arith, few) })
+
+boot_at : (life : CoreLife) (answer : Result Power LifeFault) (core : CoreState) (name : List ℕ) (found : Found) → IsFieldLife life → IfOk answer IsFieldPower → (is_offline life.state ≡ true → is_offline core.life.state ≡ true)
+    → (answer ≡ Ok power.First → is_up life.state ≡ true) → IsImageName name → IfOk found AreBytes → SoundRegions core.regions → IsFieldCore core → HoldsOut IsFieldStart (boot_as life answer core name found)
+boot_at life (Err why) core name found living told off up called are sound is = record { core = is; answer = tt }
+boot_at life (Ok (power.Counted users)) core name found living told off up called are sound is = record {
+  core = record { book = is.book; life = living; image = is.image; loaded = is.loaded; placed = is.placed; rest = λ there. is.rest (off there); bench = is.bench; calls = is.calls };
+  answer = told;
+}
+boot_at life (Ok power.First) core name found living told off up called are sound is = first_at life core name found living (up refl) called are sound is
+
+pub boot_fields : (core : CoreState) (name : List ℕ) (found : Found) → IsImageName name → IfOk found AreBytes → SoundRegions core.regions → IsFieldCore core → HoldsOut IsFieldStart (boot_of core name found)
+unfolding boot_of
+boot_fields core name found called are sound is =
+    let after = boot_to_life (line_of core.life.state).boot core.life is.life in
+    boot_at (life_after_boot core.life).life (life_after_boot core.life).answer core name found after.life after.answer (boot_off core.life.state core.life) (starts_up core.life) called are sound is
+
+handover_at : (life : CoreLife) (answer : Result (Unit {0}) LifeFault) (core : CoreState) (name : List ℕ) (found : Found) → IsFieldLife life
+    → ((done : Unit {0}) → answer ≡ Ok done → is_offline life.state ≡ true → ⊥) → IsImageName name → IfOk found AreBytes → SoundRegions core.regions → IsFieldCore core → HoldsOut IsFieldStart (handover_as life answer core name found)
+handover_at life (Err why) core name found living off called are sound is = record { core = is; answer = tt }
+handover_at life (Ok done) core name found living off called are sound is =
+    refused IsFieldStart core (image_fault core found) _ is (image_fields core found are)
+    (λ clear. record {
+      core = record {
+        book = is.book;
+        life = living;
+        image = called;
+        loaded = load_fields core found are;
+        placed = load_placed core found sound clear;
+        rest = λ there. absurd (off done refl there);
+        bench = is.bench;
+        calls = is.calls;
+      };
+      answer = tt;
+    })
+
+pub handover_fields : (core : CoreState) (name : List ℕ) (found : Found) → IsImageName name → IfOk found AreBytes → SoundRegions core.regions → IsFieldCore core → HoldsOut IsFieldStart (handover_of core name found)
+unfolding handover_of
+handover_fields core name found called are sound is =
+    let after = handover_life (line_of core.life.state).handover core.life is.life in
+    handover_at (life_after_handover core.life).life (life_after_handover core.life).answer core name found after.life (λ done. handed_off core.life.state core.life done) called are sound is
+
+-- ---- recoveries
+
+refused_reopen : (bench : BenchState) (why : Option ReclaimRefusal) → unreclaimed_by bench.link 0 ≡ why → IfSome why IsFieldRefusal → IsReachedBench (readied_bench bench) → IsFieldBench (readied_bench bench)
+    → IfSome (unopened_unless bench why) IsFieldReopen
+refused_reopen bench None is fields reached ready =
+    let came = subst (λ (w : Option ReclaimRefusal). IsReachedBench (renewed_unless bench w)) is reached in
+    let now = subst (λ (w : Option ReclaimRefusal). IsFieldBench (renewed_unless bench w)) is ready in
+    unopened_fields (with_new_host bench).link (reached_sound (with_new_host bench).link came.link) now.link
+refused_reopen bench (Some (refusal.StillOpen era)) is fields reached ready = fields
+refused_reopen bench (Some (refusal.Busy held)) is fields reached ready = fields
+
+reopen_refusal_fields : (bench : BenchState) → IsReachedBench bench → IsFieldBench bench → IfSome (reopen_refusal_of bench) IsFieldReopen
+reopen_refusal_fields bench reached is =
+    refused_reopen bench (unreclaimed_by bench.link 0) refl (refusal_fields bench.link 0 (reached_sound bench.link reached.link) is.link) (readied bench reached) (ready_fields bench is)
+
+reopen_map : (found : Option ReopenFault) → IfSome found IsFieldReopen → IfSome (option_map fault.Reopen found) IsFieldCoreFault
+reopen_map None is = tt
+reopen_map (Some why) is = is
+
+spent_fields : (is_spent : Bool) → IfSome (spent_fault is_spent) IsFieldCoreFault
+spent_fields true = tt
+spent_fields false = tt
+
+with_fields : (found : Option BenchState) (is_spent : Bool) → IfSome found IsReachedBench → IfSome found IsFieldBench → IfSome (fault_with found is_spent) IsFieldCoreFault
+with_fields None is_spent reached is = spent_fields is_spent
+with_fields (Some bench) is_spent reached is =
+    or_has IsFieldCoreFault (option_map fault.Reopen (reopen_refusal_of bench)) (spent_fault is_spent) (reopen_map (reopen_refusal_of bench) (reopen_refusal_fields bench reached is)) (spent_fields is_spent)
+
+reload_fields : (core : CoreState) (found : Found) → IfOk found AreBytes → IfSome (reload_fault core found) IsFieldCoreFault
+reload_fields core found are =
+    or_has IsFieldCoreFault (image_fault core found) (rings_fault core (loaded_in core found)) (image_fields core found are)
+    (cond_both _ None (Some fault.RingsChanged) (λ (why : Option CoreFault). IfSome why IsFieldCoreFault) (λ _. tt) (λ _. tt))
+
+map_fields : (found : Option BenchState) (f : BenchState → BenchState) → ((bench : BenchState) → IsFieldBench bench → IsFieldBench (f bench)) → IfSome found IsFieldBench → IfSome (option_map f found) IsFieldBench
+map_fields None f each is = is
+map_fields (Some bench) f each is = each bench is
+
+readied_fields : (core : CoreState) → IsFieldCore core → IsFieldCore (readied_core core)
+readied_fields core is = record { book = is.book; life = is.life; image = is.image; loaded = is.loaded; placed = is.placed; rest = is.rest; bench = map_fields core.bench readied_bench ready_fields is.bench; calls = is.calls }
+
+clear_at : (bench : BenchState) (why : Option ReclaimRefusal) → unopened_unless bench why ≡ None → unopened_by (renewed_unless bench why).link ≡ None
+clear_at bench None clear = clear
+clear_at bench (Some why) clear = absurd (true≢false (ap is_some clear))
+
+first_none : (refusal : Option ReopenFault) (later : Option CoreFault) → option_or (option_map fault.Reopen refusal) later ≡ None → refusal ≡ None
+first_none None later none = refl
+first_none (Some why) later none = absurd (true≢false (ap is_some none))
+
+image_none : (first later : Option CoreFault) → option_or first later ≡ None → first ≡ None
+image_none None later none = refl
+image_none (Some why) later none = absurd (true≢false (ap is_some none))
+
+found_reopened : (found : Option BenchState) (is_spent : Bool) → fault_with found is_spent ≡ None → IfSome found IsFieldBench → IfSome (option_map (λ bench. after_reopen (readied_bench bench)) found) IsFieldBench
+found_reopened None is_spent none is = is
+found_reopened (Some bench) is_spent none is =
+    reopen_fields (readied_bench bench) (clear_at bench (unreclaimed_by bench.link 0) (first_none (reopen_refusal_of bench) (spent_fault is_spent) none)) (ready_fields bench is)
+
+pub recovery_fields : (core : CoreState) (found : Found) → IfOk found AreBytes → SoundRegions core.regions → IsReachedCore core → IsFieldCore core → HoldsOut IsFieldStart (recovery_of core found)
+unfolding recovery_of
+recovery_fields core found are sound reached is =
+    let after = recovery_life (line_of core.life.state).recovery core.life is.life in
+    let few = after.life.incarnation in
+    refused IsFieldStart core (option_map fault.Life (recovery_fault core.life)) _ is (life_fault_fields (recovery_fault core.life)) (λ may.
+    refused IsFieldStart core (reload_fault core found) _ is (reload_fields core found are) (λ reloads.
+    let clear = image_none (image_fault core found) (rings_fault core (loaded_in core found)) reloads in
+    refused IsFieldStart (readied_core core) (reopen_fault core) _ (readied_fields core is) (with_fields core.bench (core.life.incarnation == most) reached.bench is.bench) (λ opens.
+    record {
+      core = record {
+        book = is.book;
+        life = after.life;
+        image = is.image;
+        loaded = load_fields core found are;
+        placed = load_placed core found sound clear;
+        rest = λ off. absurd (recovered_off core.life.state core.life refl (none_mapped fault.Life (recovery_fault core.life) may) off);
+        bench = found_reopened core.bench (core.life.incarnation == most) opens is.bench;
+        calls = no_calls core _;
+      };
+      answer = omega (arith, few);
+    })))
+
+-- ---- leaves
+
+abbrev IsNumber : ℕ → Type 0
+IsNumber number = number < 2 ^ 64
+
+range_numbers : (from count : ℕ) → from + count ≤ 2 ^ 64 → All IsNumber (range_with_len from count)
+range_numbers from zero fits = All-nil IsNumber
+range_numbers from (suc count) fits = All-cons IsNumber from (range_with_len (from + 1) count) (omega (arith, fits)) (range_numbers (from + 1) count (omega (arith, fits)))
+
+out_small : (bench : BenchState) → IfSome (caller_out bench) IsNumber
+unfolding caller_out
+out_small bench = find_has IsNumber (λ caller. is_out bench caller) (range_with_len 1 63) (range_numbers 1 63 (omega arith))
+
+out_at : (found : Option BenchState) → IfSome (option_and_then caller_out found) IsNumber
+out_at None = tt
+out_at (Some bench) = out_small bench
+
+out_fields : (found : Option ℕ) → IfSome found IsNumber → IfSome (option_map fault.CallerOut found) IsFieldCoreFault
+out_fields None is = tt
+out_fields (Some caller) is = is
+
+live_small : (found : Option BenchState) → IfSome found IsFieldBench → IfSome (live_inc found) IsNumber
+live_small None is = tt
+live_small (Some bench) is =
+    let inc = is.link.inc in
+    cond_both bench.link.era.is_live (Some bench.link.era.inc) None (λ (found : Option ℕ). IfSome found IsNumber) (λ _. omega (arith, inc)) (λ _. tt)
+
+closed_at : (may_step : Bool) (core gone : CoreState) (live : Option ℕ) → IfSome live IsNumber → IsFieldCore core → IsFieldCore gone → HoldsOut IsFieldLeave (close_or may_step core gone live)
+closed_at may_step core gone None small is last = record { core = last; answer = tt }
+closed_at may_step core gone (Some inc) small is last =
+    cond_both may_step _ _ (HoldsOut IsFieldLeave) (λ _. record { core = last; answer = small }) (λ _. record { core = is; answer = tt })
+
+leave_at : (may_step : Bool) (core gone : CoreState) (life : CoreLife) (answer : Result Left LifeFault) → IsFieldLife life → IfOk answer IsFieldLeft
+    → ((users : ℕ) → answer ≡ Ok (left.Users users) → is_offline life.state ≡ true → is_offline core.life.state ≡ true) → IsFieldCore core → IsFieldCore gone
+    → HoldsOut IsFieldLeave (leave_as may_step core gone life answer)
+leave_at may_step core gone life (Err why) living told off is last = record { core = is; answer = tt }
+leave_at may_step core gone life (Ok (left.Users users)) living told off is last =
+    record { core = record { book = is.book; life = living; image = is.image; loaded = is.loaded; placed = is.placed; rest = λ there. is.rest (off users refl there); bench = is.bench; calls = is.calls }; answer = told }
+leave_at may_step core gone life (Ok left.Last) living told off is last =
+    refused IsFieldLeave core (option_map fault.CallerOut (option_and_then caller_out core.bench)) _ is (out_fields (option_and_then caller_out core.bench) (out_at core.bench))
+    (λ _. closed_at may_step core gone (live_inc core.bench) (live_small core.bench is.bench) is last)
+
+pub shutdown_fields : (may_step : Bool) (core : CoreState) → IsFieldCore core → HoldsOut IsFieldLeave (shutdown_of may_step core)
+unfolding shutdown_of
+shutdown_fields may_step core is =
+    let after = leave_to_life life_fault.NotPowered (line_of core.life.state).shutdown core.life is.life in
+    leave_at may_step core (unloaded_core (life_after_shutdown core.life).life core) (life_after_shutdown core.life).life (life_after_shutdown core.life).answer after.life after.answer
+    (λ users. users_off life_fault.NotPowered (line_of core.life.state).shutdown core.life users) is
+    (record { book = is.book; life = after.life; image = tt; loaded = tt; placed = tt; rest = λ _. refl; bench = tt; calls = is.calls })
+
+pub detach_fields : (may_step : Bool) (core : CoreState) → IsFieldCore core → HoldsOut IsFieldLeave (detach_of may_step core)
+unfolding detach_of
+detach_fields may_step core is =
+    let after = leave_to_life life_fault.NotAttached (line_of core.life.state).detach core.life is.life in
+    leave_at may_step core (detached_core (life_after_detach core.life).life core) (life_after_detach core.life).life (life_after_detach core.life).answer after.life after.answer
+    (λ users. users_off life_fault.NotAttached (line_of core.life.state).detach core.life users) is
+    (record { book = is.book; life = after.life; image = is.image; loaded = is.loaded; placed = is.placed; rest = λ off. is.rest (detach_off core.life.state core.life off); bench = tt; calls = is.calls })
+
+-- ---- crashes
+
+-- what a crash report leaves of a core, and what it answers
+pub record HoldsReport (out : CoreOutcome Crash LifeFault) : Type 0 where
+  pub core : IsFieldCore out.core
+  pub answer : IfOk out.answer IsFieldCrash
+
+module _ (core : CoreState) (is : IsFieldCore core) (life : CoreLife) (living : IsFieldLife life) (off : is_offline life.state ≡ true → is_offline core.life.state ≡ true) where
+  crashed_fields : IsFieldCore (crashed_core life core)
+  crashed_fields = record {
+    book = is.book;
+    life = living;
+    image = is.image;
+    loaded = is.loaded;
+    placed = is.placed;
+    rest = λ there. is.rest (off there);
+    bench = map_fields core.bench crashed_bench crash_fields is.bench;
+    calls = is.calls;
+  }
+
+  first_crash : (may_step : Bool) (found : Option BenchState) → IfSome found IsFieldBench → HoldsReport (first_report may_step life core found)
+  first_crash may_step None here = record { core = crashed_fields; answer = tt }
+  first_crash may_step (Some bench) here =
+      let inc = here.link.inc in
+      cond_both may_step _ _ HoldsReport (λ _. record { core = crashed_fields; answer = omega (arith, inc) }) (λ _. record { core = is; answer = tt })
+
+  report_at : (may_step : Bool) (answer : Result Report LifeFault) → HoldsReport (report_as may_step life answer core)
+  report_at may_step (Err why) = record { core = is; answer = tt }
+  report_at may_step (Ok report.First) = first_crash may_step core.bench is.bench
+  report_at may_step (Ok report.Already) = record { core = is; answer = tt }
+
+pub report_fields : (may_step : Bool) (core : CoreState) → IsFieldCore core → HoldsReport (report_of may_step core)
+unfolding report_of
+report_fields may_step core is =
+    report_at core is (life_after_crash core.life).life (crash_life (line_of core.life.state).crash core.life is.life).life (crash_off (line_of core.life.state).crash core.life) may_step (life_after_crash core.life).answer
+
+-- ---- a core that was never booted
+
+pub new_core_fields : (regions : List Region) (kinds : List Declared) (book : ℕ) → book < 2 ^ 64 → IsFieldCore (new_core regions kinds book)
+new_core_fields regions kinds book small =
+    record { book = small; life = new_life_fields; image = tt; loaded = tt; placed = tt; rest = λ _. refl; bench = tt; calls = record { host = All-nil IsFieldWish; worker = All-nil IsFieldWish } }

@@ -1,0 +1,192 @@
+-- Steps of a core's actors, and acts on its link, keep the numbers and bytes of the core within their types.
+use Rattle.std.proofs.Common.{◌≡◌, ℕ, ◌<◌, ◌^◌, true, false, cond, List, Option, Some, None, IfSome, is_some, refl, sym, ap, ◌∙◌, arith}
+use Rattle.std.proofs.lemmas.Bool.{cond_both, true≢false}
+use Rattle.memory_pool.specs.Regions.{memory_len}
+use Rattle.remote_core.specs.declared.workers.Work.{Work}
+use Rattle.remote_core.specs.declared.workers.Work.TheVariants as work
+use Rattle.remote_core.specs.Works.{work_of}
+use Rattle.lane_model.specs.declared.calls.Wish.{Wish}
+use Rattle.lane_model.specs.Links.{free_number}
+use Rattle.lane_model.specs.Recoveries.{unreclaimed_by}
+use Rattle.link_bench.specs.declared.acts.LinkAct.{LinkAct}
+use Rattle.link_bench.specs.declared.benches.BenchFault.{BenchFault}
+use Rattle.link_bench.specs.declared.benches.Reach.{Reach}
+use Rattle.link_bench.specs.declared.benches.Reach.TheVariants as reach
+use Rattle.link_bench.specs.Acts.{Acted, IsFitAct}
+use Rattle.link_bench.specs.Benches.{BenchState, BenchWalk, IsSendable, advance_walk, begin_fault, is_in_call, start_walk}
+use Rattle.core_actors.specs.declared.actors.Actor.{Actor}
+use Rattle.core_actors.specs.declared.actors.Actor.TheVariants as actor
+use Rattle.core_actors.specs.declared.progress.Driven.{Driven}
+use Rattle.core_actors.specs.declared.progress.Driven.TheVariants as driven
+use Rattle.core_actors.specs.Actors.{ActorsState}
+use Rattle.core_actors.specs.ActorEnds.{actors_after_end}
+use Rattle.core_actors.specs.ActorSteps.{driven_by, driven_by_work, first_or_take, has_calls, host_begun, link_step}
+use Rattle.crash_recover.specs.CoreActs.{act_on_core, acted_core}
+use Rattle.crash_recover.specs.Cores.{CoreState, LoadState}
+use Rattle.crash_recover.specs.Drives.{DriveStep, acting, actor_step, drive_step, host_step, is_idle, placed_map, record_run, record_step, reported_by, with_turn_after, worker_call, worker_step}
+use Rattle.core_laws.specs.BenchMoves.{IsReachedBench, IsReachedCore}
+use Rattle.core_laws.proofs.CoreMoves.{first_sendable}
+use Rattle.core_laws.proofs.KeptActs.{AreKeptSteps, act_kept}
+use Rattle.core_laws.proofs.BenchMoves.{advanced, begun_reached, enlisted, reclaim_tried}
+use Rattle.field_laws.specs.Fields.{IsFieldWish}
+use Rattle.field_laws.specs.FieldBenches.{IsFieldAct, IsFieldActed, IsFieldBench, IsFieldReach}
+use Rattle.field_laws.specs.FieldCores.{AreFieldCalls, IsFieldCore, IsFieldDriven, IsFieldLoad, IsFieldPlaced}
+use Rattle.field_laws.proofs.Actors.{first_fields, host_begun_fields, host_fields, memory_fields, ran_fields, seen_fields, worker_fields}
+use Rattle.field_laws.proofs.Acts.{HoldsBench, IsFit, act_told, call_holds, fit_calls, ready_wish}
+use Rattle.field_laws.proofs.Benches.{HoldsBenchWalk, advance_fields, begun_fields, caller_fields, start_fields, tried_fields}
+use Rattle.field_laws.proofs.Cores.{report_fields}
+use Rattle.field_laws.proofs.Rooms.{memory_longer}
+
+-- a step of the actors, and what it was
+pub record HoldsDrive (step : DriveStep) : Type 0 where
+  pub core : IsFieldCore step.core
+  pub driven : IsFieldDriven step.driven
+
+-- ---- steps on the link
+
+no_fault : (found : Option BenchFault) → is_some found ≡ false → found ≡ None
+no_fault None none = refl
+no_fault (Some why) none = absurd (true≢false none)
+
+link_fields : (bench : BenchState) (caller : ℕ) (wanted : Wish) → IsReachedBench bench → IsFieldBench bench → IsSendable wanted → IsFieldWish wanted → HoldsBenchWalk (link_step bench caller wanted)
+link_fields bench caller wanted reached is sendable wishes =
+    let none : BenchWalk = record { bench = bench; steps = 0; reach = reach.Limit } in
+    cond_both (is_in_call bench caller) (advance_walk bench 0 0 caller) (cond (is_some (begin_fault bench caller wanted)) none (start_walk bench 0 caller wanted)) HoldsBenchWalk
+    (λ in_call. advance_fields bench 0 0 caller in_call reached is)
+    (λ _. cond_both (is_some (begin_fault bench caller wanted)) none (start_walk bench 0 caller wanted) HoldsBenchWalk (λ _. record { bench = is; reach = tt })
+    (λ ready. start_fields bench 0 caller wanted (no_fault (begin_fault bench caller wanted) ready) sendable wishes reached is))
+
+by_reach : (caller : ℕ) (came : Reach) → caller < 2 ^ 64 → IsFieldReach came → IsFieldDriven (driven_by caller came)
+by_reach caller (reach.At step) small is = tt
+by_reach caller (reach.Ended ended) small is = (small, is)
+by_reach caller reach.Limit small is = tt
+
+host_at : (core : CoreState) (found : Option BenchState) → IsReachedCore core → IfSome found IsReachedBench → IsFieldCore core → IfSome found IsFieldBench → HoldsDrive (host_step core found)
+host_at core None reached here is bench = record { core = is; driven = tt }
+host_at core (Some bench) reached here is fields =
+    let walk = link_step bench 0 (first_or_take core.actors.host_calls) in
+    let left = link_fields bench 0 (first_or_take core.actors.host_calls) here fields (first_sendable core.actors.host_calls reached.calls.host) (first_fields core.actors.host_calls is.calls.host) in
+    record {
+      core = record {
+        book = is.book;
+        life = is.life;
+        image = is.image;
+        loaded = is.loaded;
+        placed = is.placed;
+        rest = is.rest;
+        bench = left.bench;
+        calls = host_fields (host_begun bench core.actors) walk.bench walk.reach left.bench.link left.reach (host_begun_fields bench core.actors is.calls);
+      };
+      driven = by_reach 0 walk.reach (omega arith) left.reach;
+    }
+
+worker_at : (core : CoreState) (found : Option BenchState) → IsReachedCore core → IfSome found IsReachedBench → IsFieldCore core → IfSome found IsFieldBench → HoldsDrive (worker_call core found)
+worker_at core None reached here is bench = record { core = is; driven = tt }
+worker_at core (Some bench) reached here is fields =
+    let walk = link_step bench 1 (first_or_take core.actors.worker_calls) in
+    let left = link_fields bench 1 (first_or_take core.actors.worker_calls) here fields (first_sendable core.actors.worker_calls reached.calls.worker) (first_fields core.actors.worker_calls is.calls.worker) in
+    record {
+      core = record { book = is.book; life = is.life; image = is.image; loaded = is.loaded; placed = is.placed; rest = is.rest; bench = left.bench; calls = worker_fields core.actors walk.bench walk.reach left.reach is.calls };
+      driven = by_reach 1 walk.reach (omega arith) left.reach;
+    }
+
+-- ---- records
+
+by_work : (done : Work) → IsFieldDriven (driven_by_work done)
+by_work work.Nothing = tt
+by_work (work.Ask wanted) = tt
+by_work work.Halted = tt
+by_work (work.Crash kind) = tt
+by_work (work.Fault why) = tt
+
+run_fields : (core : CoreState) (loaded : Option LoadState) → core.loaded ≡ loaded → IsFieldCore core → IfSome loaded IsFieldLoad → IfSome loaded (IsFieldPlaced core.regions) → HoldsDrive (record_run core loaded)
+run_fields core None same is here placed = record { core = is; driven = tt }
+run_fields core (Some load) same is here placed =
+    let map = placed_map core.regions load in
+    record {
+      core = record {
+        book = is.book;
+        life = is.life;
+        image = is.image;
+        loaded = record { memory = memory_fields load.memory map (is_some core.bench) core.actors.worker here.memory; table = here.table };
+        placed = record { memory = memory_longer load.memory map (is_some core.bench) core.actors.worker (memory_len core.regions) placed.memory; few = placed.few; ranges = placed.ranges };
+        rest = λ off. absurd (true≢false (ap is_some (sym same ∙ is.rest off)));
+        bench = is.bench;
+        calls = ran_fields core.actors load.memory map (is_some core.bench) here.memory is.calls;
+      };
+      driven = by_work (work_of load.memory map (is_some core.bench) core.actors.worker);
+    }
+
+reported_fields : (event : Driven) (core : CoreState) → IsFieldCore core → IsFieldCore (reported_by event core)
+reported_fields driven.Idle core is = is
+reported_fields driven.Stepped core is = is
+reported_fields (driven.Ended caller ended) core is = is
+reported_fields (driven.Worker why) core is = (report_fields true core is).core
+reported_fields (driven.Crashed kind) core is = (report_fields true core is).core
+
+record_fields : (core : CoreState) → IsFieldCore core → HoldsDrive (record_step core)
+record_fields core is =
+    let ran = run_fields core core.loaded refl is is.loaded is.placed in
+    record { core = reported_fields (record_run core core.loaded).driven (record_run core core.loaded).core ran.core; driven = ran.driven }
+
+-- ---- a step of the actors
+
+worker_step_fields : (core : CoreState) → IsReachedCore core → IsFieldCore core → HoldsDrive (worker_step core)
+worker_step_fields core reached is =
+    cond_both (has_calls core.bench core.actors) (worker_call core core.bench) (record_step core) HoldsDrive (λ _. worker_at core core.bench reached reached.bench is is.bench) (λ _. record_fields core is)
+
+actor_fields : (who : Actor) (core : CoreState) → IsReachedCore core → IsFieldCore core → HoldsDrive (actor_step who core)
+actor_fields actor.Host core reached is = host_at core core.bench reached reached.bench is is.bench
+actor_fields actor.Worker core reached is = worker_step_fields core reached is
+
+pub drive_fields : (core : CoreState) → IsReachedCore core → IsFieldCore core → HoldsDrive (drive_step core)
+drive_fields core reached is =
+    cond_both (is_idle core) _ _ HoldsDrive (λ _. record { core = is; driven = tt })
+    (λ _. actor_fields (acting core) (with_turn_after (acting core) core)
+    (record { bench = reached.bench; calls = record { host = reached.calls.host; worker = reached.calls.worker } })
+    (record { book = is.book; life = is.life; image = is.image; loaded = is.loaded; placed = is.placed; rest = is.rest; bench = is.bench; calls = record { host = is.calls.host; worker = is.calls.worker } }))
+
+-- ---- acts on the link of a core
+
+-- a link and the actors that watch it
+pub record HoldsBoth (bench : BenchState) (actors : ActorsState) : Type 0 where
+  pub holds : HoldsBench bench
+  pub calls : AreFieldCalls actors
+
+both_steps : AreKeptSteps actors_after_end 2 IsFit HoldsBoth
+both_steps = record {
+  joined = λ bench actors end is.
+      record { holds = record { reached = enlisted bench end is.holds.reached; fields = caller_fields bench end (free_number bench.link.callers) is.holds.fields }; calls = is.calls };
+  begun = λ bench actors caller wanted other ready fit is. record {
+    holds = record {
+      reached = begun_reached bench caller (record { follows = bench.link.era.inc; wish = wanted }) is.holds.reached ready fit.0;
+      fields = begun_fields bench caller wanted (ready_wish bench caller wanted is.holds ready fit) is.holds.fields;
+    };
+    calls = is.calls;
+  };
+  called = λ bench actors steps caller wanted other ready fit is. record { holds = call_holds bench steps caller wanted is.holds ready fit; calls = is.calls };
+  advanced = λ bench actors more steps caller other in_call is. record {
+    holds = record { reached = advanced bench more steps caller is.holds.reached in_call; fields = (advance_fields bench more steps caller in_call is.holds.reached is.holds.fields).bench };
+    calls = is.calls;
+  };
+  reclaimed = λ bench actors caller other is.
+      record { holds = record { reached = reclaim_tried bench caller is.holds.reached; fields = tried_fields bench caller (unreclaimed_by bench.link caller) is.holds.fields }; calls = is.calls };
+  seen = λ bench actors caller end is. record { holds = is.holds; calls = seen_fields actors bench caller end is.holds.fields.link is.calls };
+}
+
+-- what an act leaves of a core, the link that it leaves, and what comes of it
+pub record HoldsActed (core : CoreState) (acted : Acted ActorsState) : Type 0 where
+  pub left : IsFieldCore (acted_core core acted)
+  pub bench : IsFieldBench acted.bench
+  pub answer : IsFieldActed acted.answer
+
+pub core_act_fields : (core : CoreState) (bench : BenchState) (steps : ℕ) (asked : LinkAct (List ℕ)) → IsFitAct asked → IsFieldAct asked → IsReachedBench bench → IsFieldBench bench → IsFieldCore core
+    → HoldsActed core (act_on_core core bench steps asked)
+core_act_fields core bench steps asked fit fields reached here is =
+    let holds : HoldsBench bench = record { reached = reached; fields = here } in
+    let left = act_kept actors_after_end 2 IsFit HoldsBoth both_steps bench core.actors steps asked (fit_calls asked fit fields) (record { holds = holds; calls = is.calls }) in
+    record {
+      left = record { book = is.book; life = is.life; image = is.image; loaded = is.loaded; placed = is.placed; rest = is.rest; bench = left.holds.fields; calls = left.calls };
+      bench = left.holds.fields;
+      answer = act_told actors_after_end 2 bench core.actors steps asked fit fields holds;
+    }

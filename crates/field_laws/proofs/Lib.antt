@@ -1,0 +1,16 @@
+pub mod Bytes
+pub mod Sides
+pub mod Lanes
+pub mod Steps
+pub mod Benches
+pub mod Acts
+pub mod Tables
+pub mod Refusals
+pub mod Loads
+pub mod Rooms
+pub mod Actors
+pub mod Cores
+pub mod Drives
+pub mod Images
+pub mod DumpSizes
+pub mod Rings

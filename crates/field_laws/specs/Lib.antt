@@ -1,0 +1,4 @@
+pub mod Fields
+pub mod FieldBenches
+pub mod FieldCores
+pub mod FieldTables
