@@ -1,12 +1,16 @@
-use Rattle.std.proofs.Common.{[], ◌∷◌, sym, ap, ◌∙◌}
+use Rattle.std.proofs.Common.{◌≡◌, [], ◌∷◌, false, refl, sym, ap, ◌∙◌}
 use Rattle.std.specs.Prelude.{Some}
+use Rattle.rp_base.specs.declared.kinds.End.{End}
+use Rattle.rp_base.specs.declared.kinds.End.TheVariants as side
+use Rattle.link_words.specs.Parts.{has_for_manager}
+use Rattle.link_words.specs.declared.rule.Call.TheVariants.{Gathers}
 use Rattle.link_words.specs.declared.rule.LinkSizes.{LinkSizes}
 use Rattle.link_words.specs.declared.rule.Slot.TheVariants.{Empty}
 use Rattle.link_words.specs.PlacedDesks.{table_at}
 use Rattle.link_words.specs.Sides.{no_sides}
 use Rattle.link_words.specs.Words.{receiver_slot}
 use Rattle.split_ring.proofs.ManagerSteps.{desk_known, receiver_held, receiver_left, rests_here, right_table, right_taken, state_again, turn_free, turn_held}
-use Rattle.split_ring.proofs.Reopening.{manager_again}
+use Rattle.split_ring.proofs.Reopening.{manager_again, manager_calls}
 use Rattle.split_ring.proofs.links.SharedLink.desk_by.Goals as goal
 
 pub look_in-seen-requires-clause-right : goal.look_in-seen-requires-clause-right
@@ -44,3 +48,11 @@ returns-in-Ok-clause-seen g c = λ m is.
 
 pub returns-in-Err-clause-busy : goal.returns-in-Err-clause-busy
 returns-in-Err-clause-busy g c = λ m is. turn_held g.row.D.coded g.D.Desk.meaning c.args.manager.now.seat.me c.args.end c.in-Err.holder m c.in-Err.ensures.met.1 is.known
+
+pub returns-in-Err-clause-holder : goal.returns-in-Err-clause-holder
+returns-in-Err-clause-holder g c = let q = c.requires.manager in let me = c.args.manager.now.seat.me in
+    c.in-Err.ensures.holder (ap (has_for_manager c.args.end) (manager_calls me.0 (Gathers no_sides no_sides) [] me (rests_here me q.rests q.empty)) ∙ none_there c.args.end)
+  where
+    none_there : (e : End) → has_for_manager e (Gathers no_sides no_sides) ≡ false
+    none_there side.Host = refl
+    none_there side.Remote = refl
