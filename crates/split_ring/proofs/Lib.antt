@@ -3,7 +3,6 @@ pub mod Seats
 pub mod TurnSteps
 pub mod Eras
 pub mod SendSteps
-pub mod Focusing
 pub mod SendWalks
 pub mod TakeSteps
 pub mod TakeWalks
