@@ -2,12 +2,12 @@
 // that takes.
 #![tactic(auto)]
 
-ghost use Rattle.split_ring.specs.Callers.{IsCallerOf};
+ghost use Rattle.split_ring.specs.Callers.{IsCallerOf, IsManagerOf};
 
 use channel_bus::Side;
 use lane_model::LinkConfig;
 use rp_base::{End, Message, NoMemory};
-use split_ring::{Caller, SharedLink};
+use split_ring::{Caller, Manager, SharedLink};
 use std::alloc::Global;
 use std::io;
 
@@ -33,6 +33,9 @@ fn run(alloc: Global) -> Result<u64, NoMemory> {
     let host = Side::new(alloc, false, Vec::new(alloc))?;
     let remote = Side::new(alloc, false, Vec::new(alloc))?;
     let (link, mut manager) = SharedLink::make(alloc, config, host, remote)?;
+    if !can_manage(&link, &mut manager) {
+        return Ok(0);
+    }
     let Some(mut sender) = link.caller(&mut manager, End::Remote) else {
         return Ok(0);
     };
@@ -43,6 +46,18 @@ fn run(alloc: Global) -> Result<u64, NoMemory> {
         return Ok(0);
     };
     Ok(triples(&link, &mut sender, &mut receiver, &message))
+}
+
+/// Whether the manager carries a caller of its own then, and sees that the host's desk knows no channel.
+fn can_manage(link: &SharedLink<Side>, manager: &mut Manager) -> bool
+    requires { IsManagerOf link.now manager.old }
+    ensures { IsManagerOf link.now manager.new }
+{
+    let carried = link.enlist(manager, End::Host);
+    let first = link.desk_by(manager, End::Host, |side: &Side| -> bool {
+        side.channels().list(0).is_none()
+    });
+    carried == Some(0) && matches!(first, Ok(true))
 }
 
 /// All messages, one after the other. Answers how many were given back.
