@@ -1,5 +1,5 @@
 -- A map of device addresses, and where a range of them stands (own).
-use Rattle.std.specs.Prelude.{◌≡◌, ℕ, ◌+◌, ◌-◌, Bool, List, find, Option, option_map}
+use Rattle.std.specs.Prelude.{◌≡◌, ℕ, ◌+◌, ◌-◌, Bool, List, find, Option, option_and_then, option_map}
 use Rattle.std.specs.List.Sorted.{IsPermutation}
 use Rattle.memory_pool.specs.Ranges.{lies_within}
 use Rattle.memory_pool.specs.Regions.{memory_len}
@@ -35,6 +35,10 @@ place_among blocks da len = option_map (place_in da) (find (holds da len) blocks
 -- where a range of device addresses stands by a map (own)
 abbrev pub translate : Mapping → ℕ → ℕ → Option Place
 translate map da len = place_among map.blocks da len
+
+-- where it stands in the core's memory, if one block of memory holds it whole; a window has no memory (own)
+abbrev pub place_at : Mapping → ℕ → ℕ → Option ℕ
+place_at map da len = option_and_then (λ (place : Place). place.at) (translate map da len)
 
 -- where a range of device addresses stands by regions and what was placed among them (own)
 abbrev pub translation : List Region → List Block → ℕ → ℕ → Option Place

@@ -30,7 +30,7 @@ impl Model for Map {
 impl Map {
     ghost use Rattle.std.specs.Prelude.{◌≡◌, ◌+◌, ◌≤◌, IfOk, IfSome};
     ghost use Rattle.memory_pool.specs.Soundness.{SoundPlacement};
-    ghost use Rattle.addr_translate.specs.Maps.{IsMapOf, translate};
+    ghost use Rattle.addr_translate.specs.Maps.{IsMapOf, place_at, translate};
 
     /// The map of the regions that are always mapped, and of blocks and windows that [`place`] placed
     /// among the regions, or of none. What it says of a range is [`laws::any_order`].
@@ -67,6 +67,17 @@ impl Map {
         } else {
             None
         }
+    }
+
+    /// Where `len` device addresses from `da` on, of which there is at least one, stand in the core's
+    /// memory. There is no such place exactly where no single block of memory holds them all.
+    pub fn memory_at(&self, da: Da, len: u32) -> Option<u32>
+        requires { 1 ≤ len }
+        ensures place { result ≡ place_at self.now da len }
+        ensures inside { IfSome result (λ at. at + len ≤ self.now.memory_len) }
+    {
+        let place = self.translate(da, len)?;
+        place.at
     }
 }
 

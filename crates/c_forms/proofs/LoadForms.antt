@@ -8,7 +8,8 @@ use Rattle.memory_pool.specs.declared.blocks.Block.{Block}
 use Rattle.memory_pool.specs.declared.regions.Region.{Region}
 use Rattle.addr_translate.specs.OrderedMaps.{AreApart}
 use Rattle.fw_load.proofs.Places.{places_agree}
-use Rattle.fw_load.specs.Memory.{memory_at, place_at}
+use Rattle.fw_load.specs.Memory.{memory_at}
+use Rattle.addr_translate.specs.Maps.{place_at}
 use Rattle.fw_load.specs.Rings.{pair_from}
 use Rattle.fw_load.specs.Tables.{patched_in, table_of}
 use Rattle.fw_load.specs.declared.rings.RingPair.{RingPair}

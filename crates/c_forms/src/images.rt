@@ -1,5 +1,5 @@
 ghost use Rattle.std.specs.Prelude.{◌≡◌, ◌≢◌, None, map};
-ghost use Rattle.fw_load.specs.Memory.{place_at};
+ghost use Rattle.addr_translate.specs.Maps.{place_at};
 ghost use Rattle.fw_load.specs.Rings.{trace_of};
 ghost use Rattle.c_forms.specs.Arrays.{told_array, told_count, told_status};
 ghost use Rattle.c_forms.specs.Loads.{entries_told, loaded_memory, memory_status, placed_form, refusal, trace_place};
@@ -90,7 +90,7 @@ fn trace_place(places: &Map, entry: &Entry) -> Option<u32>
     ensures { result ≡ trace_place (trace_of (place_at places.now) entry.now) }
 {
     match entry {
-        Entry::Trace(da, len, _) if *len > 0 => places.translate(*da, *len)?.at,
+        Entry::Trace(da, len, _) if *len > 0 => places.memory_at(*da, *len),
         _ => None,
     }
 }

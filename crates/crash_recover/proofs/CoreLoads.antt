@@ -10,12 +10,12 @@ use Rattle.memory_pool.specs.declared.blocks.Block.{Block}
 use Rattle.memory_pool.specs.declared.faults.PlaceFault.{PlaceFault}
 use Rattle.memory_pool.specs.declared.regions.Region.{Region}
 use Rattle.addr_translate.specs.Mapped.{mapped_blocks}
-use Rattle.addr_translate.specs.Maps.{place_in}
+use Rattle.addr_translate.specs.Maps.{place_at, place_in}
 use Rattle.addr_translate.specs.declared.mapped.Place.{Place}
 use Rattle.addr_translate.proofs.Found.{found_permuted}
 use Rattle.addr_translate.proofs.Sound.{mapped_sound, permuted_sound}
 use Rattle.fw_load.specs.Loading.{IsLoaded}
-use Rattle.fw_load.specs.Memory.{memory_at, memory_of, place_at}
+use Rattle.fw_load.specs.Memory.{memory_at, memory_of}
 use Rattle.resource_table.specs.Entries.{entries_of}
 use Rattle.fw_load.specs.Rings.{pair_from, traces_of}
 use Rattle.fw_load.specs.Tables.{entries_in, patched_in, table_of}

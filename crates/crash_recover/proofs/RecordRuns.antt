@@ -2,14 +2,14 @@
 use Rattle.std.proofs.Common.{◌≡◌, ℕ, ◌≤◌, Bool, true, false, cond, ◌&&◌, eqb, List, ◌++◌, Option, Some, None, Result, Ok, Err, is_ok, ok_or, is_some, refl, ap, sym, ◌∙◌, arith}
 use Rattle.std.specs.Option.{option_and_then}
 use Rattle.std.proofs.lemmas.Bool.{eqb-false}
-use Rattle.addr_translate.specs.Maps.{Mapping}
+use Rattle.addr_translate.specs.Maps.{Mapping, place_at}
 use Rattle.remote_code.specs.declared.faults.WorkerFault.{WorkerFault}
 use Rattle.remote_code.specs.declared.faults.WorkerFault.TheVariants.{CodeUnmapped}
 use Rattle.remote_code.specs.declared.records.Record.{Record}
 use Rattle.remote_code.specs.declared.records.Record.TheVariants.{Halt, Announce, Bind, Send, Raw, Take, Trace, Crash, Loop}
 use Rattle.lane_model.specs.declared.calls.Wish.TheVariants as wish
 use Rattle.rpmsg_header.specs.Headers.{header_bytes}
-use Rattle.remote_core.specs.Named.{memory_place, named_place, bytes_from, written_from}
+use Rattle.remote_core.specs.Named.{named_place, bytes_from, written_from}
 use Rattle.remote_core.specs.Records.{record_address, record_from, record_at, admitted, names_memory, tested, with_memory, next_record}
 use Rattle.remote_core.specs.Works.{service_address, announcement, destination, work_of_record, memory_after_record, work_of_next, after_next, memory_after_next, work_of, after_work, memory_after}
 use Rattle.remote_core.specs.Workers.{WorkerState}
@@ -21,7 +21,7 @@ use Rattle.crash_recover.specs.Drives.{DriveStep, placed_map, record_run, run_by
 
 -- maps that place the same ranges at the same places in memory
 abbrev pub PlacesAlike : Mapping → Mapping → Type 0
-PlacesAlike one other = (da len : ℕ) → 1 ≤ len → memory_place one da len ≡ memory_place other da len
+PlacesAlike one other = (da len : ℕ) → 1 ≤ len → place_at one da len ≡ place_at other da len
 
 named_by : (none : Bool) (one other : Option ℕ) → (none ≡ false → one ≡ other) → cond none (Ok 0) (ok_or one CodeUnmapped) ≡ cond none (Ok 0) (ok_or other CodeUnmapped)
 named_by true one other alike = refl
@@ -32,12 +32,12 @@ some_bytes len e = let some = eqb-false len 0 e in omega arith
 
 named_alike : (one other : Mapping) → PlacesAlike one other → (da len : ℕ) → named_place one da len ≡ named_place other da len
 named_alike one other alike da len =
-    named_by (eqb len 0) (memory_place one da len) (memory_place other da len) (λ e. alike da len (some_bytes len e))
+    named_by (eqb len 0) (place_at one da len) (place_at other da len) (λ e. alike da len (some_bytes len e))
 
 record_alike : (one other : Mapping) → PlacesAlike one other → (memory : List ℕ) (entry place : ℕ) → record_at memory one entry place ≡ record_at memory other entry place
 record_alike one other alike memory entry place = by (record_address entry place)
   where
-    by : (address : Option ℕ) → record_from memory (option_and_then (λ at. memory_place one at 16) address) ≡ record_from memory (option_and_then (λ at. memory_place other at 16) address)
+    by : (address : Option ℕ) → record_from memory (option_and_then (λ at. place_at one at 16) address) ≡ record_from memory (option_and_then (λ at. place_at other at 16) address)
     by None = refl
     by (Some at) = ap (record_from memory) (alike at 16 (omega arith))
 

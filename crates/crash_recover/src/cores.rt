@@ -1,5 +1,4 @@
 ghost use Rattle.std.specs.Prelude.{◌≡◌, ◌≤◌, ◌+◌, ◌++◌, [], ◌∷◌, length, None, Some, is_some, not, OnOk, OnErr, IfOk, IfErr, IfSome, option_map};
-ghost use Rattle.fw_load.specs.Memory.{place_at};
 ghost use Rattle.std.specs.Option.{option_copied, option_or};
 ghost use Rattle.rp_base.specs.declared.limits.TheConstants.{BOOK_MOST};
 ghost use Rattle.crash_recover.specs.Cores.{add_fault, core_memory, core_trace, driver_add_fault, load_view, new_core, with_driver};
@@ -7,7 +6,6 @@ ghost use Rattle.proc_state.specs.Lives.{is_offline};
 ghost use Rattle.crash_recover.specs.declared.core_faults.AddFault.TheVariants as add;
 
 use crate::core_faults::AddFault;
-use addr_translate::Map;
 use core_actors::Actors;
 use fw_load::Loaded;
 use link_bench::Bench;
@@ -171,7 +169,7 @@ impl Core {
             return None;
         };
         let _ = self.regions.as_slice();
-        match memory_place(&loaded.map, da, len) {
+        match loaded.map.memory_at(da, len) {
             Some(at) => Some(loaded.memory.bytes(at, len)),
             None => None,
         }
@@ -187,15 +185,4 @@ impl Core {
         let at = trace.at?;
         Some(loaded.memory.bytes(at, trace.len))
     }
-}
-
-/// Where a range of device addresses stands in the core's memory, if one block of memory holds it
-/// whole.
-fn memory_place(map: &Map, da: Da, len: u32) -> Option<u32>
-    requires { 1 ≤ len }
-    ensures place { result ≡ place_at map.now da len }
-    ensures inside { IfSome result (λ at. at + len ≤ map.now.memory_len) }
-{
-    let place = map.translate(da, len)?;
-    place.at
 }

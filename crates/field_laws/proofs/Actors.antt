@@ -17,7 +17,7 @@ use Rattle.rp_base.specs.declared.kinds.Verdict.{Verdict}
 use Rattle.rp_base.specs.declared.kinds.Verdict.TheVariants as verdict
 use Rattle.rpmsg_header.specs.Headers.{payload_of, source_of}
 use Rattle.byteorder.specs.Endian.{little_bytes}
-use Rattle.addr_translate.specs.Maps.{Mapping}
+use Rattle.addr_translate.specs.Maps.{Mapping, place_at}
 use Rattle.remote_code.specs.declared.faults.WorkerFault.{WorkerFault}
 use Rattle.remote_code.specs.declared.faults.WorkerFault.TheVariants as worker_fault
 use Rattle.remote_code.specs.declared.records.Record.{Record}
@@ -25,7 +25,7 @@ use Rattle.remote_code.specs.declared.records.Record.TheVariants as code
 use Rattle.remote_code.specs.Records.{a_of, b_of, c_of, n_of, op_of, record_of}
 use Rattle.remote_core.specs.declared.workers.Work.{Work}
 use Rattle.remote_core.specs.declared.workers.Work.TheVariants as work
-use Rattle.remote_core.specs.Named.{bytes_from, memory_place, named_bytes, named_place, written_from}
+use Rattle.remote_core.specs.Named.{bytes_from, named_bytes, named_place, written_from}
 use Rattle.remote_core.specs.Records.{admitted, has_large_operand, names_memory, needs_link, next_record, record_address, record_at, record_from, tested, with_memory}
 use Rattle.remote_core.specs.Workers.{WorkerState}
 use Rattle.remote_core.specs.Works.{announcement, destination, memory_after, memory_after_next, memory_after_record, service_address, work_of, work_of_next, work_of_record}
@@ -260,7 +260,7 @@ named_fields map op is = cond_both (names_memory map op) (Ok op) (Err worker_fau
 next_fields : (memory : List ℕ) (map : Mapping) (linked : Bool) (worker : WorkerState) → AreBytes memory → AreFieldRecords (next_record memory map linked worker)
 next_fields memory map linked worker are =
     tested_fields (with_memory map) (tested (admitted linked) (record_at memory map worker.entry worker.place))
-    (tested_fields (admitted linked) (record_at memory map worker.entry worker.place) (from_fields memory (option_and_then (λ address. memory_place map address 16) (record_address worker.entry worker.place)) are) (λ op is. admitted_fields linked op is))
+    (tested_fields (admitted linked) (record_at memory map worker.entry worker.place) (from_fields memory (option_and_then (λ address. place_at map address 16) (record_address worker.entry worker.place)) are) (λ op is. admitted_fields linked op is))
     (λ op is. named_fields map op is)
 
 place_bytes : (memory : List ℕ) (len : ℕ) (place : Result ℕ WorkerFault) → AreBytes memory → AreBytes (bytes_from memory len place)

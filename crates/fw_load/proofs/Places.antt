@@ -17,12 +17,12 @@ use Rattle.memory_pool.specs.Regions.{memory_len}
 use Rattle.memory_pool.specs.declared.blocks.Block.{Block}
 use Rattle.memory_pool.specs.declared.regions.Region.{Region}
 use Rattle.addr_translate.specs.Mapped.{mapped_blocks}
-use Rattle.addr_translate.specs.Maps.{IsMapOf, Mapping, place_in}
+use Rattle.addr_translate.specs.Maps.{IsMapOf, Mapping, place_at, place_in}
 use Rattle.addr_translate.specs.OrderedMaps.{AreApart}
 use Rattle.addr_translate.specs.declared.mapped.Place.{Place}
 use Rattle.addr_translate.proofs.Found.{found_permuted}
 use Rattle.fw_load.specs.Loading.{entry_unmapped, segment_unmapped, segments_unmapped}
-use Rattle.fw_load.specs.Memory.{memory_at, memory_of, place_at, segment_bytes, with_at, with_segments, with_table}
+use Rattle.fw_load.specs.Memory.{memory_at, memory_of, segment_bytes, with_at, with_segments, with_table}
 use Rattle.fw_load.specs.Rings.{trace_of, traces_of}
 use Rattle.fw_load.specs.Tables.{bytes_in, patched_in, section_fault, table_of, table_section}
 

@@ -7,10 +7,10 @@ use Rattle.elf_image.specs.declared.sections.Section.{Section}
 use Rattle.memory_pool.specs.Placements.{placement}
 use Rattle.memory_pool.specs.declared.blocks.Block.{Block}
 use Rattle.memory_pool.specs.declared.regions.Region.{Region}
-use Rattle.addr_translate.specs.Maps.{IsMapOf, Mapping}
+use Rattle.addr_translate.specs.Maps.{IsMapOf, Mapping, place_at}
 use Rattle.addr_translate.specs.OrderedMaps.{AreApart}
 use Rattle.fw_load.specs.Loading.{entry_unmapped, load_fault, mapped_fault, placed_fault, segments_unmapped}
-use Rattle.fw_load.specs.Memory.{memory_at, place_at}
+use Rattle.fw_load.specs.Memory.{memory_at}
 use Rattle.fw_load.specs.Tables.{bytes_in, entries_in, section_fault, table_of, table_section}
 use Rattle.fw_load.specs.declared.faults.LoadFault.{LoadFault}
 use Rattle.fw_load.specs.declared.faults.LoadFault.TheVariants as fault

@@ -5,11 +5,10 @@ use Rattle.std.specs.List.{find}
 use Rattle.std.specs.Option.{option_map, option_and_then}
 use Rattle.std.proofs.lemmas.List.Elements.{All-head, All-tail}
 use Rattle.memory_pool.specs.Soundness.{IsRange}
-use Rattle.addr_translate.specs.Maps.{Mapping, holds, place_among, place_in}
+use Rattle.addr_translate.specs.Maps.{Mapping, holds, place_among, place_at, place_in}
 use Rattle.addr_translate.specs.OrderedMaps.{IsInMemory, SoundMap}
 use Rattle.addr_translate.specs.declared.mapped.Mapped.{Mapped}
 use Rattle.addr_translate.specs.declared.mapped.Place.{Place}
-use Rattle.fw_load.specs.Memory.{place_at}
 
 -- a range that a block holds is no longer, and ends no later
 held : (da len start size : ℕ) → (nat_le start da && nat_le (da + len) (start + size)) ≡ true → (len ≤ size) × (da + len ≤ start + size)

@@ -6,17 +6,13 @@ use Rattle.memory_pool.specs.Regions.{memory_len}
 use Rattle.memory_pool.specs.declared.blocks.Block.{Block}
 use Rattle.memory_pool.specs.declared.regions.Region.{Region}
 use Rattle.addr_translate.specs.Bytes.{with_bytes}
-use Rattle.addr_translate.specs.Maps.{Mapping, translate, translation}
+use Rattle.addr_translate.specs.Maps.{translation}
 use Rattle.addr_translate.specs.declared.mapped.Place.{Place}
 use Rattle.fw_load.specs.Tables.{patched_in, table_of, table_section}
 
 -- where a range of device addresses stands in the core's memory, if one block of memory holds it whole (own)
 abbrev pub memory_at : List Region → List Block → ℕ → ℕ → Option ℕ
 memory_at regions placed da len = option_and_then (λ (place : Place). place.at) (translation regions placed da len)
-
--- the same by a map (own)
-abbrev pub place_at : Mapping → ℕ → ℕ → Option ℕ
-place_at map da len = option_and_then (λ (place : Place). place.at) (translate map da len)
 
 -- the bytes of a range of device addresses, where they have a place (own)
 abbrev pub bytes_at : (ℕ → ℕ → Option ℕ) → ℕ → ℕ → List ℕ → Option (List ℕ)

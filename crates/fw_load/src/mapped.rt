@@ -5,7 +5,8 @@ ghost use Rattle.elf_image.specs.SegmentsRead.{segment_read};
 ghost use Rattle.addr_translate.specs.Bytes.{with_bytes};
 ghost use Rattle.addr_translate.specs.OrderedMaps.{SoundMap};
 ghost use Rattle.fw_load.specs.Loading.{segments_unmapped, entry_unmapped};
-ghost use Rattle.fw_load.specs.Memory.{bytes_at, place_at, segment_bytes, with_segments, with_table};
+ghost use Rattle.fw_load.specs.Memory.{bytes_at, segment_bytes, with_segments, with_table};
+ghost use Rattle.addr_translate.specs.Maps.{place_at};
 
 use crate::faults::LoadFault;
 use addr_translate::{CoreMemory, Map};
@@ -15,17 +16,6 @@ use rp_base::Da;
 /// How many bytes at the entry are to be in memory.
 const ENTRY_LEN: u32 = 16;
 
-/// Where a range of device addresses stands in the core's memory, if one block of memory holds it
-/// whole.
-pub(crate) fn memory_at(map: &Map, da: Da, len: u32) -> Option<u32>
-    requires { 1 ≤ len }
-    ensures place { result ≡ place_at map.now da len }
-    ensures inside { IfSome result (λ at. at + len ≤ map.now.memory_len) }
-{
-    let place = map.translate(da, len)?;
-    place.at
-}
-
 /// The bytes of a range of device addresses that is not empty, in the memory that a map is for: there
 /// are some exactly where one block of memory holds the range whole.
 pub fn bytes_at<'a>(memory: &'a CoreMemory, map: &Map, da: Da, len: u32) -> Option<&'a [u8]>
@@ -33,7 +23,7 @@ pub fn bytes_at<'a>(memory: &'a CoreMemory, map: &Map, da: Da, len: u32) -> Opti
     requires length { length memory.now ≡ map.now.memory_len }
     ensures { option_map (λ bytes. bytes.now) result ≡ bytes_at (place_at map.now) da len memory.now }
 {
-    let at = memory_at(map, da, len)?;
+    let at = map.memory_at(da, len)?;
     Some(memory.bytes(at, len))
 }
 
@@ -43,7 +33,7 @@ pub(crate) fn test_segments(map: &Map, image: &Image<'_>) -> Result<(), LoadFaul
     ensures { result_err result ≡ segments_unmapped (place_at map.now) (segments_of image.now) }
 {
     for segment in image.segments() {
-        if memory_at(map, segment.da, segment.memory_len).is_none() {
+        if map.memory_at(segment.da, segment.memory_len).is_none() {
             return Err(LoadFault::SegmentUnmapped(segment.index));
         }
     }
@@ -54,7 +44,7 @@ pub(crate) fn test_segments(map: &Map, image: &Image<'_>) -> Result<(), LoadFaul
 pub(crate) fn test_entry(map: &Map, entry: Da) -> Result<(), LoadFault>
     ensures { result_err result ≡ entry_unmapped (place_at map.now) entry }
 {
-    if memory_at(map, entry, ENTRY_LEN).is_none() {
+    if map.memory_at(entry, ENTRY_LEN).is_none() {
         return Err(LoadFault::EntryUnmapped);
     }
     Ok(())
@@ -69,7 +59,7 @@ pub(crate) fn copy_segments(memory: &mut CoreMemory, map: &Map, image: &Image<'_
     ensures length { length memory.new ≡ length memory.old }
 {
     for segment in image.segments() {
-        if let Some(at) = memory_at(map, segment.da, segment.memory_len) {
+        if let Some(at) = map.memory_at(segment.da, segment.memory_len) {
             copy_segment(memory, at, &segment);
         }
     }
@@ -99,7 +89,7 @@ fn section_at(map: &Map, section: &Section) -> Option<u32>
     if section.address > last || section.size > last {
         return None;
     }
-    memory_at(map, section.address as Da, section.size as u32)
+    map.memory_at(section.address as Da, section.size as u32)
 }
 
 /// Copies a table to where its section is to stand, if one block of memory holds it whole there.

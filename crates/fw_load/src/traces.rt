@@ -1,9 +1,8 @@
 ghost use Rattle.std.specs.Prelude.{◌≡◌, ◌==◌, ◌+◌, ◌≤◌, None, All, IfOk, IfSome, if◌then◌else◌};
 ghost use Rattle.resource_table.specs.Entries.{entries_of};
-ghost use Rattle.fw_load.specs.Memory.{place_at};
+ghost use Rattle.addr_translate.specs.Maps.{place_at};
 ghost use Rattle.fw_load.specs.Rings.{IsTraceIn, trace_of, traces_of};
 
-use crate::mapped::memory_at;
 use addr_translate::Map;
 use resource_table::{Entry, Table};
 use rp_base::{Da, NoMemory};
@@ -60,5 +59,5 @@ fn place_of(map: &Map, da: Da, len: u32) -> Option<u32>
     if len == 0 {
         return None;
     }
-    memory_at(map, da, len)
+    map.memory_at(da, len)
 }

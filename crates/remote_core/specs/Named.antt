@@ -1,18 +1,13 @@
 -- Bytes in the memory of a core that a worker names by their device address (own).
-use Rattle.std.specs.Prelude.{ℕ, ◌+◌, ◌==◌, Bool, List, [], slice_range, Option, Result, Ok, Err, is_ok, ok_or, option_and_then, if◌then◌else◌}
+use Rattle.std.specs.Prelude.{ℕ, ◌+◌, ◌==◌, Bool, List, [], slice_range, Option, Result, Ok, Err, is_ok, ok_or, if◌then◌else◌}
 use Rattle.addr_translate.specs.Bytes.{with_bytes}
-use Rattle.addr_translate.specs.Maps.{Mapping, translate}
-use Rattle.addr_translate.specs.declared.mapped.Place.{Place}
+use Rattle.addr_translate.specs.Maps.{Mapping, place_at}
 use Rattle.remote_code.specs.declared.faults.WorkerFault.{WorkerFault}
 use Rattle.remote_code.specs.declared.faults.WorkerFault.TheVariants.{CodeUnmapped}
 
--- where a range of device addresses stands in the core's memory, if one block holds it whole; a window has no memory
-abbrev pub memory_place : Mapping → ℕ → ℕ → Option ℕ
-memory_place map da len = option_and_then (λ (place : Place). place.at) (translate map da len)
-
 -- where the bytes stand that a record names; of no bytes no address is looked up
 abbrev pub named_place : Mapping → ℕ → ℕ → Result ℕ WorkerFault
-named_place map da len = if len == 0 then Ok 0 else ok_or (memory_place map da len) CodeUnmapped
+named_place map da len = if len == 0 then Ok 0 else ok_or (place_at map da len) CodeUnmapped
 
 -- whether the bytes are there that a record names
 abbrev pub is_named : Mapping → ℕ → ℕ → Bool

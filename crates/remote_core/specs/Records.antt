@@ -1,13 +1,13 @@
 -- The record that a worker runs next, and the faults of records, of which the first in this order counts (own).
 use Rattle.std.specs.Prelude.{ℕ, ◌+◌, ◌*◌, ◌^◌, Bool, true, false, not, ◌&&◌, nat_lt, List, Option, Some, None, Result, Ok, Err, option_and_then, slice_range, if◌then◌else◌}
 use Rattle.rp_base.specs.declared.limits.TheConstants.{MESSAGE_MOST, PAYLOAD_MOST}
-use Rattle.addr_translate.specs.Maps.{Mapping}
+use Rattle.addr_translate.specs.Maps.{Mapping, place_at}
 use Rattle.remote_code.specs.Records.{record_of}
 use Rattle.remote_code.specs.declared.faults.WorkerFault.{WorkerFault}
 use Rattle.remote_code.specs.declared.faults.WorkerFault.TheVariants.{CodeUnmapped, BadOperand, NoLink}
 use Rattle.remote_code.specs.declared.records.Record.{Record}
 use Rattle.remote_code.specs.declared.records.Record.TheVariants.{Halt, Announce, Bind, Send, Raw, Take, Trace, Crash, Loop}
-use Rattle.remote_core.specs.Named.{memory_place, is_named}
+use Rattle.remote_core.specs.Named.{is_named}
 use Rattle.remote_core.specs.Workers.{WorkerState}
 
 -- the device address of a record, of 16 bytes each; addresses have 32 bits
@@ -23,7 +23,7 @@ record_from memory None = Err CodeUnmapped
 -- the record of a number: its 16 bytes have to lie in one block of memory
 abbrev pub record_at : List ℕ → Mapping → ℕ → ℕ → Result Record WorkerFault
 record_at memory map entry place =
-    record_from memory (option_and_then (λ address. memory_place map address 16) (record_address entry place))
+    record_from memory (option_and_then (λ address. place_at map address 16) (record_address entry place))
 
 -- the records that work on the link
 abbrev pub needs_link : Record → Bool

@@ -1,7 +1,6 @@
 ghost use Rattle.std.specs.Prelude.{◌≡◌, ◌^◌, ◌<◌, length, IfOk};
 ghost use Rattle.remote_core.specs.Records.{record_at, admitted, needs_link, has_large_operand};
 
-use crate::named::memory_place;
 use addr_translate::{CoreMemory, Map};
 use remote_code::{Record, WorkerFault};
 use rp_base::{Da, MESSAGE_MOST, PAYLOAD_MOST};
@@ -19,7 +18,7 @@ pub(crate) fn record_at(
 {
     let address = u64::from(entry) + 16 * u64::from(place);
     let at = match Da::try_from(address) {
-        Ok(address) => memory_place(map, address, 16),
+        Ok(address) => map.memory_at(address, 16),
         Err(_) => None,
     };
     match at {

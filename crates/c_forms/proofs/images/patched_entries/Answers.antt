@@ -1,6 +1,6 @@
 use Rattle.std.proofs.Common.{◌≡◌, ℕ, None, List, map, Option, sym, ap, ◌∙◌}
 use Rattle.addr_translate.specs.OrderedMaps.{AreApart}
-use Rattle.fw_load.specs.Memory.{place_at}
+use Rattle.addr_translate.specs.Maps.{place_at}
 use Rattle.c_forms.specs.Arrays.{told_array, told_count, told_status}
 use Rattle.c_forms.specs.Loads.{entries_told, placed_form}
 use Rattle.c_forms.specs.Regions.{regions_of}

@@ -1,6 +1,6 @@
 use Rattle.std.proofs.Common.{◌≡◌, ℕ, ◌+◌, ◌<◌, Option, drop, length, map, set, sym, ap, ◌∙◌, subst, arith}
 use Rattle.resource_table.specs.Entries.{entries_of}
-use Rattle.fw_load.specs.Memory.{place_at}
+use Rattle.addr_translate.specs.Maps.{place_at}
 use Rattle.c_forms.specs.Forms.{entry_form}
 use Rattle.c_forms.specs.Loads.{placed_form}
 use Rattle.c_forms.specs.declared.entries.CEntry.{CEntry}

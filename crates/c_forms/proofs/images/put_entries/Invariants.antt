@@ -1,6 +1,6 @@
 use Rattle.std.proofs.Common.{map}
 use Rattle.resource_table.specs.Entries.{entries_of}
-use Rattle.fw_load.specs.Memory.{place_at}
+use Rattle.addr_translate.specs.Maps.{place_at}
 use Rattle.c_forms.specs.Loads.{placed_form}
 use Rattle.c_forms.proofs.Puts.{IsPut}
 use Rattle.c_forms.proofs.images.put_entries.Given as goal

@@ -4,7 +4,8 @@ use Rattle.addr_translate.specs.OrderedMaps.{AreApart}
 use Rattle.std.proofs.lemmas.List.{length-replicate}
 use Rattle.memory_pool.specs.Regions.{memory_len}
 use Rattle.memory_pool.specs.Placements.{placement}
-use Rattle.fw_load.specs.Memory.{memory_at, place_at}
+use Rattle.fw_load.specs.Memory.{memory_at}
+use Rattle.addr_translate.specs.Maps.{place_at}
 use Rattle.resource_table.specs.Entries.{entries_of}
 use Rattle.resource_table.specs.PatchedEntries.{patched_entries}
 use Rattle.fw_load.specs.Rings.{pair_from}

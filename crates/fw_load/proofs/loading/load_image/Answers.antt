@@ -3,7 +3,7 @@ use Rattle.std.proofs.lemmas.Result.{err_from_is_err_and}
 use Rattle.elf_image.specs.Images.{entry_of}
 use Rattle.addr_translate.specs.OrderedMaps.{AreApart}
 use Rattle.fw_load.specs.Loading.{entry_unmapped}
-use Rattle.fw_load.specs.Memory.{place_at}
+use Rattle.addr_translate.specs.Maps.{place_at}
 use Rattle.fw_load.proofs.Places.{segments_have}
 use Rattle.fw_load.proofs.Refusals.{placed_by, tests_decide}
 use Rattle.fw_load.proofs.loading.load_image.Goals as goal

@@ -2,7 +2,8 @@ use Rattle.std.proofs.Common.{◌≤◌, ap, sym, ◌∙◌}
 use Rattle.std.proofs.lemmas.List.Elements.{All-tail}
 use Rattle.elf_image.specs.Segments.{SegmentAt}
 use Rattle.elf_image.specs.SegmentsRead.{segment_read}
-use Rattle.fw_load.specs.Memory.{place_at, segment_bytes, with_at, with_segments}
+use Rattle.fw_load.specs.Memory.{segment_bytes, with_at, with_segments}
+use Rattle.addr_translate.specs.Maps.{place_at}
 use Rattle.fw_load.proofs.Steps.{segment_more}
 use Rattle.fw_load.proofs.mapped.copy_segments.Goals as goal
 

@@ -1,7 +1,8 @@
 use Rattle.std.proofs.Common.{◌≡◌, ◌≤◌, length}
 use Rattle.std.specs.List.{All}
 use Rattle.elf_image.specs.Segments.{SegmentAt, segments_of}
-use Rattle.fw_load.specs.Memory.{place_at, with_segments}
+use Rattle.fw_load.specs.Memory.{with_segments}
+use Rattle.addr_translate.specs.Maps.{place_at}
 use Rattle.fw_load.proofs.mapped.copy_segments.Given as goal
 
 -- the memory so far with the segments that are left makes the whole

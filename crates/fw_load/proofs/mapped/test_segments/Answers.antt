@@ -3,7 +3,7 @@ use Rattle.std.proofs.lemmas.List.Elements.{All-tail}
 use Rattle.elf_image.specs.Segments.{SegmentAt}
 use Rattle.elf_image.specs.SegmentsRead.{segment_read}
 use Rattle.fw_load.specs.Loading.{segments_unmapped}
-use Rattle.fw_load.specs.Memory.{place_at}
+use Rattle.addr_translate.specs.Maps.{place_at}
 use Rattle.fw_load.proofs.Steps.{unmapped_more}
 use Rattle.fw_load.proofs.mapped.test_segments.Goals as goal
 

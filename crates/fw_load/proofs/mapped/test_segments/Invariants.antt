@@ -2,7 +2,7 @@ use Rattle.std.proofs.Common.{◌≡◌, ◌≤◌}
 use Rattle.std.specs.List.{All}
 use Rattle.elf_image.specs.Segments.{SegmentAt, segments_of}
 use Rattle.fw_load.specs.Loading.{segments_unmapped}
-use Rattle.fw_load.specs.Memory.{place_at}
+use Rattle.addr_translate.specs.Maps.{place_at}
 use Rattle.fw_load.proofs.mapped.test_segments.Given as goal
 
 -- the segments that are left decide

@@ -2,7 +2,7 @@ use Rattle.std.proofs.Common.{◌+◌, drop, sym, ◌∙◌}
 use Rattle.std.proofs.lemmas.List.Elements.{All-push}
 use Rattle.resource_table.specs.Entries.{entries_of}
 use Rattle.memory_pool.proofs.Steps.{drop_get}
-use Rattle.fw_load.specs.Memory.{place_at}
+use Rattle.addr_translate.specs.Maps.{place_at}
 use Rattle.fw_load.specs.Rings.{IsTraceIn, trace_of}
 use Rattle.fw_load.proofs.Steps.{kept_more, left_more}
 use Rattle.fw_load.proofs.traces.traces_of.Goals as goal

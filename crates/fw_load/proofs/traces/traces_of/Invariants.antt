@@ -1,7 +1,7 @@
 use Rattle.std.proofs.Common.{◌≡◌, ◌++◌, drop}
 use Rattle.std.specs.List.{All}
 use Rattle.resource_table.specs.Entries.{entries_of}
-use Rattle.fw_load.specs.Memory.{place_at}
+use Rattle.addr_translate.specs.Maps.{place_at}
 use Rattle.fw_load.specs.Rings.{IsTraceIn, traces_of}
 use Rattle.fw_load.proofs.traces.traces_of.Given as goal
 
