@@ -82,13 +82,6 @@ driven_on actors message end = record actors {
   host_calls = actors.host_calls ++ sends_of (end_answer actors.drivers message end);
 }
 
--- the same of a take with this verdict
-abbrev pub driven_by_verdict : ActorsState → List ℕ → Verdict → ActorsState
-driven_by_verdict actors message verdict = record actors {
-  drivers = after_verdict actors.drivers verdict;
-  host_calls = actors.host_calls ++ sends_of (verdict_answer actors.drivers message verdict);
-}
-
 -- ---- the ends of calls
 
 -- the number of the message that a call was handed
@@ -133,8 +126,8 @@ abbrev pub worker_after_end : WorkerState → List ℕ → Option ℕ → Worker
 worker_after_end worker message None = worker
 worker_after_end worker message (Some number) = after_take message worker
 
-abbrev pub worker_ended : ActorsState → List ℕ → CallEnd → ActorsState
-worker_ended actors message end = record actors {
+abbrev pub worker_after_call : ActorsState → List ℕ → CallEnd → ActorsState
+worker_after_call actors message end = record actors {
   worker = worker_after_end actors.worker message (number_taken end);
   worker_calls = gives_of (number_taken end) ++ left_of end actors.worker_calls;
 }

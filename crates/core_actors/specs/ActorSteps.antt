@@ -17,7 +17,7 @@ use Rattle.core_actors.specs.declared.progress.Driven.TheVariants as driven
 use Rattle.core_actors.specs.declared.progress.DriveProgress.{DriveProgress}
 use Rattle.core_actors.specs.declared.progress.DriveProgress.TheVariants as progress
 use Rattle.core_actors.specs.Actors.{ActorsState, other_actor}
-use Rattle.core_actors.specs.ActorEnds.{driven_on, host_ended, message_of, worker_ended}
+use Rattle.core_actors.specs.ActorEnds.{driven_on, host_ended, message_of, worker_after_call}
 
 -- what a step was, by what it answers and by the end of a call beside it
 abbrev pub driven_of : DriveProgress → CallEnd → Driven
@@ -77,7 +77,7 @@ driven_by caller reach.Limit = driven.Stepped
 -- the worker, by how far its call came
 abbrev pub worker_reached : ActorsState → BenchState → Reach → ActorsState
 worker_reached actors bench (reach.At step) = actors
-worker_reached actors bench (reach.Ended end) = worker_ended actors (message_of bench 1 end) end
+worker_reached actors bench (reach.Ended end) = worker_after_call actors (message_of bench 1 end) end
 worker_reached actors bench reach.Limit = record actors { worker_calls = drop 1 actors.worker_calls }
 
 -- the call that a record asks for, if it asks for one

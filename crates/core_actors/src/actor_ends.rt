@@ -1,9 +1,10 @@
 ghost use Rattle.std.specs.Prelude.{◌≡◌, ◌<◌, ◌≤◌, ◌+◌, length, OnErr, OnOk};
 ghost use Rattle.std.specs.VecDeque.{deque_len, deque_capacity};
 ghost use Rattle.rp_base.specs.declared.limits.TheConstants.{MESSAGE_MOST};
+ghost use Rattle.lane_model.specs.declared.calls.CallEnd.TheVariants as ended;
 ghost use Rattle.core_actors.specs.Actors.{actors_view};
 ghost use Rattle.link_bench.specs.Benches.{reach_of};
-ghost use Rattle.core_actors.specs.ActorEnds.{actors_after_end, after_endpoint, after_verdict, driven_by_verdict, driven_on, endpoint_answer, host_ended, is_tried_again, message_of, number_taken, verdict_answer, worker_ended};
+ghost use Rattle.core_actors.specs.ActorEnds.{actors_after_end, after_endpoint, after_verdict, driven_on, endpoint_answer, host_ended, is_tried_again, message_of, number_taken, verdict_answer, worker_after_call};
 ghost use Rattle.core_actors.specs.ActorSteps.{host_begun_as, host_reached, worker_reached};
 
 use crate::actors::Actors;
@@ -114,18 +115,19 @@ impl Actors {
         ensures { actors_view self.new ≡ driven_on (actors_view self.old) message.now end.now }
     {
         match end {
-            CallEnd::Took(_, verdict) => self.see_taken(message, verdict),
+            CallEnd::Took(_, verdict) => self.see_take(message, verdict),
             CallEnd::Unbound(endpoint) => self.drivers.destroyed(*endpoint),
             _ => {}
         }
     }
 
-    /// Has the drivers see a message that a host caller was handed with this verdict.
+    /// Has the drivers see a message that a host caller was handed with this verdict, whatever its
+    /// number.
     #[inline(never)]
-    fn see_taken(&mut self, message: &[u8], verdict: &Verdict)
+    fn see_take(&mut self, message: &[u8], verdict: &Verdict)
         requires short { length message.now ≤ MESSAGE_MOST }
         requires room { deque_len self.old.host_calls < deque_capacity self.old.host_calls }
-        ensures { actors_view self.new ≡ driven_by_verdict (actors_view self.old) message.now verdict.now }
+        ensures { actors_view self.new ≡ driven_on (actors_view self.old) message.now (ended.Took 0 verdict.now) }
     {
         if let Some(answer) = verdict_answer(&mut self.drivers, message, verdict) {
             self.host_calls.push_back_reserved(Wish::Send(answer));
@@ -139,7 +141,7 @@ impl Actors {
     {
         match progress {
             Progress::At(_) => {}
-            Progress::Ended => self.worker_ended(message_of(bench, 1, end), end),
+            Progress::Ended => self.end_worker(message_of(bench, 1, end), end),
             Progress::Limit => {
                 self.worker_calls.pop_front();
             }
@@ -148,10 +150,10 @@ impl Actors {
 
     /// Has the worker see the end of its call, which was handed this message.
     #[inline(never)]
-    fn worker_ended(&mut self, message: &[u8], end: &CallEnd)
+    fn end_worker(&mut self, message: &[u8], end: &CallEnd)
         requires short { length message.now ≤ MESSAGE_MOST }
         requires room { deque_len self.old.worker_calls < deque_capacity self.old.worker_calls }
-        ensures { actors_view self.new ≡ worker_ended (actors_view self.old) message.now end.now }
+        ensures { actors_view self.new ≡ worker_after_call (actors_view self.old) message.now end.now }
     {
         if !is_tried_again(end) {
             self.worker_calls.pop_front();
