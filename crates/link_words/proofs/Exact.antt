@@ -139,19 +139,24 @@ step_found cd desk z st m p r id i me o w d slots low at may same before next = 
   copy = λ k manages none_out was. ((r.numbers.manager id me.0 at manages).copy k was none_out, ap (λ (x : LaneLink (RingState _)). Some (copied cd x)) same);
 }
 
--- the seat and the state stay as they are, at a load
-pub stays_by : {B : Type 0} {kc : Coded B} {kz : DeskTables} (i : ℕ) (cd : Coded (PlacedDesk kc kz)) (desk : DeskMeaning (PlacedDesk kc kz)) (z : LinkSizes) (st : State Slot View) (m : LaneLink (RingState (PlacedDesk kc kz))) (r : Shows cd desk z st m 0) (id : ℕ) (me : SeatState) (o : Mover me.0) (d : Deed)
-    → get_elem? st.views id ≡ some me.0 → MayDo desk m d → m ≡ after_deed desk m d → StepBy cd desk (ReadsAt i (get_or st.words i 0)) me o d me
-stays_by i cd desk z st m r id me o d at may same =
+-- the seat and the state stay as they are, in which this was read
+pub stays_with : {B : Type 0} {kc : Coded B} {kz : DeskTables} (Reads : LaneLink (RingState (PlacedDesk kc kz)) → LaneLink (RingState (PlacedDesk kc kz)) → Type 0) (cd : Coded (PlacedDesk kc kz)) (desk : DeskMeaning (PlacedDesk kc kz)) (z : LinkSizes) (st : State Slot View) (m : LaneLink (RingState (PlacedDesk kc kz))) (r : Shows cd desk z st m 0) (id : ℕ) (me : SeatState) (o : Mover me.0) (d : Deed)
+    → get_elem? st.views id ≡ some me.0 → Reads m m → MayDo desk m d → m ≡ after_deed desk m d → StepBy cd desk Reads me o d me
+stays_with Reads cd desk z st m r id me o d at read may same =
     let before : IsCallOf m 0 o.pass.number o.pass.call = r.turns.calls id o.place o.pass (me.0, at, o.here) in record {
       state = m;
       sound = state_in r;
-      read = ap (λ (ws : List ℕ). get_or ws i 0) r.words_are;
+      read = subst (Reads m) same read;
       may = may;
       before = before;
       after = subst (λ (x : LaneLink (RingState _)). IsCallOf x 0 o.pass.number (call_at o.place me.0.passes)) same (subst (IsCallOf m 0 o.pass.number) (call_at_is me.0.passes o.place o.pass o.here) before);
       copy = λ k manages none_out was. let is = (r.numbers.manager id me.0 at manages).copy k was none_out in (is, was ∙ ap Some (is ∙ ap (copied cd) same));
     }
+
+-- the same at a load
+pub stays_by : {B : Type 0} {kc : Coded B} {kz : DeskTables} (i : ℕ) (cd : Coded (PlacedDesk kc kz)) (desk : DeskMeaning (PlacedDesk kc kz)) (z : LinkSizes) (st : State Slot View) (m : LaneLink (RingState (PlacedDesk kc kz))) (r : Shows cd desk z st m 0) (id : ℕ) (me : SeatState) (o : Mover me.0) (d : Deed)
+    → get_elem? st.views id ≡ some me.0 → MayDo desk m d → m ≡ after_deed desk m d → StepBy cd desk (ReadsAt i (get_or st.words i 0)) me o d me
+stays_by i cd desk z st m r id me o d at may same = stays_with (ReadsAt i (get_or st.words i 0)) cd desk z st m r id me o d at (ap (λ (ws : List ℕ). get_or ws i 0) r.words_are) may same
 
 number_at_is : (ps : List Pass) (k : ℕ) (p : Pass) → get_elem? ps k ≡ some p → p.number ≡ number_at k ps
 number_at_is [] k p at = absurd (some-ne-none p (sym at))
@@ -193,6 +198,11 @@ module _ (me : SeatState) (o : Mover me.0) (k : ℕ) (place : o.place ≡ k) whe
   -- and the step that it makes
   pub step_told : {B : Type 0} {kc : Coded B} {kz : DeskTables} (cd : Coded (PlacedDesk kc kz)) (desk : DeskMeaning (PlacedDesk kc kz)) (Reads : LaneLink (RingState (PlacedDesk kc kz)) → LaneLink (RingState (PlacedDesk kc kz)) → Type 0) (d : ℕ → Deed) (me' : SeatState) → StepBy cd desk Reads me o (d o.pass.number) me' → IsStepOf cd desk Reads (d (number_at k me.0.passes)) (number_at k me.0.passes) (call_at k me.0.passes) (call_at k me'.0.passes) me me'
   step_told cd desk Reads d me' step = subst (λ (t : ℕ × ℕ × Call). IsStepOf cd desk Reads (d t.0) t.0 t.2 (call_at t.1 me'.0.passes) me me') (λ i. (number_is i, place i, call_is i)) step
+
+-- a step that reads this reads whatever follows
+pub read_as : {B : Type 0} {kc : Coded B} {kz : DeskTables} (cd : Coded (PlacedDesk kc kz)) (desk : DeskMeaning (PlacedDesk kc kz)) (Reads Reads' : LaneLink (RingState (PlacedDesk kc kz)) → LaneLink (RingState (PlacedDesk kc kz)) → Type 0) → ((m m' : LaneLink (RingState (PlacedDesk kc kz))) → Reads m m' → Reads' m m')
+    → (d : Deed) (number : ℕ) (call next : Call) (me me' : SeatState) → IsStepOf cd desk Reads d number call next me me' → IsStepOf cd desk Reads' d number call next me me'
+read_as cd desk Reads Reads' follows d number call next me me' s = record { state = s.state; sound = s.sound; read = follows s.state (after_deed desk s.state d) s.read; may = s.may; before = s.before; after = s.after; copy = s.copy }
 
 -- a word that was found is the one at its place of the table
 pub read_there : {B : Type 0} {kc : Coded B} {kz : DeskTables} (cd : Coded (PlacedDesk kc kz)) (desk : DeskMeaning (PlacedDesk kc kz)) (i place n : ℕ) → place ≡ place_in i → (d : Deed) (number : ℕ) (call next : Call) (me me' : SeatState) → IsStepOf cd desk (ReadsAt i n) d number call next me me' → IsStepOf cd desk (HasWord place n) d number call next me me'

@@ -41,6 +41,7 @@ use Rattle.link_words.proofs.Parts.{SendsAgree, TakesAt}
 use Rattle.link_words.specs.Rule.{HasCall, HistoryOf, HandsOf, WordsRule, first_view, LatestOf}
 use Rattle.link_words.specs.Parts.{HoldsBuffers, Knows}
 use Rattle.link_words.specs.Histories.{hands_of}
+use Rattle.link_words.proofs.BufferNumbers.{opened_numbers}
 use Rattle.link_words.proofs.Parts.{put_together}
 use Rattle.link_words.specs.Fresh.{opened_slots, opened_sender, opened_receiver}
 
@@ -83,7 +84,7 @@ module _ {B : Type 0} {kc : Coded B} {kz : DeskTables} (cd : Coded (PlacedDesk k
         put_together refl
             (record { host = map some (map Buffer xs); remote = map some (map Buffer ys) }) (ap (λ (l : List (Option_of Slot)). some (Sender (opened_sender config.book)) ∷ some (Receiver (opened_receiver config.book (right_to host))) ∷ some (Sender (opened_sender config.book)) ∷ some (Receiver (opened_receiver config.book (right_to remote))) ∷ l)
             (map_append some (map Buffer xs) (map Buffer ys)))
-            (record { rings = opened_link_sound config host remote is; sound = opened_sound config host remote }) ((refl, refl), (refl, refl)) shelf (record { start = m; run = []; by_run = refl })
+            (record { rings = opened_link_sound config host remote is; sound = opened_sound config host remote }) ((refl, refl), (refl, refl)) shelf (record { start = m; run = []; by_run = refl; short = opened_numbers config host remote })
             (record {
               calls = λ j l q there. subst (HasCall m 0) (first z j l q there).2 (refl, refl, gathered_none _, gathered_none _);
               keepers = λ e i k j l p q ep eq _ _. ap (λ (x : Pass). x.number) (sym (first z i k p ep).2 ∙ (first z j l q eq).2);

@@ -10,6 +10,7 @@ pub mod Endings
 pub mod Hands
 pub mod Frames
 pub mod Kept
+pub mod BufferNumbers
 pub mod Keepers
 pub mod LaneSteps
 pub mod Sends

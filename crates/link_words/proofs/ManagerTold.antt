@@ -1,5 +1,5 @@
 -- What the steps of the manager tell, by the place of its own pass, on the words of the table.
-use Rattle.std.proofs.Common.{◌≡◌, ℕ, ◌+◌, ◌*◌, ◌-◌, ◌<◌, ◌≤◌, zero, suc, eqb, false, List, [], ◌∷◌, length, refl, sym, ap, ◌∙◌, subst, arith}
+use Rattle.std.proofs.Common.{◌≡◌, ℕ, ◌+◌, ◌*◌, ◌-◌, ◌<◌, ◌≤◌, zero, suc, eqb, false, List, [], ◌∷◌, length, get_or, refl, sym, ap, ◌∙◌, subst, arith}
 use Rattle.std.specs.Prelude.{Option, Some, None}
 use mathlib.Core.Path.{Path}
 use mathlib.Core.Option.{some}
@@ -25,20 +25,21 @@ use Rattle.link_words.specs.declared.rule.ReceiverSide.{ReceiverSide}
 use Rattle.link_words.specs.declared.rule.Slot.{Slot}
 use Rattle.link_words.specs.declared.rule.Slot.TheVariants.{Receiver, Sender}
 use Rattle.link_words.specs.PlacedDesks.{PlacedDesk, placed_meaning, right_at, right_to, table_at, IsRightTo}
-use Rattle.link_words.specs.Words.{other, sender_slot, receiver_slot, sender_word, receiver_word}
-use Rattle.link_words.specs.Layouts.{place_in}
+use Rattle.link_words.specs.Words.{other, sender_slot, receiver_slot, sender_word, receiver_word, words_of}
+use Rattle.link_words.specs.Layouts.{layout, place_in}
 use Rattle.link_words.specs.Passes.{Mover, with_call, with_pass}
 use Rattle.link_words.specs.Fresh.{fresh_of}
 use Rattle.link_words.specs.Deeds.{Deed, ManagerTakes, ManagerLeaves, Nothing}
 use Rattle.link_words.specs.Rule.{WordsRule, PlacedRule}
 use Rattle.link_words.specs.Calls.{SeatState, Becomes, call_at, number_at, with_pass_at}
 use Rattle.link_words.specs.declared.copies.LinkCopy.{LinkCopy}
+use Rattle.link_words.specs.Looks.{SeesWord}
 use Rattle.link_words.specs.Steps.{IsStepOf, HasWord, StoresWord, turn_number}
 use Rattle.link_words.specs.Parts.{has_for_manager, has_sender_for_manager}
 use Rattle.link_words.specs.Reopens.{IsHoldersWord, gathers_or, reopens_or, sides_of, manager_place, manager_call, ManagerAt, both_sides, gathered, ManagerTakesSender, ManagerTakesReceiver, ManagerLeavesSender, ManagerLeavesReceiver, ManagerTakesTurn, ManagerLeavesTurn, MayGather, MayLeaveTurn, MayBegin, AreBooksOf, books_by, BeginsReopening, MayReset, ResetsWord, MayOpen, right_by, opened_sides, opened_view, OpensEra, IsOpeningOf, KeepsCopy}
-use Rattle.link_words.proofs.Apart.{apart, entry_place_is, sender_low, receiver_low}
-use Rattle.link_words.proofs.Exact.{StepBy, ReadsAt, WritesAt, becomes, passes_at, call_is, step_told, read_there, written_there}
-use Rattle.link_words.proofs.ManagerTurns.{TakesSenderBy, takes_sender, leaves_sender_turn, TakesReceiverBy, takes_receiver, leaves_receiver_turn, looks}
+use Rattle.link_words.proofs.Apart.{apart, entry_place_is, found_apart, sender_low, receiver_low}
+use Rattle.link_words.proofs.Exact.{StepBy, ReadsAt, WritesAt, becomes, passes_at, call_is, step_told, read_as, read_there, written_there}
+use Rattle.link_words.proofs.ManagerTurns.{TakesSenderBy, takes_sender, leaves_sender_turn, TakesReceiverBy, takes_receiver, leaves_receiver_turn, SeesAt, looks}
 use Rattle.link_words.proofs.Opens.{opened_by, begins, resets, opens}
 use Rattle.link_words.proofs.Tells.{BeginsReopeningBy}
 use Rattle.link_words.proofs.Weakens.{weaken}
@@ -51,6 +52,10 @@ call_here me call at = sym (call_is me at.mover (manager_place me) at.here) ∙ 
 called : (me : SeatState) (call : Call) (at : ManagerAt me call) (f : Call → Call) (slots : List (ℕ × Slot)) (me' : SeatState) → me' ≡ (with_pass me.0 at.mover (with_call at.mover.pass (f call)) me'.0.copy, slots)
     → Becomes (λ p. with_call p (f p.call)) (manager_place me) slots me me'
 called me call at f slots me' told = becomes me at.mover (manager_place me) at.here (λ p. with_call p (f p.call)) (with_call at.mover.pass (f call)) slots me' (ap (λ (c : Call). with_call at.mover.pass (f c)) (sym at.in_call)) told
+
+-- the word of this number stands at its place of the table
+found_there : {D : Type 0} (i place : ℕ) (m : LaneLink (RingState D)) → place ≡ place_in i → get_or (words_of 0 [] m) i 0 ≡ get_or (layout (words_of 0 [] m)) place 0
+found_there i place m is = sym (found_apart 10 (words_of 0 [] m) i) ∙ ap (λ (k : ℕ). get_or (layout (words_of 0 [] m)) k 0) (sym is)
 
 -- of a call outside a reopening, with other side states
 regathered : (e : End) (f : LaneSides → LaneSides) → Call → Call
@@ -100,8 +105,12 @@ module _ {B : Type 0} {kc : Coded B} {kz : DeskTables} (cd : Coded (PlacedDesk k
       (λ y me' t. called me (Gathers g.to_host g.to_remote) g.at (λ c. gathers_or c (gathered e (λ s. record s { receiver = None })) c) (rest me.1) me' t)
 
   -- a word is loaded, and nothing changes
-  pub looks_told : (i place : ℕ) → MayGather me → place ≡ place_in i → Allows (PlacedRule cd desk z) n id me place (λ y. y) (λ y me'. (me' ≡ me) × Does (HasWord place y) Nothing me')
-  looks_told i place g is = exchanges i place (λ y. y) g.at.mover g.at.here Nothing (λ _ me'. me' ≡ me) (λ _ me'. me' ≡ me) is (looks cd desk z n id me g.at.mover i g.to_host g.to_remote g.at.in_call) (λ y me' t. t)
+  pub looks_told : (i place : ℕ) → MayGather me → place ≡ place_in i → Allows (PlacedRule cd desk z) n id me place (λ y. y) (λ y me'. (me' ≡ me) × Does (SeesWord z place y) Nothing me')
+  looks_told i place g is s kept long at wide =
+      let o = g.at.mover in let k = manager_place me in
+      let a = apart cd desk z n id me i place (λ y. y) (λ y me'. (me' ≡ me) × StepBy cd desk (SeesAt cd desk z i y) me o Nothing me') is (looks cd desk z n id me o i g.to_host g.to_remote g.at.in_call) s kept long at wide in
+      let step = step_told me o k g.at.here cd desk (SeesAt cd desk z i _) (λ _. Nothing) _ a.4.1 in
+      (a.0, a.1, a.2, a.3, (a.4.0, read_as cd desk (SeesAt cd desk z i _) (SeesWord z place _) (λ m m' saw. (saw.0 ∙ found_there i place m is, saw.1)) Nothing (number_at k me.0.passes) (call_at k me.0.passes) _ me _ step))
 
   -- a reopening begins
   pub begins_told : (b : MayBegin me) → Allows (PlacedRule cd desk z) n id me 16 (λ y. y) (λ y me'. BeginsReopening me y me' × KeepsCopy me me')

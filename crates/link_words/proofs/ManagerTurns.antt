@@ -47,7 +47,9 @@ use Rattle.link_words.specs.Calls.{SeatState, call_at}
 use Rattle.link_words.specs.Reopens.{gathered, IsHoldersWord, AreInUse, SomeInUse}
 use Rattle.link_words.proofs.Buffers.{homes_here}
 use Rattle.link_words.proofs.Closes.{stays}
-use Rattle.link_words.proofs.Exact.{StepBy, ReadsAt, WritesAt, read_by, write_by, call_at_is, stays_by}
+use Rattle.link_words.proofs.Exact.{StepBy, ReadsAt, WritesAt, read_by, write_by, call_at_is, stays_with}
+use Rattle.link_words.specs.Looks.{FitsWords}
+use Rattle.link_words.proofs.BufferNumbers.{fits}
 use Rattle.link_words.proofs.Frames.{turn_set, side_found, side_set, same_lane, keepers_set, keepers_more, sender_in, receiver_in}
 use Rattle.link_words.proofs.Gathered.{gathered_sender, left_sender, gathered_receiver, left_receiver}
 use Rattle.link_words.proofs.Held.{free_if, free_for_all, minds_has, receiver_home, seen_receiver, shelved_receiver, alone}
@@ -341,9 +343,13 @@ module _ {B : Type 0} {kc : Coded B} {kz : DeskTables} (cd : Coded (PlacedDesk k
         (refl, write_by (receiver_word e) 0 cd desk z st m r id me o (with_call o.pass w) (ManagerLeaves lane_turn.Receiver e) (with_lane m e s') (rest me.1) (receiver_in m e s') at tt deed mine),
       )
 
+  -- the word of this number was found to be this, in a state that fits the words
+  abbrev pub SeesAt : ℕ → ℕ → LaneLink (RingState (PlacedDesk kc kz)) → LaneLink (RingState (PlacedDesk kc kz)) → Type 0
+  SeesAt i y before after = ReadsAt i y before after × FitsWords z before
+
   -- the manager looks at a word, and nothing changes
-  pub looks : (n id : ℕ) (me : SeatState) (o : Mover me.0) (i : ℕ) (a b : LaneSides) → o.pass.call ≡ Gathers a b → Allows (WordsRule cd desk z) n id me i (λ y. y) (λ y me'. (me' ≡ me) × StepBy cd desk (ReadsAt i y) me o Nothing me')
+  pub looks : (n id : ℕ) (me : SeatState) (o : Mover me.0) (i : ℕ) (a b : LaneSides) → o.pass.call ≡ Gathers a b → Allows (WordsRule cd desk z) n id me i (λ y. y) (λ y me'. (me' ≡ me) × StepBy cd desk (SeesAt i y) me o Nothing me')
   looks n id me o i a b call st (m, p, r₀) wide at _ =
       let h : IsCallOf m p o.pass.number (Gathers a b) = subst (IsCallOf m p o.pass.number) call (r₀.turns.calls id o.place o.pass (me.0, at, o.here)) in
       let r : Shows cd desk z st m 0 = subst (Shows cd desk z st m) h.1 r₀ in
-      (me.0, keeps, tt, stays cd desk z st m p r₀ i (get_or st.words i 0) id me.1 me.0 Nothing at refl tt refl, (refl, stays_by i cd desk z st m r id me o Nothing at tt refl))
+      (me.0, keeps, tt, stays cd desk z st m p r₀ i (get_or st.words i 0) id me.1 me.0 Nothing at refl tt refl, (refl, stays_with (SeesAt i (get_or st.words i 0)) cd desk z st m r id me o Nothing at (ap (λ (ws : List ℕ). get_or ws i 0) r.words_are, fits cd desk z st m r) tt refl))

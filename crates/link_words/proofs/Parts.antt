@@ -95,7 +95,7 @@ lane_part s sizes book shelf is many q buffers = record { sizes = is; book = man
 
 -- one deed more
 pub one_more : {B : Type 0} {kc : Coded B} {kz : DeskTables} (desk : DeskMeaning (PlacedDesk kc kz)) (m m' : LaneLink (RingState (PlacedDesk kc kz))) (d : Deed) → IsReached desk m → MayDo desk m d → m' ≡ after_deed desk m d → IsReached desk m'
-one_more desk m m' d r may is = record { start = r.start; run = d ∷ r.run; by_run = (m, r.by_run, may, is) }
+one_more desk m m' d r may is = record { start = r.start; run = d ∷ r.run; by_run = (m, r.by_run, may, is); short = r.short }
 
 module _ {B : Type 0} {kc : Coded B} {kz : DeskTables} {cd : Coded (PlacedDesk kc kz)} {desk : DeskMeaning (PlacedDesk kc kz)} {z : LinkSizes} {st : State Slot View} {m : LaneLink (RingState (PlacedDesk kc kz))} {p : ℕ} where
   -- the rule of its parts

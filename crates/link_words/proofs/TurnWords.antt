@@ -21,7 +21,7 @@ use Rattle.ring_core.specs.declared.states.Hand.{Hand}
 use mathlib.Core.Option.{some, some-injective, some-ne-none}
 use lib.ListN.{get_elem?}
 use Rattle.link_words.specs.Deeds.{ManagerTakes, ManagerLeaves, after_deed}
-use Rattle.link_words.specs.Words.{other, lane_to, turn_word, words_of, receiver_word}
+use Rattle.link_words.specs.Words.{other, lane_to, turn_word, words_of, receiver_word, sender_word}
 use Rattle.link_words.proofs.Users.{in_range}
 
 turn_word_most : {C : Type 0} (callers : List (Option End)) (e : End) (t : Turn C) → length callers ≡ 64 → IsSoundTurn callers e t → turn_word t ≤ 65
@@ -80,13 +80,30 @@ takes_none (turn.Taken caller call) held = refl
 takes_none (turn.Leaving caller end) held = refl
 takes_none turn.Manager held = refl
 
--- a receiver's turn that was free is taken and left: the state is as before
-pub back_again : {D : Type 0} (meaning : DeskMeaning D) (m : LaneLink (RingState D)) (e : End) → (lane_to m e).lane.receiver ≡ turn.Free → after_deed meaning (after_deed meaning m (ManagerTakes lane_turn.Receiver e)) (ManagerLeaves lane_turn.Receiver e) ≡ m
-back_again meaning m e free = go e free
-  where
-    left : {C : Type 0} (t : Turn C) → t ≡ turn.Free → manager_leaves (manager_takes t) ≡ t
-    left t is = ap (λ u. manager_leaves (manager_takes u)) is ∙ sym is
+-- a turn that was free is taken and left: the state is as before
+left_again : {C : Type 0} (t : Turn C) → t ≡ turn.Free → manager_leaves (manager_takes t) ≡ t
+left_again t is = ap (λ u. manager_leaves (manager_takes u)) is ∙ sym is
 
-    go : (e : End) → (lane_to m e).lane.receiver ≡ turn.Free → after_deed meaning (after_deed meaning m (ManagerTakes lane_turn.Receiver e)) (ManagerLeaves lane_turn.Receiver e) ≡ m
-    go side.Host free = λ i. record m { to_host = record m.to_host { lane = record m.to_host.lane { receiver = left m.to_host.lane.receiver free i } } }
-    go side.Remote free = λ i. record m { to_remote = record m.to_remote { lane = record m.to_remote.lane { receiver = left m.to_remote.lane.receiver free i } } }
+pub back_again : {D : Type 0} (meaning : DeskMeaning D) (m : LaneLink (RingState D)) (e : End) → (lane_to m e).lane.receiver ≡ turn.Free → after_deed meaning (after_deed meaning m (ManagerTakes lane_turn.Receiver e)) (ManagerLeaves lane_turn.Receiver e) ≡ m
+back_again meaning m side.Host free = λ i. record m { to_host = record m.to_host { lane = record m.to_host.lane { receiver = left_again m.to_host.lane.receiver free i } } }
+back_again meaning m side.Remote free = λ i. record m { to_remote = record m.to_remote { lane = record m.to_remote.lane { receiver = left_again m.to_remote.lane.receiver free i } } }
+
+pub sender_again : {D : Type 0} (meaning : DeskMeaning D) (m : LaneLink (RingState D)) (e : End) → (lane_to m e).lane.sender ≡ turn.Free → after_deed meaning (after_deed meaning m (ManagerTakes lane_turn.Sender e)) (ManagerLeaves lane_turn.Sender e) ≡ m
+sender_again meaning m side.Host free = λ i. record m { to_host = record m.to_host { lane = record m.to_host.lane { sender = left_again m.to_host.lane.sender free i } } }
+sender_again meaning m side.Remote free = λ i. record m { to_remote = record m.to_remote { lane = record m.to_remote.lane { sender = left_again m.to_remote.lane.sender free i } } }
+
+-- the sender's turn of a lane is taken: the receiver's is as it was
+pub receiver_beside : {D : Type 0} (meaning : DeskMeaning D) (m : LaneLink (RingState D)) (e : End) → (lane_to (after_deed meaning m (ManagerTakes lane_turn.Sender e)) e).lane.receiver ≡ (lane_to m e).lane.receiver
+receiver_beside meaning m side.Host = refl
+receiver_beside meaning m side.Remote = refl
+
+-- both turns of a lane that were free are taken and left
+pub lane_again : {D : Type 0} (meaning : DeskMeaning D) (m : LaneLink (RingState D)) (e : End) → (lane_to m e).lane.sender ≡ turn.Free → (lane_to m e).lane.receiver ≡ turn.Free
+    → after_deed meaning (after_deed meaning (after_deed meaning (after_deed meaning m (ManagerTakes lane_turn.Sender e)) (ManagerTakes lane_turn.Receiver e)) (ManagerLeaves lane_turn.Receiver e)) (ManagerLeaves lane_turn.Sender e) ≡ m
+lane_again {D} meaning m e sender receiver =
+    ap (λ (l : LaneLink (RingState D)). after_deed meaning l (ManagerLeaves lane_turn.Sender e)) (back_again meaning (after_deed meaning m (ManagerTakes lane_turn.Sender e)) e (receiver_beside meaning m e ∙ receiver)) ∙ sender_again meaning m e sender
+
+-- the word of a sender's turn
+pub sender_of : {B : Type 0} {kc : Coded B} {kz : DeskTables} (m : LaneLink (RingState (PlacedDesk kc kz))) (e : End) → turn_word (lane_to m e).lane.sender ≡ get_or (words_of 0 [] m) (sender_word e) 0
+sender_of m side.Host = refl
+sender_of m side.Remote = refl

@@ -10,6 +10,7 @@ pub mod Turns
 pub mod Histories
 pub mod Codes
 pub mod Deeds
+pub mod BufferNumbers
 pub mod Parts
 pub mod Rule
 pub mod Fresh
@@ -17,4 +18,5 @@ pub mod Calls
 pub mod Steps
 pub mod Seats
 pub mod Reclaims
+pub mod Looks
 pub mod Reopens

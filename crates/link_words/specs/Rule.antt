@@ -24,6 +24,7 @@ use Rattle.link_words.specs.Words.{lane_to, lane_words, reset_block, words_of, h
 use Rattle.link_words.specs.Layouts.{layout}
 use Rattle.link_words.specs.Turns.{turns_in}
 use Rattle.link_words.specs.Histories.{HasHistory, HasHands, IsOfNow, books_of}
+use Rattle.link_words.specs.BufferNumbers.{AreNumbersShort}
 use Rattle.link_words.specs.Deeds.{Deed, after_deed, MayDo}
 use Rattle.link_words.specs.Parts.{IsCallAt, LanePart, TurnsPart, HistoriesPart, NumbersPart}
 
@@ -70,11 +71,12 @@ module _ {D : Type 0} (desk : DeskMeaning D) where
   Reaches start [] m = m ≡ start
   Reaches start (d ∷ ds) m = (m₀ : LaneLink (RingState D)) × Reaches start ds m₀ × MayDo desk m₀ d × (m ≡ after_deed desk m₀ d)
 
-  -- some deeds lead to this state
+  -- some deeds lead to this state from one whose numbers of buffers have 32 bits
   pub record IsReached (m : LaneLink (RingState D)) : Type 0 where
     pub start : LaneLink (RingState D)
     pub run : List Deed
     pub by_run : Reaches start run m
+    pub short : AreNumbersShort start
 
 module _ {B : Type 0} {kc : Coded B} {kz : DeskTables} (coded : Coded (PlacedDesk kc kz)) (desk : DeskMeaning (PlacedDesk kc kz)) where
   -- the words and the slots at home are those of this state, of which a reopening has reset so many words; the state is sound and was

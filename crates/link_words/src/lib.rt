@@ -24,6 +24,7 @@ pub use copies::LinkCopy;
 pub use desks::{DeskRule, DeskTable};
 pub use intents::Intent;
 pub use loads::{EraUse, IndexUse, load_entry, load_era, load_index};
+pub use places::{ERA_PLACE, entry_place, forward_place, return_place};
 pub use reclaims::{claim_turn, find_closed, leave_ended};
 pub use reopens::{
     begin_reopening, leave_for_manager, look_for_manager, open_era, reset_index, reset_place,

@@ -75,8 +75,8 @@ pub struct TellsLooksForManager<D> {
 impl<D: Desk> Play<Slot, View> for TellsLooksForManager<D> {
     ghost use Rattle.std.specs.Prelude.{◌≡◌};
     ghost use Rattle.link_words.specs.Deeds.{Nothing};
+    ghost use Rattle.link_words.specs.Looks.{SeesWord};
     ghost use Rattle.link_words.specs.Reopens.{ManagerDoes};
-    ghost use Rattle.link_words.specs.Steps.{HasWord};
 
-    ghost then = { λ st m r m'. (m' ≡ m) × ManagerDoes D.row.coded D.meaning m (HasWord st.word r) Nothing m' };
+    ghost then = { λ st m r m'. (m' ≡ m) × ManagerDoes D.row.coded D.meaning m (SeesWord m.0.sizes st.word r) Nothing m' };
 }

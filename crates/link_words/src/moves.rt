@@ -46,9 +46,9 @@ impl<D: Desk> Play<Slot, View> for TellsEndsCaller<D> {
 pub struct TellsLearnsEra;
 
 impl Play<Slot, View> for TellsLearnsEra {
-    ghost use Rattle.link_words.specs.Seats.{LearnsEra};
+    ghost use Rattle.link_words.specs.Seats.{LearnsEra, FindsEraOfCopy};
 
-    ghost then = { λ st m r m'. LearnsEra m r m' };
+    ghost then = { λ st m r m'. LearnsEra m r m' × FindsEraOfCopy m r };
 }
 
 /// All callers that were out have come back.

@@ -8,7 +8,7 @@ use crate::rule::{LinkSizes, Ring};
 use rp_base::End;
 
 /// The word of the era.
-pub(crate) const ERA_PLACE: usize = 16;
+pub const ERA_PLACE: usize = 16;
 
 /// The other end.
 #[inline(always)]
@@ -45,7 +45,7 @@ pub(crate) fn receiver_place(lane: End) -> usize
 
 /// The word of the forward ring's index.
 #[inline(always)]
-pub(crate) fn forward_place(lane: End) -> usize
+pub fn forward_place(lane: End) -> usize
     ensures { result ≡ place_in (forward_word lane) }
 {
     match lane {
@@ -56,7 +56,7 @@ pub(crate) fn forward_place(lane: End) -> usize
 
 /// The word of the return ring's index.
 #[inline(always)]
-pub(crate) fn return_place(lane: End) -> usize
+pub fn return_place(lane: End) -> usize
     ensures { result ≡ place_in (return_word lane) }
 {
     match lane {
@@ -97,7 +97,7 @@ fn entries_before(sizes: &LinkSizes, lane: End, ring: Ring) -> u64
 
 /// The word of the entry of this count in a ring: counts go round the ring.
 #[inline(always)]
-pub(crate) fn entry_place(sizes: &LinkSizes, lane: End, ring: Ring, count: u64) -> usize
+pub fn entry_place(sizes: &LinkSizes, lane: End, ring: Ring, count: u64) -> usize
     requires { IsSized sizes.now }
     ensures { result ≡ place_in (entry_number sizes.now lane ring count) }
 {

@@ -2,6 +2,7 @@
 ghost use Rattle.std.specs.Prelude.{◌≡◌, ◌≤◌, ◌<◌, ◌+◌, ℕ};
 ghost use Rattle.link_words.specs.Deeds.{ManagerTakes, ManagerLeaves, Nothing};
 ghost use Rattle.link_words.specs.Layouts.{place_in};
+ghost use Rattle.link_words.specs.Looks.{SeesWord};
 ghost use Rattle.link_words.specs.Reopens.{ManagerDoes, ManagerTakesTurn, ManagerLeavesTurn, MayGather, MayLeaveTurn, MayBegin, BeginsReopening, KeepsCopy, MayReset, ResetsWord, MayOpen, OpensEra, OpensLink};
 ghost use Rattle.link_words.specs.Steps.{HasWord, StoresWord, turn_number};
 ghost use Rattle.link_words.specs.Words.{words_in};
@@ -79,7 +80,7 @@ pub fn look_for_manager<D: Desk>(table: &LinkTable<D>, manager: &mut LinkSeat, p
     requires manager { MayGather manager.old.me }
     ensures same { (manager.new.table_id ≡ manager.old.table_id) × (manager.new.id ≡ manager.old.id) }
     ensures told { manager.new.me ≡ manager.old.me }
-    ensures step { ManagerDoes D.row.coded D.meaning manager.old.me (HasWord place result) Nothing manager.new.me }
+    ensures step { ManagerDoes D.row.coded D.meaning manager.old.me (SeesWord manager.old.me.0.sizes place result) Nothing manager.new.me }
 {
     table.load::<TellsLooksForManager<D>>(manager, place)
 }

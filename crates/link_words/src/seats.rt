@@ -7,7 +7,7 @@ ghost use Rattle.lane_model.specs.Links.{free_number};
 ghost use Rattle.link_words.specs.declared.rule.Pass.{Pass};
 ghost use Rattle.link_words.specs.declared.rule.Call.TheVariants.{Rests};
 ghost use Rattle.link_words.specs.Passes.{HasNumber, numbers_of, Manages, Mover, without_last, only_last, with_passes_from, after_end_with, place_of_number, without_new, only_new};
-ghost use Rattle.link_words.specs.Seats.{Settles, EnlistsCaller, EndsCaller, LearnsEra, ClosesEra};
+ghost use Rattle.link_words.specs.Seats.{Settles, EnlistsCaller, EndsCaller, LearnsEra, FindsEraOfCopy, ClosesEra};
 ghost use Rattle.link_words.specs.Steps.{MakesCaller, FreesCaller, ClosesLink};
 ghost use Rattle.link_words.specs.Words.{words_in};
 
@@ -93,6 +93,7 @@ pub fn learn_era<D: Desk>(table: &LinkTable<D>, manager: &mut LinkSeat) -> u64
     requires manager { Manages manager.old.me.0 }
     ensures same { (manager.new.table_id ≡ manager.old.table_id) × (manager.new.id ≡ manager.old.id) }
     ensures told { LearnsEra manager.old.me result manager.new.me }
+    ensures known { FindsEraOfCopy manager.old.me result }
 {
     table.load::<TellsLearnsEra>(manager, ERA_PLACE)
 }
