@@ -5,24 +5,24 @@ use Rattle.link_bench.specs.declared.acts.LinkAct.{LinkAct}
 use Rattle.link_bench.specs.declared.acts.LinkAct.TheVariants as act
 use Rattle.link_bench.specs.declared.benches.BegunCall.{BegunCall}
 use Rattle.link_bench.specs.Acts.{IsFitAct, link_act}
-use Rattle.link_bench.specs.Benches.{BenchState, begun_of, is_in_call}
+use Rattle.link_bench.specs.Benches.{BenchState, begun_of, is_in_call, link_in}
 use Rattle.link_bench.specs.Watchers.{Seeing}
 use Rattle.core_laws.specs.BenchMoves.{IsReachedBench}
 use Rattle.core_laws.proofs.BenchMoves.{begun_at, begun_or, calling_may, unreclaimed_shut}
 use Rattle.core_laws.proofs.KeptActs.{calls_sendable}
 use Rattle.act_laws.specs.Deeds.{act_deeds}
-use Rattle.act_laws.proofs.ActLands.{FitSends, IsLevel, LandsAt, MayAct, MayGo, act_lands}
+use Rattle.act_laws.proofs.ActLands.{FitSends, LandsAt, MayAct, MayGo, act_lands}
 
 -- ---- what a reached bench allows
 
 go_at : (bench : BenchState) (caller : ℕ) (found : Option BegunCall) → begun_of bench caller ≡ found → IsReachedBench bench → is_in_call bench caller ≡ true → MayGo bench caller found
 go_at bench caller (Some call) is reached in_call = reached.fit caller call (begun_at (slice_get bench.begun caller) call is)
-go_at bench caller None none reached in_call = calling_may bench.link caller (begun_or (begun_of bench caller) (is_calling bench.link caller) none in_call)
+go_at bench caller None none reached in_call = calling_may (link_in bench) caller (begun_or (begun_of bench caller) (is_calling (link_in bench) caller) none in_call)
 
 pub may_act : (bench : BenchState) → IsReachedBench bench → MayAct bench
 may_act bench reached = record {
   go = λ caller in_call. go_at bench caller (begun_of bench caller) refl reached in_call;
-  shut = λ caller none. unreclaimed_shut bench.link caller none;
+  shut = λ caller none. unreclaimed_shut (link_in bench) caller none;
 }
 
 pub sends_fit : (asked : LinkAct (List ℕ)) → IsFitAct asked → FitSends asked
@@ -33,6 +33,6 @@ sends_fit (act.Pump sender receiver count) fit = λ number. (calls_sendable (act
 sends_fit (act.Reclaim caller) fit = tt
 
 -- the deeds of an act on a reached bench
-pub deeds_land : {W : Type 0} (sees : Seeing W) (own : ℕ) (bench : BenchState) (watcher : W) (steps : ℕ) (asked : LinkAct (List ℕ)) → IsFitAct asked → IsReachedBench bench → IsLevel bench
+pub deeds_land : {W : Type 0} (sees : Seeing W) (own : ℕ) (bench : BenchState) (watcher : W) (steps : ℕ) (asked : LinkAct (List ℕ)) → IsFitAct asked → IsReachedBench bench
     → LandsAt bench (act_deeds sees own bench watcher steps asked) (link_act sees own bench watcher steps asked).bench
-deeds_land sees own bench watcher steps asked fit reached level = act_lands sees bench watcher steps level (may_act bench reached) own asked (sends_fit asked fit)
+deeds_land sees own bench watcher steps asked fit reached = act_lands sees bench watcher steps (may_act bench reached) own asked (sends_fit asked fit)

@@ -15,11 +15,11 @@ use Rattle.lane_laws.proofs.Told.{way_told}
 use Rattle.lane_laws.proofs.WayFacts.{shut_begins, shut_hands_none, shut_most, told_due, told_once}
 use Rattle.channel_bus.specs.Laws.{side_laws}
 use Rattle.channel_bus.specs.Sides.{EndState, side_meaning}
-use Rattle.link_bench.specs.Benches.{BenchState, RingsState}
+use Rattle.link_bench.specs.Benches.{BenchState, RingsState, link_in}
 use Rattle.act_laws.specs.Accounts.{Account, IsAccount, IsLate, new_account, with_deeds}
 use Rattle.act_laws.specs.Deeds.{Deeds}
-use Rattle.act_laws.proofs.ActLands.{IsLevel, LandsAt}
-use Rattle.act_laws.proofs.Lands.{lands_same, link_both, may_both, takes_both, whole_both}
+use Rattle.act_laws.proofs.ActLands.{LandsAt}
+use Rattle.act_laws.proofs.Lands.{lands_lists, link_both, may_both, takes_both, whole_both}
 
 -- a closed link, by the way up to when it was closed
 record ClosedSince (end : End) (account : Account) : Type 0 where
@@ -30,20 +30,18 @@ record ClosedSince (end : End) (account : Account) : Type 0 where
   pub closed : (link_of_way side_meaning until).era.is_live ≡ false
   pub told : account.told ≡ way_takes side_meaning until end ++ account.late
 
--- the account of the link of a bench, whose lists are those that its rings stand for
+-- the account of the link of a bench
 pub record IsTale (end : End) (bench : BenchState) (account : Account) : Type 0 where
-  pub level : IsLevel bench
   pub way : IsWay side_meaning account.way
-  pub leads : link_of_way side_meaning account.way ≡ bench.link
+  pub leads : link_of_way side_meaning account.way ≡ link_in bench
   pub told : account.told ≡ way_takes side_meaning account.way end
-  none_late : bench.link.era.is_live ≡ true → account.late ≡ []
-  late : bench.link.era.is_live ≡ false → ClosedSince end account
+  none_late : (link_in bench).era.is_live ≡ true → account.late ≡ []
+  late : (link_in bench).era.is_live ≡ false → ClosedSince end account
 
 -- ---- a new account
 
-pub new_tale : (end : End) (bench : BenchState) → IsLevel bench → IsOpened side_meaning bench.link → bench.link.era.is_live ≡ true → IsTale end bench (new_account bench.link)
-new_tale end bench level opened live = record {
-  level = level;
+pub new_tale : (end : End) (bench : BenchState) → IsOpened side_meaning (link_in bench) → (link_in bench).era.is_live ≡ true → IsTale end bench (new_account (link_in bench))
+new_tale end bench opened live = record {
   way = record { opened = opened; whole = tt; may = tt };
   leads = refl;
   told = refl;
@@ -59,7 +57,10 @@ stays_shut link (move ∷ moves) shut = stays_shut (link_after_move side_meaning
 
 module _ (end : End) (bench : BenchState) (account : Account) (tale : IsTale end bench account) (deeds : Deeds) (left : BenchState) (lands : LandsAt bench deeds left) where
   abbrev on : Account
-  on = with_deeds end bench.link.era.is_live account deeds
+  on = with_deeds end (link_in bench).era.is_live account deeds
+
+  lists : link_after_moves side_meaning (link_in bench) deeds.moves ≡ link_in left
+  lists = lands_lists bench.rings deeds left.rings lands
 
   may_on : MayMoves side_meaning (link_of_way side_meaning account.way) deeds.moves
   may_on = subst (λ (l : LinkState EndState). MayMoves side_meaning l deeds.moves) (sym tale.leads) lands.may
@@ -71,8 +72,8 @@ module _ (end : End) (bench : BenchState) (account : Account) (tale : IsTale end
     may = may_both account.way.start account.way.moves deeds.moves tale.way.may may_on;
   }
 
-  leads_on : link_of_way side_meaning on.way ≡ left.link
-  leads_on = link_both account.way.start account.way.moves deeds.moves ∙ ap (λ (l : LinkState EndState). link_after_moves side_meaning l deeds.moves) tale.leads ∙ lands.leads
+  leads_on : link_of_way side_meaning on.way ≡ link_in left
+  leads_on = link_both account.way.start account.way.moves deeds.moves ∙ ap (λ (l : LinkState EndState). link_after_moves side_meaning l deeds.moves) tale.leads ∙ lists
 
   takes_on : moves_takes side_meaning (link_of_way side_meaning account.way) deeds.moves end ≡ deeds.takes end
   takes_on = ap (λ (l : LinkState EndState). moves_takes side_meaning l deeds.moves end) tale.leads ∙ lands.takes end
@@ -84,7 +85,7 @@ module _ (end : End) (bench : BenchState) (account : Account) (tale : IsTale end
       ∙ sym (takes_both account.way.start account.way.moves deeds.moves end)
 
   -- where the link was live, what was told once it was closed is nothing yet
-  live_late : (now : Account) → now.way ≡ on.way → now.told ≡ on.told → now.late ≡ [] → left.link.era.is_live ≡ false → ClosedSince end now
+  live_late : (now : Account) → now.way ≡ on.way → now.told ≡ on.told → now.late ≡ [] → (link_in left).era.is_live ≡ false → ClosedSince end now
   live_late now same told none shut = record {
     until = on.way;
     since = [];
@@ -106,25 +107,24 @@ module _ (end : End) (bench : BenchState) (account : Account) (tale : IsTale end
         ∙ ap (λ (l : List Handing). way_takes side_meaning was.until end ++ l) (sym late);
   }
 
-  shut_left : bench.link.era.is_live ≡ false → left.link.era.is_live ≡ false
-  shut_left shut = ap (λ (l : LinkState EndState). l.era.is_live) (sym lands.leads) ∙ stays_shut bench.link deeds.moves shut
+  shut_left : (link_in bench).era.is_live ≡ false → (link_in left).era.is_live ≡ false
+  shut_left shut = ap (λ (l : LinkState EndState). l.era.is_live) (sym lists) ∙ stays_shut (link_in bench) deeds.moves shut
 
-  none_late_on : (was : Bool) → bench.link.era.is_live ≡ was → left.link.era.is_live ≡ true → cond was [] (account.late ++ deeds.takes end) ≡ []
+  none_late_on : (was : Bool) → (link_in bench).era.is_live ≡ was → (link_in left).era.is_live ≡ true → cond was [] (account.late ++ deeds.takes end) ≡ []
   none_late_on true is live = refl
   none_late_on false is live = absurd (true≢false (sym live ∙ shut_left is))
 
-  late_on : (was : Bool) → bench.link.era.is_live ≡ was → left.link.era.is_live ≡ false → ClosedSince end (with_deeds end was account deeds)
+  late_on : (was : Bool) → (link_in bench).era.is_live ≡ was → (link_in left).era.is_live ≡ false → ClosedSince end (with_deeds end was account deeds)
   late_on true is shut = live_late (with_deeds end true account deeds) refl refl refl shut
   late_on false is shut = shut_late (with_deeds end false account deeds) refl refl refl (tale.late is)
 
   pub deeds_kept : IsTale end left on
   deeds_kept = record {
-    level = lands_same bench.link bench.rings deeds left.link left.rings lands tale.level;
     way = way_kept;
     leads = leads_on;
     told = told_on;
-    none_late = none_late_on bench.link.era.is_live refl;
-    late = late_on bench.link.era.is_live refl;
+    none_late = none_late_on (link_in bench).era.is_live refl;
+    late = late_on (link_in bench).era.is_live refl;
   }
 
 -- ---- rings
@@ -134,14 +134,13 @@ pub record IsSoundTale (end : End) (bench : BenchState) (account : Account) : Ty
   pub tale : IsTale end bench account
   pub sound : HasSoundRings bench.rings
 
-pub rings_kept : (bench : BenchState) (deeds : Deeds) (left : BenchState) → LandsAt bench deeds left → IsLevel bench → HasSoundRings bench.rings → HasSoundRings left.rings
-rings_kept bench deeds left lands level sound =
-    subst (λ (r : RingsState). HasSoundRings r) lands.leads_rings
-    (moves_kept side_meaning bench.rings deeds.moves lands.whole sound (subst (λ (l : LinkState EndState). MayMoves side_meaning l deeds.moves) (sym level) lands.may))
+pub rings_kept : (bench : BenchState) (deeds : Deeds) (left : BenchState) → LandsAt bench deeds left → HasSoundRings bench.rings → HasSoundRings left.rings
+rings_kept bench deeds left lands sound =
+    subst (λ (r : RingsState). HasSoundRings r) lands.leads (moves_kept side_meaning bench.rings deeds.moves lands.whole sound lands.may)
 
 pub sound_kept : (end : End) (bench : BenchState) (account : Account) → IsSoundTale end bench account → (deeds : Deeds) (left : BenchState) → LandsAt bench deeds left
-    → IsSoundTale end left (with_deeds end bench.link.era.is_live account deeds)
-sound_kept end bench account is deeds left lands = record { tale = deeds_kept end bench account is.tale deeds left lands; sound = rings_kept bench deeds left lands is.tale.level is.sound }
+    → IsSoundTale end left (with_deeds end (link_in bench).era.is_live account deeds)
+sound_kept end bench account is deeds left lands = record { tale = deeds_kept end bench account is.tale deeds left lands; sound = rings_kept bench deeds left lands is.sound }
 
 -- ---- what the account says
 
@@ -164,16 +163,16 @@ module _ (end : End) (bench : BenchState) (account : Account) (tale : IsTale end
         one = omega (arith, most, lengths);
       }
 
-  pub account_is : IsAccount end bench.link account
+  pub account_is : IsAccount end (link_in bench) account
   account_is = record {
     way = tale.way;
     leads = tale.leads;
     told = subst (IsTold end (history side_meaning account.way)) (sym tale.told) (way_told side_meaning account.way end tale.way);
-    once = subst (λ (l : List Handing). IsPrefix (messages_of l) (with_numbers 0 (handed_front (lane_to bench.link end).lane))) (sym tale.told)
+    once = subst (λ (l : List Handing). IsPrefix (messages_of l) (with_numbers 0 (handed_front (lane_to (link_in bench) end).lane))) (sym tale.told)
         (subst (λ (link : LinkState EndState). IsPrefix (messages_of (way_takes side_meaning account.way end)) (with_numbers 0 (handed_front (lane_to link end).lane))) tale.leads
         (told_once side_meaning side_laws account.way tale.way end));
     due = λ bound sender was.
-        subst (λ (l : List Handing). IsPrefix (got bound.endpoint sender l) (due side_meaning (lane_to bench.link end).desk bound sender (lane_to bench.link end).lane.accepted)) (sym tale.told)
+        subst (λ (l : List Handing). IsPrefix (got bound.endpoint sender l) (due side_meaning (lane_to (link_in bench) end).desk bound sender (lane_to (link_in bench) end).lane.accepted)) (sym tale.told)
         (subst (λ (link : LinkState EndState). IsPrefix (got bound.endpoint sender (way_takes side_meaning account.way end)) (due side_meaning (lane_to link end).desk bound sender (lane_to link end).lane.accepted)) tale.leads
         (told_due side_meaning side_laws account.way tale.way end bound was sender));
     none_late = tale.none_late;

@@ -10,7 +10,7 @@ use Rattle.lane_model.specs.Recoveries.{unreclaimed_by}
 use Rattle.lane_laws.specs.Moves.{Close, Enlist, Reclaim}
 use Rattle.link_bench.specs.BenchCrashes.{after_close}
 use Rattle.link_bench.specs.BenchEnds.{is_first, is_remote, without_one, without_other}
-use Rattle.link_bench.specs.Benches.{BenchState, begin_fault, begun_of, is_in_call, start_walk}
+use Rattle.link_bench.specs.Benches.{BenchState, begin_fault, begun_of, is_in_call, link_in, start_walk}
 use Rattle.core_actors.specs.declared.actors.Actor.{Actor}
 use Rattle.core_actors.specs.declared.actors.Actor.TheVariants as actor
 use Rattle.crash_recover.specs.declared.core_answers.Crash.{Crash}
@@ -28,7 +28,7 @@ use Rattle.act_laws.specs.Deeds.{Deeds, advance_deeds, call_moves, deeds_then, n
 -- a reclaim, and a new caller at the end of the one that is gone
 abbrev pub remote_deeds : BenchState → ℕ → Deeds
 remote_deeds bench caller =
-    if is_remote (end_of bench.link.callers caller)
+    if is_remote (end_of (link_in bench).callers caller)
     then (if caller == 1 then deeds_then (one_move (Reclaim caller)) (one_move (Enlist side.Remote)) else one_move (Reclaim caller)) else no_deeds
 
 abbrev pub one_remote : BenchState → Option ℕ → Deeds
@@ -46,8 +46,8 @@ others_deeds first bench from (suc count) = deeds_then (other_deeds first bench 
 -- a crash of the remote end: the close, and the end of each of its callers
 abbrev pub crash_deeds : BenchState → Deeds
 crash_deeds bench =
-    let first = holder (after_close bench).link.to_remote.receiver in
-    deeds_then (one_move (Close bench.link.era.inc))
+    let first = holder (link_in (after_close bench)).to_remote.receiver in
+    deeds_then (one_move (Close (link_in bench).era.inc))
     (deeds_then (one_remote (after_close bench) first) (others_deeds first (without_one (after_close bench) first) 0 64))
 
 -- a report of a crash on the link of a core, which crashes it or doesn't
@@ -66,7 +66,7 @@ renewed_deeds None = deeds_then (one_move (Reclaim 0)) (one_move (Enlist side.Ho
 renewed_deeds (Some why) = no_deeds
 
 abbrev pub ready_deeds : BenchState → Deeds
-ready_deeds bench = renewed_deeds (unreclaimed_by bench.link 0)
+ready_deeds bench = renewed_deeds (unreclaimed_by (link_in bench) 0)
 
 -- ---- steps of the actors
 
@@ -74,7 +74,7 @@ ready_deeds bench = renewed_deeds (unreclaimed_by bench.link 0)
 abbrev pub begun_deeds : BenchState → ℕ → Wish → Deeds
 begun_deeds bench caller wanted =
     if is_some (begin_fault bench caller wanted) then no_deeds
-    else walk_deeds caller (start_walk bench 0 caller wanted) (call_moves ((start_walk bench 0 caller wanted).steps - 0) caller bench.link.era.inc wanted)
+    else walk_deeds caller (start_walk bench 0 caller wanted) (call_moves ((start_walk bench 0 caller wanted).steps - 0) caller (link_in bench).era.inc wanted)
 
 -- a step on the link: a call under way goes on by one step, else one begins
 abbrev pub link_deeds : BenchState → ℕ → Wish → Deeds

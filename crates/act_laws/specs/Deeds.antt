@@ -20,7 +20,7 @@ use Rattle.link_bench.specs.declared.benches.Reach.{Reach}
 use Rattle.link_bench.specs.declared.benches.Reach.TheVariants as reach
 use Rattle.link_bench.specs.declared.turns.TurnEnd.{TurnEnd}
 use Rattle.link_bench.specs.Acts.{misfit, own_in, pump_refusal, wish_of}
-use Rattle.link_bench.specs.Benches.{BenchState, BenchWalk, advance_steps, begin_fault, begun_of, call_walk, ready_fault, step_fault}
+use Rattle.link_bench.specs.Benches.{BenchState, BenchWalk, advance_steps, begin_fault, begun_of, call_walk, link_in, ready_fault, step_fault}
 use Rattle.link_bench.specs.Turns.{is_whole, one_turn, turn_call, turn_message}
 use Rattle.link_bench.specs.Watchers.{Seeing}
 
@@ -56,13 +56,13 @@ reach_takes link caller reach.Limit end = []
 
 -- these moves, and what a call tells that came so far
 abbrev pub walk_deeds : ℕ → BenchWalk → List Move → Deeds
-walk_deeds caller walk moves = record { moves = moves; takes = reach_takes walk.bench.link caller walk.reach }
+walk_deeds caller walk moves = record { moves = moves; takes = reach_takes (link_in walk.bench) caller walk.reach }
 
 -- a whole call: as many steps as the run counts for it
 abbrev pub whole_deeds : BenchState → ℕ → ℕ → Wish → Deeds
 whole_deeds bench steps caller wanted =
     let walk = call_walk bench steps caller wanted in
-    walk_deeds caller walk (call_moves (walk.steps - steps) caller bench.link.era.inc wanted)
+    walk_deeds caller walk (call_moves (walk.steps - steps) caller (link_in bench).era.inc wanted)
 
 -- steps of the call that a caller is in, from its first step or from where it stands
 abbrev pub advance_deeds : BenchState → ℕ → ℕ → ℕ → Option BegunCall → Deeds
@@ -125,14 +125,14 @@ reclaim_deeds caller None why = no_deeds
 
 -- an act of callers that are no actor's own
 abbrev pub free_deeds : {W : Type 0} → Seeing W → BenchState → W → ℕ → LinkAct (List ℕ) → Deeds
-free_deeds sees bench watcher steps (act.Caller end) = caller_deeds end (free_number bench.link.callers)
+free_deeds sees bench watcher steps (act.Caller end) = caller_deeds end (free_number (link_in bench).callers)
 free_deeds sees bench watcher steps (act.Call caller made wanted) =
     unless_told (ready_fault bench caller) (unless_told (misfit bench caller wanted) (made_deeds bench steps caller made (wish_of wanted)))
 free_deeds sees bench watcher steps (act.Step caller more) =
     unless_told (step_fault bench caller) (advance_deeds bench more steps caller (begun_of bench caller))
 free_deeds sees bench watcher steps (act.Pump sender receiver count) =
     unless_told (pump_refusal bench sender receiver) (pump_deeds sees count 0 sender receiver bench watcher steps)
-free_deeds sees bench watcher steps (act.Reclaim caller) = reclaim_deeds caller (end_of bench.link.callers caller) (unreclaimed_by bench.link caller)
+free_deeds sees bench watcher steps (act.Reclaim caller) = reclaim_deeds caller (end_of (link_in bench).callers caller) (unreclaimed_by (link_in bench) caller)
 
 -- an act on a link with so many own callers, for whom nothing is done
 unfoldable pub act_deeds : {W : Type 0} → Seeing W → ℕ → BenchState → W → ℕ → LinkAct (List ℕ) → Deeds

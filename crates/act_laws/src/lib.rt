@@ -3,4 +3,4 @@
 
 mod acts;
 
-pub use acts::{acts_do, cores_do};
+pub use acts::{acts_do, cores_do, lists_alone};

@@ -4,7 +4,7 @@ use Rattle.lane_model.specs.Lanes.{holder}
 use Rattle.name_service.specs.declared.channels.Channel.{Channel}
 use Rattle.journal.specs.declared.events.Event.{Event}
 use Rattle.journal.specs.declared.events.Event.TheVariants as event
-use Rattle.link_bench.specs.Benches.{BenchState}
+use Rattle.link_bench.specs.Benches.{BenchState, link_in}
 
 -- a channel, with the endpoint that was bound for it
 abbrev pub channel_event : List ℕ → Channel → Event
@@ -13,8 +13,8 @@ channel_event name channel = event.Channel name channel.name channel.address cha
 -- the channels of the host end, where no caller has the turn behind which they stand
 abbrev pub listed_channels : List ℕ → BenchState → Option ℕ → List Event
 listed_channels name bench (Some caller) = event.StillTurn name caller ∷ []
-listed_channels name bench None = map (channel_event name) bench.link.to_host.desk.channels
+listed_channels name bench None = map (channel_event name) (link_in bench).to_host.desk.channels
 
 -- `channels X`
 unfoldable pub channels_events : List ℕ → BenchState → List Event
-channels_events name bench = listed_channels name bench (holder bench.link.to_host.receiver)
+channels_events name bench = listed_channels name bench (holder (link_in bench).to_host.receiver)

@@ -10,7 +10,7 @@ use Rattle.remote_code.specs.Faults.{fault_number}
 use Rattle.proc_state.specs.Lives.{is_up}
 use Rattle.journal.specs.declared.events.Event.{Event}
 use Rattle.journal.specs.declared.events.Event.TheVariants as event
-use Rattle.link_bench.specs.Benches.{BenchState}
+use Rattle.link_bench.specs.Benches.{BenchState, link_in}
 use Rattle.crash_recover.specs.Cores.{CoreState}
 use Rattle.core_actors.specs.declared.progress.Driven.{Driven}
 use Rattle.core_actors.specs.declared.progress.Driven.TheVariants as driven
@@ -22,12 +22,12 @@ use Rattle.command_run.specs.CoreLives.{core_stops}
 -- a crash: the link was closed, where there is one
 abbrev pub crash_events : List ℕ → CrashKind → Option BenchState → List Event
 crash_events name kind None = event.Crashed name kind ∷ []
-crash_events name kind (Some bench) = event.Closed name bench.link.era.inc ∷ event.Crashed name kind ∷ []
+crash_events name kind (Some bench) = event.Closed name (link_in bench).era.inc ∷ event.Crashed name kind ∷ []
 
 -- the end of a call of an actor on this link
 abbrev pub actor_end_events : List ℕ → ℕ → CallEnd → Option BenchState → List Event
 actor_end_events name caller end None = []
-actor_end_events name caller end (Some bench) = end_event name bench.link caller end ∷ []
+actor_end_events name caller end (Some bench) = end_event name (link_in bench) caller end ∷ []
 
 -- what a step of the actors tells, by what it was and the link that it left; the ends of calls are not told by a drive that is quiet
 abbrev pub driven_events : List ℕ → Bool → Option BenchState → Driven → List Event

@@ -3,7 +3,7 @@ use Rattle.std.specs.Prelude.{ℕ, List, Option, Some, None}
 use Rattle.std.specs.Option.{option_and_then}
 use Rattle.journal.specs.declared.events.Event.TheVariants as event
 use Rattle.link_bench.specs.declared.acts.LinkAct.{LinkAct}
-use Rattle.link_bench.specs.Benches.{BenchState}
+use Rattle.link_bench.specs.Benches.{BenchState, link_in}
 use Rattle.link_bench.specs.BenchRings.{turn_holder}
 use Rattle.crash_recover.specs.CoreActs.{act_on_core, acted_core}
 use Rattle.crash_recover.specs.CoreRings.{core_ring}
@@ -20,11 +20,11 @@ unfoldable pub core_link_effect : List ℕ → CoreState → ℕ → LinkAct (Li
 core_link_effect name core steps act None = core_tells core steps (event.NoLink name)
 core_link_effect name core steps act (Some bench) =
     let acted = act_on_core core bench steps act in
-    record { core = acted_core core acted; steps = acted.steps; events = answer_events name acted.bench.link acted.answer; ending = answer_ending acted.answer }
+    record { core = acted_core core acted; steps = acted.steps; events = answer_events name (link_in acted.bench) acted.answer; ending = answer_ending acted.answer }
 
 -- who has the first turn of a core's link that is out
 abbrev pub core_turn_holder : CoreState → Option ℕ
-core_turn_holder core = option_and_then (λ (bench : BenchState). turn_holder bench.link) core.bench
+core_turn_holder core = option_and_then (λ (bench : BenchState). turn_holder (link_in bench)) core.bench
 
 -- the bytes of a ring that a core has or not
 abbrev pub found_ring_effect : List ℕ → CoreState → ℕ → ℕ → Option (List ℕ) → CoreEffect

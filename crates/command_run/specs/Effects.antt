@@ -11,7 +11,7 @@ use Rattle.link_bench.specs.declared.turns.TurnEnd.{TurnEnd}
 use Rattle.link_bench.specs.declared.turns.TurnEnd.TheVariants as turn_end
 use Rattle.lane_model.specs.Links.{LinkState}
 use Rattle.channel_bus.specs.Sides.{EndState}
-use Rattle.link_bench.specs.Benches.{BenchState}
+use Rattle.link_bench.specs.Benches.{BenchState, link_in}
 use Rattle.link_bench.specs.Acts.{link_act}
 use Rattle.link_bench.specs.Watchers.{nobody_sees}
 use Rattle.journal.specs.declared.events.Event.{Event}
@@ -83,4 +83,4 @@ answer_ending other = None
 abbrev pub act_effect : List ℕ → BenchState → ℕ → LinkAct (List ℕ) → Effect
 act_effect name bench steps act =
     let acted = link_act nobody_sees 0 bench tt steps act in
-    record { bench = acted.bench; steps = acted.steps; events = answer_events name acted.bench.link acted.answer; ending = answer_ending acted.answer }
+    record { bench = acted.bench; steps = acted.steps; events = answer_events name (link_in acted.bench) acted.answer; ending = answer_ending acted.answer }

@@ -4,7 +4,7 @@ use Rattle.lane_model.specs.declared.states.LaneState.{LaneState}
 use Rattle.channel_bus.specs.Sides.{EndState}
 use Rattle.journal.specs.declared.events.Event.{Event}
 use Rattle.journal.specs.declared.events.Event.TheVariants as event
-use Rattle.link_bench.specs.Benches.{BenchState}
+use Rattle.link_bench.specs.Benches.{BenchState, link_in}
 use Rattle.command_run.specs.declared.acts.LinkView.{LinkView}
 use Rattle.command_run.specs.declared.acts.LinkView.TheVariants as view
 use Rattle.command_run.specs.declared.acts.ManagerAct.{ManagerAct}
@@ -24,7 +24,7 @@ lane_event name number state =
 
 -- what a link shows
 unfoldable pub view_events : List ℕ → BenchState → LinkView → List Event
-view_events name bench view.Books = lane_event name 0 bench.link.to_host ∷ lane_event name 1 bench.link.to_remote ∷ []
+view_events name bench view.Books = lane_event name 0 (link_in bench).to_host ∷ lane_event name 1 (link_in bench).to_remote ∷ []
 view_events name bench (view.Ring lane) = bench_ring_events name bench lane
 view_events name bench view.Channels = channels_events name bench
 

@@ -8,7 +8,7 @@ use Rattle.lane_model.specs.Recoveries.{unclosed_by, unopened_by}
 use Rattle.journal.specs.declared.events.Event.{Event}
 use Rattle.journal.specs.declared.events.Event.TheVariants as event
 use Rattle.command_run.specs.declared.stops.Stop.TheVariants as stop
-use Rattle.link_bench.specs.Benches.{BenchState}
+use Rattle.link_bench.specs.Benches.{BenchState, link_in}
 use Rattle.link_bench.specs.BenchCrashes.{after_close, after_reopen}
 use Rattle.command_run.specs.Effects.{Effect, tells, tells_all}
 
@@ -21,7 +21,7 @@ close_event name era (Some found) = event.Already name found
 unfoldable pub close_effect : List ℕ → BenchState → ℕ → Effect
 close_effect name bench steps =
     if steps == STEPS_MOST then record { bench = bench; steps = steps; events = []; ending = Some stop.StepLimit }
-    else tells (after_close bench) (steps + 1) (close_event name bench.link.era (unclosed_by bench.link.era bench.link.era.inc))
+    else tells (after_close bench) (steps + 1) (close_event name (link_in bench).era (unclosed_by (link_in bench).era (link_in bench).era.inc))
 
 -- why a link isn't opened again (want of memory isn't the link's refusal, and ends the run)
 abbrev pub reopen_events : List ℕ → ReopenFault → List Event
@@ -33,9 +33,9 @@ reopen_events name reopen_fault.NoMemory = []
 
 -- a link that nothing keeps from its next incarnation, or something
 abbrev pub opened_effect : List ℕ → BenchState → ℕ → Option ReopenFault → Effect
-opened_effect name bench steps None = tells (after_reopen bench) steps (event.Open name (bench.link.era.inc + 1))
+opened_effect name bench steps None = tells (after_reopen bench) steps (event.Open name ((link_in bench).era.inc + 1))
 opened_effect name bench steps (Some why) = tells_all bench steps (reopen_events name why)
 
 -- `reopen X`: no step
 unfoldable pub reopen_effect : List ℕ → BenchState → ℕ → Effect
-reopen_effect name bench steps = opened_effect name bench steps (unopened_by bench.link)
+reopen_effect name bench steps = opened_effect name bench steps (unopened_by (link_in bench))

@@ -3,7 +3,7 @@ use Rattle.std.specs.Prelude.{ℕ, zero, suc, ◌+◌, ◌/◌, ◌==◌, List, 
 use Rattle.std.specs.List.{list_all}
 use Rattle.journal.specs.declared.events.Event.{Event}
 use Rattle.journal.specs.declared.events.Event.TheVariants as event
-use Rattle.link_bench.specs.Benches.{BenchState}
+use Rattle.link_bench.specs.Benches.{BenchState, link_in}
 use Rattle.link_bench.specs.BenchRings.{lane_bytes, turn_holder}
 
 -- sixteen bytes, or what is left of the last, unless all are zero
@@ -30,4 +30,4 @@ shown_ring name bench lane None = ring_events name lane (lane_bytes bench.rings 
 
 -- `ring X LANE`
 unfoldable pub bench_ring_events : List ℕ → BenchState → ℕ → List Event
-bench_ring_events name bench lane = shown_ring name bench lane (turn_holder bench.link)
+bench_ring_events name bench lane = shown_ring name bench lane (turn_holder (link_in bench))

@@ -3,6 +3,7 @@ ghost use Rattle.journal.specs.Lines.{transcript};
 ghost use Rattle.journal.specs.declared.events.Event.TheVariants as event;
 ghost use Rattle.command_run.specs.CallEvents.{reach_events};
 ghost use Rattle.command_run.specs.Effects.{answer_ending, answer_events, limit_stop, reclaim_event, turn_ending, turn_events};
+ghost use Rattle.link_bench.specs.Benches.{link_in};
 
 use crate::call_events::{end_event, fault_event};
 use crate::logs::RunLog;
@@ -19,7 +20,7 @@ pub(crate) fn tell_answer(
     answer: ActAnswer,
     log: &mut RunLog,
 ) -> Result<Option<Stop>, NoMemory>
-    ensures told { OnOk result (log.new ≡ record log.old { lines = log.old.lines ++ transcript (answer_events name bench.now.link answer) }) }
+    ensures told { OnOk result (log.new ≡ record log.old { lines = log.old.lines ++ transcript (answer_events name (link_in bench.now) answer) }) }
     ensures ending { IfOk result (λ ending. ending ≡ answer_ending answer) }
 {
     match answer {
@@ -78,7 +79,7 @@ fn tell_reach(
     reach: Reach,
     log: &mut RunLog,
 ) -> Result<Option<Stop>, NoMemory>
-    ensures told { OnOk result (log.new ≡ record log.old { lines = log.old.lines ++ transcript (reach_events name bench.now.link caller reach) }) }
+    ensures told { OnOk result (log.new ≡ record log.old { lines = log.old.lines ++ transcript (reach_events name (link_in bench.now) caller reach) }) }
     ensures ending { IfOk result (λ ending. ending ≡ limit_stop reach) }
 {
     match reach {
@@ -106,7 +107,7 @@ fn tell_turns(
     ended: TurnEnd,
     log: &mut RunLog,
 ) -> Result<Option<Stop>, NoMemory>
-    ensures told { OnOk result (log.new ≡ record log.old { lines = log.old.lines ++ transcript (turn_events name bench.now.link done ended) }) }
+    ensures told { OnOk result (log.new ≡ record log.old { lines = log.old.lines ++ transcript (turn_events name (link_in bench.now) done ended) }) }
     ensures ending { IfOk result (λ ending. ending ≡ turn_ending ended) }
 {
     match ended {

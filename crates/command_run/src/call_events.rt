@@ -1,5 +1,6 @@
 ghost use Rattle.std.specs.Prelude.{◌≡◌, IfOk};
 ghost use Rattle.command_run.specs.CallEvents.{end_event, fault_event, refused_event, took_event};
+ghost use Rattle.link_bench.specs.Benches.{link_in};
 
 use crash_recover::{Bench, BenchFault};
 use journal::Event;
@@ -41,7 +42,7 @@ pub(crate) fn end_event(
     caller: CallerNo,
     end: CallEnd,
 ) -> Result<Event, NoMemory>
-    ensures { IfOk result (λ event. event ≡ end_event name bench.now.link caller end) }
+    ensures { IfOk result (λ event. event ≡ end_event name (link_in bench.now) caller end) }
 {
     let number = u64::from(caller);
     Ok(match end {

@@ -14,7 +14,7 @@ use Rattle.lane_model.specs.declared.calls.CallEnd.TheVariants as ended
 use Rattle.lane_model.specs.Links.{end_of}
 use Rattle.host_driver.specs.Drivers.{DriversState, created_answer, after_created, delivered_answer, after_delivered, after_destroyed}
 use Rattle.remote_core.specs.Workers.{WorkerState, after_take}
-use Rattle.link_bench.specs.Benches.{BenchState, taken_on}
+use Rattle.link_bench.specs.Benches.{BenchState, link_in, taken_on}
 use Rattle.core_actors.specs.Actors.{ActorsState}
 
 -- ---- the drivers
@@ -92,7 +92,7 @@ number_taken end = None
 -- the message of the number that a caller was handed, or no byte
 abbrev pub message_numbered : BenchState → ℕ → Option ℕ → List ℕ
 message_numbered bench caller None = []
-message_numbered bench caller (Some number) = taken_on bench.link (end_of bench.link.callers caller) number
+message_numbered bench caller (Some number) = taken_on (link_in bench) (end_of (link_in bench).callers caller) number
 
 -- the message that a caller was handed by a call that ended so, or no byte
 abbrev pub message_of : BenchState → ℕ → CallEnd → List ℕ
@@ -142,4 +142,4 @@ actors_at_end (Some side.Remote) message end actors = actors
 
 -- the same of a caller of a link, which is what the actors see of it
 abbrev pub actors_after_end : BenchState → ℕ → CallEnd → ActorsState → ActorsState
-actors_after_end bench caller end actors = actors_at_end (end_of bench.link.callers caller) (message_of bench caller end) end actors
+actors_after_end bench caller end actors = actors_at_end (end_of (link_in bench).callers caller) (message_of bench caller end) end actors

@@ -1,5 +1,5 @@
 -- What the calls of a bench leave of its link is reached where it was.
-use Rattle.std.proofs.Common.{◌≡◌, ℕ, ◌+◌, eqb, cond, Bool, true, false, ◌||◌, Option, Some, None, is_some, option_and_then, slice_get, refl, sym, ap}
+use Rattle.std.proofs.Common.{◌≡◌, ℕ, ◌+◌, eqb, cond, Bool, true, false, ◌||◌, Option, Some, None, is_some, option_and_then, slice_get, slice_set, refl, sym, ap, subst}
 use Rattle.std.specs.Option.{option_map_or}
 use Rattle.std.proofs.lemmas.Bool.{cond_both, true≢false}
 use Rattle.rp_base.specs.declared.kinds.End.{End}
@@ -19,10 +19,11 @@ use Rattle.channel_bus.specs.Sides.{EndState, side_meaning}
 use Rattle.channel_bus.specs.Laws.{side_laws}
 use Rattle.link_bench.specs.declared.benches.BegunCall.{BegunCall}
 use Rattle.link_bench.specs.declared.benches.Reach.TheVariants as reach
-use Rattle.link_bench.specs.Benches.{BenchState, BenchWalk, IsSendable, RingsState, advance_steps, advance_walk, begin_fault, begun_of, bench_walk, call_rings, call_steps, call_walk, is_in_call, later_steps, new_bench_of, ready_fault, start_walk, wish_fault, with_begun, with_new_caller}
+use Rattle.link_bench.specs.Benches.{AreFitCalls, BenchState, BenchWalk, IsSendable, RingsState, advance_steps, advance_walk, begin_fault, begin_walk, begun_of, bench_walk, call_steps, is_in_call, link_in, lists_of, new_bench_of, on_rings, ready_fault, wish_fault, with_begun, with_new_caller}
 use Rattle.link_bench.specs.BenchCrashes.{after_close, after_reclaim, after_reopen, left_by_reclaim, reclaim_leaves}
-use Rattle.core_laws.specs.BenchMoves.{IsReachedBench}
+use Rattle.core_laws.specs.BenchMoves.{ComesBy, IsReachedBench}
 use Rattle.link_bench.proofs.Begun.{begin_may, fit_after, fit_cleared, fit_put, neither_fault, none_begun, none_in_none}
+use Rattle.link_bench.proofs.Lists.{close_lists, reclaim_lists}
 use Rattle.link_bench.proofs.BenchMay.{fit_closed, fit_reclaimed, fit_reopened}
 use Rattle.core_laws.proofs.LinkMoves.{comes_move, comes_none, reached_by}
 use Rattle.core_laws.proofs.ShortMoves.{short_lane}
@@ -39,10 +40,10 @@ new_reached config host remote fresh_host fresh_remote =
     }
 
 -- a new caller
-pub enlisted : (bench : BenchState) (end : End) → IsReachedBench bench → IsReachedBench (with_new_caller bench end (free_number bench.link.callers))
+pub enlisted : (bench : BenchState) (end : End) → IsReachedBench bench → IsReachedBench (with_new_caller bench end (free_number (link_in bench).callers))
 enlisted bench end reached = record {
-  link = reached_by bench.link _ reached.link (comes_move side_meaning bench.link (Enlist end) tt);
-  fit = λ caller call is. caller_may bench.link end caller (Some call.wish) (reached.fit caller call is);
+  link = reached_by (link_in bench) _ reached.link (comes_move side_meaning (link_in bench) (Enlist end) tt);
+  fit = λ caller call is. caller_may (link_in bench) end caller (Some call.wish) (reached.fit caller call is);
 }
 
 -- a call is begun
@@ -50,7 +51,7 @@ pub begun_reached : (bench : BenchState) (caller : ℕ) (call : BegunCall) → I
     → IsSendable call.wish → IsReachedBench (with_begun bench caller (Some call))
 begun_reached bench caller call reached ready sendable = record {
   link = reached.link;
-  fit = fit_put bench.begun caller bench.link call reached.fit (begin_may bench caller call.wish sendable ready);
+  fit = fit_put bench.begun caller (link_in bench) call reached.fit (begin_may bench caller call.wish sendable ready);
 }
 
 -- the call that is in a place
@@ -72,11 +73,11 @@ pub calling_may : (link : LinkState EndState) (caller : ℕ) → is_calling link
 calling_may link caller is = record { may = calling_at link (end_of link.callers caller) caller is }
 
 -- a link that steps of a caller left who has begun no call
-left_reached : (bench : BenchState) (after : LinkState EndState) (rings : RingsState) (caller : ℕ) → IsReachedBench bench → begun_of bench caller ≡ None
-    → Leaves bench.link after caller → IsReachedBench (record bench { link = after; rings = rings })
-left_reached bench after rings caller reached none leaves = record {
-  link = reached_by bench.link after reached.link leaves.came;
-  fit = fit_after bench.begun caller bench.link after none reached.fit leaves.others;
+left_reached : (bench : BenchState) (after : RingsState) (caller : ℕ) → IsReachedBench bench → begun_of bench caller ≡ None
+    → Leaves (link_in bench) (lists_of after) caller → IsReachedBench (record bench { rings = after })
+left_reached bench after caller reached none leaves = record {
+  link = reached_by (link_in bench) (lists_of after) reached.link leaves.came;
+  fit = fit_after bench.begun caller (link_in bench) (lists_of after) none reached.fit leaves.others;
 }
 
 pub begun_or : (found : Option BegunCall) (under_way : Bool) → found ≡ None → is_some found || under_way ≡ true → under_way ≡ true
@@ -88,18 +89,18 @@ advance_at : (bench : BenchState) (more steps caller : ℕ) (found : Option Begu
     → IsReachedBench bench → IsReachedBench (advance_steps bench more steps caller found).bench
 advance_at bench more steps caller (Some call) is in_call reached =
     let may = reached.fit caller call (begun_at (slice_get bench.begun caller) call is) in
-    let leaves = call_leaves more steps bench.link caller call.follows call.wish may in
+    let leaves = call_leaves more steps bench.rings caller call.follows call.wish may in
+    let after = (call_steps on_rings more steps bench.rings caller call.follows call.wish).link in
     cond_both (eqb steps STEPS_MOST) (record { bench = bench; steps = steps; reach = reach.Limit })
-    (bench_walk (with_begun bench caller None) (call_steps more steps bench.link caller call.follows call.wish) (call_rings more steps bench.rings caller call.follows call.wish))
+    (bench_walk (with_begun bench caller None) (call_steps on_rings more steps bench.rings caller call.follows call.wish))
     (λ (walk : BenchWalk). IsReachedBench walk.bench) (λ _. reached)
     (λ _. record {
-      link = reached_by bench.link (call_steps more steps bench.link caller call.follows call.wish).link reached.link leaves.came;
-      fit = fit_cleared bench.begun caller (call_steps more steps bench.link caller call.follows call.wish).link
-          (λ other one differ at. leaves.others other (Some one.wish) differ (reached.fit other one at));
+      link = reached_by (link_in bench) (lists_of after) reached.link leaves.came;
+      fit = fit_cleared bench.begun caller (lists_of after) (λ other one differ at. leaves.others other (Some one.wish) differ (reached.fit other one at));
     })
 advance_at bench more steps caller None none in_call reached =
-    let may = calling_may bench.link caller (begun_or (begun_of bench caller) (is_calling bench.link caller) none in_call) in
-    left_reached bench (later_steps (more + 1) 0 steps bench.link caller).link _ caller reached none (later_leaves (more + 1) 0 steps bench.link caller may)
+    let may = calling_may (link_in bench) caller (begun_or (begun_of bench caller) (is_calling (link_in bench) caller) none in_call) in
+    left_reached bench _ caller reached none (later_leaves (more + 1) 0 steps bench.rings caller may)
 
 pub advanced : (bench : BenchState) (more steps caller : ℕ) → IsReachedBench bench → is_in_call bench caller ≡ true
     → IsReachedBench (advance_walk bench more steps caller).bench
@@ -109,37 +110,33 @@ advanced bench more steps caller reached in_call = advance_at bench more steps c
 ready_none : (bench : BenchState) (caller : ℕ) (wanted : Wish) → begin_fault bench caller wanted ≡ None → begun_of bench caller ≡ None
 ready_none bench caller wanted ready =
     let both = neither_fault (ready_fault bench caller) (wish_fault bench caller wanted) ready in
-    no_call (begun_of bench caller) (none_begun (end_of bench.link.callers caller) (is_some (begun_of bench caller)) (is_calling bench.link caller) both.0)
+    no_call (begun_of bench caller) (none_begun (end_of (link_in bench).callers caller) (is_some (begun_of bench caller)) (is_calling (link_in bench) caller) both.0)
 
 -- a call from its first step on
-called_to : (bench : BenchState) (more steps caller : ℕ) (wanted : Wish) (rings : RingsState) → IsReachedBench bench → begin_fault bench caller wanted ≡ None
-    → IsSendable wanted → IsReachedBench (record bench { link = (call_steps more steps bench.link caller bench.link.era.inc wanted).link; rings = rings })
-called_to bench more steps caller wanted rings reached ready sendable =
-    left_reached bench _ rings caller reached (ready_none bench caller wanted ready)
-    (call_leaves more steps bench.link caller bench.link.era.inc wanted (begin_may bench caller wanted sendable ready))
-
--- a whole call
-pub called : (bench : BenchState) (steps caller : ℕ) (wanted : Wish) → IsReachedBench bench → begin_fault bench caller wanted ≡ None
-    → IsSendable wanted → IsReachedBench (call_walk bench steps caller wanted).bench
-called bench steps caller wanted reached ready sendable = called_to bench 6 steps caller wanted _ reached ready sendable
-
--- the first step of a call
-pub started : (bench : BenchState) (steps caller : ℕ) (wanted : Wish) → IsReachedBench bench → begin_fault bench caller wanted ≡ None
-    → IsSendable wanted → IsReachedBench (start_walk bench steps caller wanted).bench
-started bench steps caller wanted reached ready sendable = called_to bench 0 steps caller wanted _ reached ready sendable
+pub called : (bench : BenchState) (more steps caller : ℕ) (wanted : Wish) → IsReachedBench bench → begin_fault bench caller wanted ≡ None
+    → IsSendable wanted → IsReachedBench (begin_walk bench more steps caller wanted).bench
+called bench more steps caller wanted reached ready sendable =
+    left_reached bench _ caller reached (ready_none bench caller wanted ready)
+    (call_leaves more steps bench.rings caller (link_in bench).era.inc wanted (begin_may bench caller wanted sendable ready))
 
 -- a close
+pub comes_close : (bench : BenchState) → ComesBy side_meaning (link_in bench) (link_in (after_close bench))
+comes_close bench = subst (ComesBy side_meaning (link_in bench)) (sym (close_lists bench)) (comes_move side_meaning (link_in bench) (Close (link_in bench).era.inc) tt)
+
 pub closed : (bench : BenchState) → IsReachedBench bench → IsReachedBench (after_close bench)
 closed bench reached = record {
-  link = reached_by bench.link _ reached.link (comes_move side_meaning bench.link (Close bench.link.era.inc) tt);
-  fit = fit_closed bench.link bench.begun bench.link.era.inc reached.fit;
+  link = reached_by (link_in bench) _ reached.link (comes_close bench);
+  fit = subst (λ (link : LinkState EndState). AreFitCalls link bench.begun) (sym (close_lists bench)) (fit_closed (link_in bench) bench.begun (link_in bench).era.inc reached.fit);
 }
 
 -- a reclaim in a closed era
-pub reclaimed : (bench : BenchState) (caller : ℕ) → bench.link.era.is_live ≡ false → IsReachedBench bench → IsReachedBench (after_reclaim bench caller)
+pub comes_reclaim : (bench : BenchState) (caller : ℕ) → (link_in bench).era.is_live ≡ false → ComesBy side_meaning (link_in bench) (link_in (after_reclaim bench caller))
+comes_reclaim bench caller shut = subst (ComesBy side_meaning (link_in bench)) (sym (reclaim_lists bench caller)) (comes_move side_meaning (link_in bench) (Reclaim caller) shut)
+
+pub reclaimed : (bench : BenchState) (caller : ℕ) → (link_in bench).era.is_live ≡ false → IsReachedBench bench → IsReachedBench (after_reclaim bench caller)
 reclaimed bench caller shut reached = record {
-  link = reached_by bench.link _ reached.link (comes_move side_meaning bench.link (Reclaim caller) shut);
-  fit = fit_reclaimed bench.link bench.begun caller reached.fit;
+  link = reached_by (link_in bench) _ reached.link (comes_reclaim bench caller shut);
+  fit = subst (λ (link : LinkState EndState). AreFitCalls link (slice_set bench.begun caller None)) (sym (reclaim_lists bench caller)) (fit_reclaimed (link_in bench) bench.begun caller reached.fit);
 }
 
 -- where nothing refuses a reclaim the era is closed
@@ -150,23 +147,23 @@ shut_at false why other none = refl
 pub unreclaimed_shut : (link : LinkState EndState) (caller : ℕ) → unreclaimed_by link caller ≡ None → link.era.is_live ≡ false
 unreclaimed_shut link caller none = shut_at link.era.is_live _ _ none
 
-reclaim_at : (bench : BenchState) (caller : ℕ) (end : Option End) (why : Option ReclaimRefusal) → unreclaimed_by bench.link caller ≡ why
+reclaim_at : (bench : BenchState) (caller : ℕ) (end : Option End) (why : Option ReclaimRefusal) → unreclaimed_by (link_in bench) caller ≡ why
     → IsReachedBench bench → IsReachedBench (left_by_reclaim bench caller end why)
-reclaim_at bench caller (Some end) None none reached = reclaimed bench caller (unreclaimed_shut bench.link caller none) reached
+reclaim_at bench caller (Some end) None none reached = reclaimed bench caller (unreclaimed_shut (link_in bench) caller none) reached
 reclaim_at bench caller (Some end) (Some why) none reached = reached
 reclaim_at bench caller None why none reached = reached
 
-pub reclaim_tried : (bench : BenchState) (caller : ℕ) → IsReachedBench bench → IsReachedBench (reclaim_leaves bench caller (unreclaimed_by bench.link caller))
-reclaim_tried bench caller reached = reclaim_at bench caller (end_of bench.link.callers caller) (unreclaimed_by bench.link caller) refl reached
+pub reclaim_tried : (bench : BenchState) (caller : ℕ) → IsReachedBench bench → IsReachedBench (reclaim_leaves bench caller (unreclaimed_by (link_in bench) caller))
+reclaim_tried bench caller reached = reclaim_at bench caller (end_of (link_in bench).callers caller) (unreclaimed_by (link_in bench) caller) refl reached
 
 -- a reopening is a new start
-pub reopened : (bench : BenchState) → IsReachedBench bench → unopened_by bench.link ≡ None → IsReachedBench (after_reopen bench)
+pub reopened : (bench : BenchState) → IsReachedBench bench → unopened_by (link_in bench) ≡ None → IsReachedBench (after_reopen bench)
 reopened bench reached clear = record {
   link = record {
-    start = link_after_reopen (list_form side_meaning) bench.link;
-    new = reopened_new side_meaning side_laws bench.link;
-    came = comes_none side_meaning (link_after_reopen (list_form side_meaning) bench.link);
+    start = link_after_reopen (list_form side_meaning) (link_in bench);
+    new = reopened_new side_meaning side_laws (link_in bench);
+    came = comes_none side_meaning (link_after_reopen (list_form side_meaning) (link_in bench));
     short = record { to_host = short_lane _ _ _; to_remote = short_lane _ _ _ };
   };
-  fit = fit_reopened bench.link bench.begun clear reached.fit;
+  fit = fit_reopened (link_in bench) bench.begun clear reached.fit;
 }

@@ -15,7 +15,7 @@ use Rattle.link_bench.specs.declared.benches.BegunCall.{BegunCall}
 use Rattle.link_bench.specs.declared.benches.Reach.TheVariants as reach
 use Rattle.link_bench.specs.Acts.{IsFitAct, link_act}
 use Rattle.link_bench.specs.BenchCrashes.{left_by_reclaim}
-use Rattle.link_bench.specs.Benches.{BenchState, BenchWalk, IsSendable, advance_steps, bench_walk, begun_of, call_rings, call_steps, with_begun}
+use Rattle.link_bench.specs.Benches.{BenchState, BenchWalk, IsSendable, advance_steps, bench_walk, begun_of, call_steps, link_in, on_rings, with_begun}
 use Rattle.link_bench.specs.Watchers.{Seeing}
 use Rattle.core_actors.specs.Actors.{ActorsState}
 use Rattle.crash_recover.specs.CoreActs.{core_act, core_act_on}
@@ -37,8 +37,8 @@ use Rattle.core_laws.proofs.PendingOthers.{advance_ready, begun_ready, call_read
 bench_steps : {W : Type 0} (sees : Seeing W) (own : ℕ) → AreKeptSteps sees own IsSendable (λ bench watcher. IsReachedBench bench)
 bench_steps sees own = record {
   joined = λ bench watcher end is. enlisted bench end is;
-  begun = λ bench watcher caller wanted other ready fit is. begun_reached bench caller (record { follows = bench.link.era.inc; wish = wanted }) is ready fit;
-  called = λ bench watcher steps caller wanted other ready fit is. called bench steps caller wanted is ready fit;
+  begun = λ bench watcher caller wanted other ready fit is. begun_reached bench caller (record { follows = (link_in bench).era.inc; wish = wanted }) is ready fit;
+  called = λ bench watcher steps caller wanted other ready fit is. called bench 6 steps caller wanted is ready fit;
   advanced = λ bench watcher more steps caller other in_call is. advanced bench more steps caller is in_call;
   reclaimed = λ bench watcher caller other is. reclaim_tried bench caller is;
   seen = λ bench watcher caller end is. is;
@@ -58,12 +58,12 @@ both_steps : AreKeptSteps actors_after_end 2 IsSendable AreReachedBoth
 both_steps = record {
   joined = λ bench actors end is. record { reached = enlisted bench end is.reached; calls = is.calls };
   begun = λ bench actors caller wanted other ready fit is.
-      record { reached = begun_reached bench caller (record { follows = bench.link.era.inc; wish = wanted }) is.reached ready fit; calls = is.calls };
-  called = λ bench actors steps caller wanted other ready fit is. record { reached = called bench steps caller wanted is.reached ready fit; calls = is.calls };
+      record { reached = begun_reached bench caller (record { follows = (link_in bench).era.inc; wish = wanted }) is.reached ready fit; calls = is.calls };
+  called = λ bench actors steps caller wanted other ready fit is. record { reached = called bench 6 steps caller wanted is.reached ready fit; calls = is.calls };
   advanced = λ bench actors more steps caller other in_call is. record { reached = advanced bench more steps caller is.reached in_call; calls = is.calls };
   reclaimed = λ bench actors caller other is. record { reached = reclaim_tried bench caller is.reached; calls = is.calls };
   seen = λ bench actors caller end is.
-      record { reached = is.reached; calls = seen_calls actors bench caller end (end_of bench.link.callers caller) is.reached.link.short is.calls };
+      record { reached = is.reached; calls = seen_calls actors bench caller end (end_of (link_in bench).callers caller) is.reached.link.short is.calls };
 }
 
 reached_on : (core : CoreState) (steps : ℕ) (asked : LinkAct (List ℕ)) (found : Option BenchState) → IsFitAct asked → IsReachedCore core → IfSome found IsReachedBench
@@ -121,7 +121,7 @@ advance_none : (bench : BenchState) (more steps caller : ℕ) (found : Option Be
 advance_none bench more steps caller None is = record { host = is.host; worker = is.worker }
 advance_none bench more steps caller (Some call) is =
     cond_both (steps == STEPS_MOST) (record { bench = bench; steps = steps; reach = reach.Limit })
-    (bench_walk (with_begun bench caller None) (call_steps more steps bench.link caller call.follows call.wish) (call_rings more steps bench.rings caller call.follows call.wish))
+    (bench_walk (with_begun bench caller None) (call_steps on_rings more steps bench.rings caller call.follows call.wish))
     (λ (walk : BenchWalk). HasNoneBegun walk.bench) (λ _. is)
     (λ _. record { host = cleared_begun bench.begun caller 0 is.host; worker = cleared_begun bench.begun caller 1 is.worker })
 
@@ -144,13 +144,13 @@ ready_steps state = record {
     calls = λ running. record { host = (is.calls running).host; worker = (is.calls running).worker };
   };
   begun = λ bench actors caller wanted other ready fit is.
-      let call : BegunCall = record { follows = bench.link.era.inc; wish = wanted } in record {
+      let call : BegunCall = record { follows = (link_in bench).era.inc; wish = wanted } in record {
         reached = begun_reached bench caller call is.reached ready fit;
         begun = begun_none bench caller call (omega (arith, other)) is.begun;
         calls = λ running. (begun_ready actors bench caller (omega (arith, other)) is.begun (is.calls running) call).1;
       };
   called = λ bench actors steps caller wanted other ready fit is. record {
-    reached = called bench steps caller wanted is.reached ready fit;
+    reached = called bench 6 steps caller wanted is.reached ready fit;
     begun = record { host = is.begun.host; worker = is.begun.worker };
     calls = λ running. (call_ready actors bench caller (omega (arith, other)) is.begun (is.calls running) steps wanted ready fit).1;
   };
@@ -161,13 +161,13 @@ ready_steps state = record {
   };
   reclaimed = λ bench actors caller other is. record {
     reached = reclaim_tried bench caller is.reached;
-    begun = reclaim_none bench caller (end_of bench.link.callers caller) (unreclaimed_by bench.link caller) is.begun;
+    begun = reclaim_none bench caller (end_of (link_in bench).callers caller) (unreclaimed_by (link_in bench) caller) is.begun;
     calls = λ running. (reclaim_ready actors bench caller (omega (arith, other)) is.begun (is.calls running)).1;
   };
   seen = λ bench actors caller end is. record {
     reached = is.reached;
     begun = is.begun;
-    calls = λ running. seen_ready actors bench (message_of bench caller end) end (end_of bench.link.callers caller) (is.calls running);
+    calls = λ running. seen_ready actors bench (message_of bench caller end) end (end_of (link_in bench).callers caller) (is.calls running);
   };
 }
 

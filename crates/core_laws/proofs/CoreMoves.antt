@@ -30,7 +30,7 @@ use Rattle.remote_core.specs.Works.{work_of}
 use Rattle.memory_pool.specs.declared.regions.Region.{Region}
 use Rattle.host_driver.specs.Drivers.{Declared}
 use Rattle.core_actors.specs.Actors.{ActorsState, driver_names}
-use Rattle.link_bench.specs.Benches.{BenchState, BenchWalk, IsSendable, advance_walk, begin_fault, is_in_call, start_walk}
+use Rattle.link_bench.specs.Benches.{BenchState, BenchWalk, IsSendable, RingsState, advance_walk, begin_fault, is_in_call, link_in, on_rings, start_walk}
 use Rattle.link_bench.specs.BenchCrashes.{after_close, after_reclaim, after_reopen}
 use Rattle.crash_recover.specs.CoreBoots.{config_of, core_bench, fresh_end}
 use Rattle.link_bench.specs.BenchEnds.{crashed_bench, is_first, is_remote, with_fresh_caller, without_one, without_other, without_others, without_remote, readied_bench, renewed_unless, reopen_refusal_of, unopened_unless}
@@ -43,7 +43,8 @@ use Rattle.crash_recover.specs.Drives.{DriveStep, acting, actor_step, drive_step
 use Rattle.core_laws.proofs.Outcomes.{Stays, report_stays}
 use Rattle.core_laws.specs.BenchMoves.{AreSendable, IsReachedBench, IsReachedCore, IsShortLink}
 use Rattle.core_laws.proofs.Sendable.{end_short, gives_sendable, left_sendable, message_short, none_sendable, sends_sendable, work_sendable}
-use Rattle.core_laws.proofs.BenchMoves.{advanced, closed, enlisted, new_reached, reclaimed, reopened, started, unreclaimed_shut}
+use Rattle.core_laws.proofs.KeptCrashes.{close_shut}
+use Rattle.core_laws.proofs.BenchMoves.{advanced, called, closed, enlisted, new_reached, reclaimed, reopened, unreclaimed_shut}
 
 -- the link of a core
 pub made_reached : (names : List (List ℕ)) (book first : ℕ) (rings : RingPair) → IsReachedBench (core_bench names book first rings)
@@ -57,20 +58,10 @@ made_reached names book first rings =
 -- a reached bench in a closed era
 record Shut (bench : BenchState) : Type 0 where
   pub reached : IsReachedBench bench
-  pub shut : bench.link.era.is_live ≡ false
-
--- an era that is closed as to its own incarnation is closed
-own_era : (inc : ℕ) (live : Bool) → eqb inc inc && live ≡ false → live ≡ false
-own_era inc live none = elim (eqb_tells inc inc) [ inl same ↦ subst (λ (is : Bool). is && live ≡ false) same.0 none | inr other ↦ absurd (other.1 refl) ]
-
-close_shut : (link : LinkState EndState) → (link_after_close link link.era.inc).era.is_live ≡ false
-close_shut link =
-    cond_both (is_live_in link.era link.era.inc) (record link { era = record { inc = link.era.inc; is_live = false } }) link
-    (λ (left : LinkState EndState). left.era.is_live ≡ false) (λ _. refl) (λ none. own_era link.era.inc link.era.is_live none)
+  pub shut : (link_in bench).era.is_live ≡ false
 
 -- a reclaim leaves the era
-same_era : (link : LinkState EndState) (found : Option End) (caller : ℕ) → link.era.is_live ≡ false
-    → (without_caller (list_form side_meaning) link found caller).era.is_live ≡ false
+same_era : (link : RingsState) (found : Option End) (caller : ℕ) → link.era.is_live ≡ false → (without_caller on_rings link found caller).era.is_live ≡ false
 same_era link None caller shut = shut
 same_era link (Some side.Host) caller shut = shut
 same_era link (Some side.Remote) caller shut = shut
@@ -78,7 +69,7 @@ same_era link (Some side.Remote) caller shut = shut
 gone_shut : (bench : BenchState) (caller : ℕ) → Shut bench → Shut (after_reclaim bench caller)
 gone_shut bench caller is = record {
   reached = reclaimed bench caller is.shut is.reached;
-  shut = same_era bench.link (end_of bench.link.callers caller) caller is.shut;
+  shut = same_era bench.rings (end_of (link_in bench).callers caller) caller is.shut;
 }
 
 fresh_shut : (bench : BenchState) (end : End) → Shut bench → Shut (with_fresh_caller bench end)
@@ -87,7 +78,7 @@ fresh_shut bench end is = record { reached = enlisted bench end is.reached; shut
 remote_shut : (bench : BenchState) (caller : ℕ) → Shut bench → Shut (without_remote bench caller)
 remote_shut bench caller is =
     let gone = gone_shut bench caller is in
-    cond_both (is_remote (end_of bench.link.callers caller))
+    cond_both (is_remote (end_of (link_in bench).callers caller))
     (cond (eqb caller 1) (with_fresh_caller (after_reclaim bench caller) side.Remote) (after_reclaim bench caller)) bench Shut
     (λ _. cond_both (eqb caller 1) (with_fresh_caller (after_reclaim bench caller) side.Remote) (after_reclaim bench caller) Shut
     (λ _. fresh_shut (after_reclaim bench caller) side.Remote gone) (λ _. gone)) (λ _. is)
@@ -106,8 +97,8 @@ others_shut first bench at (suc left) is = others_shut first (without_other firs
 
 pub crashed : (bench : BenchState) → IsReachedBench bench → IsReachedBench (crashed_bench bench)
 crashed bench reached =
-    let shut : Shut (after_close bench) = record { reached = closed bench reached; shut = close_shut bench.link } in
-    let first = holder (after_close bench).link.to_remote.receiver in
+    let shut : Shut (after_close bench) = record { reached = closed bench reached; shut = close_shut bench.rings } in
+    let first = holder (link_in (after_close bench)).to_remote.receiver in
     (others_shut first (without_one (after_close bench) first) 0 64 (one_shut (after_close bench) first shut)).reached
 
 -- a core that may have no link
@@ -118,17 +109,17 @@ map_reached (Some bench) f each is = each bench is
 
 -- ---- a recovery
 
-ready_at : (bench : BenchState) (why : Option ReclaimRefusal) → unreclaimed_by bench.link 0 ≡ why → IsReachedBench bench → IsReachedBench (renewed_unless bench why)
-ready_at bench None none reached = enlisted (after_reclaim bench 0) side.Host (reclaimed bench 0 (unreclaimed_shut bench.link 0 none) reached)
+ready_at : (bench : BenchState) (why : Option ReclaimRefusal) → unreclaimed_by (link_in bench) 0 ≡ why → IsReachedBench bench → IsReachedBench (renewed_unless bench why)
+ready_at bench None none reached = enlisted (after_reclaim bench 0) side.Host (reclaimed bench 0 (unreclaimed_shut (link_in bench) 0 none) reached)
 ready_at bench (Some why) is reached = reached
 
 pub readied : (bench : BenchState) → IsReachedBench bench → IsReachedBench (readied_bench bench)
-readied bench reached = ready_at bench (unreclaimed_by bench.link 0) refl reached
+readied bench reached = ready_at bench (unreclaimed_by (link_in bench) 0) refl reached
 
 pub core_readied : (core : CoreState) → IsReachedCore core → IsReachedCore (readied_core core)
 core_readied core is = record { bench = map_reached core.bench readied_bench readied is.bench; calls = is.calls }
 
-clear_at : (bench : BenchState) (why : Option ReclaimRefusal) → unopened_unless bench why ≡ None → unopened_by (renewed_unless bench why).link ≡ None
+clear_at : (bench : BenchState) (why : Option ReclaimRefusal) → unopened_unless bench why ≡ None → unopened_by (link_in (renewed_unless bench why)) ≡ None
 clear_at bench None clear = clear
 clear_at bench (Some why) clear = absurd (true≢false (ap is_some clear))
 
@@ -139,7 +130,7 @@ first_none (Some why) later none = absurd (true≢false (ap is_some none))
 bench_reopened : (bench : BenchState) (is_spent : Bool) → link_fault bench is_spent ≡ None → IsReachedBench bench → IsReachedBench (after_reopen (readied_bench bench))
 bench_reopened bench is_spent none reached =
     reopened (readied_bench bench) (readied bench reached)
-    (clear_at bench (unreclaimed_by bench.link 0) (first_none (reopen_refusal_of bench) (spent_fault is_spent) none))
+    (clear_at bench (unreclaimed_by (link_in bench) 0) (first_none (reopen_refusal_of bench) (spent_fault is_spent) none))
 
 found_reopened : (found : Option BenchState) (is_spent : Bool) → fault_with found is_spent ≡ None → IfSome found IsReachedBench
     → IfSome (option_map (λ bench. after_reopen (readied_bench bench)) found) IsReachedBench
@@ -192,7 +183,7 @@ step_reached bench caller wanted reached sendable =
     (cond (is_some (begin_fault bench caller wanted)) none (start_walk bench 0 caller wanted)) (λ (walk : BenchWalk). IsReachedBench walk.bench)
     (λ in_call. advanced bench 0 0 caller reached in_call)
     (λ _. cond_both (is_some (begin_fault bench caller wanted)) none (start_walk bench 0 caller wanted) (λ (walk : BenchWalk). IsReachedBench walk.bench)
-    (λ _. reached) (λ ready. started bench 0 caller wanted reached (no_fault (begin_fault bench caller wanted) ready) sendable))
+    (λ _. reached) (λ ready. called bench 0 0 caller wanted reached (no_fault (begin_fault bench caller wanted) ready) sendable))
 
 pub first_sendable : (calls : List Wish) → All IsSendable calls → IsSendable (first_or_take calls)
 first_sendable [] are = tt
@@ -215,7 +206,7 @@ host_end_sendable actors end are = record {
   worker = are.worker;
 }
 
-host_sendable : (actors : ActorsState) (bench : BenchState) (came : Reach) → IsShortLink bench.link → AreSendable actors → AreSendable (host_reached actors bench came)
+host_sendable : (actors : ActorsState) (bench : BenchState) (came : Reach) → IsShortLink (link_in bench) → AreSendable actors → AreSendable (host_reached actors bench came)
 host_sendable actors bench (reach.At step) short are = are
 host_sendable actors bench (reach.Ended end) short are =
     driven_sendable (host_ended actors end) (message_of bench 0 end) end (message_short bench 0 end short) (host_end_sendable actors end are)
@@ -291,7 +282,7 @@ core_driven core is =
 
 -- ---- calls of others
 
-pub seen_calls : (actors : ActorsState) (bench : BenchState) (caller : ℕ) (end : CallEnd) (found : Option End) → IsShortLink bench.link → AreSendable actors
+pub seen_calls : (actors : ActorsState) (bench : BenchState) (caller : ℕ) (end : CallEnd) (found : Option End) → IsShortLink (link_in bench) → AreSendable actors
     → AreSendable (actors_at_end found (message_of bench caller end) end actors)
 seen_calls actors bench caller end None short is = is
 seen_calls actors bench caller end (Some side.Host) short is = driven_sendable actors (message_of bench caller end) end (message_short bench caller end short) is

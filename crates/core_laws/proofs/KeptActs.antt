@@ -25,7 +25,7 @@ use Rattle.link_bench.specs.declared.benches.BenchFault.TheVariants as fault
 use Rattle.link_bench.specs.declared.benches.Reach.{Reach}
 use Rattle.link_bench.specs.declared.benches.Reach.TheVariants as reach
 use Rattle.link_bench.specs.declared.turns.TurnEnd.{TurnEnd}
-use Rattle.link_bench.specs.Benches.{BenchState, IsSendable, advance_fault, advance_walk, begin_fault, call_walk, is_in_call, ready_fault, step_fault, used_fault, wish_fault, with_begun, with_new_caller}
+use Rattle.link_bench.specs.Benches.{BenchState, IsSendable, advance_fault, advance_walk, begin_fault, call_walk, is_in_call, link_in, ready_fault, step_fault, used_fault, wish_fault, with_begun, with_new_caller}
 use Rattle.link_bench.specs.Turns.{Pumped, TurnCall, Turns, give_turn, is_whole, one_turn, pump_turns, take_turn, tested_call, then_more, turn_call, turn_message}
 use Rattle.link_bench.specs.Acts.{Acted, IsFitAct, IsFitWish, call_act, caller_act, first_refusal, free_act, link_act, made_call, misfit, own_caller, own_in, pump_act, pump_refusal, step_act, unless_own, unless_refused, wish_of}
 use Rattle.link_bench.specs.Watchers.{Seeing, watched}
@@ -62,7 +62,7 @@ fits bench caller (call.Send source destination payload) none = refl
 fits bench caller (call.Raw message) none = refl
 fits bench caller call.Take none = refl
 fits bench caller (call.Give number) none =
-    ap (λ (b : Bool). cond b None (Some (fault.NotHeld number))) (holds (is_holding bench.link caller number) (answer.Refused caller (fault.NotHeld number)) none)
+    ap (λ (b : Bool). cond b None (Some (fault.NotHeld number))) (holds (is_holding (link_in bench) caller number) (answer.Refused caller (fault.NotHeld number)) none)
 fits bench caller (call.Bind address) none = refl
 fits bench caller (call.Unbind address) none = refl
 
@@ -100,14 +100,14 @@ turn_sendable number =
 
 -- each step of an act for callers that are not the link's own keeps this of a bench and of who watches its link, where this is known of what a call wishes
 pub record AreKeptSteps {W : Type 0} (sees : Seeing W) (own : ℕ) (Fits : Wish → Type 0) (P : BenchState → W → Type 0) : Type 0 where
-  pub joined : (bench : BenchState) (watcher : W) (end : End) → P bench watcher → P (with_new_caller bench end (free_number bench.link.callers)) watcher
+  pub joined : (bench : BenchState) (watcher : W) (end : End) → P bench watcher → P (with_new_caller bench end (free_number (link_in bench).callers)) watcher
   pub begun : (bench : BenchState) (watcher : W) (caller : ℕ) (wanted : Wish) → own ≤ caller → begin_fault bench caller wanted ≡ None → Fits wanted
-      → P bench watcher → P (with_begun bench caller (Some (record { follows = bench.link.era.inc; wish = wanted }))) watcher
+      → P bench watcher → P (with_begun bench caller (Some (record { follows = (link_in bench).era.inc; wish = wanted }))) watcher
   pub called : (bench : BenchState) (watcher : W) (steps caller : ℕ) (wanted : Wish) → own ≤ caller → begin_fault bench caller wanted ≡ None → Fits wanted
       → P bench watcher → P (call_walk bench steps caller wanted).bench watcher
   pub advanced : (bench : BenchState) (watcher : W) (more steps caller : ℕ) → own ≤ caller → is_in_call bench caller ≡ true
       → P bench watcher → P (advance_walk bench more steps caller).bench watcher
-  pub reclaimed : (bench : BenchState) (watcher : W) (caller : ℕ) → own ≤ caller → P bench watcher → P (reclaim_leaves bench caller (unreclaimed_by bench.link caller)) watcher
+  pub reclaimed : (bench : BenchState) (watcher : W) (caller : ℕ) → own ≤ caller → P bench watcher → P (reclaim_leaves bench caller (unreclaimed_by (link_in bench) caller)) watcher
   pub seen : (bench : BenchState) (watcher : W) (caller : ℕ) (end : CallEnd) → P bench watcher → P bench (sees bench caller end watcher)
 
 -- this is known of what the calls of an act wish
@@ -164,7 +164,7 @@ module _ {W : Type 0} (sees : Seeing W) (own : ℕ) (Fits : Wish → Type 0) (P 
       unless_kept bench watcher steps (option_map (answer.Refused caller) (step_fault bench caller)) _ is
       (λ may. watch_kept _ watcher caller _
       (keep.advanced bench watcher more steps caller other
-      (in_call_at (end_of bench.link.callers caller) (is_in_call bench caller) (none_refused caller (step_fault bench caller) may)) is))
+      (in_call_at (end_of (link_in bench).callers caller) (is_in_call bench caller) (none_refused caller (step_fault bench caller) may)) is))
 
   -- ---- turns
 
@@ -218,10 +218,10 @@ module _ {W : Type 0} (sees : Seeing W) (own : ℕ) (Fits : Wish → Type 0) (P 
       (λ _. turns_kept fit more (done + 1) sender receiver turn.bench turn.watcher turn.steps sends receives left) (λ _. left)
 
   -- a pump that nothing refuses has a sender in use
-  sender_in_use : (bench : BenchState) (sender receiver : ℕ) → pump_refusal bench sender receiver ≡ None → is_some (end_of bench.link.callers sender) ≡ true
+  sender_in_use : (bench : BenchState) (sender receiver : ℕ) → pump_refusal bench sender receiver ≡ None → is_some (end_of (link_in bench).callers sender) ≡ true
   unfolding pump_refusal
   sender_in_use bench sender receiver none =
-      in_use (end_of bench.link.callers sender) (none_refused sender _ (none_first _ _ none))
+      in_use (end_of (link_in bench).callers sender) (none_refused sender _ (none_first _ _ none))
 
   pump_kept : (bench : BenchState) (watcher : W) (steps sender receiver count : ℕ) → FitTurns → own_in bench own (act.Pump sender receiver count) ≡ None → P bench watcher
       → Leaves (pump_act sees bench watcher steps sender receiver count)
@@ -235,14 +235,14 @@ module _ {W : Type 0} (sees : Seeing W) (own : ℕ) (Fits : Wish → Type 0) (P 
 
   -- ---- an act
 
-  joined_at : (bench : BenchState) (watcher : W) (steps : ℕ) (end : End) (found : Option ℕ) → free_number bench.link.callers ≡ found → P bench watcher
+  joined_at : (bench : BenchState) (watcher : W) (steps : ℕ) (end : End) (found : Option ℕ) → free_number (link_in bench).callers ≡ found → P bench watcher
       → Leaves (caller_act bench watcher steps end found)
   joined_at bench watcher steps end None found is = is
   joined_at bench watcher steps end (Some number) found is = subst (λ (n : Option ℕ). P (with_new_caller bench end n) watcher) found (keep.joined bench watcher end is)
 
   free_kept : (bench : BenchState) (watcher : W) (steps : ℕ) (asked : LinkAct (List ℕ)) → FitCalls Fits asked → own_in bench own asked ≡ None → P bench watcher
       → Leaves (free_act sees bench watcher steps asked)
-  free_kept bench watcher steps (act.Caller end) fit none is = joined_at bench watcher steps end (free_number bench.link.callers) refl is
+  free_kept bench watcher steps (act.Caller end) fit none is = joined_at bench watcher steps end (free_number (link_in bench).callers) refl is
   free_kept bench watcher steps (act.Call caller made wanted) fit none is = call_kept bench watcher steps caller made wanted (other_caller own caller none) (fit bench) is
   free_kept bench watcher steps (act.Step caller more) fit none is = step_kept bench watcher steps caller more (other_caller own caller none) is
   free_kept bench watcher steps (act.Pump sender receiver count) fit none is = pump_kept bench watcher steps sender receiver count fit none is

@@ -11,10 +11,10 @@ use Rattle.lane_model.specs.Recoveries.{without_caller}
 use Rattle.lane_model.proofs.CrashMay.{freed}
 use Rattle.channel_bus.specs.Sides.{EndState, side_meaning}
 use Rattle.link_bench.specs.BenchCrashes.{after_close, after_reclaim}
-use Rattle.link_bench.specs.Benches.{BenchState}
+use Rattle.link_bench.specs.Benches.{BenchState, RingsState, link_in, on_rings}
 use Rattle.link_bench.specs.BenchEnds.{crashed_bench, is_first, is_remote, with_fresh_caller, without_one, without_other, without_others, without_remote}
 use Rattle.core_laws.specs.KeptCores.{AreOwnUsed, end_after_crash}
-use Rattle.core_laws.proofs.KeptCrashes.{close_is, cleared, host_is_no_remote, is_remote_end, no_end, remote_again}
+use Rattle.core_laws.proofs.KeptCrashes.{close_leaves, cleared, host_is_no_remote, is_remote_end, no_end, remote_again}
 
 -- ---- one caller
 
@@ -22,31 +22,30 @@ use Rattle.core_laws.proofs.KeptCrashes.{close_is, cleared, host_is_no_remote, i
 abbrev callers_without : List (Option End) → ℕ → List (Option End)
 callers_without callers caller = cond (is_remote (end_of callers caller)) (cond (eqb caller 1) callers (slice_set callers caller None)) callers
 
-gone_callers : (link : LinkState EndState) (found : Option End) (caller : ℕ) (end : End) → found ≡ Some end
-    → (without_caller (list_form side_meaning) link found caller).callers ≡ slice_set link.callers caller None
+gone_callers : (link : RingsState) (found : Option End) (caller : ℕ) (end : End) → found ≡ Some end → (without_caller on_rings link found caller).callers ≡ slice_set link.callers caller None
 gone_callers link None caller end is = no_end end is
 gone_callers link (Some side.Host) caller end is = refl
 gone_callers link (Some side.Remote) caller end is = refl
 
-renewed_callers : (bench : BenchState) (caller : ℕ) → AreOwnUsed bench.link.callers → end_of bench.link.callers caller ≡ Some side.Remote → caller ≡ 1
-    → (with_fresh_caller (after_reclaim bench caller) side.Remote).link.callers ≡ bench.link.callers
+renewed_callers : (bench : BenchState) (caller : ℕ) → AreOwnUsed (link_in bench).callers → end_of (link_in bench).callers caller ≡ Some side.Remote → caller ≡ 1
+    → (link_in (with_fresh_caller (after_reclaim bench caller) side.Remote)).callers ≡ (link_in bench).callers
 renewed_callers bench caller own remote one =
-    let gone = gone_callers bench.link (end_of bench.link.callers caller) caller side.Remote remote in
-    ap (λ (callers : List (Option End)). with_caller callers side.Remote (free_number callers)) (gone ∙ ap (λ n. slice_set bench.link.callers n None) one) ∙ remote_again bench.link.callers own
+    let gone = gone_callers bench.rings (end_of (link_in bench).callers caller) caller side.Remote remote in
+    ap (λ (callers : List (Option End)). with_caller callers side.Remote (free_number callers)) (gone ∙ ap (λ n. slice_set (link_in bench).callers n None) one) ∙ remote_again (link_in bench).callers own
 
-callers_left : (bench : BenchState) (caller : ℕ) (one : Bool) → AreOwnUsed bench.link.callers → end_of bench.link.callers caller ≡ Some side.Remote → (one ≡ true → caller ≡ 1)
-    → (cond one (with_fresh_caller (after_reclaim bench caller) side.Remote) (after_reclaim bench caller)).link.callers ≡ cond one bench.link.callers (slice_set bench.link.callers caller None)
+callers_left : (bench : BenchState) (caller : ℕ) (one : Bool) → AreOwnUsed (link_in bench).callers → end_of (link_in bench).callers caller ≡ Some side.Remote → (one ≡ true → caller ≡ 1)
+    → (link_in (cond one (with_fresh_caller (after_reclaim bench caller) side.Remote) (after_reclaim bench caller))).callers ≡ cond one (link_in bench).callers (slice_set (link_in bench).callers caller None)
 callers_left bench caller true own remote is = renewed_callers bench caller own remote (is refl)
-callers_left bench caller false own remote is = gone_callers bench.link (end_of bench.link.callers caller) caller side.Remote remote
+callers_left bench caller false own remote is = gone_callers bench.rings (end_of (link_in bench).callers caller) caller side.Remote remote
 
-remote_callers : (bench : BenchState) (caller : ℕ) (remote : Bool) → is_remote (end_of bench.link.callers caller) ≡ remote → AreOwnUsed bench.link.callers
-    → (cond remote (cond (eqb caller 1) (with_fresh_caller (after_reclaim bench caller) side.Remote) (after_reclaim bench caller)) bench).link.callers
-    ≡ cond remote (cond (eqb caller 1) bench.link.callers (slice_set bench.link.callers caller None)) bench.link.callers
-remote_callers bench caller true is own = callers_left bench caller (eqb caller 1) own (is_remote_end (end_of bench.link.callers caller) is) (λ one. eqb-true caller 1 one)
+remote_callers : (bench : BenchState) (caller : ℕ) (remote : Bool) → is_remote (end_of (link_in bench).callers caller) ≡ remote → AreOwnUsed (link_in bench).callers
+    → (link_in (cond remote (cond (eqb caller 1) (with_fresh_caller (after_reclaim bench caller) side.Remote) (after_reclaim bench caller)) bench)).callers
+    ≡ cond remote (cond (eqb caller 1) (link_in bench).callers (slice_set (link_in bench).callers caller None)) (link_in bench).callers
+remote_callers bench caller true is own = callers_left bench caller (eqb caller 1) own (is_remote_end (end_of (link_in bench).callers caller) is) (λ one. eqb-true caller 1 one)
 remote_callers bench caller false is own = refl
 
-without_callers : (bench : BenchState) (caller : ℕ) → AreOwnUsed bench.link.callers → (without_remote bench caller).link.callers ≡ callers_without bench.link.callers caller
-without_callers bench caller own = remote_callers bench caller (is_remote (end_of bench.link.callers caller)) refl own
+without_callers : (bench : BenchState) (caller : ℕ) → AreOwnUsed (link_in bench).callers → (link_in (without_remote bench caller)).callers ≡ callers_without (link_in bench).callers caller
+without_callers bench caller own = remote_callers bench caller (is_remote (end_of (link_in bench).callers caller)) refl own
 
 other_stays : (callers : List (Option End)) (gone caller : ℕ) → gone ≢ caller → end_of (callers_without callers gone) caller ≡ end_of callers caller
 other_stays callers gone caller differ =
@@ -144,35 +143,35 @@ first_next first at before after is are = record {
 }
 
 module _ (first : Option ℕ) (before : List (Option End)) (total : ℕ) where
-  one_gone : (bench : BenchState) (at : ℕ) → AreGone first at before bench.link.callers → AreGone first (at + 1) before (without_other first bench at).link.callers
+  one_gone : (bench : BenchState) (at : ℕ) → AreGone first at before (link_in bench).callers → AreGone first (at + 1) before (link_in (without_other first bench at)).callers
   one_gone bench at are =
-      cond_both (is_first first at) bench (without_remote bench at) (λ (left : BenchState). AreGone first (at + 1) before left.link.callers)
-      (λ is. first_next first at before bench.link.callers is are)
-      (λ _. subst (AreGone first (at + 1) before) (sym (without_callers bench at are.own)) (ended_next first at before bench.link.callers are))
+      cond_both (is_first first at) bench (without_remote bench at) (λ (left : BenchState). AreGone first (at + 1) before (link_in left).callers)
+      (λ is. first_next first at before (link_in bench).callers is are)
+      (λ _. subst (AreGone first (at + 1) before) (sym (without_callers bench at are.own)) (ended_next first at before (link_in bench).callers are))
 
-  all_gone : (bench : BenchState) (at count : ℕ) → at + count ≡ total → AreGone first at before bench.link.callers → AreGone first total before (without_others first bench at count).link.callers
+  all_gone : (bench : BenchState) (at count : ℕ) → at + count ≡ total → AreGone first at before (link_in bench).callers → AreGone first total before (link_in (without_others first bench at count)).callers
   unfolding without_others
-  all_gone bench at zero sum are = subst (λ n. AreGone first n before bench.link.callers) (omega (arith, sum)) are
+  all_gone bench at zero sum are = subst (λ n. AreGone first n before (link_in bench).callers) (omega (arith, sum)) are
   all_gone bench at (suc count) sum are = all_gone (without_other first bench at) (at + 1) count (omega (arith, sum)) (one_gone bench at are)
 
 -- who is ended first is gone
-first_gone : (bench : BenchState) (first : Option ℕ) → AreOwnUsed bench.link.callers → AreGone first 0 bench.link.callers (without_one bench first).link.callers
+first_gone : (bench : BenchState) (first : Option ℕ) → AreOwnUsed (link_in bench).callers → AreGone first 0 (link_in bench).callers (link_in (without_one bench first)).callers
 first_gone bench None own = record { own = own; each = λ caller. inl refl; below = λ caller less. absurd (omega arith); of_first = λ caller is. absurd (false≢true is) }
 first_gone bench (Some gone) own =
-    subst (AreGone (Some gone) 0 bench.link.callers) (sym (without_callers bench gone own)) (record {
-      own = own_stays bench.link.callers gone own;
-      each = λ caller. one_each bench.link.callers bench.link.callers gone caller (λ n. inl refl);
+    subst (AreGone (Some gone) 0 (link_in bench).callers) (sym (without_callers bench gone own)) (record {
+      own = own_stays (link_in bench).callers gone own;
+      each = λ caller. one_each (link_in bench).callers (link_in bench).callers gone caller (λ n. inl refl);
       below = λ caller less. absurd (omega arith);
-      of_first = λ caller is. subst (λ n. end_of (callers_without bench.link.callers gone) n ≡ end_after_crash n (end_of bench.link.callers n)) (eqb-true gone caller is)
-          (itself bench.link.callers gone);
+      of_first = λ caller is. subst (λ n. end_of (callers_without (link_in bench).callers gone) n ≡ end_after_crash n (end_of (link_in bench).callers n)) (eqb-true gone caller is)
+          (itself (link_in bench).callers gone);
     })
 
 -- the callers that a crash leaves
-pub crash_callers : (bench : BenchState) (caller : ℕ) → AreOwnUsed bench.link.callers → caller < 64
-    → end_of (crashed_bench bench).link.callers caller ≡ end_after_crash caller (end_of bench.link.callers caller)
+pub crash_callers : (bench : BenchState) (caller : ℕ) → AreOwnUsed (link_in bench).callers → caller < 64
+    → end_of (link_in (crashed_bench bench)).callers caller ≡ end_after_crash caller (end_of (link_in bench).callers caller)
 crash_callers bench caller own less =
-    let closed = close_is bench.link in
-    let first = holder (after_close bench).link.to_remote.receiver in
+    let closed = close_leaves bench in
+    let first = holder (link_in (after_close bench)).to_remote.receiver in
     let gone = first_gone (after_close bench) first (subst AreOwnUsed (sym closed.callers) own) in
-    let all = all_gone first (after_close bench).link.callers 64 (without_one (after_close bench) first) 0 64 refl gone in
+    let all = all_gone first (link_in (after_close bench)).callers 64 (without_one (after_close bench) first) 0 64 refl gone in
     all.below caller less ∙ ap (λ (callers : List (Option End)). end_after_crash caller (end_of callers caller)) closed.callers

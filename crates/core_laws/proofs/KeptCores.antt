@@ -22,7 +22,7 @@ use Rattle.core_actors.specs.declared.progress.Driven.TheVariants as driven
 use Rattle.crash_recover.specs.declared.core_faults.CoreFault.{CoreFault}
 use Rattle.core_actors.specs.Actors.{driver_names}
 use Rattle.link_bench.specs.BenchCrashes.{after_reopen, left_by_reclaim, reclaim_leaves}
-use Rattle.link_bench.specs.Benches.{BenchState, BenchWalk, advance_walk, begin_fault, is_in_call, start_walk, with_new_caller}
+use Rattle.link_bench.specs.Benches.{BenchState, BenchWalk, advance_walk, begin_fault, is_in_call, link_in, start_walk, with_new_caller}
 use Rattle.crash_recover.specs.CoreBoots.{core_bench}
 use Rattle.link_bench.specs.BenchEnds.{crashed_bench, readied_bench, renewed_unless}
 use Rattle.crash_recover.specs.CoreCrashes.{after_report}
@@ -38,10 +38,10 @@ use Rattle.core_laws.proofs.KeptLinks.{advance_kept, start_kept}
 -- ---- other callers
 
 -- a new caller
-pub caller_kept : (life : CoreLife) (bench : BenchState) (end : End) → IsKeptBench life bench → IsKeptBench life (with_new_caller bench end (free_number bench.link.callers))
+pub caller_kept : (life : CoreLife) (bench : BenchState) (end : End) → IsKeptBench life bench → IsKeptBench life (with_new_caller bench end (free_number (link_in bench).callers))
 caller_kept life bench end is = record {
   unmanaged = record { to_host = is.unmanaged.to_host; to_remote = is.unmanaged.to_remote };
-  own = record { host = stays_in_use bench.link.callers end 0 side.Host is.own.host; remote = stays_in_use bench.link.callers end 1 side.Remote is.own.remote };
+  own = record { host = stays_in_use (link_in bench).callers end 0 side.Host is.own.host; remote = stays_in_use (link_in bench).callers end 1 side.Remote is.own.remote };
   inc = is.inc;
   live = is.live;
 }
@@ -54,8 +54,8 @@ reclaim_at life bench caller None why other is = is
 
 -- a reclaim of another caller than the core's own
 pub reclaim_kept : (life : CoreLife) (bench : BenchState) (caller : ℕ) → 1 < caller → IsKeptBench life bench
-    → IsKeptBench life (reclaim_leaves bench caller (unreclaimed_by bench.link caller))
-reclaim_kept life bench caller other is = reclaim_at life bench caller (end_of bench.link.callers caller) (unreclaimed_by bench.link caller) other is
+    → IsKeptBench life (reclaim_leaves bench caller (unreclaimed_by (link_in bench) caller))
+reclaim_kept life bench caller other is = reclaim_at life bench caller (end_of (link_in bench).callers caller) (unreclaimed_by (link_in bench) caller) other is
 
 -- ---- boots and shutdowns
 
@@ -93,7 +93,7 @@ ready_at life bench None is = host_renewed life bench is
 ready_at life bench (Some why) is = is
 
 readied : (life : CoreLife) (bench : BenchState) → IsKeptBench life bench → IsKeptBench life (readied_bench bench)
-readied life bench is = ready_at life bench (unreclaimed_by bench.link 0) is
+readied life bench is = ready_at life bench (unreclaimed_by (link_in bench) 0) is
 
 pub core_readied : (core : CoreState) → IsKeptCore core → IsKeptCore (readied_core core)
 core_readied core is = map_kept core.life core.life core.bench readied_bench (readied core.life) is

@@ -23,8 +23,9 @@ use Rattle.lane_laws.proofs.LinkRuns.{moves_sound}
 use Rattle.channel_bus.specs.Sides.{EndState, side_meaning}
 use Rattle.link_bench.specs.BenchCrashes.{after_close, after_reclaim}
 use Rattle.core_laws.specs.BenchMoves.{IsReached}
-use Rattle.link_bench.specs.Benches.{BenchState}
+use Rattle.link_bench.specs.Benches.{BenchState, RingsState, link_in}
 use Rattle.link_bench.specs.BenchEnds.{crashed_bench, is_first, is_remote, with_fresh_caller, without_one, without_other, without_others, without_remote}
+use Rattle.link_bench.proofs.Lists.{close_lists, reclaim_lists}
 use Rattle.core_laws.specs.KeptCores.{AreOwnUsed, crash_reaches, IsKeptBench, IsKeptLink, IsUnmanaged, IsUnmanagedTurn}
 
 -- ---- numbers of callers
@@ -108,7 +109,8 @@ module _ (life : CoreLife) where
 
   -- a caller of another than the core itself is gone
   pub gone_kept : (bench : BenchState) (caller : ℕ) → caller ≢ 0 → caller ≢ 1 → IsKeptBench life bench → IsKeptBench life (after_reclaim bench caller)
-  gone_kept bench caller no_host no_remote is = gone_at bench.link (end_of bench.link.callers caller) caller no_host no_remote is
+  gone_kept bench caller no_host no_remote is =
+      subst (IsKeptLink life) (sym (reclaim_lists bench caller)) (gone_at (link_in bench) (end_of (link_in bench).callers caller) caller no_host no_remote is)
 
   host_at : (link : LinkState EndState) (found : Option End) → found ≡ Some side.Host → IsKeptLink life link
       → let left = without_caller (list_form side_meaning) link found 0 in
@@ -136,22 +138,26 @@ module _ (life : CoreLife) where
 
   -- a core's own caller is gone, and made anew
   pub host_renewed : (bench : BenchState) → IsKeptBench life bench → IsKeptBench life (with_fresh_caller (after_reclaim bench 0) side.Host)
-  host_renewed bench is = host_at bench.link (end_of bench.link.callers 0) is.own.host is
+  host_renewed bench is =
+      subst (λ (left : LinkState EndState). IsKeptLink life (record left { callers = with_caller left.callers side.Host (free_number left.callers) })) (sym (reclaim_lists bench 0))
+      (host_at (link_in bench) (end_of (link_in bench).callers 0) is.own.host is)
 
   remote_renewed : (bench : BenchState) → IsKeptBench life bench → IsKeptBench life (with_fresh_caller (after_reclaim bench 1) side.Remote)
-  remote_renewed bench is = remote_at bench.link (end_of bench.link.callers 1) is.own.remote is
+  remote_renewed bench is =
+      subst (λ (left : LinkState EndState). IsKeptLink life (record left { callers = with_caller left.callers side.Remote (free_number left.callers) })) (sym (reclaim_lists bench 1))
+      (remote_at (link_in bench) (end_of (link_in bench).callers 1) is.own.remote is)
 
   -- ---- a crash
 
   remote_kept : (bench : BenchState) (caller : ℕ) → IsKeptBench life bench → IsKeptBench life (without_remote bench caller)
   remote_kept bench caller is =
-      cond_both (is_remote (end_of bench.link.callers caller))
+      cond_both (is_remote (end_of (link_in bench).callers caller))
       (cond (eqb caller 1) (with_fresh_caller (after_reclaim bench caller) side.Remote) (after_reclaim bench caller)) bench (IsKeptBench life)
       (λ remote. elim (eqb_tells caller 1) [
         | inl one ↦ subst (λ (is_one : Bool). IsKeptBench life (cond is_one (with_fresh_caller (after_reclaim bench caller) side.Remote) (after_reclaim bench caller))) (sym one.0)
             (subst (λ n. IsKeptBench life (with_fresh_caller (after_reclaim bench n) side.Remote)) (sym one.1) (remote_renewed bench is))
         | inr other ↦ subst (λ (is_one : Bool). IsKeptBench life (cond is_one (with_fresh_caller (after_reclaim bench caller) side.Remote) (after_reclaim bench caller))) (sym other.0)
-            (gone_kept bench caller (host_is_no_remote bench.link.callers caller is.own remote) other.1 is)
+            (gone_kept bench caller (host_is_no_remote (link_in bench).callers caller is.own remote) other.1 is)
       ]) (λ _. is)
 
   one_kept : (bench : BenchState) (found : Option ℕ) → IsKeptBench life bench → IsKeptBench life (without_one bench found)
@@ -201,38 +207,38 @@ gone_quiet link None caller is = is
 gone_quiet link (Some side.Host) caller is = record { shut = is.shut; free = is.free }
 gone_quiet link (Some side.Remote) caller is = record { shut = is.shut; free = ended_free link.to_remote.receiver caller is.free }
 
-remote_quiet : (bench : BenchState) (caller : ℕ) → IsQuiet bench.link → IsQuiet (without_remote bench caller).link
+remote_quiet : (bench : BenchState) (caller : ℕ) → IsQuiet (link_in bench) → IsQuiet (link_in (without_remote bench caller))
 remote_quiet bench caller is =
-    let gone = gone_quiet bench.link (end_of bench.link.callers caller) caller is in
-    cond_both (is_remote (end_of bench.link.callers caller))
-    (cond (eqb caller 1) (with_fresh_caller (after_reclaim bench caller) side.Remote) (after_reclaim bench caller)) bench (λ (left : BenchState). IsQuiet left.link)
-    (λ _. cond_both (eqb caller 1) (with_fresh_caller (after_reclaim bench caller) side.Remote) (after_reclaim bench caller) (λ (left : BenchState). IsQuiet left.link)
+    let gone = subst IsQuiet (sym (reclaim_lists bench caller)) (gone_quiet (link_in bench) (end_of (link_in bench).callers caller) caller is) in
+    cond_both (is_remote (end_of (link_in bench).callers caller))
+    (cond (eqb caller 1) (with_fresh_caller (after_reclaim bench caller) side.Remote) (after_reclaim bench caller)) bench (λ (left : BenchState). IsQuiet (link_in left))
+    (λ _. cond_both (eqb caller 1) (with_fresh_caller (after_reclaim bench caller) side.Remote) (after_reclaim bench caller) (λ (left : BenchState). IsQuiet (link_in left))
     (λ _. record { shut = gone.shut; free = gone.free }) (λ _. gone)) (λ _. is)
 
-others_quiet : (first : Option ℕ) (bench : BenchState) (at count : ℕ) → IsQuiet bench.link → IsQuiet (without_others first bench at count).link
+others_quiet : (first : Option ℕ) (bench : BenchState) (at count : ℕ) → IsQuiet (link_in bench) → IsQuiet (link_in (without_others first bench at count))
 unfolding without_others
 others_quiet first bench at zero is = is
 others_quiet first bench at (suc left) is =
     others_quiet first (without_other first bench at) (at + 1) left
-    (cond_both (is_first first at) bench (without_remote bench at) (λ (left : BenchState). IsQuiet left.link) (λ _. is) (λ _. remote_quiet bench at is))
+    (cond_both (is_first first at) bench (without_remote bench at) (λ (left : BenchState). IsQuiet (link_in left)) (λ _. is) (λ _. remote_quiet bench at is))
 
 -- who has the turn is of the remote end, and its reclaim frees the turn
 own_turn : (now : Turn Receiving) (caller : ℕ) → has_call now caller ≡ true → holder (ended_turn now caller) ≡ None
 own_turn now caller has = cond_both (has_call now caller) turn.Free now (λ (left : Turn Receiving). holder left ≡ None) (λ _. refl) (λ other. absurd (true≢false (sym has ∙ other)))
 
-mine_gone : (bench : BenchState) (found : Option End) (caller : ℕ) → found ≡ Some side.Remote → bench.link.era.is_live ≡ false → has_call bench.link.to_remote.receiver caller ≡ true
-    → IsQuiet (without_caller (list_form side_meaning) bench.link found caller)
-mine_gone bench (Some side.Remote) caller remote shut has = record { shut = shut; free = own_turn bench.link.to_remote.receiver caller has }
+mine_gone : (bench : BenchState) (found : Option End) (caller : ℕ) → found ≡ Some side.Remote → (link_in bench).era.is_live ≡ false → has_call (link_in bench).to_remote.receiver caller ≡ true
+    → IsQuiet (without_caller (list_form side_meaning) (link_in bench) found caller)
+mine_gone bench (Some side.Remote) caller remote shut has = record { shut = shut; free = own_turn (link_in bench).to_remote.receiver caller has }
 mine_gone bench (Some side.Host) caller remote shut has = absurd (false≢true (ap is_remote remote))
 mine_gone bench None caller remote shut has = no_end side.Remote remote
 
-mine_quiet : (bench : BenchState) (caller : ℕ) → bench.link.era.is_live ≡ false → end_of bench.link.callers caller ≡ Some side.Remote → has_call bench.link.to_remote.receiver caller ≡ true
-    → IsQuiet (without_remote bench caller).link
+mine_quiet : (bench : BenchState) (caller : ℕ) → (link_in bench).era.is_live ≡ false → end_of (link_in bench).callers caller ≡ Some side.Remote → has_call (link_in bench).to_remote.receiver caller ≡ true
+    → IsQuiet (link_in (without_remote bench caller))
 mine_quiet bench caller shut remote has =
-    let gone = mine_gone bench (end_of bench.link.callers caller) caller remote shut has in
-    cond_both (is_remote (end_of bench.link.callers caller))
-    (cond (eqb caller 1) (with_fresh_caller (after_reclaim bench caller) side.Remote) (after_reclaim bench caller)) bench (λ (left : BenchState). IsQuiet left.link)
-    (λ _. cond_both (eqb caller 1) (with_fresh_caller (after_reclaim bench caller) side.Remote) (after_reclaim bench caller) (λ (left : BenchState). IsQuiet left.link)
+    let gone = subst IsQuiet (sym (reclaim_lists bench caller)) (mine_gone bench (end_of (link_in bench).callers caller) caller remote shut has) in
+    cond_both (is_remote (end_of (link_in bench).callers caller))
+    (cond (eqb caller 1) (with_fresh_caller (after_reclaim bench caller) side.Remote) (after_reclaim bench caller)) bench (λ (left : BenchState). IsQuiet (link_in left))
+    (λ _. cond_both (eqb caller 1) (with_fresh_caller (after_reclaim bench caller) side.Remote) (after_reclaim bench caller) (λ (left : BenchState). IsQuiet (link_in left))
     (λ _. record { shut = gone.shut; free = gone.free }) (λ _. gone))
     (λ other. absurd (true≢false (sym (ap is_remote remote) ∙ other)))
 
@@ -266,10 +272,10 @@ reached_sound link reached =
 own_era : (inc : ℕ) (live : Bool) → eqb inc inc && live ≡ false → live ≡ false
 own_era inc live none = elim (eqb_tells inc inc) [ inl same ↦ subst (λ (is : Bool). is && live ≡ false) same.0 none | inr other ↦ absurd (other.1 refl) ]
 
-pub close_shut : (link : LinkState EndState) → (link_after_close link link.era.inc).era.is_live ≡ false
+pub close_shut : (link : RingsState) → (link_after_close link link.era.inc).era.is_live ≡ false
 close_shut link =
     cond_both (is_live_in link.era link.era.inc) (record link { era = record { inc = link.era.inc; is_live = false } }) link
-    (λ (left : LinkState EndState). left.era.is_live ≡ false) (λ _. refl) (λ none. own_era link.era.inc link.era.is_live none)
+    (λ (left : RingsState). left.era.is_live ≡ false) (λ _. refl) (λ none. own_era link.era.inc link.era.is_live none)
 
 -- a close leaves the incarnation, the callers and the lanes
 pub record IsClosed (before after : LinkState EndState) : Type 0 where
@@ -277,47 +283,50 @@ pub record IsClosed (before after : LinkState EndState) : Type 0 where
   pub callers : after.callers ≡ before.callers
   pub unmanaged : IsUnmanaged before → IsUnmanaged after
 
-pub close_is : (link : LinkState EndState) → IsClosed link (link_after_close link link.era.inc)
+close_is : (link : LinkState EndState) → IsClosed link (link_after_close link link.era.inc)
 close_is link =
     cond_both (is_live_in link.era link.era.inc) (record link { era = record { inc = link.era.inc; is_live = false } }) link (IsClosed link)
     (λ _. record { inc = refl; callers = refl; unmanaged = λ is. record { to_host = is.to_host; to_remote = is.to_remote } })
     (λ _. record { inc = refl; callers = refl; unmanaged = λ is. is })
 
+pub close_leaves : (bench : BenchState) → IsClosed (link_in bench) (link_in (after_close bench))
+close_leaves bench = subst (IsClosed (link_in bench)) (sym (close_lists bench)) (close_is (link_in bench))
+
 -- the link of a core that crashed
 pub crash_kept : (before after : CoreLife) (bench : BenchState) → after.incarnation ≡ before.incarnation → is_up after.state ≡ false
     → IsKeptBench before bench → IsKeptBench after (crashed_bench bench)
 crash_kept before after bench same stopped is =
-    let closed = close_is bench.link in
-    remotes_kept after (after_close bench) (holder (after_close bench).link.to_remote.receiver) (record {
+    let closed = close_leaves bench in
+    remotes_kept after (after_close bench) (holder (link_in (after_close bench)).to_remote.receiver) (record {
       unmanaged = closed.unmanaged is.unmanaged;
       own = subst AreOwnUsed (sym closed.callers) is.own;
       inc = closed.inc ∙ is.inc ∙ sym same;
-      live = close_shut bench.link ∙ sym stopped;
+      live = close_shut bench.rings ∙ sym stopped;
     })
 
 -- ---- no reclaim of a crash is refused
 
-module _ (bench : BenchState) (reached : IsReached bench.link) (unmanaged : IsUnmanaged bench.link) where
-  closed_turn : (caller : ℕ) → holder (after_close bench).link.to_remote.receiver ≡ Some caller → HasTurn (after_close bench).link caller
+module _ (bench : BenchState) (reached : IsReached (link_in bench)) (unmanaged : IsUnmanaged (link_in bench)) where
+  closed_turn : (caller : ℕ) → holder (link_in (after_close bench)).to_remote.receiver ≡ Some caller → HasTurn (link_in (after_close bench)) caller
   closed_turn caller held =
-      turn_has (after_close bench).link (after_close bench).link.to_remote.receiver caller refl ((close_is bench.link).unmanaged unmanaged).to_remote.receiver
-      (close_sound bench.link bench.link.era.inc (reached_sound bench.link reached)).to_remote.receiver held
+      turn_has (link_in (after_close bench)) (link_in (after_close bench)).to_remote.receiver caller refl ((close_leaves bench).unmanaged unmanaged).to_remote.receiver
+      (subst SoundLink (sym (close_lists bench)) (close_sound (link_in bench) (link_in bench).era.inc (reached_sound (link_in bench) reached))).to_remote.receiver held
 
   own_other : (now : Turn Receiving) (caller : ℕ) → has_call now caller ≡ true → other_holder now caller ≡ None
   own_other now caller has = cond_both (has_call now caller) None (holder now) (λ (found : Option ℕ). found ≡ None) (λ _. refl) (λ other. absurd (true≢false (sym has ∙ other)))
 
-  pub first_unrefused : (caller : ℕ) → holder (after_close bench).link.to_remote.receiver ≡ Some caller
-      → (end_of (after_close bench).link.callers caller ≡ Some side.Remote) × (unreclaimed_by (after_close bench).link caller ≡ None)
+  pub first_unrefused : (caller : ℕ) → holder (link_in (after_close bench)).to_remote.receiver ≡ Some caller
+      → (end_of (link_in (after_close bench)).callers caller ≡ Some side.Remote) × (unreclaimed_by (link_in (after_close bench)) caller ≡ None)
   first_unrefused caller held =
       let turn_of = closed_turn caller held in
-      (turn_of.user, unrefused (after_close bench).link caller (close_shut bench.link) turn_of.user (own_other (after_close bench).link.to_remote.receiver caller turn_of.has))
+      (turn_of.user, unrefused (link_in (after_close bench)) caller (close_shut bench.rings) turn_of.user (own_other (link_in (after_close bench)).to_remote.receiver caller turn_of.has))
 
-  first_quiet : (first : Option ℕ) → holder (after_close bench).link.to_remote.receiver ≡ first → IsQuiet (without_one (after_close bench) first).link
-  first_quiet None none = record { shut = close_shut bench.link; free = none }
-  first_quiet (Some caller) held = let turn_of = closed_turn caller held in mine_quiet (after_close bench) caller (close_shut bench.link) turn_of.user turn_of.has
+  first_quiet : (first : Option ℕ) → holder (link_in (after_close bench)).to_remote.receiver ≡ first → IsQuiet (link_in (without_one (after_close bench) first))
+  first_quiet None none = record { shut = close_shut bench.rings; free = none }
+  first_quiet (Some caller) held = let turn_of = closed_turn caller held in mine_quiet (after_close bench) caller (close_shut bench.rings) turn_of.user turn_of.has
 
-  pub other_unrefused : (caller : ℕ) → end_of (crash_reaches bench caller).link.callers caller ≡ Some side.Remote → unreclaimed_by (crash_reaches bench caller).link caller ≡ None
+  pub other_unrefused : (caller : ℕ) → end_of (link_in (crash_reaches bench caller)).callers caller ≡ Some side.Remote → unreclaimed_by (link_in (crash_reaches bench caller)) caller ≡ None
   other_unrefused caller remote =
-      let first = holder (after_close bench).link.to_remote.receiver in
+      let first = holder (link_in (after_close bench)).to_remote.receiver in
       let quiet = others_quiet first (without_one (after_close bench) first) 0 caller (first_quiet first refl) in
-      unrefused (crash_reaches bench caller).link caller quiet.shut remote (free_other (crash_reaches bench caller).link.to_remote.receiver caller quiet.free)
+      unrefused (link_in (crash_reaches bench caller)) caller quiet.shut remote (free_other (link_in (crash_reaches bench caller)).to_remote.receiver caller quiet.free)

@@ -28,11 +28,13 @@ use Rattle.lane_model.specs.Sends.{send_step, sender_step}
 use Rattle.lane_model.specs.Receives.{after_handing, desk_step, receive_step, receiver_step}
 use Rattle.lane_model.specs.Forms.{list_form}
 use Rattle.lane_model.specs.Links.{LinkState, Lanes, caller_step, end_of, lanes_of, lanes_step, on_lanes, receive_later, send_later}
+use Rattle.lane_model.specs.WholeCalls.{WhereOn}
 use Rattle.lane_model.proofs.SoundLanes.{turn_step_has}
 use Rattle.channel_bus.specs.Sides.{EndState, side_meaning}
 use Rattle.link_bench.specs.declared.benches.BegunCall.{BegunCall}
 use Rattle.link_bench.specs.declared.benches.Reach.TheVariants as reach
-use Rattle.link_bench.specs.Benches.{BenchState, BenchWalk, Walk, advance_steps, advance_walk, begun_of, bench_walk, call_rings, call_steps, call_walk, later_steps, start_walk, walk_on, with_begun}
+use Rattle.link_bench.specs.Benches.{BenchState, BenchWalk, RingsState, advance_steps, advance_walk, begun_of, bench_walk, call_steps, call_walk, later_steps, link_in, lists_of, on_rings, start_walk, with_begun}
+use Rattle.link_bench.proofs.KeptWalks.{call_keeps, later_keeps}
 use Rattle.core_laws.specs.KeptCores.{IsKeptBench, IsKeptLink, IsUnmanagedLane, IsUnmanagedTurn}
 
 -- ---- turns
@@ -140,48 +142,36 @@ module _ (life : CoreLife) where
       → IsKeptLink life (caller_step side_meaning link caller follows wished).state
   step_kept link caller follows wished is = step_at link (end_of link.callers caller) caller follows wished is
 
-  walk_kept : (state : LinkState EndState) (steps : ℕ) (done : Outcome) (later : ℕ → Walk) → IsKeptLink life state
-      → ((step : ℕ) → IsKeptLink life (later step).link) → IsKeptLink life (walk_on state steps done later).link
-  walk_kept state steps (outcome.At step) later is rest = rest step
-  walk_kept state steps (outcome.Ended ended) later is rest = is
+  -- any step may be made
+  abbrev any : LinkState EndState → Option Wish → Type 0
+  any link wished = Unit {0}
 
-  later_kept : (more last steps : ℕ) (link : LinkState EndState) (caller : ℕ) → IsKeptLink life link → IsKeptLink life (later_steps more last steps link caller).link
-  unfolding later_steps
-  later_kept zero last steps link caller is = is
-  later_kept (suc more) last steps link caller is =
-      let step = caller_step side_meaning link caller 0 None in
-      let left = step_kept link caller 0 None is in
-      cond_both (eqb steps STEPS_MOST) (record { link = link; steps = steps; reach = reach.Limit })
-      (walk_on step.state (steps + 1) step.outcome (λ done. later_steps more done (steps + 1) step.state caller))
-      (λ (walk : Walk). IsKeptLink life walk.link) (λ _. is)
-      (λ _. walk_kept step.state (steps + 1) step.outcome (λ done. later_steps more done (steps + 1) step.state caller) left
-      (λ done. later_kept more done (steps + 1) step.state caller left))
+  next : (done : Outcome) → WhereOn done (Unit {0})
+  next (outcome.At step) = tt
+  next (outcome.Ended ended) = tt
 
-  call_kept : (more steps : ℕ) (link : LinkState EndState) (caller follows : ℕ) (wanted : Wish) → IsKeptLink life link
-      → IsKeptLink life (call_steps more steps link caller follows wanted).link
-  unfolding call_steps
-  call_kept more steps link caller follows wanted is =
-      let step = caller_step side_meaning link caller follows (Some wanted) in
-      let left = step_kept link caller follows (Some wanted) is in
-      cond_both (eqb steps STEPS_MOST) (record { link = link; steps = steps; reach = reach.Limit })
-      (walk_on step.state (steps + 1) step.outcome (λ done. later_steps more done (steps + 1) step.state caller))
-      (λ (walk : Walk). IsKeptLink life walk.link) (λ _. is)
-      (λ _. walk_kept step.state (steps + 1) step.outcome (λ done. later_steps more done (steps + 1) step.state caller) left
-      (λ done. later_kept more done (steps + 1) step.state caller left))
+  later_kept : (more last steps : ℕ) (rings : RingsState) (caller : ℕ) → IsKeptLink life (lists_of rings) → IsKeptLink life (lists_of (later_steps on_rings more last steps rings caller).link)
+  later_kept more last steps rings caller is =
+      later_keeps (IsKeptLink life) any caller (λ link follows wished _ is. step_kept link caller follows wished is) (λ link follows wished _. next _) more last steps rings tt is
+
+  call_kept : (more steps : ℕ) (rings : RingsState) (caller follows : ℕ) (wanted : Wish) → IsKeptLink life (lists_of rings)
+      → IsKeptLink life (lists_of (call_steps on_rings more steps rings caller follows wanted).link)
+  call_kept more steps rings caller follows wanted is =
+      call_keeps (IsKeptLink life) any caller (λ link follows wished _ is. step_kept link caller follows wished is) (λ link follows wished _. next _) more steps rings follows wanted tt is
 
   advance_at : (bench : BenchState) (more steps caller : ℕ) (found : Option BegunCall) → IsKeptBench life bench
       → IsKeptBench life (advance_steps bench more steps caller found).bench
   advance_at bench more steps caller (Some call) is =
       cond_both (eqb steps STEPS_MOST) (record { bench = bench; steps = steps; reach = reach.Limit })
-      (bench_walk (with_begun bench caller None) (call_steps more steps bench.link caller call.follows call.wish) (call_rings more steps bench.rings caller call.follows call.wish))
-      (λ (walk : BenchWalk). IsKeptBench life walk.bench) (λ _. is) (λ _. call_kept more steps bench.link caller call.follows call.wish is)
-  advance_at bench more steps caller None is = later_kept (more + 1) 0 steps bench.link caller is
+      (bench_walk (with_begun bench caller None) (call_steps on_rings more steps bench.rings caller call.follows call.wish))
+      (λ (walk : BenchWalk). IsKeptBench life walk.bench) (λ _. is) (λ _. call_kept more steps bench.rings caller call.follows call.wish is)
+  advance_at bench more steps caller None is = later_kept (more + 1) 0 steps bench.rings caller is
 
   pub advance_kept : (bench : BenchState) (more steps caller : ℕ) → IsKeptBench life bench → IsKeptBench life (advance_walk bench more steps caller).bench
   advance_kept bench more steps caller is = advance_at bench more steps caller (begun_of bench caller) is
 
   pub whole_kept : (bench : BenchState) (steps caller : ℕ) (wanted : Wish) → IsKeptBench life bench → IsKeptBench life (call_walk bench steps caller wanted).bench
-  whole_kept bench steps caller wanted is = call_kept 6 steps bench.link caller bench.link.era.inc wanted is
+  whole_kept bench steps caller wanted is = call_kept 6 steps bench.rings caller (link_in bench).era.inc wanted is
 
   pub start_kept : (bench : BenchState) (steps caller : ℕ) (wanted : Wish) → IsKeptBench life bench → IsKeptBench life (start_walk bench steps caller wanted).bench
-  start_kept bench steps caller wanted is = call_kept 0 steps bench.link caller bench.link.era.inc wanted is
+  start_kept bench steps caller wanted is = call_kept 0 steps bench.rings caller (link_in bench).era.inc wanted is

@@ -15,7 +15,7 @@ use Rattle.link_bench.specs.declared.benches.BegunCall.{BegunCall}
 use Rattle.link_bench.specs.declared.benches.BenchFault.{BenchFault}
 use Rattle.link_bench.specs.declared.benches.BenchFault.TheVariants as fault
 use Rattle.link_bench.specs.declared.benches.Reach.TheVariants as reach
-use Rattle.link_bench.specs.Benches.{BenchState, BenchWalk, advance_steps, advance_walk, begin_fault, begun_of, bench_walk, caller_fault, calling_fault, is_in_call, later_rings, later_steps, start_walk, wish_fault}
+use Rattle.link_bench.specs.Benches.{BenchState, BenchWalk, advance_steps, advance_walk, begin_fault, begun_of, bench_walk, caller_fault, calling_fault, is_in_call, later_steps, link_in, on_rings, start_walk, wish_fault}
 use Rattle.core_actors.specs.ActorEnds.{gives_of, left_of, number_taken, sends_of}
 use Rattle.core_actors.specs.ActorSteps.{first_or_take}
 use Rattle.core_laws.specs.PendingCalls.{AreFitLanes, AreGivable, IsNamedEnd, given_after, given_by, is_among}
@@ -70,7 +70,7 @@ module _ (held : List Holding) (caller : ℕ) where
       )
 
   -- the wish that an actor begins with is one that it may have
-  first_held : (bench : BenchState) (calls : List Wish) → ((number : ℕ) → IsTrue (holds held number caller) → is_holding bench.link caller number ≡ true)
+  first_held : (bench : BenchState) (calls : List Wish) → ((number : ℕ) → IsTrue (holds held number caller) → is_holding (link_in bench) caller number ≡ true)
       → AreGivable held caller (given_by calls) → wish_fault bench caller (first_or_take calls) ≡ None
   first_held bench [] each are = refl
   first_held bench (wish.Send message ∷ later) each are = refl
@@ -123,37 +123,37 @@ sends_nothing (Some message) = refl
 -- ---- where a step of an actor begins
 
 -- an actor's caller, in use on its end, and what its calls give back
-module _ (bench : BenchState) (caller : ℕ) (end : End) (user : end_of bench.link.callers caller ≡ Some end) where
+module _ (bench : BenchState) (caller : ℕ) (end : End) (user : end_of (link_in bench).callers caller ≡ Some end) where
   -- a caller that is in no call has no call on its lanes
-  pub silent : is_in_call bench caller ≡ false → is_in_call_on (lanes_of bench.link end) caller ≡ false
+  pub silent : is_in_call bench caller ≡ false → is_in_call_on (lanes_of (link_in bench) end) caller ≡ false
   silent none =
-      let parts = or_parts (is_some (begun_of bench caller)) (is_calling bench.link caller) none in
-      subst (λ (found : Option End). option_map_or (λ end. is_in_call_on (lanes_of bench.link end) caller) found false ≡ false) user parts.1
+      let parts = or_parts (is_some (begun_of bench caller)) (is_calling (link_in bench) caller) none in
+      subst (λ (found : Option End). option_map_or (λ end. is_in_call_on (lanes_of (link_in bench) end) caller) found false ≡ false) user parts.1
 
   -- one that has begun no call, and is in one, has it on its lanes
-  pub calling : begun_of bench caller ≡ None → is_in_call bench caller ≡ true → MayStep bench.link caller None
+  pub calling : begun_of bench caller ≡ None → is_in_call bench caller ≡ true → MayStep (link_in bench) caller None
   calling none is =
-      let on_link = sym (ap (λ (found : Option BegunCall). is_some found || is_calling bench.link caller) none) ∙ is in
-      let on_lanes = subst (λ (found : Option End). option_map_or (λ end. is_in_call_on (lanes_of bench.link end) caller) found false ≡ true) user on_link in
-      record { may = subst (λ (found : Option End). MayEndStep bench.link found caller None) (sym user) on_lanes }
+      let on_link = sym (ap (λ (found : Option BegunCall). is_some found || is_calling (link_in bench) caller) none) ∙ is in
+      let on_lanes = subst (λ (found : Option End). option_map_or (λ end. is_in_call_on (lanes_of (link_in bench) end) caller) found false ≡ true) user on_link in
+      record { may = subst (λ (found : Option End). MayEndStep (link_in bench) found caller None) (sym user) on_lanes }
 
-  pub given_now : (is_first : Bool) (calls : List Wish) → is_in_call bench caller ≡ false → AreFitLanes (lanes_of bench.link end) caller is_first calls
-      → AreGivable (lanes_of bench.link end).incoming.lane.held caller (given_by calls)
-  given_now is_first calls none are = are.receives.other (or_parts (has_call (lanes_of bench.link end).outgoing.sender caller) _ (silent none)).1
+  pub given_now : (is_first : Bool) (calls : List Wish) → is_in_call bench caller ≡ false → AreFitLanes (lanes_of (link_in bench) end) caller is_first calls
+      → AreGivable (lanes_of (link_in bench) end).incoming.lane.held caller (given_by calls)
+  given_now is_first calls none are = are.receives.other (or_parts (has_call (lanes_of (link_in bench) end).outgoing.sender caller) _ (silent none)).1
 
   -- the next call may begin
-  pub begins : (is_first : Bool) (calls : List Wish) → is_in_call bench caller ≡ false → AreFitLanes (lanes_of bench.link end) caller is_first calls
+  pub begins : (is_first : Bool) (calls : List Wish) → is_in_call bench caller ≡ false → AreFitLanes (lanes_of (link_in bench) end) caller is_first calls
       → begin_fault bench caller (first_or_take calls) ≡ None
   begins is_first calls none are =
-      let ready : caller_fault (end_of bench.link.callers caller) (is_in_call bench caller) ≡ None = ap (λ (found : Option End). caller_fault found (is_in_call bench caller)) user ∙ ap calling_fault none in
-      let wished = first_held (lanes_of bench.link end).incoming.lane.held caller bench calls
-      (λ number has. ap (λ (found : Option End). option_map_or (λ end. holds (lanes_of bench.link end).incoming.lane.held number caller) found false) user ∙ has)
+      let ready : caller_fault (end_of (link_in bench).callers caller) (is_in_call bench caller) ≡ None = ap (λ (found : Option End). caller_fault found (is_in_call bench caller)) user ∙ ap calling_fault none in
+      let wished = first_held (lanes_of (link_in bench) end).incoming.lane.held caller bench calls
+      (λ number has. ap (λ (found : Option End). option_map_or (λ end. holds (lanes_of (link_in bench) end).incoming.lane.held number caller) found false) user ∙ has)
       (given_now is_first calls none are) in
       ap (λ (why : Option BenchFault). option_or why (wish_fault bench caller (first_or_take calls))) ready ∙ wished
 
 -- what holds of each way of a step on the link holds of the step
 pub linked : (bench : BenchState) (caller : ℕ) (wanted : Wish) (P : BenchWalk → Type 0) (in_call : Bool) → begun_of bench caller ≡ None
-    → (in_call ≡ true → P (bench_walk bench (later_steps 1 0 0 bench.link caller) (later_rings 1 0 bench.rings caller)))
+    → (in_call ≡ true → P (bench_walk bench (later_steps on_rings 1 0 0 bench.rings caller)))
     → (in_call ≡ false → begin_fault bench caller wanted ≡ None) → (in_call ≡ false → P (start_walk bench 0 caller wanted))
     → P (cond in_call (advance_walk bench 0 0 caller) (cond (is_some (begin_fault bench caller wanted)) (record { bench = bench; steps = 0; reach = reach.Limit }) (start_walk bench 0 caller wanted)))
 linked bench caller wanted P true none later ready first = subst (λ (found : Option BegunCall). P (advance_steps bench 0 0 caller found)) (sym none) (later refl)

@@ -27,7 +27,7 @@ use Rattle.core_actors.specs.declared.progress.Driven.TheVariants as driven
 use Rattle.core_actors.specs.Actors.{ActorsState}
 use Rattle.link_bench.specs.BenchCrashes.{after_close, after_reclaim}
 use Rattle.core_laws.specs.BenchMoves.{AreSendable, IsReachedBench, IsReachedCore}
-use Rattle.link_bench.specs.Benches.{BenchState, BenchWalk, advance_steps, advance_walk, begin_fault, begun_of, is_in_call, start_walk}
+use Rattle.link_bench.specs.Benches.{BenchState, BenchWalk, advance_steps, advance_walk, begin_fault, begun_of, is_in_call, link_in, start_walk}
 use Rattle.link_bench.specs.BenchEnds.{crashed_bench, is_first, is_remote, with_fresh_caller, without_one, without_other, without_others, without_remote}
 use Rattle.crash_recover.specs.CoreCrashes.{after_report, crashed_core}
 use Rattle.crash_recover.specs.Cores.{CoreState, LoadState}
@@ -45,7 +45,7 @@ use Rattle.core_laws.proofs.PendingSteps.{ReachFollows, other_call, other_later,
 
 -- ---- a step on the link
 
-module _ (actors : ActorsState) (bench : BenchState) (reached : IsReachedBench bench) (own : AreOwnUsed bench.link.callers) (begun : HasNoneBegun bench) (sendable : AreSendable actors)
+module _ (actors : ActorsState) (bench : BenchState) (reached : IsReachedBench bench) (own : AreOwnUsed (link_in bench).callers) (begun : HasNoneBegun bench) (sendable : AreSendable actors)
     (ready : IsReadyBench actors bench) where
   host_differs : ◌≢◌ {A = ℕ} 0 1
   host_differs is = absurd (omega (arith, is))
@@ -62,57 +62,57 @@ module _ (actors : ActorsState) (bench : BenchState) (reached : IsReachedBench b
   -- the lanes of the host actor after its own step, and after the worker's
   host_walk : (in_call : Bool) → is_in_call bench 0 ≡ in_call
       → let walk : BenchWalk = cond in_call (advance_walk bench 0 0 0) (cond (is_some (begin_fault bench 0 (first_or_take actors.host_calls))) (record { bench = bench; steps = 0; reach = reach.Limit }) (start_walk bench 0 0 (first_or_take actors.host_calls))) in
-      ReachFollows walk.reach (lanes_of walk.bench.link side.Host) 0 (not (host_begun_as in_call actors).is_taking) (host_begun_as in_call actors).host_calls
+      ReachFollows walk.reach (lanes_of (link_in walk.bench) side.Host) 0 (not (host_begun_as in_call actors).is_taking) (host_begun_as in_call actors).host_calls
   host_walk true is =
-      linked bench 0 (first_or_take actors.host_calls) (λ (walk : BenchWalk). ReachFollows walk.reach (lanes_of walk.bench.link side.Host) 0 (not actors.is_taking) actors.host_calls) true begun.host
-      (λ _. own_later 0 side.Host (not actors.is_taking) actors.host_calls bench.link own.host (reached_sound bench.link reached.link) (calling bench 0 side.Host own.host begun.host is) ready.host)
+      linked bench 0 (first_or_take actors.host_calls) (λ (walk : BenchWalk). ReachFollows walk.reach (lanes_of (link_in walk.bench) side.Host) 0 (not actors.is_taking) actors.host_calls) true begun.host
+      (λ _. own_later 0 side.Host (not actors.is_taking) actors.host_calls bench.rings own.host (reached_sound (link_in bench) reached.link) (calling bench 0 side.Host own.host begun.host is) ready.host)
       (λ no. absurd (true≢false no)) (λ no. absurd (true≢false no))
   host_walk false is =
-      linked bench 0 (first_or_take actors.host_calls) (λ (walk : BenchWalk). ReachFollows walk.reach (lanes_of walk.bench.link side.Host) 0 (not (eqb (length actors.host_calls) 0)) actors.host_calls) false begun.host
+      linked bench 0 (first_or_take actors.host_calls) (λ (walk : BenchWalk). ReachFollows walk.reach (lanes_of (link_in walk.bench) side.Host) 0 (not (eqb (length actors.host_calls) 0)) actors.host_calls) false begun.host
       (λ yes. absurd (false≢true yes)) (λ _. host_begins is)
-      (λ _. own_call 0 side.Host (not (eqb (length actors.host_calls) 0)) actors.host_calls bench.link own.host bench.link.era.inc (first_or_take actors.host_calls)
+      (λ _. own_call 0 side.Host (not (eqb (length actors.host_calls) 0)) actors.host_calls bench.rings own.host (link_in bench).era.inc (first_or_take actors.host_calls)
       (begin_may bench 0 (first_or_take actors.host_calls) (first_sendable actors.host_calls sendable.host) (host_begins is)) (next_of_host actors.host_calls) ready.host.sends
       (given_now bench 0 side.Host own.host (not actors.is_taking) actors.host_calls is ready.host))
 
   worker_stays : (in_call : Bool) → is_in_call bench 0 ≡ in_call
       → let walk : BenchWalk = cond in_call (advance_walk bench 0 0 0) (cond (is_some (begin_fault bench 0 (first_or_take actors.host_calls))) (record { bench = bench; steps = 0; reach = reach.Limit }) (start_walk bench 0 0 (first_or_take actors.host_calls))) in
-      AreFitLanes (lanes_of walk.bench.link side.Remote) 1 true actors.worker_calls
+      AreFitLanes (lanes_of (link_in walk.bench) side.Remote) 1 true actors.worker_calls
   worker_stays in_call is =
-      linked bench 0 (first_or_take actors.host_calls) (λ (walk : BenchWalk). AreFitLanes (lanes_of walk.bench.link side.Remote) 1 true actors.worker_calls) in_call begun.host
-      (λ yes. other_later 0 1 side.Remote true actors.worker_calls host_differs 1 0 0 bench.link (calling bench 0 side.Host own.host begun.host (is ∙ yes)) ready.worker)
+      linked bench 0 (first_or_take actors.host_calls) (λ (walk : BenchWalk). AreFitLanes (lanes_of (link_in walk.bench) side.Remote) 1 true actors.worker_calls) in_call begun.host
+      (λ yes. other_later 0 1 side.Remote true actors.worker_calls host_differs 1 0 0 bench.rings (calling bench 0 side.Host own.host begun.host (is ∙ yes)) ready.worker)
       (λ no. host_begins (is ∙ no))
-      (λ no. other_call 0 1 side.Remote true actors.worker_calls host_differs 0 0 bench.link bench.link.era.inc (first_or_take actors.host_calls)
+      (λ no. other_call 0 1 side.Remote true actors.worker_calls host_differs 0 0 bench.rings (link_in bench).era.inc (first_or_take actors.host_calls)
       (begin_may bench 0 (first_or_take actors.host_calls) (first_sendable actors.host_calls sendable.host) (host_begins (is ∙ no))) ready.worker)
 
   worker_walk : (in_call : Bool) → is_in_call bench 1 ≡ in_call
       → let walk : BenchWalk = cond in_call (advance_walk bench 0 0 1) (cond (is_some (begin_fault bench 1 (first_or_take actors.worker_calls))) (record { bench = bench; steps = 0; reach = reach.Limit }) (start_walk bench 0 1 (first_or_take actors.worker_calls))) in
-      ReachFollows walk.reach (lanes_of walk.bench.link side.Remote) 1 true actors.worker_calls
+      ReachFollows walk.reach (lanes_of (link_in walk.bench) side.Remote) 1 true actors.worker_calls
   worker_walk in_call is =
-      linked bench 1 (first_or_take actors.worker_calls) (λ (walk : BenchWalk). ReachFollows walk.reach (lanes_of walk.bench.link side.Remote) 1 true actors.worker_calls) in_call begun.worker
-      (λ yes. own_later 1 side.Remote true actors.worker_calls bench.link own.remote (reached_sound bench.link reached.link) (calling bench 1 side.Remote own.remote begun.worker (is ∙ yes)) ready.worker)
+      linked bench 1 (first_or_take actors.worker_calls) (λ (walk : BenchWalk). ReachFollows walk.reach (lanes_of (link_in walk.bench) side.Remote) 1 true actors.worker_calls) in_call begun.worker
+      (λ yes. own_later 1 side.Remote true actors.worker_calls bench.rings own.remote (reached_sound (link_in bench) reached.link) (calling bench 1 side.Remote own.remote begun.worker (is ∙ yes)) ready.worker)
       (λ no. worker_begins (is ∙ no))
-      (λ no. own_call 1 side.Remote true actors.worker_calls bench.link own.remote bench.link.era.inc (first_or_take actors.worker_calls)
+      (λ no. own_call 1 side.Remote true actors.worker_calls bench.rings own.remote (link_in bench).era.inc (first_or_take actors.worker_calls)
       (begin_may bench 1 (first_or_take actors.worker_calls) (first_sendable actors.worker_calls sendable.worker) (worker_begins (is ∙ no))) (next_of_worker actors.worker_calls) ready.worker.sends
       (given_now bench 1 side.Remote own.remote true actors.worker_calls (is ∙ no) ready.worker))
 
   host_stays : (in_call : Bool) → is_in_call bench 1 ≡ in_call
       → let walk : BenchWalk = cond in_call (advance_walk bench 0 0 1) (cond (is_some (begin_fault bench 1 (first_or_take actors.worker_calls))) (record { bench = bench; steps = 0; reach = reach.Limit }) (start_walk bench 0 1 (first_or_take actors.worker_calls))) in
-      AreFitLanes (lanes_of walk.bench.link side.Host) 0 (not actors.is_taking) actors.host_calls
+      AreFitLanes (lanes_of (link_in walk.bench) side.Host) 0 (not actors.is_taking) actors.host_calls
   host_stays in_call is =
-      linked bench 1 (first_or_take actors.worker_calls) (λ (walk : BenchWalk). AreFitLanes (lanes_of walk.bench.link side.Host) 0 (not actors.is_taking) actors.host_calls) in_call begun.worker
-      (λ yes. other_later 1 0 side.Host (not actors.is_taking) actors.host_calls worker_differs 1 0 0 bench.link (calling bench 1 side.Remote own.remote begun.worker (is ∙ yes)) ready.host)
+      linked bench 1 (first_or_take actors.worker_calls) (λ (walk : BenchWalk). AreFitLanes (lanes_of (link_in walk.bench) side.Host) 0 (not actors.is_taking) actors.host_calls) in_call begun.worker
+      (λ yes. other_later 1 0 side.Host (not actors.is_taking) actors.host_calls worker_differs 1 0 0 bench.rings (calling bench 1 side.Remote own.remote begun.worker (is ∙ yes)) ready.host)
       (λ no. worker_begins (is ∙ no))
-      (λ no. other_call 1 0 side.Host (not actors.is_taking) actors.host_calls worker_differs 0 0 bench.link bench.link.era.inc (first_or_take actors.worker_calls)
+      (λ no. other_call 1 0 side.Host (not actors.is_taking) actors.host_calls worker_differs 0 0 bench.rings (link_in bench).era.inc (first_or_take actors.worker_calls)
       (begin_may bench 1 (first_or_take actors.worker_calls) (first_sendable actors.worker_calls sendable.worker) (worker_begins (is ∙ no))) ready.host)
 
 -- ---- what the ends of calls leave of the calls
 
-host_left : (came : Reach) (actors : ActorsState) (bench : BenchState) → ReachFollows came (lanes_of bench.link side.Host) 0 (not actors.is_taking) actors.host_calls
-    → AreFitLanes (lanes_of bench.link side.Host) 0 (not (host_reached actors bench came).is_taking) (host_reached actors bench came).host_calls
+host_left : (came : Reach) (actors : ActorsState) (bench : BenchState) → ReachFollows came (lanes_of (link_in bench) side.Host) 0 (not actors.is_taking) actors.host_calls
+    → AreFitLanes (lanes_of (link_in bench) side.Host) 0 (not (host_reached actors bench came).is_taking) (host_reached actors bench came).host_calls
 host_left (reach.At step) actors bench follows = follows
 host_left reach.Limit actors bench follows = absurd follows
 host_left (reach.Ended ended) actors bench follows =
-    let held = bench.link.to_host.lane.held in
+    let held = (link_in bench).to_host.lane.held in
     let first : List Wish = cond actors.is_taking actors.host_calls (left_of ended actors.host_calls) in
     let back = gives_of (number_taken ended) in
     let sent = end_answer actors.drivers (message_of bench 0 ended) ended in
@@ -126,21 +126,21 @@ host_left (reach.Ended ended) actors bench follows =
       };
     }
 
-worker_left : (came : Reach) (actors : ActorsState) (bench : BenchState) → ReachFollows came (lanes_of bench.link side.Remote) 1 true actors.worker_calls
-    → AreFitLanes (lanes_of bench.link side.Remote) 1 true (worker_reached actors bench came).worker_calls
+worker_left : (came : Reach) (actors : ActorsState) (bench : BenchState) → ReachFollows came (lanes_of (link_in bench) side.Remote) 1 true actors.worker_calls
+    → AreFitLanes (lanes_of (link_in bench) side.Remote) 1 true (worker_reached actors bench came).worker_calls
 worker_left (reach.At step) actors bench follows = follows
 worker_left reach.Limit actors bench follows = absurd follows
 worker_left (reach.Ended ended) actors bench follows = record {
   sends = follows.sends;
   receives = record {
     own = λ has. absurd (false≢true (sym follows.receives.left ∙ has));
-    other = λ _. worker_calls_left bench.link.to_remote.lane.held 1 actors.worker_calls ended follows.receives.given;
+    other = λ _. worker_calls_left (link_in bench).to_remote.lane.held 1 actors.worker_calls ended follows.receives.given;
   };
 }
 
 -- a step of one actor leaves the calls of the other
-worker_same : (came : Reach) (in_call : Bool) (actors : ActorsState) (bench : BenchState) → AreFitLanes (lanes_of bench.link side.Remote) 1 true actors.worker_calls
-    → AreFitLanes (lanes_of bench.link side.Remote) 1 true (host_reached (host_begun_as in_call actors) bench came).worker_calls
+worker_same : (came : Reach) (in_call : Bool) (actors : ActorsState) (bench : BenchState) → AreFitLanes (lanes_of (link_in bench) side.Remote) 1 true actors.worker_calls
+    → AreFitLanes (lanes_of (link_in bench) side.Remote) 1 true (host_reached (host_begun_as in_call actors) bench came).worker_calls
 worker_same (reach.At step) true actors bench are = are
 worker_same (reach.At step) false actors bench are = are
 worker_same (reach.Ended ended) true actors bench are = are
@@ -148,8 +148,8 @@ worker_same (reach.Ended ended) false actors bench are = are
 worker_same reach.Limit true actors bench are = are
 worker_same reach.Limit false actors bench are = are
 
-host_same : (came : Reach) (actors : ActorsState) (bench : BenchState) → AreFitLanes (lanes_of bench.link side.Host) 0 (not actors.is_taking) actors.host_calls
-    → AreFitLanes (lanes_of bench.link side.Host) 0 (not (worker_reached actors bench came).is_taking) (worker_reached actors bench came).host_calls
+host_same : (came : Reach) (actors : ActorsState) (bench : BenchState) → AreFitLanes (lanes_of (link_in bench) side.Host) 0 (not actors.is_taking) actors.host_calls
+    → AreFitLanes (lanes_of (link_in bench) side.Host) 0 (not (worker_reached actors bench came).is_taking) (worker_reached actors bench came).host_calls
 host_same (reach.At step) actors bench are = are
 host_same (reach.Ended ended) actors bench are = are
 host_same reach.Limit actors bench are = are
@@ -226,12 +226,12 @@ more_calls lanes caller calls more none nothing are = record {
   };
 }
 
-record_bench : (actors : ActorsState) (memory : List ℕ) (map : Mapping) (linked : Bool) (bench : BenchState) → AreOwnUsed bench.link.callers → is_in_call bench 1 ≡ false → IsReadyBench actors bench
+record_bench : (actors : ActorsState) (memory : List ℕ) (map : Mapping) (linked : Bool) (bench : BenchState) → AreOwnUsed (link_in bench).callers → is_in_call bench 1 ≡ false → IsReadyBench actors bench
     → IsReadyBench (actors_after_record actors memory map linked) bench
 record_bench actors memory map linked bench own none ready = record {
   host = ready.host;
-  worker = more_calls (lanes_of bench.link side.Remote) 1 actors.worker_calls _
-      (or_parts (has_call (lanes_of bench.link side.Remote).outgoing.sender 1) _ (silent bench 1 side.Remote own.remote none)).1 (work_gives memory map linked actors.worker) ready.worker;
+  worker = more_calls (lanes_of (link_in bench) side.Remote) 1 actors.worker_calls _
+      (or_parts (has_call (lanes_of (link_in bench) side.Remote).outgoing.sender 1) _ (silent bench 1 side.Remote own.remote none)).1 (work_gives memory map linked actors.worker) ready.worker;
 }
 
 found_record : (actors : ActorsState) (memory : List ℕ) (map : Mapping) (linked : Bool) (life : CoreLife) (found : Option BenchState) → has_calls found actors ≡ false
@@ -263,7 +263,7 @@ reclaim_begun bench gone is = record { host = cleared_begun bench.begun gone 0 i
 remote_begun : (bench : BenchState) (caller : ℕ) → HasNoneBegun bench → HasNoneBegun (without_remote bench caller)
 remote_begun bench caller is =
     let gone = reclaim_begun bench caller is in
-    cond_both (is_remote (end_of bench.link.callers caller))
+    cond_both (is_remote (end_of (link_in bench).callers caller))
     (cond (eqb caller 1) (with_fresh_caller (after_reclaim bench caller) side.Remote) (after_reclaim bench caller)) bench HasNoneBegun
     (λ _. cond_both (eqb caller 1) (with_fresh_caller (after_reclaim bench caller) side.Remote) (after_reclaim bench caller) HasNoneBegun
     (λ _. record { host = gone.host; worker = gone.worker }) (λ _. gone)) (λ _. is)
@@ -281,7 +281,7 @@ others_begun first bench at (suc left) is =
 
 crash_begun : (bench : BenchState) → HasNoneBegun bench → HasNoneBegun (crashed_bench bench)
 crash_begun bench is =
-    let first = holder (after_close bench).link.to_remote.receiver in
+    let first = holder (link_in (after_close bench)).to_remote.receiver in
     others_begun first (without_one (after_close bench) first) 0 64 (one_begun (after_close bench) first (record { host = is.host; worker = is.worker }))
 
 pub map_begun : (found : Option BenchState) (f : BenchState → BenchState) → ((bench : BenchState) → HasNoneBegun bench → HasNoneBegun (f bench)) → IfSome found HasNoneBegun

@@ -30,9 +30,9 @@ use Rattle.channel_bus.specs.Sides.{EndState, side_meaning}
 use Rattle.link_bench.specs.declared.benches.BegunCall.{BegunCall}
 use Rattle.link_bench.specs.declared.benches.Reach.TheVariants as reach
 use Rattle.core_actors.specs.Actors.{ActorsState, driver_names}
-use Rattle.link_bench.specs.BenchCrashes.{after_reopen, left_by_reclaim, reclaim_leaves}
+use Rattle.link_bench.specs.BenchCrashes.{after_reclaim, after_reopen, left_by_reclaim, reclaim_leaves}
 use Rattle.core_laws.specs.BenchMoves.{IsReachedBench}
-use Rattle.link_bench.specs.Benches.{BenchState, BenchWalk, IsSendable, advance_steps, advance_walk, begin_fault, begun_of, bench_walk, call_rings, call_steps, call_walk, is_in_call, start_walk, with_begun, with_new_caller}
+use Rattle.link_bench.specs.Benches.{BenchState, BenchWalk, IsSendable, advance_steps, advance_walk, begin_fault, begun_of, bench_walk, call_steps, call_walk, is_in_call, link_in, on_rings, start_walk, with_begun, with_new_caller}
 use Rattle.crash_recover.specs.CoreBoots.{core_bench, started_core}
 use Rattle.link_bench.specs.BenchEnds.{readied_bench, renewed_unless}
 use Rattle.crash_recover.specs.CoreRecoveries.{after_recovery, readied_core, recovery_fault, unrecovered_to}
@@ -41,6 +41,7 @@ use Rattle.core_actors.specs.ActorEnds.{actors_at_end, end_answer, sends_of}
 use Rattle.core_laws.specs.PendingCalls.{AreFitLanes, AreGivable, HasNoneBegun, IsNamed, IsOwnTurn, IsReadyBench, IsReadyCore, IsSendsTurn, given_after, given_by}
 use Rattle.core_laws.proofs.BenchMoves.{begun_at, begun_or, calling_may}
 use Rattle.link_bench.proofs.Begun.{begin_may}
+use Rattle.link_bench.proofs.Lists.{reclaim_lists}
 use Rattle.core_laws.proofs.Outcomes.{Stays}
 use Rattle.core_laws.proofs.PendingCores.{given_both, none_behind, sends_nothing}
 use Rattle.core_laws.proofs.PendingDrives.{cleared_begun, crashed_ready, map_begun, reclaim_begun}
@@ -108,8 +109,8 @@ module _ (actors : ActorsState) (bench : BenchState) (caller : ℕ) (other : 1 <
       let may = begin_may bench caller wanted sendable clear in (
         record { host = begun.host; worker = begun.worker },
         record {
-          host = other_call caller 0 side.Host (not actors.is_taking) actors.host_calls no_host 6 steps bench.link bench.link.era.inc wanted may ready.host;
-          worker = other_call caller 1 side.Remote true actors.worker_calls no_worker 6 steps bench.link bench.link.era.inc wanted may ready.worker;
+          host = other_call caller 0 side.Host (not actors.is_taking) actors.host_calls no_host 6 steps bench.rings (link_in bench).era.inc wanted may ready.host;
+          worker = other_call caller 1 side.Remote true actors.worker_calls no_worker 6 steps bench.rings (link_in bench).era.inc wanted may ready.worker;
         },
       )
 
@@ -119,8 +120,8 @@ module _ (actors : ActorsState) (bench : BenchState) (caller : ℕ) (other : 1 <
       let may = begin_may bench caller wanted sendable clear in (
         record { host = begun.host; worker = begun.worker },
         record {
-          host = other_call caller 0 side.Host (not actors.is_taking) actors.host_calls no_host 0 steps bench.link bench.link.era.inc wanted may ready.host;
-          worker = other_call caller 1 side.Remote true actors.worker_calls no_worker 0 steps bench.link bench.link.era.inc wanted may ready.worker;
+          host = other_call caller 0 side.Host (not actors.is_taking) actors.host_calls no_host 0 steps bench.rings (link_in bench).era.inc wanted may ready.host;
+          worker = other_call caller 1 side.Remote true actors.worker_calls no_worker 0 steps bench.rings (link_in bench).era.inc wanted may ready.worker;
         },
       )
 
@@ -129,21 +130,21 @@ module _ (actors : ActorsState) (bench : BenchState) (caller : ℕ) (other : 1 <
   advance_at more steps (Some call) is reached in_call =
       let may = reached.fit caller call (begun_at (slice_get bench.begun caller) call is) in
       cond_both (eqb steps STEPS_MOST) (record { bench = bench; steps = steps; reach = reach.Limit })
-      (bench_walk (with_begun bench caller None) (call_steps more steps bench.link caller call.follows call.wish) (call_rings more steps bench.rings caller call.follows call.wish))
+      (bench_walk (with_begun bench caller None) (call_steps on_rings more steps bench.rings caller call.follows call.wish))
       (λ (walk : BenchWalk). HasNoneBegun walk.bench × IsReadyBench actors walk.bench) (λ _. (begun, ready))
       (λ _. (
         record { host = cleared_begun bench.begun caller 0 begun.host; worker = cleared_begun bench.begun caller 1 begun.worker },
         record {
-          host = other_call caller 0 side.Host (not actors.is_taking) actors.host_calls no_host more steps bench.link call.follows call.wish may ready.host;
-          worker = other_call caller 1 side.Remote true actors.worker_calls no_worker more steps bench.link call.follows call.wish may ready.worker;
+          host = other_call caller 0 side.Host (not actors.is_taking) actors.host_calls no_host more steps bench.rings call.follows call.wish may ready.host;
+          worker = other_call caller 1 side.Remote true actors.worker_calls no_worker more steps bench.rings call.follows call.wish may ready.worker;
         },
       ))
   advance_at more steps None none reached in_call =
-      let may = calling_may bench.link caller (begun_or (begun_of bench caller) _ none in_call) in (
+      let may = calling_may (link_in bench) caller (begun_or (begun_of bench caller) _ none in_call) in (
         record { host = begun.host; worker = begun.worker },
         record {
-          host = other_later caller 0 side.Host (not actors.is_taking) actors.host_calls no_host (more + 1) 0 steps bench.link may ready.host;
-          worker = other_later caller 1 side.Remote true actors.worker_calls no_worker (more + 1) 0 steps bench.link may ready.worker;
+          host = other_later caller 0 side.Host (not actors.is_taking) actors.host_calls no_host (more + 1) 0 steps bench.rings may ready.host;
+          worker = other_later caller 1 side.Remote true actors.worker_calls no_worker (more + 1) 0 steps bench.rings may ready.worker;
         },
       )
 
@@ -151,24 +152,30 @@ module _ (actors : ActorsState) (bench : BenchState) (caller : ℕ) (other : 1 <
       → HasNoneBegun (advance_walk bench more steps caller).bench × IsReadyBench actors (advance_walk bench more steps caller).bench
   advance_ready more steps reached in_call = advance_at more steps (begun_of bench caller) refl reached in_call
 
+  gone : (mine : ℕ) (end : End) (is_first : Bool) (calls : List Wish) → caller ≢ mine → AreFitLanes (lanes_of (link_in bench) end) mine is_first calls
+      → AreFitLanes (lanes_of (link_in (after_reclaim bench caller)) end) mine is_first calls
+  gone mine end is_first calls differ are =
+      subst (λ (link : LinkState EndState). AreFitLanes (lanes_of link end) mine is_first calls) (sym (reclaim_lists bench caller))
+      (gone_fit (link_in bench) (end_of (link_in bench).callers caller) caller mine end is_first calls differ are)
+
   reclaim_at : (found : Option End) (why : Option ReclaimRefusal)
       → HasNoneBegun (left_by_reclaim bench caller found why) × IsReadyBench actors (left_by_reclaim bench caller found why)
   reclaim_at (Some end) None = (
     reclaim_begun bench caller begun,
     record {
-      host = gone_fit bench.link (end_of bench.link.callers caller) caller 0 side.Host (not actors.is_taking) actors.host_calls no_host ready.host;
-      worker = gone_fit bench.link (end_of bench.link.callers caller) caller 1 side.Remote true actors.worker_calls no_worker ready.worker;
+      host = gone 0 side.Host (not actors.is_taking) actors.host_calls no_host ready.host;
+      worker = gone 1 side.Remote true actors.worker_calls no_worker ready.worker;
     },
   )
   reclaim_at (Some end) (Some why) = (begun, ready)
   reclaim_at None why = (begun, ready)
 
-  pub reclaim_ready : HasNoneBegun (reclaim_leaves bench caller (unreclaimed_by bench.link caller)) × IsReadyBench actors (reclaim_leaves bench caller (unreclaimed_by bench.link caller))
-  reclaim_ready = reclaim_at (end_of bench.link.callers caller) (unreclaimed_by bench.link caller)
+  pub reclaim_ready : HasNoneBegun (reclaim_leaves bench caller (unreclaimed_by (link_in bench) caller)) × IsReadyBench actors (reclaim_leaves bench caller (unreclaimed_by (link_in bench) caller))
+  reclaim_ready = reclaim_at (end_of (link_in bench).callers caller) (unreclaimed_by (link_in bench) caller)
 
 -- a new caller
 pub caller_ready : (actors : ActorsState) (bench : BenchState) (end : End) → HasNoneBegun bench → IsReadyBench actors bench
-    → HasNoneBegun (with_new_caller bench end (free_number bench.link.callers)) × IsReadyBench actors (with_new_caller bench end (free_number bench.link.callers))
+    → HasNoneBegun (with_new_caller bench end (free_number (link_in bench).callers)) × IsReadyBench actors (with_new_caller bench end (free_number (link_in bench).callers))
 caller_ready actors bench end begun ready = (record { host = begun.host; worker = begun.worker }, record { host = ready.host; worker = ready.worker })
 
 -- ---- what the drivers send
@@ -221,7 +228,7 @@ pub seen_ready : (actors : ActorsState) (bench : BenchState) (message : List ℕ
 seen_ready actors bench message ended None ready = ready
 seen_ready actors bench message ended (Some side.Remote) ready = ready
 seen_ready actors bench message ended (Some side.Host) ready = record {
-  host = sends_fit actors.host_calls (end_answer actors.drivers message ended) 0 (not actors.is_taking) (lanes_of bench.link side.Host) ready.host;
+  host = sends_fit actors.host_calls (end_answer actors.drivers message ended) 0 (not actors.is_taking) (lanes_of (link_in bench) side.Host) ready.host;
   worker = ready.worker;
 }
 
@@ -261,7 +268,7 @@ stopped Detached life may = refl
 
 pub readied_ready : (core : CoreState) → recovery_fault core.life ≡ None → IsReadyCore core → IsReadyCore (readied_core core)
 readied_ready core may is = record {
-  begun = map_begun core.bench readied_bench (λ bench one. renewed_begun bench (unreclaimed_by bench.link 0) one) is.begun;
+  begun = map_begun core.bench readied_bench (λ bench one. renewed_begun bench (unreclaimed_by (link_in bench) 0) one) is.begun;
   calls = λ running. absurd (false≢true (sym (stopped core.life.state core.life may) ∙ running));
 }
 
@@ -276,7 +283,7 @@ reopened_calls actors (Some bench) none_host none_worker = record {
 pub recovery_ready : (core : CoreState) (given : LoadState) → IsReadyCore core → IsReadyCore (after_recovery core given)
 recovery_ready core given is = record {
   begun = map_begun core.bench (λ bench. after_reopen (readied_bench bench))
-      (λ bench one. let renewed = renewed_begun bench (unreclaimed_by bench.link 0) one in record { host = renewed.host; worker = renewed.worker }) is.begun;
+      (λ bench one. let renewed = renewed_begun bench (unreclaimed_by (link_in bench) 0) one in record { host = renewed.host; worker = renewed.worker }) is.begun;
   calls = λ _. reopened_calls (after_recovery core given).actors core.bench refl refl;
 }
 

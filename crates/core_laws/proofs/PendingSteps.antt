@@ -29,10 +29,11 @@ use Rattle.lane_model.proofs.Steps.{same}
 use Rattle.channel_bus.specs.Sides.{EndState, side_meaning}
 use Rattle.link_bench.specs.declared.benches.Reach.{Reach}
 use Rattle.link_bench.specs.declared.benches.Reach.TheVariants as reach
-use Rattle.link_bench.specs.Benches.{Walk, call_steps, later_steps, walk_on}
+use Rattle.link_bench.specs.Benches.{Walk, RingsState, call_steps, later_steps, lists_of, on_lists, on_rings, walk_on}
 use Rattle.link_bench.specs.BenchHolds.{is_host}
+use Rattle.link_bench.proofs.KeptWalks.{call_keeps, later_keeps, next_may}
+use Rattle.link_bench.proofs.Lists.{call_lists, later_lists}
 use Rattle.core_laws.specs.PendingCalls.{AreFitLanes, AreGivable, IsFitLane, IsNamed, IsSendsEnd, IsSendsTurn, given_by}
-use Rattle.core_laws.proofs.CallMoves.{next_may}
 use Rattle.core_laws.proofs.PendingLanes.{Follows, HasEnded, KeepsOwn, SendsFollow, begin_keeps, fit_kept, keeps_same, receive_follows, receiver_keeps, sender_keeps, sender_turn, sends_follow, take_keeps, taken_sends}
 
 apart : Some side.Host ≡ Some side.Remote → ⊥
@@ -48,10 +49,10 @@ work_keeps : (lanes : Lanes (LaneState EndState)) (other caller : ℕ) (call : R
     → LanesKeep caller lanes (record lanes { incoming = record lanes.incoming { receiver = taken_by lanes.incoming.receiver other call } })
 work_keeps lanes other caller call differ = record { outgoing = keeps_same caller lanes.outgoing; incoming = take_keeps lanes.incoming other caller call differ }
 
-later_keeps : (era : Era) (lanes : Lanes (LaneState EndState)) (other caller : ℕ) (sends : Bool) → other ≢ caller → has_call lanes.outgoing.sender other ≡ sends → is_in_call lanes other ≡ true
+later_keep : (era : Era) (lanes : Lanes (LaneState EndState)) (other caller : ℕ) (sends : Bool) → other ≢ caller → has_call lanes.outgoing.sender other ≡ sends → is_in_call lanes other ≡ true
     → LanesKeep caller lanes (cond sends (send_later (list_form side_meaning) era lanes) (receive_later (list_form side_meaning) side_meaning era lanes)).state
-later_keeps era lanes other caller true differ is calls = record { outgoing = sender_keeps era lanes.outgoing caller; incoming = keeps_same caller lanes.incoming }
-later_keeps era lanes other caller false differ is calls =
+later_keep era lanes other caller true differ is calls = record { outgoing = sender_keeps era lanes.outgoing caller; incoming = keeps_same caller lanes.incoming }
+later_keep era lanes other caller false differ is calls =
     let receives : has_call lanes.incoming.receiver other ≡ true = sym (ap (λ b. b || has_call lanes.incoming.receiver other) is) ∙ calls in
     record { outgoing = keeps_same caller lanes.outgoing; incoming = receiver_keeps era lanes.incoming other caller differ receives }
 
@@ -62,7 +63,7 @@ lanes_keep era lanes other follows caller (Some wish.Take) differ may = work_kee
 lanes_keep era lanes other follows caller (Some (wish.Give number)) differ may = work_keeps lanes other caller _ differ
 lanes_keep era lanes other follows caller (Some (wish.Bind address)) differ may = work_keeps lanes other caller _ differ
 lanes_keep era lanes other follows caller (Some (wish.Unbind address)) differ may = work_keeps lanes other caller _ differ
-lanes_keep era lanes other follows caller None differ may = later_keeps era lanes other caller (has_call lanes.outgoing.sender other) differ refl may
+lanes_keep era lanes other follows caller None differ may = later_keep era lanes other caller (has_call lanes.outgoing.sender other) differ refl may
 
 -- an actor, with its calls
 module _ (caller : ℕ) (is_first : Bool) (calls : List Wish) where
@@ -93,34 +94,18 @@ module _ (other caller : ℕ) (mine : End) (is_first : Bool) (calls : List Wish)
       → AreFitLanes (lanes_of (caller_step side_meaning link other follows wished).state mine) caller is_first calls
   other_step link follows wished may are = other_at link (end_of link.callers other) other follows wished caller mine is_first calls differ may.may are
 
-  other_walk : (state : LinkState EndState) (steps : ℕ) (done : Outcome) (later : ℕ → Walk) → AreFitLanes (lanes_of state mine) caller is_first calls
-      → WhereOn done (MayStep state other None) → ((step : ℕ) → MayStep state other None → AreFitLanes (lanes_of (later step).link mine) caller is_first calls)
-      → AreFitLanes (lanes_of (walk_on state steps done later).link mine) caller is_first calls
-  other_walk state steps (outcome.At step) later are may rest = rest step may
-  other_walk state steps (outcome.Ended ended) later are may rest = are
+  pub other_later : (more last steps : ℕ) (rings : RingsState) → MayStep (lists_of rings) other None → AreFitLanes (lanes_of (lists_of rings) mine) caller is_first calls
+      → AreFitLanes (lanes_of (lists_of (later_steps on_rings more last steps rings other).link) mine) caller is_first calls
+  other_later =
+      later_keeps (λ (link : LinkState EndState). AreFitLanes (lanes_of link mine) caller is_first calls) (λ (link : LinkState EndState) (wished : Option Wish). MayStep link other wished) other
+      other_step (next_may other)
 
-  pub other_later : (more last steps : ℕ) (link : LinkState EndState) → MayStep link other None → AreFitLanes (lanes_of link mine) caller is_first calls
-      → AreFitLanes (lanes_of (later_steps more last steps link other).link mine) caller is_first calls
-  unfolding later_steps
-  other_later zero last steps link may are = are
-  other_later (suc more) last steps link may are =
-      let step = caller_step side_meaning link other 0 None in
-      cond_both (eqb steps STEPS_MOST) (record { link = link; steps = steps; reach = reach.Limit })
-      (walk_on step.state (steps + 1) step.outcome (λ done. later_steps more done (steps + 1) step.state other))
-      (λ (walk : Walk). AreFitLanes (lanes_of walk.link mine) caller is_first calls) (λ _. are)
-      (λ _. other_walk step.state (steps + 1) step.outcome (λ done. later_steps more done (steps + 1) step.state other) (other_step link 0 None may are)
-      (next_may link other 0 None may) (λ done next. other_later more done (steps + 1) step.state next (other_step link 0 None may are)))
-
-  pub other_call : (more steps : ℕ) (link : LinkState EndState) (follows : ℕ) (wanted : Wish) → MayStep link other (Some wanted) → AreFitLanes (lanes_of link mine) caller is_first calls
-      → AreFitLanes (lanes_of (call_steps more steps link other follows wanted).link mine) caller is_first calls
-  unfolding call_steps
-  other_call more steps link follows wanted may are =
-      let step = caller_step side_meaning link other follows (Some wanted) in
-      cond_both (eqb steps STEPS_MOST) (record { link = link; steps = steps; reach = reach.Limit })
-      (walk_on step.state (steps + 1) step.outcome (λ done. later_steps more done (steps + 1) step.state other))
-      (λ (walk : Walk). AreFitLanes (lanes_of walk.link mine) caller is_first calls) (λ _. are)
-      (λ _. other_walk step.state (steps + 1) step.outcome (λ done. later_steps more done (steps + 1) step.state other) (other_step link follows (Some wanted) may are)
-      (next_may link other follows (Some wanted) may) (λ done next. other_later more done (steps + 1) step.state next (other_step link follows (Some wanted) may are)))
+  pub other_call : (more steps : ℕ) (rings : RingsState) (follows : ℕ) (wanted : Wish) → MayStep (lists_of rings) other (Some wanted)
+      → AreFitLanes (lanes_of (lists_of rings) mine) caller is_first calls
+      → AreFitLanes (lanes_of (lists_of (call_steps on_rings more steps rings other follows wanted).link) mine) caller is_first calls
+  other_call =
+      call_keeps (λ (link : LinkState EndState). AreFitLanes (lanes_of link mine) caller is_first calls) (λ (link : LinkState EndState) (wished : Option Wish). MayStep link other wished) other
+      other_step (next_may other)
 
 -- ---- the actor's own step
 
@@ -241,18 +226,18 @@ reach_by (outcome.At step) = reach.At step
 reach_by (outcome.Ended ended) = reach.Ended ended
 
 one_at : (state : LinkState EndState) (caller : ℕ) (done : Outcome)
-    → walk_on state 1 done (λ step. later_steps 0 step 1 state caller) ≡ record { link = state; steps = 1; reach = reach_by done }
+    → walk_on state 1 done (λ step. later_steps on_lists 0 step 1 state caller) ≡ record { link = state; steps = 1; reach = reach_by done }
 unfolding later_steps
 one_at state caller (outcome.At step) = refl
 one_at state caller (outcome.Ended ended) = refl
 
 pub one_later : (link : LinkState EndState) (caller : ℕ)
-    → let step = caller_step side_meaning link caller 0 None in later_steps 1 0 0 link caller ≡ record { link = step.state; steps = 1; reach = reach_by step.outcome }
+    → let step = caller_step side_meaning link caller 0 None in later_steps on_lists 1 0 0 link caller ≡ record { link = step.state; steps = 1; reach = reach_by step.outcome }
 unfolding later_steps
 one_later link caller = one_at (caller_step side_meaning link caller 0 None).state caller (caller_step side_meaning link caller 0 None).outcome
 
 pub one_call : (link : LinkState EndState) (caller follows : ℕ) (wanted : Wish)
-    → let step = caller_step side_meaning link caller follows (Some wanted) in call_steps 0 0 link caller follows wanted ≡ record { link = step.state; steps = 1; reach = reach_by step.outcome }
+    → let step = caller_step side_meaning link caller follows (Some wanted) in call_steps on_lists 0 0 link caller follows wanted ≡ record { link = step.state; steps = 1; reach = reach_by step.outcome }
 unfolding call_steps
 one_call link caller follows wanted =
     one_at (caller_step side_meaning link caller follows (Some wanted)).state caller (caller_step side_meaning link caller follows (Some wanted)).outcome
@@ -268,20 +253,21 @@ by_reach : (done : Outcome) (lanes : Lanes (LaneState EndState)) (caller : ℕ) 
 by_reach (outcome.At step) lanes caller is_first calls follows = follows
 by_reach (outcome.Ended ended) lanes caller is_first calls follows = follows
 
-module _ (caller : ℕ) (end : End) (is_first : Bool) (calls : List Wish) (link : LinkState EndState) (user : end_of link.callers caller ≡ Some end) where
-  pub own_later : SoundLink link → MayStep link caller None → AreFitLanes (lanes_of link end) caller is_first calls
-      → let walk = later_steps 1 0 0 link caller in ReachFollows walk.reach (lanes_of walk.link end) caller is_first calls
+module _ (caller : ℕ) (end : End) (is_first : Bool) (calls : List Wish) (rings : RingsState) (user : end_of rings.callers caller ≡ Some end) where
+  pub own_later : SoundLink (lists_of rings) → MayStep (lists_of rings) caller None → AreFitLanes (lanes_of (lists_of rings) end) caller is_first calls
+      → let walk = later_steps on_rings 1 0 0 rings caller in ReachFollows walk.reach (lanes_of (lists_of walk.link) end) caller is_first calls
   own_later sound may are =
-      let step = caller_step side_meaning link caller 0 None in
-      subst (λ (walk : Walk). ReachFollows walk.reach (lanes_of walk.link end) caller is_first calls) (sym (one_later link caller))
+      let step = caller_step side_meaning (lists_of rings) caller 0 None in
+      subst (λ (walk : Walk (LaneState EndState)). ReachFollows walk.reach (lanes_of walk.link end) caller is_first calls) (sym (later_lists 1 0 0 rings caller ∙ one_later (lists_of rings) caller))
       (by_reach step.outcome (lanes_of step.state end) caller is_first calls
-      (later_at caller is_first calls link end (end_of link.callers caller) user sound may.may are))
+      (later_at caller is_first calls (lists_of rings) end (end_of rings.callers caller) user sound may.may are))
 
-  pub own_call : (follows : ℕ) (wanted : Wish) → MayStep link caller (Some wanted) → IsNext wanted is_first calls
-      → IsSendsTurn (lanes_of link end).outgoing.sender → AreGivable (lanes_of link end).incoming.lane.held caller (given_by calls)
-      → let walk = call_steps 0 0 link caller follows wanted in ReachFollows walk.reach (lanes_of walk.link end) caller is_first calls
+  pub own_call : (follows : ℕ) (wanted : Wish) → MayStep (lists_of rings) caller (Some wanted) → IsNext wanted is_first calls
+      → IsSendsTurn (lanes_of (lists_of rings) end).outgoing.sender → AreGivable (lanes_of (lists_of rings) end).incoming.lane.held caller (given_by calls)
+      → let walk = call_steps on_rings 0 0 rings caller follows wanted in ReachFollows walk.reach (lanes_of (lists_of walk.link) end) caller is_first calls
   own_call follows wanted may next sends are =
-      let step = caller_step side_meaning link caller follows (Some wanted) in
-      subst (λ (walk : Walk). ReachFollows walk.reach (lanes_of walk.link end) caller is_first calls) (sym (one_call link caller follows wanted))
+      let step = caller_step side_meaning (lists_of rings) caller follows (Some wanted) in
+      subst (λ (walk : Walk (LaneState EndState)). ReachFollows walk.reach (lanes_of walk.link end) caller is_first calls)
+      (sym (call_lists 0 0 rings caller follows wanted ∙ one_call (lists_of rings) caller follows wanted))
       (by_reach step.outcome (lanes_of step.state end) caller is_first calls
-      (first_at caller is_first calls link end (end_of link.callers caller) follows wanted user may.may next sends are))
+      (first_at caller is_first calls (lists_of rings) end (end_of rings.callers caller) follows wanted user may.may next sends are))

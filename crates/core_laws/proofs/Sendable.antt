@@ -35,7 +35,7 @@ use Rattle.lane_model.specs.declared.calls.Wish.{Wish}
 use Rattle.lane_model.specs.declared.calls.Wish.TheVariants as wish
 use Rattle.lane_model.specs.Links.{end_of, LinkState}
 use Rattle.channel_bus.specs.Sides.{EndState}
-use Rattle.link_bench.specs.Benches.{BenchState, IsSendable, taken_on}
+use Rattle.link_bench.specs.Benches.{BenchState, IsSendable, link_in, taken_on}
 use Rattle.core_laws.specs.BenchMoves.{IsShortLink}
 use Rattle.core_actors.specs.ActorEnds.{channel_answer, end_answer, endpoint_answer, gives_of, is_tried_again, left_of, message_numbered, message_of, number_taken, sends_of, verdict_answer}
 use Rattle.core_actors.specs.ActorSteps.{asked_by}
@@ -229,9 +229,9 @@ taken_short link (Some side.Host) number short = short.to_host.accepted number
 taken_short link (Some side.Remote) number short = short.to_remote.accepted number
 taken_short link None number short = omega arith
 
-numbered_short : (bench : BenchState) (caller : ℕ) (number : Option ℕ) → IsShortLink bench.link → length (message_numbered bench caller number) ≤ MESSAGE_MOST
+numbered_short : (bench : BenchState) (caller : ℕ) (number : Option ℕ) → IsShortLink (link_in bench) → length (message_numbered bench caller number) ≤ MESSAGE_MOST
 numbered_short bench caller None short = omega arith
-numbered_short bench caller (Some number) short = taken_short bench.link (end_of bench.link.callers caller) number short
+numbered_short bench caller (Some number) short = taken_short (link_in bench) (end_of (link_in bench).callers caller) number short
 
-pub message_short : (bench : BenchState) (caller : ℕ) (end : CallEnd) → IsShortLink bench.link → length (message_of bench caller end) ≤ MESSAGE_MOST
+pub message_short : (bench : BenchState) (caller : ℕ) (end : CallEnd) → IsShortLink (link_in bench) → length (message_of bench caller end) ≤ MESSAGE_MOST
 message_short bench caller end short = numbered_short bench caller (number_taken end) short

@@ -11,7 +11,7 @@ use Rattle.lane_model.specs.Links.{LinkState}
 use Rattle.lane_laws.specs.Moves.{Move, MayMoves, Recorded, no_handings, after_moves, lane_to, IsNewLink}
 use Rattle.channel_bus.specs.Sides.{EndState, side_meaning}
 use Rattle.core_actors.specs.Actors.{ActorsState}
-use Rattle.link_bench.specs.Benches.{BenchState, AreFitCalls, IsSendable}
+use Rattle.link_bench.specs.Benches.{BenchState, AreFitCalls, IsSendable, link_in}
 use Rattle.crash_recover.specs.Cores.{CoreState}
 
 -- one link is left of another by moves, each of which may be made where the ones before it have been
@@ -50,8 +50,8 @@ pub record WasBoundOnTheWay (link : LinkState EndState) (reached : IsReached lin
 
 -- the link of a bench is reached, and the first step of each call that is begun may be done
 pub record IsReachedBench (bench : BenchState) : Type 0 where
-  pub link : IsReached bench.link
-  pub fit : AreFitCalls bench.link bench.begun
+  pub link : IsReached (link_in bench)
+  pub fit : AreFitCalls (link_in bench) bench.begun
 
 -- each message that an actor of a core is yet to send fits a buffer
 pub record AreSendable (actors : ActorsState) : Type 0 where

@@ -10,7 +10,7 @@ use Rattle.lane_model.specs.declared.stages.Turn.TheVariants as turn
 use Rattle.lane_model.specs.Lanes.{holder}
 use Rattle.lane_model.specs.Links.{LinkState, end_of}
 use Rattle.channel_bus.specs.Sides.{EndState}
-use Rattle.link_bench.specs.Benches.{BenchState}
+use Rattle.link_bench.specs.Benches.{BenchState, link_in}
 use Rattle.link_bench.specs.BenchCrashes.{after_close}
 use Rattle.link_bench.specs.BenchEnds.{is_remote, without_one, without_others}
 use Rattle.crash_recover.specs.Cores.{CoreState}
@@ -45,7 +45,7 @@ pub record IsKeptLink (life : CoreLife) (link : LinkState EndState) : Type 0 whe
   pub live : link.era.is_live ≡ is_up life.state
 
 abbrev pub IsKeptBench : CoreLife → BenchState → Type 0
-IsKeptBench life bench = IsKeptLink life bench.link
+IsKeptBench life bench = IsKeptLink life (link_in bench)
 
 -- the same of a core, which may have no link
 abbrev pub IsKeptCore : CoreState → Type 0
@@ -66,5 +66,5 @@ end_after_crash caller found = if is_remote found then (if caller == 1 then Some
 -- the link of a core in a crash, as the remote callers from this number on are yet to be ended: it is closed, who had the receiver's turn of the remote end was ended first, and then the others of lower numbers
 abbrev pub crash_reaches : BenchState → ℕ → BenchState
 crash_reaches bench caller =
-    let first = holder (after_close bench).link.to_remote.receiver in
+    let first = holder (link_in (after_close bench)).to_remote.receiver in
     without_others first (without_one (after_close bench) first) 0 caller

@@ -19,7 +19,7 @@ use Rattle.lane_model.specs.Lanes.{has_call, holds}
 use Rattle.lane_model.specs.Links.{Lanes, lanes_of}
 use Rattle.channel_bus.specs.Sides.{EndState}
 use Rattle.core_actors.specs.Actors.{ActorsState}
-use Rattle.link_bench.specs.Benches.{BenchState, begun_of}
+use Rattle.link_bench.specs.Benches.{BenchState, begun_of, link_in}
 use Rattle.crash_recover.specs.Cores.{CoreState}
 
 -- the numbers of the messages whose buffers these calls give back
@@ -89,8 +89,8 @@ pub record AreFitLanes (lanes : Lanes (LaneState EndState)) (caller : ℕ) (is_f
 
 -- the link of a core whose actors are these
 pub record IsReadyBench (actors : ActorsState) (bench : BenchState) : Type 0 where
-  pub host : AreFitLanes (lanes_of bench.link side.Host) 0 (not actors.is_taking) actors.host_calls
-  pub worker : AreFitLanes (lanes_of bench.link side.Remote) 1 true actors.worker_calls
+  pub host : AreFitLanes (lanes_of (link_in bench) side.Host) 0 (not actors.is_taking) actors.host_calls
+  pub worker : AreFitLanes (lanes_of (link_in bench) side.Remote) 1 true actors.worker_calls
 
 -- no actor has begun a call without a step of it
 pub record HasNoneBegun (bench : BenchState) : Type 0 where

@@ -12,7 +12,7 @@ ghost use Rattle.lane_model.specs.Soundness.{SoundLink};
 ghost use Rattle.channel_bus.specs.Sides.{EndState, side_meaning};
 ghost use Rattle.link_bench.specs.declared.benches.BegunCall.{BegunCall};
 ghost use Rattle.core_actors.specs.Actors.{ActorsState};
-ghost use Rattle.link_bench.specs.Benches.{BenchState, IsSendable, advance_walk, begin_fault, call_walk, is_in_call, new_bench_of, start_walk, with_begun, with_new_caller};
+ghost use Rattle.link_bench.specs.Benches.{BenchState, IsSendable, advance_walk, begin_fault, call_walk, is_in_call, link_in, new_bench_of, start_walk, with_begun, with_new_caller};
 ghost use Rattle.link_bench.specs.BenchCrashes.{after_close, after_reclaim, after_reopen, reclaim_leaves};
 ghost use Rattle.link_bench.specs.declared.acts.LinkAct.{LinkAct};
 ghost use Rattle.link_bench.specs.Acts.{IsFitAct, link_act};
@@ -58,7 +58,7 @@ pub fn bench_reached()
     ensures new { (config : LinkConfig) (host remote : EndState) → IsFreshDesk side_meaning host → IsFreshDesk side_meaning remote
         → IsReachedBench (new_bench_of config host remote) }
     ensures caller { (bench : BenchState) (end : End) → IsReachedBench bench
-        → IsReachedBench (with_new_caller bench end (free_number bench.link.callers)) }
+        → IsReachedBench (with_new_caller bench end (free_number (link_in bench).callers)) }
     ensures begun { (bench : BenchState) (caller : ℕ) (call : BegunCall) → IsReachedBench bench → begin_fault bench caller call.wish ≡ None
         → IsSendable call.wish → IsReachedBench (with_begun bench caller (Some call)) }
     ensures advance { (bench : BenchState) (more steps caller : ℕ) → IsReachedBench bench → is_in_call bench caller ≡ true
@@ -71,23 +71,23 @@ pub fn bench_reached()
         → IsReachedBench (link_act nobody_sees own bench (tt {0}) steps act).bench }
     ensures close { (bench : BenchState) → IsReachedBench bench → IsReachedBench (after_close bench) }
     ensures reclaim { (bench : BenchState) (caller : ℕ) → IsReachedBench bench
-        → IsReachedBench (reclaim_leaves bench caller (unreclaimed_by bench.link caller)) }
-    ensures end_caller { (bench : BenchState) (caller : ℕ) → IsReachedBench bench → bench.link.era.is_live ≡ false
+        → IsReachedBench (reclaim_leaves bench caller (unreclaimed_by (link_in bench) caller)) }
+    ensures end_caller { (bench : BenchState) (caller : ℕ) → IsReachedBench bench → (link_in bench).era.is_live ≡ false
         → IsReachedBench (after_reclaim bench caller) }
-    ensures reopen { (bench : BenchState) → IsReachedBench bench → unopened_by bench.link ≡ None → IsReachedBench (after_reopen bench) }
+    ensures reopen { (bench : BenchState) → IsReachedBench bench → unopened_by (link_in bench) ≡ None → IsReachedBench (after_reopen bench) }
 {}
 
 /// What an act for callers does to a link, as a command of a script asks it, are moves of the link, one after the other. So in a closed incarnation no act
 /// hands anything over, and none opens it again.
 pub fn acts_are_moves()
     ensures moves { (own : ℕ) (bench : BenchState) (steps : ℕ) (act : LinkAct (List ℕ)) → IsFitAct act → IsReachedBench bench
-        → ComesBy side_meaning bench.link (link_act nobody_sees own bench (tt {0}) steps act).bench.link }
+        → ComesBy side_meaning (link_in bench) (link_in (link_act nobody_sees own bench (tt {0}) steps act).bench) }
     ensures of_core { (own : ℕ) (bench : BenchState) (actors : ActorsState) (steps : ℕ) (act : LinkAct (List ℕ)) → IsFitAct act → IsReachedBench bench
-        → ComesBy side_meaning bench.link (link_act actors_after_end own bench actors steps act).bench.link }
-    ensures closed { (own : ℕ) (bench : BenchState) (steps : ℕ) (act : LinkAct (List ℕ)) → IsFitAct act → IsReachedBench bench → bench.link.era.is_live ≡ false
-        → StaysClosed bench.link (link_act nobody_sees own bench (tt {0}) steps act).bench.link }
+        → ComesBy side_meaning (link_in bench) (link_in (link_act actors_after_end own bench actors steps act).bench) }
+    ensures closed { (own : ℕ) (bench : BenchState) (steps : ℕ) (act : LinkAct (List ℕ)) → IsFitAct act → IsReachedBench bench → (link_in bench).era.is_live ≡ false
+        → StaysClosed (link_in bench) (link_in (link_act nobody_sees own bench (tt {0}) steps act).bench) }
     ensures closed_of_core { (own : ℕ) (bench : BenchState) (actors : ActorsState) (steps : ℕ) (act : LinkAct (List ℕ)) → IsFitAct act → IsReachedBench bench
-        → bench.link.era.is_live ≡ false → StaysClosed bench.link (link_act actors_after_end own bench actors steps act).bench.link }
+        → (link_in bench).era.is_live ≡ false → StaysClosed (link_in bench) (link_in (link_act actors_after_end own bench actors steps act).bench) }
 {}
 
 /// The link of a core comes so too, from its boot to its last shutdown or detach, over crashes and recoveries, over each step of its actors, whose
@@ -174,7 +174,7 @@ pub fn core_kept()
 /// any caller but the core's own.
 pub fn link_kept()
     ensures caller { (life : CoreLife) (bench : BenchState) (end : End) → IsKeptBench life bench
-        → IsKeptBench life (with_new_caller bench end (free_number bench.link.callers)) }
+        → IsKeptBench life (with_new_caller bench end (free_number (link_in bench).callers)) }
     ensures begun { (life : CoreLife) (bench : BenchState) (caller : ℕ) (call : BegunCall) → IsKeptBench life bench
         → IsKeptBench life (with_begun bench caller (Some call)) }
     ensures advance { (life : CoreLife) (bench : BenchState) (more steps caller : ℕ) → IsKeptBench life bench
@@ -184,27 +184,27 @@ pub fn link_kept()
     ensures start { (life : CoreLife) (bench : BenchState) (steps caller : ℕ) (wanted : Wish) → IsKeptBench life bench
         → IsKeptBench life (start_walk bench steps caller wanted).bench }
     ensures reclaim { (life : CoreLife) (bench : BenchState) (caller : ℕ) → 1 < caller → IsKeptBench life bench
-        → IsKeptBench life (reclaim_leaves bench caller (unreclaimed_by bench.link caller)) }
+        → IsKeptBench life (reclaim_leaves bench caller (unreclaimed_by (link_in bench) caller)) }
 {}
 
 /// Nothing refuses a reclaim that a crash report makes: not that of who has the receiver's turn of the remote end, who is a remote caller, nor
 /// that of any remote caller that is ended after it. Behind them all host callers are where they were, and of the remote callers 1 alone is in use.
 pub fn crash_reclaims()
-    ensures first { (bench : BenchState) (caller : ℕ) → IsReached bench.link → IsUnmanaged bench.link
-        → holder (after_close bench).link.to_remote.receiver ≡ Some caller
-        → (end_of (after_close bench).link.callers caller ≡ Some side.Remote) × (unreclaimed_by (after_close bench).link caller ≡ None) }
-    ensures others { (bench : BenchState) (caller : ℕ) → IsReached bench.link → IsUnmanaged bench.link
-        → end_of (crash_reaches bench caller).link.callers caller ≡ Some side.Remote → unreclaimed_by (crash_reaches bench caller).link caller ≡ None }
+    ensures first { (bench : BenchState) (caller : ℕ) → IsReached (link_in bench) → IsUnmanaged (link_in bench)
+        → holder (link_in (after_close bench)).to_remote.receiver ≡ Some caller
+        → (end_of (link_in (after_close bench)).callers caller ≡ Some side.Remote) × (unreclaimed_by (link_in (after_close bench)) caller ≡ None) }
+    ensures others { (bench : BenchState) (caller : ℕ) → IsReached (link_in bench) → IsUnmanaged (link_in bench)
+        → end_of (link_in (crash_reaches bench caller)).callers caller ≡ Some side.Remote → unreclaimed_by (link_in (crash_reaches bench caller)) caller ≡ None }
     ensures all { (bench : BenchState) → crashed_bench bench ≡ crash_reaches bench 64 }
-    ensures callers { (bench : BenchState) (caller : ℕ) → AreOwnUsed bench.link.callers → caller < 64
-        → end_of (crashed_bench bench).link.callers caller ≡ end_after_crash caller (end_of bench.link.callers caller) }
+    ensures callers { (bench : BenchState) (caller : ℕ) → AreOwnUsed (link_in bench).callers → caller < 64
+        → end_of (link_in (crashed_bench bench)).callers caller ≡ end_after_crash caller (end_of (link_in bench).callers caller) }
 {}
 
 /// While a core is up, the next call of each of its actors may always begin, where the actor is in none: what a call gives back is held.
 pub fn actors_begin()
-    ensures host { (actors : ActorsState) (bench : BenchState) → AreOwnUsed bench.link.callers → IsReadyBench actors bench → is_in_call bench 0 ≡ false
+    ensures host { (actors : ActorsState) (bench : BenchState) → AreOwnUsed (link_in bench).callers → IsReadyBench actors bench → is_in_call bench 0 ≡ false
         → begin_fault bench 0 (first_or_take actors.host_calls) ≡ None }
-    ensures worker { (actors : ActorsState) (bench : BenchState) → AreOwnUsed bench.link.callers → IsReadyBench actors bench → is_in_call bench 1 ≡ false
+    ensures worker { (actors : ActorsState) (bench : BenchState) → AreOwnUsed (link_in bench).callers → IsReadyBench actors bench → is_in_call bench 1 ≡ false
         → begin_fault bench 1 (first_or_take actors.worker_calls) ≡ None }
 {}
 
@@ -227,7 +227,7 @@ pub fn core_ready()
 /// So it stays over what other callers than the core's own do on its link.
 pub fn link_ready()
     ensures caller { (actors : ActorsState) (bench : BenchState) (end : End) → HasNoneBegun bench → IsReadyBench actors bench
-        → let after = with_new_caller bench end (free_number bench.link.callers) in HasNoneBegun after × IsReadyBench actors after }
+        → let after = with_new_caller bench end (free_number (link_in bench).callers) in HasNoneBegun after × IsReadyBench actors after }
     ensures begun { (actors : ActorsState) (bench : BenchState) (caller : ℕ) (call : BegunCall) → 1 < caller → HasNoneBegun bench → IsReadyBench actors bench
         → let after = with_begun bench caller (Some call) in HasNoneBegun after × IsReadyBench actors after }
     ensures advance { (actors : ActorsState) (bench : BenchState) (more steps caller : ℕ) → 1 < caller → HasNoneBegun bench → IsReadyBench actors bench
@@ -240,5 +240,5 @@ pub fn link_ready()
         → begin_fault bench caller wanted ≡ None → IsSendable wanted
         → let after = (start_walk bench steps caller wanted).bench in HasNoneBegun after × IsReadyBench actors after }
     ensures reclaim { (actors : ActorsState) (bench : BenchState) (caller : ℕ) → 1 < caller → HasNoneBegun bench → IsReadyBench actors bench
-        → let after = reclaim_leaves bench caller (unreclaimed_by bench.link caller) in HasNoneBegun after × IsReadyBench actors after }
+        → let after = reclaim_leaves bench caller (unreclaimed_by (link_in bench) caller) in HasNoneBegun after × IsReadyBench actors after }
 {}

@@ -16,7 +16,7 @@ use Rattle.link_bench.specs.declared.benches.Reach.{Reach}
 use Rattle.link_bench.specs.declared.benches.Reach.TheVariants as reach
 use Rattle.crash_recover.specs.declared.core_callers.StepFault.{StepFault}
 use Rattle.crash_recover.specs.declared.core_callers.StepFault.TheVariants as step
-use Rattle.link_bench.specs.Benches.{BenchState, BenchWalk, advance_walk, begin_fault, step_fault, with_begun, with_new_caller}
+use Rattle.link_bench.specs.Benches.{BenchState, BenchWalk, advance_walk, begin_fault, link_in, step_fault, with_begun, with_new_caller}
 use Rattle.link_bench.specs.Watchers.{watched}
 use Rattle.link_bench.specs.BenchCrashes.{reclaim_answer, reclaim_leaves}
 use Rattle.link_bench.specs.BenchRings.{bench_snapshot, snapshot_at, turn_holder}
@@ -35,12 +35,12 @@ core_fault caller why = if is_own caller then Some fault.NoCaller else why
 
 -- the number of a new caller: the least that is not in use
 abbrev pub new_caller : CoreState → Option ℕ
-new_caller core = option_and_then (λ (bench : BenchState). free_number bench.link.callers) core.bench
+new_caller core = option_and_then (λ (bench : BenchState). free_number (link_in bench).callers) core.bench
 
 -- the core with a new caller at an end of its link
 abbrev pub with_core_caller : CoreState → End → CoreState
 with_core_caller core end = record core {
-  bench = option_map (λ (bench : BenchState). with_new_caller bench end (free_number bench.link.callers)) core.bench;
+  bench = option_map (λ (bench : BenchState). with_new_caller bench end (free_number (link_in bench).callers)) core.bench;
 }
 
 -- ---- the beginning of a call
@@ -51,7 +51,7 @@ core_begin_fault core caller wanted = core_fault caller (option_and_then (λ (be
 
 -- the link on which a caller has begun this call, which follows the incarnation that the link is in
 abbrev pub begun_now : BenchState → ℕ → Wish → BenchState
-begun_now bench caller wanted = with_begun bench caller (Some (record { follows = bench.link.era.inc; wish = wanted }))
+begun_now bench caller wanted = with_begun bench caller (Some (record { follows = (link_in bench).era.inc; wish = wanted }))
 
 -- the core then
 abbrev pub with_core_call : CoreState → ℕ → Wish → CoreState
@@ -94,11 +94,11 @@ core_step core caller = core_step_on core caller core.bench
 abbrev pub core_reclaim_answer : ℕ → Option BenchState → Result Reclaim BenchFault
 core_reclaim_answer caller None = Err fault.NoCaller
 core_reclaim_answer caller (Some bench) =
-    if is_own caller then Err fault.NoCaller else reclaim_answer (end_of bench.link.callers caller) (unreclaimed_by bench.link caller)
+    if is_own caller then Err fault.NoCaller else reclaim_answer (end_of (link_in bench).callers caller) (unreclaimed_by (link_in bench) caller)
 
 -- the link then
 abbrev pub reclaimed_now : ℕ → BenchState → BenchState
-reclaimed_now caller bench = if is_own caller then bench else reclaim_leaves bench caller (unreclaimed_by bench.link caller)
+reclaimed_now caller bench = if is_own caller then bench else reclaim_leaves bench caller (unreclaimed_by (link_in bench) caller)
 
 -- the core then
 abbrev pub after_core_reclaim : CoreState → ℕ → CoreState
@@ -108,7 +108,7 @@ after_core_reclaim core caller = record core { bench = option_map (reclaimed_now
 
 -- who has the first turn that is out of the link of a core
 abbrev pub core_turn_holder : CoreState → Option ℕ
-core_turn_holder core = option_and_then (λ (bench : BenchState). turn_holder bench.link) core.bench
+core_turn_holder core = option_and_then (λ (bench : BenchState). turn_holder (link_in bench)) core.bench
 
 -- the words of a link over the buffers of a device, or of one that no memory was given
 abbrev pub snapshot_over : Option RingPair → BenchState → Snapshot
@@ -121,8 +121,8 @@ core_snapshot core = option_map (snapshot_over (loaded_rings core.loaded)) core.
 
 -- who has the receiver's turn of the lane to the host on the link of a core
 abbrev pub core_receiver : CoreState → Option ℕ
-core_receiver core = option_and_then (λ (bench : BenchState). holder bench.link.to_host.receiver) core.bench
+core_receiver core = option_and_then (λ (bench : BenchState). holder (link_in bench).to_host.receiver) core.bench
 
 -- the channels of the host end of a core's link
 abbrev pub core_channels : CoreState → Option (List Channel)
-core_channels core = option_map (λ (bench : BenchState). bench.link.to_host.desk.channels) core.bench
+core_channels core = option_map (λ (bench : BenchState). (link_in bench).to_host.desk.channels) core.bench

@@ -4,7 +4,7 @@ use Rattle.proc_state.specs.Lives.{CoreLife, life_after_crash}
 use Rattle.proc_state.specs.declared.answers.LifeFault.{LifeFault}
 use Rattle.proc_state.specs.declared.answers.Report.{Report}
 use Rattle.proc_state.specs.declared.answers.Report.TheVariants as report
-use Rattle.link_bench.specs.Benches.{BenchState}
+use Rattle.link_bench.specs.Benches.{BenchState, link_in}
 use Rattle.link_bench.specs.BenchEnds.{crashed_bench}
 use Rattle.crash_recover.specs.declared.core_answers.Crash.{Crash}
 use Rattle.crash_recover.specs.declared.core_answers.Crash.TheVariants as crash
@@ -18,7 +18,7 @@ crashed_core life core = record core { life = life; bench = option_map crashed_b
 abbrev pub first_report : Bool → CoreLife → CoreState → Option BenchState → CoreOutcome Crash LifeFault
 first_report may_step life core None = record { core = crashed_core life core; answer = Ok (crash.First None) }
 first_report may_step life core (Some bench) =
-    if may_step then record { core = crashed_core life core; answer = Ok (crash.First (Some bench.link.era.inc)) }
+    if may_step then record { core = crashed_core life core; answer = Ok (crash.First (Some (link_in bench).era.inc)) }
     else record { core = core; answer = Ok crash.Limit }
 
 -- a report, by the life then and what it answers

@@ -1,7 +1,7 @@
 -- What a shutdown and a detach of a core answer and leave (`rproc_shutdown` and `rproc_detach` of Linux remoteproc_core.c; the faults and their order are own).
 use Rattle.std.specs.Prelude.{ℕ, Bool, Option, Some, None, option_map, option_and_then, Result, Ok, Err, if◌then◌else◌}
 use Rattle.link_bench.specs.BenchHolds.{caller_out}
-use Rattle.link_bench.specs.Benches.{BenchState}
+use Rattle.link_bench.specs.Benches.{BenchState, link_in}
 use Rattle.proc_state.specs.Lives.{CoreLife, life_after_detach, life_after_shutdown}
 use Rattle.proc_state.specs.declared.answers.Left.{Left}
 use Rattle.proc_state.specs.declared.answers.Left.TheVariants as left
@@ -15,7 +15,7 @@ use Rattle.crash_recover.specs.Cores.{CoreOutcome, CoreState, refuse_or}
 -- the incarnation of a link that is live
 abbrev pub live_inc : Option BenchState → Option ℕ
 live_inc None = None
-live_inc (Some bench) = if bench.link.era.is_live then Some bench.link.era.inc else None
+live_inc (Some bench) = if (link_in bench).era.is_live then Some (link_in bench).era.inc else None
 
 -- the last user leaves: a live link is closed, which is a step that may be taken or not
 abbrev pub close_or : Bool → CoreState → CoreState → Option ℕ → CoreOutcome Leave CoreFault

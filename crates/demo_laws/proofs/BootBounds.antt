@@ -13,6 +13,7 @@ use Rattle.demo_laws.proofs.DriveBounds.{IsProgram, IsWithin, OnLink}
 use Rattle.core_laws.proofs.CoreMoves.{reached_stays}
 use Rattle.core_laws.proofs.KeptCores.{found_same, kept_stays}
 use Rattle.core_laws.proofs.PendingOthers.{ready_stays}
+use Rattle.link_bench.specs.Benches.{link_in}
 
 -- both rings have room for three messages
 abbrev pub AreRoomy : RingPair → Type 0
@@ -20,7 +21,7 @@ AreRoomy rings = (3 ≤ ring_capacity rings.to_host.num) × (3 ≤ ring_capacity
 
 -- a new link
 new_link : (records credit within : ℕ) (names : List (List ℕ)) (book first : ℕ) (rings : RingPair) → AreRoomy rings → records ≤ within → credit ≤ 1
-    → LinkWithin records credit [] false [] (core_bench names book first rings).link within
+    → LinkWithin records credit [] false [] (link_in (core_bench names book first rings)) within
 unfolding core_bench
 new_link records credit within names book first rings roomy few one = record {
   host_now = None;

@@ -30,7 +30,8 @@ use Rattle.link_bench.specs.declared.benches.BegunCall.{BegunCall}
 use Rattle.link_bench.specs.declared.benches.Reach.TheVariants as reach
 use Rattle.core_actors.specs.Actors.{ActorsState}
 use Rattle.core_laws.specs.BenchMoves.{IsReachedBench}
-use Rattle.link_bench.specs.Benches.{BenchState, BenchWalk, RingsState, Walk, advance_walk, begin_fault, begun_of, bench_walk, call_rings, call_steps, is_in_call, later_rings, later_steps, start_walk}
+use Rattle.link_bench.specs.Benches.{BenchState, BenchWalk, RingsState, Walk, advance_walk, begin_fault, begun_of, bench_walk, call_steps, is_in_call, later_steps, link_in, on_lists, start_walk}
+use Rattle.link_bench.proofs.Lists.{call_lists, later_lists}
 use Rattle.crash_recover.specs.Cores.{CoreState, LoadState}
 use Rattle.core_actors.specs.ActorEnds.{message_of, number_taken, worker_after_end}
 use Rattle.core_actors.specs.ActorSteps.{first_or_take, host_begun_as, host_is_idle, host_reached, is_drained, is_empty, worker_reached, begins_with_take}
@@ -99,11 +100,11 @@ turns_call caller inc (Some (wish.Give number)) sends receives is = ap₂ (λ (a
 turns_call caller inc (Some (wish.Bind address)) sends receives is = ap₂ (λ (a b : Bool). a || b) (free_sending caller sends is.0) (own_receiving caller inc (wish.Bind address) receives is.1)
 turns_call caller inc (Some (wish.Unbind address)) sends receives is = absurd is
 
-in_call_on : (bench : BenchState) (caller : ℕ) (end : End) → begun_of bench caller ≡ None → end_of bench.link.callers caller ≡ Some end
-    → is_in_call bench caller ≡ is_in_call_on (lanes_of bench.link end) caller
+in_call_on : (bench : BenchState) (caller : ℕ) (end : End) → begun_of bench caller ≡ None → end_of (link_in bench).callers caller ≡ Some end
+    → is_in_call bench caller ≡ is_in_call_on (lanes_of (link_in bench) end) caller
 in_call_on bench caller end none user =
-    ap (λ (found : Option BegunCall). is_some found || is_calling bench.link caller) none
-    ∙ ap (λ (found : Option End). option_map_or (λ end. is_in_call_on (lanes_of bench.link end) caller) found false) user
+    ap (λ (found : Option BegunCall). is_some found || is_calling (link_in bench) caller) none
+    ∙ ap (λ (found : Option End). option_map_or (λ end. is_in_call_on (lanes_of (link_in bench) end) caller) found false) user
 
 -- a step on the lanes of a caller in use
 used_step : (link : LinkState EndState) (caller follows : ℕ) (wished : Option Wish) (end : End) → end_of link.callers caller ≡ Some end
@@ -114,15 +115,23 @@ used_step link caller follows wished end user =
 
 later_is : (link : LinkState EndState) (caller : ℕ) (end : End) → end_of link.callers caller ≡ Some end
     → (let step = lanes_step (list_form side_meaning) side_meaning link.era (lanes_of link end) caller 0 None in
-    later_steps 1 0 0 link caller ≡ record { link = with_lanes link end step.state; steps = 1; reach = reach_by step.outcome })
+    later_steps on_lists 1 0 0 link caller ≡ record { link = with_lanes link end step.state; steps = 1; reach = reach_by step.outcome })
 later_is link caller end user =
     one_later link caller ∙ ap (λ step. record { link = step.state; steps = 1; reach = reach_by step.outcome }) (used_step link caller 0 None end user)
 
 call_is : (link : LinkState EndState) (caller follows : ℕ) (wanted : Wish) (end : End) → end_of link.callers caller ≡ Some end
     → (let step = lanes_step (list_form side_meaning) side_meaning link.era (lanes_of link end) caller follows (Some wanted) in
-    call_steps 0 0 link caller follows wanted ≡ record { link = with_lanes link end step.state; steps = 1; reach = reach_by step.outcome })
+    call_steps on_lists 0 0 link caller follows wanted ≡ record { link = with_lanes link end step.state; steps = 1; reach = reach_by step.outcome })
 call_is link caller follows wanted end user =
     one_call link caller follows wanted ∙ ap (λ step. record { link = step.state; steps = 1; reach = reach_by step.outcome }) (used_step link caller follows (Some wanted) end user)
+
+-- what a walk on lists leaves of a bench: over the same words, rings that stand for its link
+abbrev with_lists : RingsState → LinkState EndState → RingsState
+with_lists rings link =
+    record { era = link.era; to_host = record rings.to_host { lane = link.to_host }; to_remote = record rings.to_remote { lane = link.to_remote }; callers = link.callers }
+
+abbrev walk_over : BenchState → Walk (LaneState EndState) → BenchWalk
+walk_over bench walk = bench_walk bench (record { link = with_lists bench.rings walk.link; steps = walk.steps; reach = walk.reach })
 
 -- the call that a worker begins
 first_fits : (calls : List Wish) → AreWorkerCalls calls → is_empty calls ≡ false → WorkerFits (Some (first_or_take calls)) calls
@@ -203,50 +212,50 @@ module _ (Fits : WorkerState → Type 0) (records credit : WorkerState → ℕ) 
   -- what is left on the link of a core, or of a worker without one
   abbrev pub OnLink : ActorsState → Option BenchState → ℕ → Type 0
   OnLink actors None within = records actors.worker ≤ within
-  OnLink actors (Some bench) within = LinkWithin (records actors.worker) (credit actors.worker) actors.host_calls actors.is_taking actors.worker_calls bench.link within
+  OnLink actors (Some bench) within = LinkWithin (records actors.worker) (credit actors.worker) actors.host_calls actors.is_taking actors.worker_calls (link_in bench) within
 
   -- ---- the host actor
 
-  module _ (actors : ActorsState) (bench : BenchState) (within : ℕ) (reached : IsReachedBench bench) (live : bench.link.era.is_live ≡ true) (own : AreOwnUsed bench.link.callers) (begun : HasNoneBegun bench)
+  module _ (actors : ActorsState) (bench : BenchState) (within : ℕ) (reached : IsReachedBench bench) (live : (link_in bench).era.is_live ≡ true) (own : AreOwnUsed (link_in bench).callers) (begun : HasNoneBegun bench)
       (is : OnLink actors (Some bench) within) where
     abbrev HostStays : Bool → BenchWalk → Type 0
     HostStays in_call walk =
         OnLink (host_reached (host_begun_as in_call actors) walk.bench walk.reach) (Some walk.bench) (within - 1) × (1 ≤ within) × ((host_reached (host_begun_as in_call actors) walk.bench walk.reach).worker ≡ actors.worker)
 
-    host_after_later : (rings : RingsState) (done : Outcome) (after : Lanes (LaneState EndState))
-        → HostLeft (records actors.worker) (credit actors.worker) actors.host_calls actors.is_taking actors.worker_calls bench.link within (reached_sound bench.link reached.link) live is done after × (1 ≤ within)
-        → HostStays true (bench_walk bench (record { link = with_lanes bench.link side.Host after; steps = 1; reach = reach_by done }) rings)
-    host_after_later rings (outcome.At step) after left = (left.0, left.1, refl)
-    host_after_later rings (outcome.Ended ended) after left =
-        (left.0 actors.drivers (message_of (record bench { link = with_lanes bench.link side.Host after; rings = rings }) 0 ended), left.1, refl)
+    host_after_later : (done : Outcome) (after : Lanes (LaneState EndState))
+        → HostLeft (records actors.worker) (credit actors.worker) actors.host_calls actors.is_taking actors.worker_calls (link_in bench) within (reached_sound (link_in bench) reached.link) live is done after × (1 ≤ within)
+        → HostStays true (walk_over bench (record { link = with_lanes (link_in bench) side.Host after; steps = 1; reach = reach_by done }))
+    host_after_later (outcome.At step) after left = (left.0, left.1, refl)
+    host_after_later (outcome.Ended ended) after left =
+        (left.0 actors.drivers (message_of (record bench { rings = with_lists bench.rings (with_lanes (link_in bench) side.Host after) }) 0 ended), left.1, refl)
 
     -- whether the host actor is in a call
     host_call : is_in_call bench 0 ≡ is_some is.host_now
-    host_call = in_call_on bench 0 side.Host begun.host own.host ∙ turns_call 0 bench.link.era.inc is.host_now bench.link.to_remote.sender bench.link.to_host.receiver is.host.turns
+    host_call = in_call_on bench 0 side.Host begun.host own.host ∙ turns_call 0 (link_in bench).era.inc is.host_now (link_in bench).to_remote.sender (link_in bench).to_host.receiver is.host.turns
 
     host_walk : (in_call : Bool) → is_in_call bench 0 ≡ in_call → (now : Option Wish) → is.host_now ≡ now → (in_call ≡ false → begin_fault bench 0 (first_or_take actors.host_calls) ≡ None)
-        → (actors.host_calls ≡ [] → in_call ≡ false → is.host_took < length bench.link.to_host.lane.accepted)
+        → (actors.host_calls ≡ [] → in_call ≡ false → is.host_took < length (link_in bench).to_host.lane.accepted)
         → HostStays in_call (cond in_call (advance_walk bench 0 0 0) (cond (is_some (begin_fault bench 0 (first_or_take actors.host_calls))) (record { bench = bench; steps = 0; reach = reach.Limit })
         (start_walk bench 0 0 (first_or_take actors.host_calls))))
     host_walk true calls (Some wanted) now clear waits =
         linked bench 0 (first_or_take actors.host_calls) (HostStays true) true begun.host
-        (λ _. subst (λ (walk : Walk). HostStays true (bench_walk bench walk (later_rings 1 0 bench.rings 0))) (sym (later_is bench.link 0 side.Host own.host))
-        (host_after_later (later_rings 1 0 bench.rings 0) _ _
-        (host_later (records actors.worker) (credit actors.worker) actors.host_calls actors.is_taking actors.worker_calls bench.link within (reached_sound bench.link reached.link) live is wanted now)))
+        (λ _. subst (λ (walk : Walk (LaneState EndState)). HostStays true (walk_over bench walk)) (sym (later_lists 1 0 0 bench.rings 0 ∙ later_is (link_in bench) 0 side.Host own.host))
+        (host_after_later _ _
+        (host_later (records actors.worker) (credit actors.worker) actors.host_calls actors.is_taking actors.worker_calls (link_in bench) within (reached_sound (link_in bench) reached.link) live is wanted now)))
         (λ no. absurd (true≢false no)) (λ no. absurd (true≢false no))
     host_walk true calls None now clear waits = absurd (true≢false (sym calls ∙ host_call ∙ ap is_some now))
     host_walk false calls (Some wanted) now clear waits = absurd (false≢true (sym calls ∙ host_call ∙ ap is_some now))
     host_walk false calls None now clear waits =
         linked bench 0 (first_or_take actors.host_calls) (HostStays false) false begun.host (λ yes. absurd (false≢true yes)) clear
-        (λ _. subst (λ (walk : Walk). HostStays false (bench_walk bench walk (call_rings 0 0 bench.rings 0 bench.link.era.inc (first_or_take actors.host_calls))))
-        (sym (call_is bench.link 0 bench.link.era.inc (first_or_take actors.host_calls) side.Host own.host)) first)
+        (λ _. subst (λ (walk : Walk (LaneState EndState)). HostStays false (walk_over bench walk))
+        (sym (call_lists 0 0 bench.rings 0 (link_in bench).era.inc (first_or_take actors.host_calls) ∙ call_is (link_in bench) 0 (link_in bench).era.inc (first_or_take actors.host_calls) side.Host own.host)) first)
       where
-        first : let step = lanes_step (list_form side_meaning) side_meaning bench.link.era (lanes_of bench.link side.Host) 0 bench.link.era.inc (Some (first_or_take actors.host_calls)) in
-            HostStays false (bench_walk bench (record { link = with_lanes bench.link side.Host step.state; steps = 1; reach = reach_by step.outcome }) (call_rings 0 0 bench.rings 0 bench.link.era.inc (first_or_take actors.host_calls)))
+        first : let step = lanes_step (list_form side_meaning) side_meaning (link_in bench).era (lanes_of (link_in bench) side.Host) 0 (link_in bench).era.inc (Some (first_or_take actors.host_calls)) in
+            HostStays false (walk_over bench (record { link = with_lanes (link_in bench) side.Host step.state; steps = 1; reach = reach_by step.outcome }))
         first =
-            let step = lanes_step (list_form side_meaning) side_meaning bench.link.era (lanes_of bench.link side.Host) 0 bench.link.era.inc (Some (first_or_take actors.host_calls)) in
-            let left = host_first_step (records actors.worker) (credit actors.worker) actors.host_calls actors.is_taking actors.worker_calls bench.link within (reached_sound bench.link reached.link) live is now (λ none. waits none refl) in
-            subst (λ (done : Outcome). HostStays false (bench_walk bench (record { link = with_lanes bench.link side.Host step.state; steps = 1; reach = reach_by done }) (call_rings 0 0 bench.rings 0 bench.link.era.inc (first_or_take actors.host_calls))))
+            let step = lanes_step (list_form side_meaning) side_meaning (link_in bench).era (lanes_of (link_in bench) side.Host) 0 (link_in bench).era.inc (Some (first_or_take actors.host_calls)) in
+            let left = host_first_step (records actors.worker) (credit actors.worker) actors.host_calls actors.is_taking actors.worker_calls (link_in bench) within (reached_sound (link_in bench) reached.link) live is now (λ none. waits none refl) in
+            subst (λ (done : Outcome). HostStays false (walk_over bench (record { link = with_lanes (link_in bench) side.Host step.state; steps = 1; reach = reach_by done })))
             (sym left.0.1) (left.1, left.2, refl)
 
     -- ---- the worker's calls
@@ -262,49 +271,49 @@ module _ (Fits : WorkerState → Type 0) (records credit : WorkerState → ℕ) 
       after_end message None = (fits, refl, refl)
       after_end message (Some number) = took message actors.worker fits
 
-      worker_after_later : (rings : RingsState) (done : Outcome) (after : Lanes (LaneState EndState))
-          → WorkerLeft (records actors.worker) (credit actors.worker) actors.host_calls actors.is_taking actors.worker_calls bench.link within (reached_sound bench.link reached.link) live is done after × (1 ≤ within)
-          → WorkerStays (bench_walk bench (record { link = with_lanes bench.link side.Remote after; steps = 1; reach = reach_by done }) rings)
-      worker_after_later rings (outcome.At step) after left = (left.0, left.1, fits)
-      worker_after_later rings (outcome.Ended ended) after left =
-          let message = message_of (record bench { link = with_lanes bench.link side.Remote after; rings = rings }) 1 ended in
+      worker_after_later : (done : Outcome) (after : Lanes (LaneState EndState))
+          → WorkerLeft (records actors.worker) (credit actors.worker) actors.host_calls actors.is_taking actors.worker_calls (link_in bench) within (reached_sound (link_in bench) reached.link) live is done after × (1 ≤ within)
+          → WorkerStays (walk_over bench (record { link = with_lanes (link_in bench) side.Remote after; steps = 1; reach = reach_by done }))
+      worker_after_later (outcome.At step) after left = (left.0, left.1, fits)
+      worker_after_later (outcome.Ended ended) after left =
+          let message = message_of (record bench { rings = with_lists bench.rings (with_lanes (link_in bench) side.Remote after) }) 1 ended in
           let same = after_end message (number_taken ended) in (
-            subst (λ (r : ℕ). LinkWithin r (credit (worker_after_end actors.worker message (number_taken ended))) actors.host_calls actors.is_taking (worker_after actors.worker_calls ended) (with_lanes bench.link side.Remote after) (within - 1)) (sym same.1)
-                (subst (λ (c : ℕ). LinkWithin (records actors.worker) c actors.host_calls actors.is_taking (worker_after actors.worker_calls ended) (with_lanes bench.link side.Remote after) (within - 1)) (sym same.2) left.0),
+            subst (λ (r : ℕ). LinkWithin r (credit (worker_after_end actors.worker message (number_taken ended))) actors.host_calls actors.is_taking (worker_after actors.worker_calls ended) (with_lanes (link_in bench) side.Remote after) (within - 1)) (sym same.1)
+                (subst (λ (c : ℕ). LinkWithin (records actors.worker) c actors.host_calls actors.is_taking (worker_after actors.worker_calls ended) (with_lanes (link_in bench) side.Remote after) (within - 1)) (sym same.2) left.0),
             left.1,
             same.0,
           )
 
       worker_in_call : is_in_call bench 1 ≡ is_some is.worker_now
-      worker_in_call = in_call_on bench 1 side.Remote begun.worker own.remote ∙ turns_call 1 bench.link.era.inc is.worker_now bench.link.to_host.sender bench.link.to_remote.receiver is.worker.turns
+      worker_in_call = in_call_on bench 1 side.Remote begun.worker own.remote ∙ turns_call 1 (link_in bench).era.inc is.worker_now (link_in bench).to_host.sender (link_in bench).to_remote.receiver is.worker.turns
 
       worker_walk : (in_call : Bool) → is_in_call bench 1 ≡ in_call → (now : Option Wish) → is.worker_now ≡ now → (in_call ≡ false → begin_fault bench 1 (first_or_take actors.worker_calls) ≡ None)
           → (in_call ≡ false → is_empty actors.worker_calls ≡ false)
-          → (in_call ≡ false → begins_with_take actors.worker_calls ≡ true → is.worker_took < length bench.link.to_remote.lane.accepted)
+          → (in_call ≡ false → begins_with_take actors.worker_calls ≡ true → is.worker_took < length (link_in bench).to_remote.lane.accepted)
           → WorkerStays (cond in_call (advance_walk bench 0 0 1) (cond (is_some (begin_fault bench 1 (first_or_take actors.worker_calls))) (record { bench = bench; steps = 0; reach = reach.Limit })
           (start_walk bench 0 1 (first_or_take actors.worker_calls))))
       worker_walk true calls (Some wanted) now clear some waits =
           linked bench 1 (first_or_take actors.worker_calls) WorkerStays true begun.worker
-          (λ _. subst (λ (walk : Walk). WorkerStays (bench_walk bench walk (later_rings 1 0 bench.rings 1))) (sym (later_is bench.link 1 side.Remote own.remote))
-          (worker_after_later (later_rings 1 0 bench.rings 1) _ _
-          (worker_later (records actors.worker) (credit actors.worker) actors.host_calls actors.is_taking actors.worker_calls bench.link within (reached_sound bench.link reached.link) live is wanted now)))
+          (λ _. subst (λ (walk : Walk (LaneState EndState)). WorkerStays (walk_over bench walk)) (sym (later_lists 1 0 0 bench.rings 1 ∙ later_is (link_in bench) 1 side.Remote own.remote))
+          (worker_after_later _ _
+          (worker_later (records actors.worker) (credit actors.worker) actors.host_calls actors.is_taking actors.worker_calls (link_in bench) within (reached_sound (link_in bench) reached.link) live is wanted now)))
           (λ no. absurd (true≢false no)) (λ no. absurd (true≢false no))
       worker_walk true calls None now clear some waits = absurd (true≢false (sym calls ∙ worker_in_call ∙ ap is_some now))
       worker_walk false calls (Some wanted) now clear some waits = absurd (false≢true (sym calls ∙ worker_in_call ∙ ap is_some now))
       worker_walk false calls None now clear some waits =
           linked bench 1 (first_or_take actors.worker_calls) WorkerStays false begun.worker (λ yes. absurd (false≢true yes)) clear
-          (λ _. subst (λ (walk : Walk). WorkerStays (bench_walk bench walk (call_rings 0 0 bench.rings 1 bench.link.era.inc (first_or_take actors.worker_calls))))
-          (sym (call_is bench.link 1 bench.link.era.inc (first_or_take actors.worker_calls) side.Remote own.remote)) first)
+          (λ _. subst (λ (walk : Walk (LaneState EndState)). WorkerStays (walk_over bench walk))
+          (sym (call_lists 0 0 bench.rings 1 (link_in bench).era.inc (first_or_take actors.worker_calls) ∙ call_is (link_in bench) 1 (link_in bench).era.inc (first_or_take actors.worker_calls) side.Remote own.remote)) first)
         where
-          first : let step = lanes_step (list_form side_meaning) side_meaning bench.link.era (lanes_of bench.link side.Remote) 1 bench.link.era.inc (Some (first_or_take actors.worker_calls)) in
-              WorkerStays (bench_walk bench (record { link = with_lanes bench.link side.Remote step.state; steps = 1; reach = reach_by step.outcome }) (call_rings 0 0 bench.rings 1 bench.link.era.inc (first_or_take actors.worker_calls)))
+          first : let step = lanes_step (list_form side_meaning) side_meaning (link_in bench).era (lanes_of (link_in bench) side.Remote) 1 (link_in bench).era.inc (Some (first_or_take actors.worker_calls)) in
+              WorkerStays (walk_over bench (record { link = with_lanes (link_in bench) side.Remote step.state; steps = 1; reach = reach_by step.outcome }))
           first =
-              let step = lanes_step (list_form side_meaning) side_meaning bench.link.era (lanes_of bench.link side.Remote) 1 bench.link.era.inc (Some (first_or_take actors.worker_calls)) in
+              let step = lanes_step (list_form side_meaning) side_meaning (link_in bench).era (lanes_of (link_in bench) side.Remote) 1 (link_in bench).era.inc (Some (first_or_take actors.worker_calls)) in
               let are : AreWorkerCalls actors.worker_calls = subst (λ (n : Option Wish). WorkerFits n actors.worker_calls) now is.worker_fits in
-              let left = worker_first_step (records actors.worker) (credit actors.worker) actors.host_calls actors.is_taking actors.worker_calls bench.link within (reached_sound bench.link reached.link) live is
+              let left = worker_first_step (records actors.worker) (credit actors.worker) actors.host_calls actors.is_taking actors.worker_calls (link_in bench) within (reached_sound (link_in bench) reached.link) live is
               (first_or_take actors.worker_calls) now (first_fits actors.worker_calls are (some refl))
-              (first_message actors.worker_calls is.worker_took (length bench.link.to_remote.lane.accepted) (waits refl) (some refl)) in
-              subst (λ (done : Outcome). WorkerStays (bench_walk bench (record { link = with_lanes bench.link side.Remote step.state; steps = 1; reach = reach_by done }) (call_rings 0 0 bench.rings 1 bench.link.era.inc (first_or_take actors.worker_calls))))
+              (first_message actors.worker_calls is.worker_took (length (link_in bench).to_remote.lane.accepted) (waits refl) (some refl)) in
+              subst (λ (done : Outcome). WorkerStays (walk_over bench (record { link = with_lanes (link_in bench) side.Remote step.state; steps = 1; reach = reach_by done })))
               (sym left.0.1) (left.1, left.2, fits)
 
   -- ---- a step of an actor of a core
@@ -334,12 +343,12 @@ module _ (Fits : WorkerState → Type 0) (records credit : WorkerState → ℕ) 
     host_came None busy reached kept begun ready on = absurd (true≢false busy)
     host_came (Some bench) busy reached kept begun ready on =
         let live = kept.live ∙ ap is_up running in
-        let sound = reached_sound bench.link reached.link in
-        let free = free_takes 0 bench.link.era.inc on.host_now bench.link.to_remote.sender bench.link.to_host.receiver on.host.turns in
+        let sound = reached_sound (link_in bench) reached.link in
+        let free = free_takes 0 (link_in bench).era.inc on.host_now (link_in bench).to_remote.sender (link_in bench).to_host.receiver on.host.turns in
         let left = host_walk core.actors bench within reached live kept.own begun on (is_in_call bench 0) refl on.host_now refl
         (λ silent. begins bench 0 side.Host kept.own.host (not core.actors.is_taking) core.actors.host_calls silent ready.host)
         (λ none silent.
-        let differ = eqb-false (length bench.link.to_host.lane.accepted) (length bench.link.to_host.lane.takers) (host_waits (is_in_call bench 0) (is_drained bench 0) core.actors.host_calls busy none silent) in
+        let differ = eqb-false (length (link_in bench).to_host.lane.accepted) (length (link_in bench).to_host.lane.takers) (host_waits (is_in_call bench 0) (is_drained bench 0) core.actors.host_calls busy none silent) in
         let clear = free (sym (host_call core.actors bench within reached live kept.own begun on) ∙ silent) in
         let handed = sound.to_host.lane.handed in
         let took = on.host.took in
@@ -355,13 +364,13 @@ module _ (Fits : WorkerState → Type 0) (records credit : WorkerState → ℕ) 
     worker_call_came None has busy reached kept begun ready on = absurd (false≢true has)
     worker_call_came (Some bench) has busy reached kept begun ready on =
         let live = kept.live ∙ ap is_up running in
-        let sound = reached_sound bench.link reached.link in
-        let free = free_takes 1 bench.link.era.inc on.worker_now bench.link.to_host.sender bench.link.to_remote.receiver on.worker.turns in
+        let sound = reached_sound (link_in bench) reached.link in
+        let free = free_takes 1 (link_in bench).era.inc on.worker_now (link_in bench).to_host.sender (link_in bench).to_remote.receiver on.worker.turns in
         let left = worker_walk core.actors bench within reached live kept.own begun on fits program.took (is_in_call bench 1) refl on.worker_now refl
         (λ silent. begins bench 1 side.Remote kept.own.remote true core.actors.worker_calls silent ready.worker)
         (λ silent. not_none (is_in_call bench 1) (is_empty core.actors.worker_calls) has silent)
         (λ silent takes.
-        let differ = eqb-false (length bench.link.to_remote.lane.accepted) (length bench.link.to_remote.lane.takers)
+        let differ = eqb-false (length (link_in bench).to_remote.lane.accepted) (length (link_in bench).to_remote.lane.takers)
         (worker_waits (is_in_call bench 1) core.actors.worker.is_halted (begins_with_take core.actors.worker_calls) (is_drained bench 1) busy silent takes) in
         let clear = free (sym (worker_in_call core.actors bench within reached live kept.own begun on fits program.took) ∙ silent) in
         less_than _ _ _ sound.to_remote.lane.handed differ (on.worker.took ∙ ap (λ (n : ℕ). on.worker_took + n) clear)) in
@@ -414,13 +423,13 @@ module _ (Fits : WorkerState → Type 0) (records credit : WorkerState → ℕ) 
         let live = kept.live ∙ ap is_up running in
         let parts = or_parts (is_in_call bench 1) _ none in
         let now = none_now on.worker_now (sym (worker_in_call core.actors bench within reached live kept.own begun on fits program.took) ∙ parts.0) in
-        worker_asks (records core.actors.worker) (credit core.actors.worker) core.actors.host_calls core.actors.is_taking core.actors.worker_calls bench.link within (reached_sound bench.link reached.link) live on
+        worker_asks (records core.actors.worker) (credit core.actors.worker) core.actors.host_calls core.actors.is_taking core.actors.worker_calls (link_in bench) within (reached_sound (link_in bench) reached.link) live on
         _ _ asked now (no_calls core.actors.worker_calls parts.1) are no_gives less flows
 
     some_left : (found : Option BenchState) → 1 ≤ records core.actors.worker → IfSome found (IsKeptBench core.life) → IfSome found IsReachedBench → OnLink core.actors found within → 1 ≤ within
     some_left None some kept reached on = omega (arith, some, on)
     some_left (Some bench) some kept reached on =
-        let pays = paid (records core.actors.worker) (credit core.actors.worker) core.actors.host_calls core.actors.is_taking core.actors.worker_calls bench.link within (reached_sound bench.link reached.link) (kept.live ∙ ap is_up running) on in
+        let pays = paid (records core.actors.worker) (credit core.actors.worker) core.actors.host_calls core.actors.is_taking core.actors.worker_calls (link_in bench) within (reached_sound (link_in bench) reached.link) (kept.live ∙ ap is_up running) on in
         omega (arith, some, pays, on.cost)
 
     module _ (none : has_calls core.bench core.actors ≡ false) (kept : IfSome core.bench (IsKeptBench core.life)) (begun : IfSome core.bench HasNoneBegun) (reached : IfSome core.bench IsReachedBench)
@@ -519,7 +528,7 @@ module _ (Fits : WorkerState → Type 0) (records credit : WorkerState → ℕ) 
   -- more steps are enough too
   pub more_on : (actors : ActorsState) (found : Option BenchState) (within most : ℕ) → within ≤ most → OnLink actors found within → OnLink actors found most
   more_on actors None within most less on = omega (arith, less, on)
-  more_on actors (Some bench) within most less on = more_link (records actors.worker) (credit actors.worker) actors.host_calls actors.is_taking actors.worker_calls bench.link within most less on
+  more_on actors (Some bench) within most less on = more_link (records actors.worker) (credit actors.worker) actors.host_calls actors.is_taking actors.worker_calls (link_in bench) within most less on
 
   turn_on : (actors : ActorsState) (who : Actor) (found : Option BenchState) (within : ℕ) → OnLink actors found within → OnLink (record actors { next = who }) found within
   turn_on actors who None within on = on

@@ -9,7 +9,7 @@ use Rattle.lane_model.specs.Links.{end_of}
 use Rattle.link_bench.specs.declared.benches.BenchFault.{BenchFault}
 use Rattle.link_bench.specs.declared.benches.Reach.{Reach}
 use Rattle.link_bench.specs.declared.benches.Reach.TheVariants as reach
-use Rattle.link_bench.specs.Benches.{BenchState, advance_walk, begin_fault, is_in_call, start_walk}
+use Rattle.link_bench.specs.Benches.{BenchState, advance_walk, begin_fault, is_in_call, link_in, start_walk}
 use Rattle.remote_core.specs.Works.{work_of}
 use Rattle.remote_core.specs.declared.workers.Work.{Work}
 use Rattle.remote_core.specs.declared.workers.Work.TheVariants as work
@@ -226,7 +226,7 @@ heard_at (Some side.Remote) message end actors = (all_stay 0 actors.host_calls, 
 
 pub heard : (bench : BenchState) (caller : ℕ) (end : CallEnd) (actors : ActorsState)
     → let after = actors_after_end bench caller end actors in IsQueued 0 actors.host_calls after.host_calls × (after.worker_calls ≡ actors.worker_calls)
-heard bench caller end actors = heard_at (end_of bench.link.callers caller) (message_of bench caller end) end actors
+heard bench caller end actors = heard_at (end_of (link_in bench).callers caller) (message_of bench caller end) end actors
 
 pub host_queued : (core : CoreState) → IsQueued 1 core.actors.host_calls (step_by actor.Host core).core.actors.host_calls
 host_queued core = (host_steps (with_turn_after actor.Host core) core.bench).calls

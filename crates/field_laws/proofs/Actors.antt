@@ -39,7 +39,7 @@ use Rattle.lane_model.specs.Links.{LinkState, end_of}
 use Rattle.channel_bus.specs.Sides.{EndState}
 use Rattle.link_bench.specs.declared.benches.Reach.{Reach}
 use Rattle.link_bench.specs.declared.benches.Reach.TheVariants as reach
-use Rattle.link_bench.specs.Benches.{BenchState, is_in_call, taken_on}
+use Rattle.link_bench.specs.Benches.{BenchState, is_in_call, link_in, taken_on}
 use Rattle.core_actors.specs.Actors.{ActorsState}
 use Rattle.core_actors.specs.ActorEnds.{actors_after_end, actors_at_end, channel_answer, driven_on, end_answer, endpoint_answer, gives_of, host_ended, is_tried_again, left_of, message_numbered, message_of, number_taken, sends_of, verdict_answer}
 use Rattle.core_actors.specs.ActorSteps.{actors_after_record, asked_by, first_or_take, host_begun, host_begun_as, host_reached, worker_reached}
@@ -137,11 +137,11 @@ taken_bytes_on link (Some side.Host) number is = is.to_host.accepted number
 taken_bytes_on link (Some side.Remote) number is = is.to_remote.accepted number
 taken_bytes_on link None number is = no_bytes
 
-numbered_bytes : (bench : BenchState) (caller : ℕ) (number : Option ℕ) → IsFieldLink bench.link → AreBytes (message_numbered bench caller number)
+numbered_bytes : (bench : BenchState) (caller : ℕ) (number : Option ℕ) → IsFieldLink (link_in bench) → AreBytes (message_numbered bench caller number)
 numbered_bytes bench caller None is = no_bytes
-numbered_bytes bench caller (Some number) is = taken_bytes_on bench.link (end_of bench.link.callers caller) number is
+numbered_bytes bench caller (Some number) is = taken_bytes_on (link_in bench) (end_of (link_in bench).callers caller) number is
 
-message_are : (bench : BenchState) (caller : ℕ) (ended : CallEnd) → IsFieldLink bench.link → AreBytes (message_of bench caller ended)
+message_are : (bench : BenchState) (caller : ℕ) (ended : CallEnd) → IsFieldLink (link_in bench) → AreBytes (message_of bench caller ended)
 message_are bench caller ended is = numbered_bytes bench caller (number_taken ended) is
 
 -- ---- ends of calls
@@ -182,7 +182,7 @@ host_end_fields actors ended is calls = record {
   worker = calls.worker;
 }
 
-pub host_fields : (actors : ActorsState) (bench : BenchState) (came : Reach) → IsFieldLink bench.link → IsFieldReach came → AreFieldCalls actors → AreFieldCalls (host_reached actors bench came)
+pub host_fields : (actors : ActorsState) (bench : BenchState) (came : Reach) → IsFieldLink (link_in bench) → IsFieldReach came → AreFieldCalls actors → AreFieldCalls (host_reached actors bench came)
 host_fields actors bench (reach.At step) link is calls = calls
 host_fields actors bench (reach.Ended ended) link is calls =
     driven_fields (host_ended actors ended) (message_of bench 0 ended) ended (message_are bench 0 ended link) (host_end_fields actors ended is calls)
@@ -214,8 +214,8 @@ seen_at actors message ended (Some side.Host) are calls = driven_fields actors m
 seen_at actors message ended (Some side.Remote) are calls = calls
 
 -- the drivers see the end of a call of others
-pub seen_fields : (actors : ActorsState) (bench : BenchState) (caller : ℕ) (ended : CallEnd) → IsFieldLink bench.link → AreFieldCalls actors → AreFieldCalls (actors_after_end bench caller ended actors)
-seen_fields actors bench caller ended link calls = seen_at actors (message_of bench caller ended) ended (end_of bench.link.callers caller) (message_are bench caller ended link) calls
+pub seen_fields : (actors : ActorsState) (bench : BenchState) (caller : ℕ) (ended : CallEnd) → IsFieldLink (link_in bench) → AreFieldCalls actors → AreFieldCalls (actors_after_end bench caller ended actors)
+seen_fields actors bench caller ended link calls = seen_at actors (message_of bench caller ended) ended (end_of (link_in bench).callers caller) (message_are bench caller ended link) calls
 
 -- ---- the worker
 

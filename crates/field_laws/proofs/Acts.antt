@@ -39,7 +39,7 @@ use Rattle.link_bench.specs.declared.benches.Reach.TheVariants as reach
 use Rattle.link_bench.specs.declared.turns.TurnEnd.{TurnEnd}
 use Rattle.link_bench.specs.Acts.{Acted, IsFitAct, call_act, caller_act, first_refusal, free_act, link_act, made_call, misfit, own_caller, own_in, pump_act, pump_refusal, reclaimed, side_refusal, step_act, unless_own, unless_refused, wish_of}
 use Rattle.link_bench.specs.BenchCrashes.{reclaim_answer}
-use Rattle.link_bench.specs.Benches.{BenchState, IsSendable, advance_fault, begin_fault, call_walk, caller_fault, calling_fault, is_in_call, ready_fault, step_fault, used_fault, wish_fault}
+use Rattle.link_bench.specs.Benches.{BenchState, IsSendable, advance_fault, begin_fault, call_walk, caller_fault, calling_fault, is_in_call, link_in, ready_fault, step_fault, used_fault, wish_fault}
 use Rattle.link_bench.specs.Turns.{Pumped, TurnCall, Turns, ended_by, give_turn, is_whole, one_turn, pump_turns, reach_number, take_turn, tested_call, then_more, turn_call, turn_message}
 use Rattle.link_bench.specs.Watchers.{Seeing, watched}
 use Rattle.link_bench.proofs.Begun.{begin_may}
@@ -98,7 +98,7 @@ pub ready_wish : (bench : BenchState) (caller : ℕ) (wanted : Wish) → HoldsBe
 ready_wish bench caller (wish.Send message) is ready fit = fit.1
 ready_wish bench caller wish.Take is ready fit = tt
 ready_wish bench caller (wish.Give number) is ready fit =
-    given_at bench.link (end_of bench.link.callers caller) caller number (reached_sound bench.link is.reached.link) is.fields.link (begin_may bench caller (wish.Give number) fit.0 ready).may
+    given_at (link_in bench) (end_of (link_in bench).callers caller) caller number (reached_sound (link_in bench) is.reached.link) is.fields.link (begin_may bench caller (wish.Give number) fit.0 ready).may
 ready_wish bench caller (wish.Bind address) is ready fit = fit.1
 ready_wish bench caller (wish.Unbind address) is ready fit = fit.1
 
@@ -144,8 +144,8 @@ first_fields (Some told) later is rest = is
 pump_fields : (bench : BenchState) (sender receiver : ℕ) → sender < 2 ^ 64 → receiver < 2 ^ 64 → AreFieldRefusals (pump_refusal bench sender receiver)
 unfolding pump_refusal
 pump_fields bench sender receiver sends receives =
-    let one = end_of bench.link.callers sender in
-    let other = end_of bench.link.callers receiver in
+    let one = end_of (link_in bench).callers sender in
+    let other = end_of (link_in bench).callers receiver in
     let both = side_at one other receiver receives in
     let fourth = first_fields (option_map (answer.Refused receiver) (calling_fault (is_in_call bench receiver))) (side_refusal one other receiver)
     (refused receiver (calling_fault (is_in_call bench receiver)) receives (calling_fields (is_in_call bench receiver))) both in
@@ -168,7 +168,7 @@ misfit_fields bench caller (call.Send source destination payload) small is =
 misfit_fields bench caller (call.Raw message) small is = tt
 misfit_fields bench caller call.Take small is = tt
 misfit_fields bench caller (call.Give number) small is =
-    cond_both (is_holding bench.link caller number) None (Some (answer.Refused caller (fault.NotHeld number))) AreFieldRefusals (λ _. tt) (λ _. (small, is))
+    cond_both (is_holding (link_in bench) caller number) None (Some (answer.Refused caller (fault.NotHeld number))) AreFieldRefusals (λ _. tt) (λ _. (small, is))
 misfit_fields bench caller (call.Bind address) small is = tt
 misfit_fields bench caller (call.Unbind address) small is = tt
 
@@ -260,7 +260,7 @@ fits bench caller (call.Send source destination payload) none = refl
 fits bench caller (call.Raw message) none = refl
 fits bench caller call.Take none = refl
 fits bench caller (call.Give number) none =
-    ap (λ (b : Bool). cond b None (Some (fault.NotHeld number))) (holds_from (is_holding bench.link caller number) (answer.Refused caller (fault.NotHeld number)) none)
+    ap (λ (b : Bool). cond b None (Some (fault.NotHeld number))) (holds_from (is_holding (link_in bench) caller number) (answer.Refused caller (fault.NotHeld number)) none)
 fits bench caller (call.Bind address) none = refl
 fits bench caller (call.Unbind address) none = refl
 
@@ -273,7 +273,7 @@ in_call_at (Some end) false none = absurd (true≢false (ap is_some none))
 
 pub call_holds : (bench : BenchState) (steps caller : ℕ) (wanted : Wish) → HoldsBench bench → begin_fault bench caller wanted ≡ None → IsFit wanted → HoldsBench (call_walk bench steps caller wanted).bench
 call_holds bench steps caller wanted is ready fit = record {
-  reached = called bench steps caller wanted is.reached ready fit.0;
+  reached = called bench 6 steps caller wanted is.reached ready fit.0;
   fields = (call_fields bench steps caller wanted ready fit.0 (ready_wish bench caller wanted is ready fit) is.reached is.fields).bench;
 }
 
@@ -298,7 +298,7 @@ module _ {W : Type 0} (sees : Seeing W) where
   unfolding call_act
   call_told bench watcher steps caller made wanted is small fields fit =
       unless_told bench watcher steps (option_map (answer.Refused caller) (ready_fault bench caller)) _
-      (refused caller (ready_fault bench caller) small (ready_at (end_of bench.link.callers caller) (is_in_call bench caller)))
+      (refused caller (ready_fault bench caller) small (ready_at (end_of (link_in bench).callers caller) (is_in_call bench caller)))
       (λ ready. unless_told bench watcher steps (misfit bench caller wanted) (made_call sees bench watcher steps caller made (wish_of wanted)) (misfit_fields bench caller wanted small fields)
       (λ none. made_told bench watcher steps caller made (wish_of wanted) is small (neither _ _ (none_refused caller (ready_fault bench caller) ready) (fits bench caller wanted none)) (fit none)))
 
@@ -306,10 +306,10 @@ module _ {W : Type 0} (sees : Seeing W) where
   unfolding step_act
   step_told bench watcher steps caller more is small =
       unless_told bench watcher steps (option_map (answer.Refused caller) (step_fault bench caller)) _
-      (refused caller (step_fault bench caller) small (advance_at (end_of bench.link.callers caller) (is_in_call bench caller)))
+      (refused caller (step_fault bench caller) small (advance_at (end_of (link_in bench).callers caller) (is_in_call bench caller)))
       (λ may. (
         small,
-        (advance_fields bench more steps caller (in_call_at (end_of bench.link.callers caller) (is_in_call bench caller) (none_refused caller (step_fault bench caller) may)) is.reached is.fields).reach,
+        (advance_fields bench more steps caller (in_call_at (end_of (link_in bench).callers caller) (is_in_call bench caller) (none_refused caller (step_fault bench caller) may)) is.reached is.fields).reach,
       ))
 
   -- ---- turns
@@ -349,7 +349,7 @@ module _ {W : Type 0} (sees : Seeing W) where
   wish_fault_fields bench caller (wish.Send message) is = tt
   wish_fault_fields bench caller wish.Take is = tt
   wish_fault_fields bench caller (wish.Give number) is =
-      cond_both (is_holding bench.link caller number) None (Some (fault.NotHeld number)) (λ (found : Option BenchFault). IfSome found IsFieldBenchFault) (λ _. tt) (λ _. is)
+      cond_both (is_holding (link_in bench) caller number) None (Some (fault.NotHeld number)) (λ (found : Option BenchFault). IfSome found IsFieldBenchFault) (λ _. tt) (λ _. is)
   wish_fault_fields bench caller (wish.Bind address) is = tt
   wish_fault_fields bench caller (wish.Unbind address) is = tt
 
@@ -363,7 +363,7 @@ module _ {W : Type 0} (sees : Seeing W) where
   unfolding turn_call
   turn_holds bench steps caller wanted is small fit fields =
       tested_holds bench steps caller wanted (begin_fault bench caller wanted) refl is small fit
-      (or_fault (ready_fault bench caller) (wish_fault bench caller wanted) (ready_at (end_of bench.link.callers caller) (is_in_call bench caller)) (wish_fault_fields bench caller wanted fields))
+      (or_fault (ready_fault bench caller) (wish_fault bench caller wanted) (ready_at (end_of (link_in bench).callers caller) (is_in_call bench caller)) (wish_fault_fields bench caller wanted fields))
 
   ended_fields : (number : Result ℕ TurnEnd) → IsFieldNumber number → IsFieldTurnEnd (ended_by number)
   ended_fields (Ok number) is = tt
@@ -432,7 +432,7 @@ module _ {W : Type 0} (sees : Seeing W) where
 
   free_told : (bench : BenchState) (watcher : W) (steps : ℕ) (asked : LinkAct (List ℕ)) → IsFitAct asked → IsFieldAct asked → HoldsBench bench → IsFieldActed (free_act sees bench watcher steps asked).answer
   free_told bench watcher steps (act.Caller end) fit fields is =
-      caller_told bench watcher steps end (free_number bench.link.callers) (free_small bench.link.callers (free_number bench.link.callers) refl is.fields.link.callers)
+      caller_told bench watcher steps end (free_number (link_in bench).callers) (free_small (link_in bench).callers (free_number (link_in bench).callers) refl is.fields.link.callers)
   free_told bench watcher steps (act.Call caller made wanted) fit fields is =
       let small = fit.0 in
       call_told bench watcher steps caller made wanted is (omega (arith, small)) fields (fit_calls (act.Call caller made wanted) fit fields bench)
@@ -442,8 +442,8 @@ module _ {W : Type 0} (sees : Seeing W) where
       let receives = fit.1 in
       pump_told bench watcher steps sender receiver count is (omega (arith, sends)) (omega (arith, receives)) fit.2 (λ number. (calls_sendable (act.Pump sender receiver count) fit number).0)
   free_told bench watcher steps (act.Reclaim caller) fit fields is =
-      came_at caller (end_of bench.link.callers caller) (unreclaimed_by bench.link caller) (omega (arith, fit))
-      (refusal_fields bench.link caller (reached_sound bench.link is.reached.link) is.fields.link)
+      came_at caller (end_of (link_in bench).callers caller) (unreclaimed_by (link_in bench) caller) (omega (arith, fit))
+      (refusal_fields (link_in bench) caller (reached_sound (link_in bench) is.reached.link) is.fields.link)
 
   own_told : (own : ℕ) (bench : BenchState) (watcher : W) (steps : ℕ) (found : Option ℕ) (acted : Acted W) → IfSome found IsNumber → IsFieldActed acted.answer
       → IsFieldActed (unless_own bench watcher steps found acted).answer
@@ -464,8 +464,8 @@ module _ {W : Type 0} (sees : Seeing W) where
   own_in_small own bench (act.Pump sender receiver count) fit =
       let sends = fit.0 in
       let receives = fit.1 in
-      or_small (own_caller own sender) (cond (is_some (end_of bench.link.callers sender)) (own_caller own receiver) None) (own_small own sender (omega (arith, sends)))
-      (cond_both (is_some (end_of bench.link.callers sender)) (own_caller own receiver) None (λ (found : Option ℕ). IfSome found IsNumber) (λ _. own_small own receiver (omega (arith, receives))) (λ _. tt))
+      or_small (own_caller own sender) (cond (is_some (end_of (link_in bench).callers sender)) (own_caller own receiver) None) (own_small own sender (omega (arith, sends)))
+      (cond_both (is_some (end_of (link_in bench).callers sender)) (own_caller own receiver) None (λ (found : Option ℕ). IfSome found IsNumber) (λ _. own_small own receiver (omega (arith, receives))) (λ _. tt))
   own_in_small own bench (act.Reclaim caller) fit = own_small own caller (omega (arith, fit))
 
   pub act_told : (own : ℕ) (bench : BenchState) (watcher : W) (steps : ℕ) (asked : LinkAct (List ℕ)) → IsFitAct asked → IsFieldAct asked → HoldsBench bench → IsFieldActed (link_act sees own bench watcher steps asked).answer
@@ -477,15 +477,15 @@ module _ {W : Type 0} (sees : Seeing W) where
 
 bench_steps : {W : Type 0} (sees : Seeing W) (own : ℕ) → AreKeptSteps sees own IsFit (λ bench watcher. HoldsBench bench)
 bench_steps sees own = record {
-  joined = λ bench watcher end is. record { reached = enlisted bench end is.reached; fields = caller_fields bench end (free_number bench.link.callers) is.fields };
+  joined = λ bench watcher end is. record { reached = enlisted bench end is.reached; fields = caller_fields bench end (free_number (link_in bench).callers) is.fields };
   begun = λ bench watcher caller wanted other ready fit is. record {
-    reached = begun_reached bench caller (record { follows = bench.link.era.inc; wish = wanted }) is.reached ready fit.0;
+    reached = begun_reached bench caller (record { follows = (link_in bench).era.inc; wish = wanted }) is.reached ready fit.0;
     fields = begun_fields bench caller wanted (ready_wish bench caller wanted is ready fit) is.fields;
   };
   called = λ bench watcher steps caller wanted other ready fit is. call_holds bench steps caller wanted is ready fit;
   advanced = λ bench watcher more steps caller other in_call is.
       record { reached = advanced bench more steps caller is.reached in_call; fields = (advance_fields bench more steps caller in_call is.reached is.fields).bench };
-  reclaimed = λ bench watcher caller other is. record { reached = reclaim_tried bench caller is.reached; fields = tried_fields bench caller (unreclaimed_by bench.link caller) is.fields };
+  reclaimed = λ bench watcher caller other is. record { reached = reclaim_tried bench caller is.reached; fields = tried_fields bench caller (unreclaimed_by (link_in bench) caller) is.fields };
   seen = λ bench watcher caller end is. is;
 }
 

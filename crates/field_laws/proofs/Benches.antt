@@ -1,5 +1,5 @@
 -- What calls and the manager leave of a bench has its numbers and bytes within their types, and so has what calls reach.
-use Rattle.std.proofs.Common.{◌≡◌, ℕ, zero, suc, ◌+◌, ◌-◌, ◌<◌, ◌^◌, eqb, Bool, true, false, cond, List, length, Option, Some, None, IfSome, is_some, slice_get, slice_set, refl, ap, subst, arith}
+use Rattle.std.proofs.Common.{◌≡◌, ℕ, zero, suc, ◌+◌, ◌-◌, ◌<◌, ◌^◌, eqb, Bool, true, false, cond, List, length, Option, Some, None, IfSome, is_some, slice_get, slice_set, refl, sym, ap, subst, arith}
 use Rattle.std.specs.Prelude.{All}
 use Rattle.std.specs.Option.{option_map, option_or}
 use Rattle.std.proofs.lemmas.Bool.{cond_both, eqb-false, true≢false}
@@ -35,11 +35,12 @@ use Rattle.link_bench.specs.declared.benches.BegunCall.{BegunCall}
 use Rattle.link_bench.specs.declared.benches.Reach.TheVariants as reach
 use Rattle.link_bench.specs.BenchCrashes.{after_close, after_reclaim, after_reopen, left_by_reclaim, reclaim_leaves}
 use Rattle.link_bench.specs.BenchEnds.{crashed_bench, is_first, is_remote, readied_bench, renewed_unless, with_fresh_caller, without_one, without_other, without_others, without_remote}
-use Rattle.link_bench.specs.Benches.{BenchState, BenchWalk, IsSendable, Walk, advance_steps, advance_walk, begin_fault, begun_of, bench_walk, call_rings, call_steps, call_walk, is_in_call, later_steps, new_bench_of, start_walk, walk_on, with_begun, with_new_caller}
+use Rattle.link_bench.specs.Benches.{BenchState, BenchWalk, IsSendable, Walk, RingsState, advance_steps, advance_walk, begin_fault, begin_walk, begun_of, bench_walk, call_steps, call_walk, is_in_call, later_steps, link_in, lists_of, new_bench_of, on_lists, on_rings, start_walk, walk_lists, walk_on, with_begun, with_new_caller}
 use Rattle.link_bench.proofs.Begun.{begin_may}
+use Rattle.link_bench.proofs.KeptWalks.{next_may}
+use Rattle.link_bench.proofs.Lists.{call_lists, close_lists, later_lists, reclaim_lists}
 use Rattle.core_laws.specs.BenchMoves.{IsReachedBench}
 use Rattle.core_laws.proofs.BenchMoves.{begun_at, begun_or, calling_may}
-use Rattle.core_laws.proofs.CallMoves.{next_may}
 use Rattle.core_laws.proofs.KeptCrashes.{reached_sound}
 use Rattle.field_laws.specs.Fields.{IsFieldLane, IsFieldLink, IsFieldOutcome, IsFieldReceiving, IsFieldSending, IsFieldSide, IsFieldTurn, IsFieldWish}
 use Rattle.field_laws.specs.FieldBenches.{IsFieldBegun, IsFieldBench, IsFieldReach}
@@ -54,7 +55,7 @@ pub record HoldsLink (link : LinkState EndState) : Type 0 where
   pub sound : SoundLink link
   pub fields : IsFieldLink link
 
-pub record HoldsWalk (walk : Walk) : Type 0 where
+pub record HoldsWalk (walk : Walk (LaneState EndState)) : Type 0 where
   pub link : HoldsLink walk.link
   pub reach : IsFieldReach walk.reach
 
@@ -65,34 +66,44 @@ step_holds link caller follows wished may is wishes = record {
   fields = (step_fields link caller follows wished is.sound is.fields wishes).state;
 }
 
-walk_holds : (state : LinkState EndState) (caller steps : ℕ) (done : Outcome) (later : ℕ → Walk) → HoldsLink state → IsFieldOutcome done → WhereOn done (MayStep state caller None)
+walk_holds : (state : LinkState EndState) (caller steps : ℕ) (done : Outcome) (later : ℕ → Walk (LaneState EndState)) → HoldsLink state → IsFieldOutcome done → WhereOn done (MayStep state caller None)
     → ((step : ℕ) → step < 2 ^ 64 → MayStep state caller None → HoldsWalk (later step)) → HoldsWalk (walk_on state steps done later)
 walk_holds state caller steps (outcome.At step) later is told may rest = rest step told may
 walk_holds state caller steps (outcome.Ended ended) later is told may rest = record { link = is; reach = told }
 
-later_holds : (more last steps : ℕ) (link : LinkState EndState) (caller : ℕ) → last < 2 ^ 64 → MayStep link caller None → HoldsLink link → HoldsWalk (later_steps more last steps link caller)
+later_holds : (more last steps : ℕ) (link : LinkState EndState) (caller : ℕ) → last < 2 ^ 64 → MayStep link caller None → HoldsLink link → HoldsWalk (later_steps on_lists more last steps link caller)
 unfolding later_steps
 later_holds zero last steps link caller small may is = record { link = is; reach = small }
 later_holds (suc more) last steps link caller small may is =
     let step = caller_step side_meaning link caller 0 None in
     cond_both (eqb steps STEPS_MOST) (record { link = link; steps = steps; reach = reach.Limit })
-    (walk_on step.state (steps + 1) step.outcome (λ done. later_steps more done (steps + 1) step.state caller)) HoldsWalk
+    (walk_on step.state (steps + 1) step.outcome (λ done. later_steps on_lists more done (steps + 1) step.state caller)) HoldsWalk
     (λ _. record { link = is; reach = tt })
-    (λ _. walk_holds step.state caller (steps + 1) step.outcome (λ done. later_steps more done (steps + 1) step.state caller) (step_holds link caller 0 None may is tt)
-    (step_fields link caller 0 None is.sound is.fields tt).outcome (next_may link caller 0 None may)
+    (λ _. walk_holds step.state caller (steps + 1) step.outcome (λ done. later_steps on_lists more done (steps + 1) step.state caller) (step_holds link caller 0 None may is tt)
+    (step_fields link caller 0 None is.sound is.fields tt).outcome (next_may caller link 0 None may)
     (λ done told next. later_holds more done (steps + 1) step.state caller told next (step_holds link caller 0 None may is tt)))
 
 call_holds : (more steps : ℕ) (link : LinkState EndState) (caller follows : ℕ) (wanted : Wish) → MayStep link caller (Some wanted) → HoldsLink link → IsFieldWish wanted
-    → HoldsWalk (call_steps more steps link caller follows wanted)
+    → HoldsWalk (call_steps on_lists more steps link caller follows wanted)
 unfolding call_steps
 call_holds more steps link caller follows wanted may is wishes =
     let step = caller_step side_meaning link caller follows (Some wanted) in
     cond_both (eqb steps STEPS_MOST) (record { link = link; steps = steps; reach = reach.Limit })
-    (walk_on step.state (steps + 1) step.outcome (λ done. later_steps more done (steps + 1) step.state caller)) HoldsWalk
+    (walk_on step.state (steps + 1) step.outcome (λ done. later_steps on_lists more done (steps + 1) step.state caller)) HoldsWalk
     (λ _. record { link = is; reach = tt })
-    (λ _. walk_holds step.state caller (steps + 1) step.outcome (λ done. later_steps more done (steps + 1) step.state caller) (step_holds link caller follows (Some wanted) may is wishes)
-    (step_fields link caller follows (Some wanted) is.sound is.fields wishes).outcome (next_may link caller follows (Some wanted) may)
+    (λ _. walk_holds step.state caller (steps + 1) step.outcome (λ done. later_steps on_lists more done (steps + 1) step.state caller) (step_holds link caller follows (Some wanted) may is wishes)
+    (step_fields link caller follows (Some wanted) is.sound is.fields wishes).outcome (next_may caller link follows (Some wanted) may)
     (λ done told next. later_holds more done (steps + 1) step.state caller told next (step_holds link caller follows (Some wanted) may is wishes)))
+
+-- the same on rings
+later_on : (more last steps : ℕ) (rings : RingsState) (caller : ℕ) → last < 2 ^ 64 → MayStep (lists_of rings) caller None → HoldsLink (lists_of rings)
+    → HoldsWalk (walk_lists on_rings (later_steps on_rings more last steps rings caller))
+later_on more last steps rings caller small may is = subst HoldsWalk (sym (later_lists more last steps rings caller)) (later_holds more last steps (lists_of rings) caller small may is)
+
+call_on : (more steps : ℕ) (rings : RingsState) (caller follows : ℕ) (wanted : Wish) → MayStep (lists_of rings) caller (Some wanted) → HoldsLink (lists_of rings) → IsFieldWish wanted
+    → HoldsWalk (walk_lists on_rings (call_steps on_rings more steps rings caller follows wanted))
+call_on more steps rings caller follows wanted may is wishes =
+    subst HoldsWalk (sym (call_lists more steps rings caller follows wanted)) (call_holds more steps (lists_of rings) caller follows wanted may is wishes)
 
 -- ---- the calls of a bench
 
@@ -111,30 +122,30 @@ begun_wish : (bench : BenchState) (caller : ℕ) (call : BegunCall) → IsFieldB
 begun_wish bench caller call is found = item_at IsFieldBegun bench.begun caller (Some call) (begun_at (slice_get bench.begun caller) call found) is.begun
 
 -- the link of a bench that is reached
-holds_link : (bench : BenchState) → IsReachedBench bench → IsFieldBench bench → HoldsLink bench.link
-holds_link bench reached is = record { sound = reached_sound bench.link reached.link; fields = is.link }
+holds_link : (bench : BenchState) → IsReachedBench bench → IsFieldBench bench → HoldsLink (link_in bench)
+holds_link bench reached is = record { sound = reached_sound (link_in bench) reached.link; fields = is.link }
 
 advance_at : (bench : BenchState) (more steps caller : ℕ) (found : Option BegunCall) → begun_of bench caller ≡ found → is_in_call bench caller ≡ true → IsReachedBench bench → IsFieldBench bench
     → HoldsBenchWalk (advance_steps bench more steps caller found)
 advance_at bench more steps caller (Some call) found in_call reached is =
     let may = reached.fit caller call (begun_at (slice_get bench.begun caller) call found) in
-    let left = call_holds more steps bench.link caller call.follows call.wish may (holds_link bench reached is) (begun_wish bench caller call is found) in
+    let left = call_on more steps bench.rings caller call.follows call.wish may (holds_link bench reached is) (begun_wish bench caller call is found) in
     cond_both (eqb steps STEPS_MOST) (record { bench = bench; steps = steps; reach = reach.Limit })
-    (bench_walk (with_begun bench caller None) (call_steps more steps bench.link caller call.follows call.wish) (call_rings more steps bench.rings caller call.follows call.wish)) HoldsBenchWalk
+    (bench_walk (with_begun bench caller None) (call_steps on_rings more steps bench.rings caller call.follows call.wish)) HoldsBenchWalk
     (λ _. record { bench = is; reach = tt })
     (λ _. record { bench = record { link = left.link.fields; begun = cleared bench.begun caller is.begun }; reach = left.reach })
 advance_at bench more steps caller None none in_call reached is =
-    let may = calling_may bench.link caller (begun_or (begun_of bench caller) (is_calling bench.link caller) none in_call) in
-    let left = later_holds (more + 1) 0 steps bench.link caller (omega arith) may (holds_link bench reached is) in
+    let may = calling_may (link_in bench) caller (begun_or (begun_of bench caller) (is_calling (link_in bench) caller) none in_call) in
+    let left = later_on (more + 1) 0 steps bench.rings caller (omega arith) may (holds_link bench reached is) in
     record { bench = record { link = left.link.fields; begun = is.begun }; reach = left.reach }
 
 pub advance_fields : (bench : BenchState) (more steps caller : ℕ) → is_in_call bench caller ≡ true → IsReachedBench bench → IsFieldBench bench → HoldsBenchWalk (advance_walk bench more steps caller)
 advance_fields bench more steps caller in_call reached is = advance_at bench more steps caller (begun_of bench caller) refl in_call reached is
 
 called_to : (bench : BenchState) (more steps caller : ℕ) (wanted : Wish) → begin_fault bench caller wanted ≡ None → IsSendable wanted → IsFieldWish wanted → IsReachedBench bench → IsFieldBench bench
-    → HoldsBenchWalk (bench_walk bench (call_steps more steps bench.link caller bench.link.era.inc wanted) (call_rings more steps bench.rings caller bench.link.era.inc wanted))
+    → HoldsBenchWalk (begin_walk bench more steps caller wanted)
 called_to bench more steps caller wanted ready sendable wishes reached is =
-    let left = call_holds more steps bench.link caller bench.link.era.inc wanted (begin_may bench caller wanted sendable ready) (holds_link bench reached is) wishes in
+    let left = call_on more steps bench.rings caller (link_in bench).era.inc wanted (begin_may bench caller wanted sendable ready) (holds_link bench reached is) wishes in
     record { bench = record { link = left.link.fields; begun = is.begun }; reach = left.reach }
 
 pub call_fields : (bench : BenchState) (steps caller : ℕ) (wanted : Wish) → begin_fault bench caller wanted ≡ None → IsSendable wanted → IsFieldWish wanted → IsReachedBench bench → IsFieldBench bench
@@ -146,8 +157,8 @@ pub start_fields : (bench : BenchState) (steps caller : ℕ) (wanted : Wish) →
 start_fields bench steps caller wanted ready sendable wishes reached is = called_to bench 0 steps caller wanted ready sendable wishes reached is
 
 pub begun_fields : (bench : BenchState) (caller : ℕ) (wanted : Wish) → IsFieldWish wanted → IsFieldBench bench
-    → IsFieldBench (with_begun bench caller (Some (record { follows = bench.link.era.inc; wish = wanted })))
-begun_fields bench caller wanted wishes is = record { link = is.link; begun = All-set IsFieldBegun bench.begun caller (Some (record { follows = bench.link.era.inc; wish = wanted })) wishes is.begun }
+    → IsFieldBench (with_begun bench caller (Some (record { follows = (link_in bench).era.inc; wish = wanted })))
+begun_fields bench caller wanted wishes is = record { link = is.link; begun = All-set IsFieldBegun bench.begun caller (Some (record { follows = (link_in bench).era.inc; wish = wanted })) wishes is.begun }
 
 -- ---- callers
 
@@ -157,7 +168,7 @@ more_callers callers new (Some number) len = let same = length-set callers numbe
 
 pub caller_fields : (bench : BenchState) (end : End) (number : Option ℕ) → IsFieldBench bench → IsFieldBench (with_new_caller bench end number)
 caller_fields bench end number is = record {
-  link = record { inc = is.link.inc; to_host = is.link.to_host; to_remote = is.link.to_remote; callers = more_callers bench.link.callers end number is.link.callers };
+  link = record { inc = is.link.inc; to_host = is.link.to_host; to_remote = is.link.to_remote; callers = more_callers (link_in bench).callers end number is.link.callers };
   begun = is.begun;
 }
 
@@ -191,7 +202,7 @@ gone_fields link (Some side.Remote) caller is = record {
 }
 
 pub reclaim_fields : (bench : BenchState) (caller : ℕ) → IsFieldBench bench → IsFieldBench (after_reclaim bench caller)
-reclaim_fields bench caller is = record { link = gone_fields bench.link (end_of bench.link.callers caller) caller is.link; begun = cleared bench.begun caller is.begun }
+reclaim_fields bench caller is = record { link = subst IsFieldLink (sym (reclaim_lists bench caller)) (gone_fields (link_in bench) (end_of (link_in bench).callers caller) caller is.link); begun = cleared bench.begun caller is.begun }
 
 reclaimed_at : (bench : BenchState) (caller : ℕ) (end : Option End) (why : Option ReclaimRefusal) → IsFieldBench bench → IsFieldBench (left_by_reclaim bench caller end why)
 reclaimed_at bench caller (Some end) None is = reclaim_fields bench caller is
@@ -199,14 +210,15 @@ reclaimed_at bench caller (Some end) (Some why) is = is
 reclaimed_at bench caller None why is = is
 
 pub tried_fields : (bench : BenchState) (caller : ℕ) (why : Option ReclaimRefusal) → IsFieldBench bench → IsFieldBench (reclaim_leaves bench caller why)
-tried_fields bench caller why is = reclaimed_at bench caller (end_of bench.link.callers caller) why is
+tried_fields bench caller why is = reclaimed_at bench caller (end_of (link_in bench).callers caller) why is
 
 -- ---- a close and a reopening
 
 pub close_fields : (bench : BenchState) → IsFieldBench bench → IsFieldBench (after_close bench)
 close_fields bench is = record {
-  link = cond_both (is_live_in bench.link.era bench.link.era.inc) (record bench.link { era = record { inc = bench.link.era.inc; is_live = false } }) bench.link IsFieldLink
-      (λ _. record { inc = is.link.inc; to_host = is.link.to_host; to_remote = is.link.to_remote; callers = is.link.callers }) (λ _. is.link);
+  link = subst IsFieldLink (sym (close_lists bench))
+      (cond_both (is_live_in (link_in bench).era (link_in bench).era.inc) (record (link_in bench) { era = record { inc = (link_in bench).era.inc; is_live = false } }) (link_in bench) IsFieldLink
+      (λ _. record { inc = is.link.inc; to_host = is.link.to_host; to_remote = is.link.to_remote; callers = is.link.callers }) (λ _. is.link));
   begun = is.begun;
 }
 
@@ -231,12 +243,12 @@ next_small link is clear =
     let small = is.inc in
     omega (arith, small, other)
 
-pub reopen_fields : (bench : BenchState) → unopened_by bench.link ≡ None → IsFieldBench bench → IsFieldBench (after_reopen bench)
+pub reopen_fields : (bench : BenchState) → unopened_by (link_in bench) ≡ None → IsFieldBench bench → IsFieldBench (after_reopen bench)
 reopen_fields bench clear is = record {
   link = record {
-    inc = next_small bench.link is.link clear;
-    to_host = opened_fields bench.link.to_host.lane.capacity bench.link.to_host.lane.book _ is.link.to_host.book (fresh_fields bench.link.to_host.desk);
-    to_remote = opened_fields bench.link.to_remote.lane.capacity bench.link.to_remote.lane.book _ is.link.to_remote.book (fresh_fields bench.link.to_remote.desk);
+    inc = next_small (link_in bench) is.link clear;
+    to_host = opened_fields (link_in bench).to_host.lane.capacity (link_in bench).to_host.lane.book _ is.link.to_host.book (fresh_fields (link_in bench).to_host.desk);
+    to_remote = opened_fields (link_in bench).to_remote.lane.capacity (link_in bench).to_remote.lane.book _ is.link.to_remote.book (fresh_fields (link_in bench).to_remote.desk);
     callers = is.link.callers;
   };
   begun = is.begun;
@@ -252,12 +264,12 @@ new_fields config host remote first book at_host at_remote = record {
 -- ---- a crash and a recovery
 
 fresh_caller : (bench : BenchState) (end : End) → IsFieldBench bench → IsFieldBench (with_fresh_caller bench end)
-fresh_caller bench end is = caller_fields bench end (free_number bench.link.callers) is
+fresh_caller bench end is = caller_fields bench end (free_number (link_in bench).callers) is
 
 remote_fields : (bench : BenchState) (caller : ℕ) → IsFieldBench bench → IsFieldBench (without_remote bench caller)
 remote_fields bench caller is =
     let gone = reclaim_fields bench caller is in
-    cond_both (is_remote (end_of bench.link.callers caller))
+    cond_both (is_remote (end_of (link_in bench).callers caller))
     (cond (eqb caller 1) (with_fresh_caller (after_reclaim bench caller) side.Remote) (after_reclaim bench caller)) bench IsFieldBench
     (λ _. cond_both (eqb caller 1) (with_fresh_caller (after_reclaim bench caller) side.Remote) (after_reclaim bench caller) IsFieldBench
     (λ _. fresh_caller (after_reclaim bench caller) side.Remote gone) (λ _. gone)) (λ _. is)
@@ -284,4 +296,4 @@ renewed_fields bench None is = fresh_caller (after_reclaim bench 0) side.Host (r
 renewed_fields bench (Some why) is = is
 
 pub ready_fields : (bench : BenchState) → IsFieldBench bench → IsFieldBench (readied_bench bench)
-ready_fields bench is = renewed_fields bench (unreclaimed_by bench.link 0) is
+ready_fields bench is = renewed_fields bench (unreclaimed_by (link_in bench) 0) is

@@ -42,7 +42,7 @@ use Rattle.channel_bus.specs.Sides.{EndState}
 use Rattle.link_bench.specs.BenchCrashes.{after_reopen}
 use Rattle.link_bench.specs.BenchEnds.{crashed_bench, readied_bench, renewed_unless, reopen_refusal_of, unopened_unless, with_new_host}
 use Rattle.link_bench.specs.BenchHolds.{caller_out, is_out}
-use Rattle.link_bench.specs.Benches.{BenchState, new_bench_of, with_new_caller}
+use Rattle.link_bench.specs.Benches.{BenchState, link_in, new_bench_of, with_new_caller}
 use Rattle.core_actors.specs.Actors.{driver_names, fresh_actors}
 use Rattle.crash_recover.specs.declared.core_answers.Crash.{Crash}
 use Rattle.crash_recover.specs.declared.core_faults.CoreFault.{CoreFault}
@@ -374,18 +374,18 @@ handover_fields core name found called are sound is =
 
 -- ---- recoveries
 
-refused_reopen : (bench : BenchState) (why : Option ReclaimRefusal) → unreclaimed_by bench.link 0 ≡ why → IfSome why IsFieldRefusal → IsReachedBench (readied_bench bench) → IsFieldBench (readied_bench bench)
+refused_reopen : (bench : BenchState) (why : Option ReclaimRefusal) → unreclaimed_by (link_in bench) 0 ≡ why → IfSome why IsFieldRefusal → IsReachedBench (readied_bench bench) → IsFieldBench (readied_bench bench)
     → IfSome (unopened_unless bench why) IsFieldReopen
 refused_reopen bench None is fields reached ready =
     let came = subst (λ (w : Option ReclaimRefusal). IsReachedBench (renewed_unless bench w)) is reached in
     let now = subst (λ (w : Option ReclaimRefusal). IsFieldBench (renewed_unless bench w)) is ready in
-    unopened_fields (with_new_host bench).link (reached_sound (with_new_host bench).link came.link) now.link
+    unopened_fields (link_in (with_new_host bench)) (reached_sound (link_in (with_new_host bench)) came.link) now.link
 refused_reopen bench (Some (refusal.StillOpen era)) is fields reached ready = fields
 refused_reopen bench (Some (refusal.Busy held)) is fields reached ready = fields
 
 reopen_refusal_fields : (bench : BenchState) → IsReachedBench bench → IsFieldBench bench → IfSome (reopen_refusal_of bench) IsFieldReopen
 reopen_refusal_fields bench reached is =
-    refused_reopen bench (unreclaimed_by bench.link 0) refl (refusal_fields bench.link 0 (reached_sound bench.link reached.link) is.link) (readied bench reached) (ready_fields bench is)
+    refused_reopen bench (unreclaimed_by (link_in bench) 0) refl (refusal_fields (link_in bench) 0 (reached_sound (link_in bench) reached.link) is.link) (readied bench reached) (ready_fields bench is)
 
 reopen_map : (found : Option ReopenFault) → IfSome found IsFieldReopen → IfSome (option_map fault.Reopen found) IsFieldCoreFault
 reopen_map None is = tt
@@ -412,7 +412,7 @@ map_fields (Some bench) f each is = each bench is
 readied_fields : (core : CoreState) → IsFieldCore core → IsFieldCore (readied_core core)
 readied_fields core is = record { book = is.book; life = is.life; image = is.image; loaded = is.loaded; placed = is.placed; rest = is.rest; bench = map_fields core.bench readied_bench ready_fields is.bench; calls = is.calls }
 
-clear_at : (bench : BenchState) (why : Option ReclaimRefusal) → unopened_unless bench why ≡ None → unopened_by (renewed_unless bench why).link ≡ None
+clear_at : (bench : BenchState) (why : Option ReclaimRefusal) → unopened_unless bench why ≡ None → unopened_by (link_in (renewed_unless bench why)) ≡ None
 clear_at bench None clear = clear
 clear_at bench (Some why) clear = absurd (true≢false (ap is_some clear))
 
@@ -427,7 +427,7 @@ image_none (Some why) later none = absurd (true≢false (ap is_some none))
 found_reopened : (found : Option BenchState) (is_spent : Bool) → fault_with found is_spent ≡ None → IfSome found IsFieldBench → IfSome (option_map (λ bench. after_reopen (readied_bench bench)) found) IsFieldBench
 found_reopened None is_spent none is = is
 found_reopened (Some bench) is_spent none is =
-    reopen_fields (readied_bench bench) (clear_at bench (unreclaimed_by bench.link 0) (first_none (reopen_refusal_of bench) (spent_fault is_spent) none)) (ready_fields bench is)
+    reopen_fields (readied_bench bench) (clear_at bench (unreclaimed_by (link_in bench) 0) (first_none (reopen_refusal_of bench) (spent_fault is_spent) none)) (ready_fields bench is)
 
 pub recovery_fields : (core : CoreState) (found : Found) → IfOk found AreBytes → SoundRegions core.regions → IsReachedCore core → IsFieldCore core → HoldsOut IsFieldStart (recovery_of core found)
 unfolding recovery_of
@@ -477,7 +477,7 @@ live_small : (found : Option BenchState) → IfSome found IsFieldBench → IfSom
 live_small None is = tt
 live_small (Some bench) is =
     let inc = is.link.inc in
-    cond_both bench.link.era.is_live (Some bench.link.era.inc) None (λ (found : Option ℕ). IfSome found IsNumber) (λ _. omega (arith, inc)) (λ _. tt)
+    cond_both (link_in bench).era.is_live (Some (link_in bench).era.inc) None (λ (found : Option ℕ). IfSome found IsNumber) (λ _. omega (arith, inc)) (λ _. tt)
 
 closed_at : (may_step : Bool) (core gone : CoreState) (live : Option ℕ) → IfSome live IsNumber → IsFieldCore core → IsFieldCore gone → HoldsOut IsFieldLeave (close_or may_step core gone live)
 closed_at may_step core gone None small is last = record { core = last; answer = tt }

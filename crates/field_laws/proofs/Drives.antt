@@ -13,7 +13,7 @@ use Rattle.link_bench.specs.declared.benches.BenchFault.{BenchFault}
 use Rattle.link_bench.specs.declared.benches.Reach.{Reach}
 use Rattle.link_bench.specs.declared.benches.Reach.TheVariants as reach
 use Rattle.link_bench.specs.Acts.{Acted, IsFitAct}
-use Rattle.link_bench.specs.Benches.{BenchState, BenchWalk, IsSendable, advance_walk, begin_fault, is_in_call, start_walk}
+use Rattle.link_bench.specs.Benches.{BenchState, BenchWalk, IsSendable, advance_walk, begin_fault, is_in_call, link_in, start_walk}
 use Rattle.core_actors.specs.declared.actors.Actor.{Actor}
 use Rattle.core_actors.specs.declared.actors.Actor.TheVariants as actor
 use Rattle.core_actors.specs.declared.progress.Driven.{Driven}
@@ -156,10 +156,10 @@ pub record HoldsBoth (bench : BenchState) (actors : ActorsState) : Type 0 where
 both_steps : AreKeptSteps actors_after_end 2 IsFit HoldsBoth
 both_steps = record {
   joined = λ bench actors end is.
-      record { holds = record { reached = enlisted bench end is.holds.reached; fields = caller_fields bench end (free_number bench.link.callers) is.holds.fields }; calls = is.calls };
+      record { holds = record { reached = enlisted bench end is.holds.reached; fields = caller_fields bench end (free_number (link_in bench).callers) is.holds.fields }; calls = is.calls };
   begun = λ bench actors caller wanted other ready fit is. record {
     holds = record {
-      reached = begun_reached bench caller (record { follows = bench.link.era.inc; wish = wanted }) is.holds.reached ready fit.0;
+      reached = begun_reached bench caller (record { follows = (link_in bench).era.inc; wish = wanted }) is.holds.reached ready fit.0;
       fields = begun_fields bench caller wanted (ready_wish bench caller wanted is.holds ready fit) is.holds.fields;
     };
     calls = is.calls;
@@ -170,7 +170,7 @@ both_steps = record {
     calls = is.calls;
   };
   reclaimed = λ bench actors caller other is.
-      record { holds = record { reached = reclaim_tried bench caller is.holds.reached; fields = tried_fields bench caller (unreclaimed_by bench.link caller) is.holds.fields }; calls = is.calls };
+      record { holds = record { reached = reclaim_tried bench caller is.holds.reached; fields = tried_fields bench caller (unreclaimed_by (link_in bench) caller) is.holds.fields }; calls = is.calls };
   seen = λ bench actors caller end is. record { holds = is.holds; calls = seen_fields actors bench caller end is.holds.fields.link is.calls };
 }
 

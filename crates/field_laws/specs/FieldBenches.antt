@@ -15,7 +15,7 @@ use Rattle.link_bench.specs.declared.turns.TurnEnd.TheVariants as turn_end
 use Rattle.link_bench.specs.declared.benches.BegunCall.{BegunCall}
 use Rattle.link_bench.specs.declared.benches.Reach.{Reach}
 use Rattle.link_bench.specs.declared.benches.Reach.TheVariants as reach
-use Rattle.link_bench.specs.Benches.{BenchState}
+use Rattle.link_bench.specs.Benches.{BenchState, link_in}
 use Rattle.field_laws.specs.Fields.{AreBytes, IsFieldEnd, IsFieldLink, IsFieldWish}
 
 -- the call that a caller has begun, if it has
@@ -23,7 +23,7 @@ abbrev pub IsFieldBegun : Option BegunCall → Type 0
 IsFieldBegun found = IfSome found (λ (call : BegunCall). IsFieldWish call.wish)
 
 pub record IsFieldBench (bench : BenchState) : Type 0 where
-  pub link : IsFieldLink bench.link
+  pub link : IsFieldLink (link_in bench)
   pub begun : All IsFieldBegun bench.begun
 
 abbrev pub IsFieldReach : Reach → Type 0

@@ -40,7 +40,7 @@ use Rattle.link_bench.specs.declared.benches.Reach.TheVariants as reach
 use Rattle.link_bench.specs.declared.turns.TurnEnd.{TurnEnd}
 use Rattle.link_bench.specs.declared.turns.TurnEnd.TheVariants as turn_end
 use Rattle.link_bench.specs.Acts.{link_act}
-use Rattle.link_bench.specs.Benches.{BenchState, taken_on}
+use Rattle.link_bench.specs.Benches.{BenchState, link_in, taken_on}
 use Rattle.link_bench.specs.BenchCrashes.{after_close}
 use Rattle.link_bench.specs.BenchRings.{first_holder, lane_base, lane_bytes, lane_words, turn_holder}
 use Rattle.link_bench.specs.Watchers.{nobody_sees}
@@ -181,16 +181,16 @@ module _ (name : List ℕ) (named : IsName name) where
   channel_spelled : (channel : Channel) → IsFieldChannel channel → IsSpelled (channel_event name channel)
   channel_spelled channel is = channel_with channel.name channel.address channel.endpoint is
 
-  listed_spelled : (bench : BenchState) (held : Option ℕ) → IfSome held (λ caller. caller ≤ 64) → IsFieldLink bench.link → All IsSpelled (listed_channels name bench held)
+  listed_spelled : (bench : BenchState) (held : Option ℕ) → IfSome held (λ caller. caller ≤ 64) → IsFieldLink (link_in bench) → All IsSpelled (listed_channels name bench held)
   listed_spelled bench (Some caller) small is = one (event.StillTurn name caller) (still_spelled caller small)
   listed_spelled bench None small is =
-      All-map IsSpelled (channel_event name) bench.link.to_host.desk.channels
-      (λ at other within. channel_spelled (slice_index_or bench.link.to_host.desk.channels at other) (is.to_host.desk.channels at other within))
+      All-map IsSpelled (channel_event name) (link_in bench).to_host.desk.channels
+      (λ at other within. channel_spelled (slice_index_or (link_in bench).to_host.desk.channels at other) (is.to_host.desk.channels at other within))
 
-  channels_spelled : (bench : BenchState) → SoundLink bench.link → IsFieldLink bench.link → All IsSpelled (channels_events name bench)
+  channels_spelled : (bench : BenchState) → SoundLink (link_in bench) → IsFieldLink (link_in bench) → All IsSpelled (channels_events name bench)
   unfolding channels_events
   channels_spelled bench sound is =
-      listed_spelled bench (holder bench.link.to_host.receiver) (holder_small bench.link.callers side.Host bench.link.to_host.receiver is.callers sound.to_host.receiver) is
+      listed_spelled bench (holder (link_in bench).to_host.receiver) (holder_small (link_in bench).callers side.Host (link_in bench).to_host.receiver is.callers sound.to_host.receiver) is
 
   row_spelled : (offset : ℕ) (row : List ℕ) → offset < 2 ^ 64 → 1 ≤ length row → length row ≤ 16 → AreBytes row → All IsSpelled (row_events name offset row)
   row_spelled offset row small some short are =
@@ -230,19 +230,19 @@ module _ (name : List ℕ) (named : IsName name) where
       (turn_or (holder link.to_remote.sender) (holder link.to_remote.receiver) (holder_small link.callers side.Host link.to_remote.sender is.callers sound.to_remote.sender)
       (holder_small link.callers side.Remote link.to_remote.receiver is.callers sound.to_remote.receiver)))
 
-  bench_ring_spelled : (bench : BenchState) (lane : ℕ) → lane < 2 → HasSoundRings bench.rings → SoundLink bench.link → IsFieldLink bench.link → All IsSpelled (bench_ring_events name bench lane)
+  bench_ring_spelled : (bench : BenchState) (lane : ℕ) → lane < 2 → HasSoundRings bench.rings → SoundLink (link_in bench) → IsFieldLink (link_in bench) → All IsSpelled (bench_ring_events name bench lane)
   unfolding bench_ring_events
-  bench_ring_spelled bench lane first rings sound is = shown_spelled bench lane (turn_holder bench.link) first rings (turn_small bench.link sound is)
+  bench_ring_spelled bench lane first rings sound is = shown_spelled bench lane (turn_holder (link_in bench)) first rings (turn_small (link_in bench) sound is)
 
   books_spelled : (lane : ℕ) (state : LaneState EndState) → lane < 2 → IsSoundLane state → IsFieldLane state → IsSpelled (lane_event name lane state)
   books_spelled lane state first sound is =
       let counts = counts_small state sound is in ((named, (first, (counts.accepted, (counts.takers, (counts.returned, tt))))), tt)
 
-  pub view_spelled : (bench : BenchState) (shown : LinkView) → IsKnownView shown → HasSoundRings bench.rings → SoundLink bench.link → IsFieldLink bench.link → All IsSpelled (view_events name bench shown)
+  pub view_spelled : (bench : BenchState) (shown : LinkView) → IsKnownView shown → HasSoundRings bench.rings → SoundLink (link_in bench) → IsFieldLink (link_in bench) → All IsSpelled (view_events name bench shown)
   unfolding view_events
   view_spelled bench view.Books fits rings sound is =
-      two (lane_event name 0 bench.link.to_host) (lane_event name 1 bench.link.to_remote) (books_spelled 0 bench.link.to_host (omega arith) sound.to_host.lane is.to_host)
-      (books_spelled 1 bench.link.to_remote (omega arith) sound.to_remote.lane is.to_remote)
+      two (lane_event name 0 (link_in bench).to_host) (lane_event name 1 (link_in bench).to_remote) (books_spelled 0 (link_in bench).to_host (omega arith) sound.to_host.lane is.to_host)
+      (books_spelled 1 (link_in bench).to_remote (omega arith) sound.to_remote.lane is.to_remote)
   view_spelled bench (view.Ring lane) fits rings sound is = bench_ring_spelled bench lane fits rings sound is
   view_spelled bench view.Channels fits rings sound is = channels_spelled bench sound is
 
@@ -258,11 +258,11 @@ module _ (name : List ℕ) (named : IsName name) where
   close_spelled : (bench : BenchState) (steps : ℕ) → IsFieldBench bench → LeavesSpelledLink (close_effect name bench steps)
   unfolding close_effect
   close_spelled bench steps is =
-      let told = close_event name bench.link.era (unclosed_by bench.link.era bench.link.era.inc) in
+      let told = close_event name (link_in bench).era (unclosed_by (link_in bench).era (link_in bench).era.inc) in
       cond_both (steps == STEPS_MOST) _ (tells (after_close bench) (steps + 1) told) LeavesSpelledLink (λ _. record { bench = is; events = none })
       (λ _. record {
         bench = close_fields bench is;
-        events = one told (close_told bench.link.era (unclosed_by bench.link.era bench.link.era.inc) is.link.inc (closed_era bench.link.era bench.link.era.inc is.link.inc));
+        events = one told (close_told (link_in bench).era (unclosed_by (link_in bench).era (link_in bench).era.inc) is.link.inc (closed_era (link_in bench).era (link_in bench).era.inc is.link.inc));
       })
 
   pub reopen_told : (why : ReopenFault) → IsFieldReopen why → All IsSpelled (reopen_events name why)
@@ -272,18 +272,18 @@ module _ (name : List ℕ) (named : IsName name) where
   reopen_told reopen_fault.IncarnationsSpent is = one (event.IncarnationsSpent name) (((named, tt), tt))
   reopen_told reopen_fault.NoMemory is = none
 
-  opened_spelled : (bench : BenchState) (steps : ℕ) (why : Option ReopenFault) → unopened_by bench.link ≡ why → IsFieldBench bench → IfSome why IsFieldReopen → LeavesSpelledLink (opened_effect name bench steps why)
+  opened_spelled : (bench : BenchState) (steps : ℕ) (why : Option ReopenFault) → unopened_by (link_in bench) ≡ why → IsFieldBench bench → IfSome why IsFieldReopen → LeavesSpelledLink (opened_effect name bench steps why)
   opened_spelled bench steps None clear is fields =
       let left = reopen_fields bench clear is in
       let inc = left.link.inc in
-      record { bench = left; events = one (event.Open name (bench.link.era.inc + 1)) (((named, (omega (arith, inc), tt)), tt)) }
+      record { bench = left; events = one (event.Open name ((link_in bench).era.inc + 1)) (((named, (omega (arith, inc), tt)), tt)) }
   opened_spelled bench steps (Some why) found is fields = record { bench = is; events = reopen_told why fields }
 
-  reopen_spelled : (bench : BenchState) (steps : ℕ) → SoundLink bench.link → IsFieldBench bench → LeavesSpelledLink (reopen_effect name bench steps)
+  reopen_spelled : (bench : BenchState) (steps : ℕ) → SoundLink (link_in bench) → IsFieldBench bench → LeavesSpelledLink (reopen_effect name bench steps)
   unfolding reopen_effect
-  reopen_spelled bench steps sound is = opened_spelled bench steps (unopened_by bench.link) refl is (unopened_fields bench.link sound is.link)
+  reopen_spelled bench steps sound is = opened_spelled bench steps (unopened_by (link_in bench)) refl is (unopened_fields (link_in bench) sound is.link)
 
-  pub managed_spelled : (bench : BenchState) (steps : ℕ) (wanted : ManagerAct) → SoundLink bench.link → IsFieldBench bench → LeavesSpelledLink (manager_effect name bench steps wanted)
+  pub managed_spelled : (bench : BenchState) (steps : ℕ) (wanted : ManagerAct) → SoundLink (link_in bench) → IsFieldBench bench → LeavesSpelledLink (manager_effect name bench steps wanted)
   managed_spelled bench steps manager.Close sound is = close_spelled bench steps is
   managed_spelled bench steps manager.Reopen sound is = reopen_spelled bench steps sound is
 
@@ -296,10 +296,10 @@ link_spelled on steps (under.Link asked) named knows rings is =
     let left = act_holds nobody_sees 0 on.bench tt steps asked knows.0 knows.1 is in
     record {
       bench = left.fields;
-      events = answer_spelled on.name named acted.bench.link acted.answer left.reached.link.short left.fields.link (act_told nobody_sees 0 on.bench tt steps asked knows.0 knows.1 is);
+      events = answer_spelled on.name named (link_in acted.bench) acted.answer left.reached.link.short left.fields.link (act_told nobody_sees 0 on.bench tt steps asked knows.0 knows.1 is);
     }
 link_spelled on steps (under.Manage managed) named knows rings is =
-    let left = managed_spelled on.name named on.bench steps managed (reached_sound on.bench.link is.reached.link) is.fields in record { bench = left.bench; events = left.events }
+    let left = managed_spelled on.name named on.bench steps managed (reached_sound (link_in on.bench) is.reached.link) is.fields in record { bench = left.bench; events = left.events }
 link_spelled on steps (under.Show shown) named knows rings is =
-    record { bench = is.fields; events = view_spelled on.name named on.bench shown knows rings (reached_sound on.bench.link is.reached.link) is.fields.link }
+    record { bench = is.fields; events = view_spelled on.name named on.bench shown knows rings (reached_sound (link_in on.bench) is.reached.link) is.fields.link }
 link_spelled on steps (under.Core asked) named knows rings is = record { bench = is.fields; events = one (event.Unknown on.name) (((named, tt), tt)) }

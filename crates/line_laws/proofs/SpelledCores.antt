@@ -56,7 +56,7 @@ use Rattle.journal.specs.TableLines.{table_words}
 use Rattle.image_report.specs.TableRows.{table_rows, device_rows, entry_rows, is_available, ring_row, rows_from, trace_row, traces_behind}
 use Rattle.link_bench.specs.declared.acts.LinkAct.{LinkAct}
 use Rattle.link_bench.specs.Acts.{IsFitAct}
-use Rattle.link_bench.specs.Benches.{BenchState}
+use Rattle.link_bench.specs.Benches.{BenchState, link_in}
 use Rattle.link_bench.specs.BenchRings.{lane_base, lane_words, turn_holder}
 use Rattle.core_actors.specs.declared.progress.Driven.{Driven}
 use Rattle.core_actors.specs.declared.progress.Driven.TheVariants as driven
@@ -322,7 +322,7 @@ module _ (name : List ℕ) (named : IsName name) where
         let left = core_act_fields core bench steps asked fits fields reached here is in
         record {
           left = left.left;
-          events = answer_spelled name named acted.bench.link acted.answer (acted_reached actors_after_end 2 bench core.actors steps asked fits reached).link.short left.bench.link left.answer;
+          events = answer_spelled name named (link_in acted.bench) acted.answer (acted_reached actors_after_end 2 bench core.actors steps asked fits reached).link.short left.bench.link left.answer;
         }
 
     ring_at : (lane : ℕ) (found : Option (List ℕ)) → lane < 2 → IfSome found IsFewBytes → LeavesSpelled (found_ring_effect name core steps lane found)
@@ -336,15 +336,15 @@ module _ (name : List ℕ) (named : IsName name) where
 
     ring_bytes : (lane : ℕ) (found : Option BenchState) → IfSome found IsRung → IfSome (option_and_then (λ (bench : BenchState). option_map (pair_bytes bench.rings lane) (loaded_rings core.loaded)) found) IsFewBytes
     ring_bytes lane None rung = tt
-    ring_bytes lane (Some bench) rung = pair_are bench lane (loaded_rings core.loaded) rung.sound rungs.load.rings
+    ring_bytes lane (Some bench) rung = pair_are bench lane (loaded_rings core.loaded) rung rungs.load.rings
 
     shown_at : (lane : ℕ) (found : Option ℕ) → lane < 2 → IfSome found (λ caller. caller ≤ 64) → LeavesSpelled (core_shown_effect name core steps lane found)
     shown_at lane None first small = ring_at lane (core_ring core lane) first (ring_bytes lane core.bench rungs.bench)
     shown_at lane (Some caller) first small = told core steps (event.StillTurn name caller) is (((named, (omega (arith, small), tt)), tt))
 
-    core_turn : (found : Option BenchState) → IfSome found IsReachedBench → IfSome found IsFieldBench → IfSome (option_and_then (λ (bench : BenchState). turn_holder bench.link) found) (λ caller. caller ≤ 64)
+    core_turn : (found : Option BenchState) → IfSome found IsReachedBench → IfSome found IsFieldBench → IfSome (option_and_then (λ (bench : BenchState). turn_holder (link_in bench)) found) (λ caller. caller ≤ 64)
     core_turn None reached here = tt
-    core_turn (Some bench) reached here = turn_small name named bench.link (reached_sound bench.link reached.link) here.link
+    core_turn (Some bench) reached here = turn_small name named (link_in bench) (reached_sound (link_in bench) reached.link) here.link
 
     ring_shown : (lane : ℕ) → lane < 2 → IfSome core.bench IsReachedBench → LeavesSpelled (core_ring_effect name core steps lane)
     unfolding core_ring_effect
@@ -352,7 +352,7 @@ module _ (name : List ℕ) (named : IsName name) where
 
     viewed_at : (shown : LinkView) (found : Option BenchState) → IsKnownView shown → IfSome found IsRung → IfSome found IsReachedBench → IfSome found IsFieldBench → LeavesSpelled (found_view_effect name core steps shown found)
     viewed_at shown None knows rung reached here = no_link core steps is
-    viewed_at shown (Some bench) knows rung reached here = record { left = is; events = view_spelled name named bench shown knows rung.sound (reached_sound bench.link reached.link) here.link }
+    viewed_at shown (Some bench) knows rung reached here = record { left = is; events = view_spelled name named bench shown knows rung (reached_sound (link_in bench) reached.link) here.link }
 
     view_shown : (shown : LinkView) → IsKnownView shown → IfSome core.bench IsReachedBench → LeavesSpelled (core_view_effect name core steps shown)
     view_shown view.Books knows reached = viewed_at view.Books core.bench tt rungs.bench reached is.bench
@@ -560,13 +560,13 @@ module _ (name : List ℕ) (named : IsName name) where
   crashed_told : (kind : CrashKind) (found : Option BenchState) → IfSome found IsFieldBench → All IsSpelled (crash_events name kind found)
   crashed_told kind None is = one (event.Crashed name kind) (crash_told kind)
   crashed_told kind (Some bench) is =
-      let inc = is.link.inc in two (event.Closed name bench.link.era.inc) (event.Crashed name kind) (((named, (omega (arith, inc), tt)), tt)) (crash_told kind)
+      let inc = is.link.inc in two (event.Closed name (link_in bench).era.inc) (event.Crashed name kind) (((named, (omega (arith, inc), tt)), tt)) (crash_told kind)
 
   ended_told : (caller : ℕ) (end : CallEnd) (found : Option BenchState) → caller < 2 ^ 64 → IsFieldEnd end → IfSome found IsReachedBench → IfSome found IsFieldBench
       → All IsSpelled (actor_end_events name caller end found)
   ended_told caller end None small of reached is = none
   ended_told caller end (Some bench) small of reached is =
-      one (end_event name bench.link caller end) (end_spelled name named bench.link caller end small reached.link.short is.link of)
+      one (end_event name (link_in bench) caller end) (end_spelled name named (link_in bench) caller end small reached.link.short is.link of)
 
   driven_told : (is_quiet : Bool) (found : Option BenchState) (what : Driven) → IsFieldDriven what → IfSome found IsReachedBench → IfSome found IsFieldBench
       → All IsSpelled (driven_events name is_quiet found what)

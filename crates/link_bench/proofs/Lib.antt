@@ -1,7 +1,8 @@
 pub mod Walks
 pub mod Begun
 pub mod AtOnce
-pub mod RingWalks
+pub mod Lists
+pub mod KeptWalks
 pub mod TurnWalks
 pub mod Outs
 pub mod RemoteEnds

@@ -1,10 +1,12 @@
--- Calls, step by step.
+-- Calls, step by step, on a link of any form.
 use Rattle.std.proofs.Common.{◌≡◌, ◌≢◌, ◌<◌, ℕ, suc, ◌+◌, eqb, true, false, cond, Option, Some, None, refl, sym, ap, subst, ◌∙◌, inl, inr}
 use Rattle.std.proofs.lemmas.Bool.Decides.{eqb_tells}
 use Rattle.rp_base.specs.declared.limits.TheConstants.{STEPS_MOST}
 use Rattle.lane_model.specs.declared.calls.Outcome.{Outcome}
 use Rattle.lane_model.specs.declared.calls.Outcome.TheVariants as outcome
 use Rattle.lane_model.specs.declared.calls.Wish.{Wish}
+use Rattle.lane_model.specs.declared.lane_links.LaneLink.{LaneLink}
+use Rattle.lane_model.specs.Forms.{FormMeaning}
 use Rattle.lane_model.specs.Links.{LinkState, caller_step}
 use Rattle.lane_model.specs.Conditions.{MayStep}
 use Rattle.lane_model.specs.WholeCalls.{WhereOn, left_of}
@@ -13,71 +15,59 @@ use Rattle.lane_model.proofs.Others.{others_may}
 use Rattle.link_bench.specs.declared.benches.Reach.TheVariants as reach
 use Rattle.channel_bus.specs.Sides.{EndState}
 use Rattle.channel_bus.specs.Sides.{side_meaning}
-use Rattle.link_bench.specs.Benches.{Walk, walk_on, later_steps, call_steps}
+use Rattle.link_bench.specs.Benches.{Walk, call_steps, later_steps, step_on, walk_on}
 
--- what a step does to the later ones
-abbrev pub later_after : ℕ → ℕ → LinkState EndState → ℕ → Outcome → Walk
-later_after more steps link caller done = walk_on link steps done (λ step. later_steps more step steps link caller)
+module _ {L : Type 0} (form : FormMeaning L EndState) where
+  -- what a step does to the later ones
+  abbrev pub later_after : ℕ → ℕ → LaneLink L → ℕ → Outcome → Walk L
+  later_after more steps link caller done = walk_on link steps done (λ step. later_steps form more step steps link caller)
 
--- no step more
-pub later_none : (last steps : ℕ) (link : LinkState EndState) (caller : ℕ)
-    → later_steps 0 last steps link caller ≡ record { link = link; steps = steps; reach = reach.At last }
-unfolding later_steps
-later_none last steps link caller = refl
+  -- no step more
+  pub later_none : (last steps : ℕ) (link : LaneLink L) (caller : ℕ)
+      → later_steps form 0 last steps link caller ≡ record { link = link; steps = steps; reach = reach.At last }
+  unfolding later_steps
+  later_none last steps link caller = refl
 
--- a step more
-later_one : (more last steps : ℕ) (link : LinkState EndState) (caller : ℕ)
-    → later_steps (suc more) last steps link caller
-    ≡ cond (eqb steps STEPS_MOST) (record { link = link; steps = steps; reach = reach.Limit })
-    (later_after more (steps + 1) (caller_step side_meaning link caller 0 None).state caller (caller_step side_meaning link caller 0 None).outcome)
-unfolding later_steps
-later_one more last steps link caller = refl
+  -- a step more
+  later_one : (more last steps : ℕ) (link : LaneLink L) (caller : ℕ)
+      → later_steps form (suc more) last steps link caller
+      ≡ cond (eqb steps STEPS_MOST) (record { link = link; steps = steps; reach = reach.Limit })
+      (later_after more (steps + 1) (step_on form link caller 0 None).state caller (step_on form link caller 0 None).outcome)
+  unfolding later_steps
+  later_one more last steps link caller = refl
 
-module _ (count more last steps : ℕ) (link : LinkState EndState) (caller : ℕ) (one : count ≡ suc more) where
-  -- where the run has no step left
-  pub later_limit : eqb steps STEPS_MOST ≡ true → later_steps count last steps link caller ≡ record { link = link; steps = steps; reach = reach.Limit }
-  later_limit limit =
-      ap (λ n. later_steps n last steps link caller) one ∙ later_one more last steps link caller
-      ∙ ap (λ b. cond b (record { link = link; steps = steps; reach = reach.Limit })
-      (later_after more (steps + 1) (caller_step side_meaning link caller 0 None).state caller (caller_step side_meaning link caller 0 None).outcome)) limit
+  -- the first step of a call
+  call_one : (more steps : ℕ) (link : LaneLink L) (caller follows : ℕ) (wanted : Wish)
+      → call_steps form more steps link caller follows wanted
+      ≡ cond (eqb steps STEPS_MOST) (record { link = link; steps = steps; reach = reach.Limit })
+      (later_after more (steps + 1) (step_on form link caller follows (Some wanted)).state caller (step_on form link caller follows (Some wanted)).outcome)
+  unfolding call_steps
+  call_one more steps link caller follows wanted = refl
 
-  -- a step that is done
-  pub later_done : eqb steps STEPS_MOST ≡ false → (after : LinkState EndState) (done : Outcome)
-      → after ≡ (caller_step side_meaning link caller 0 None).state → done ≡ (caller_step side_meaning link caller 0 None).outcome
-      → later_steps count last steps link caller ≡ later_after more (steps + 1) after caller done
-  later_done free after done left does =
-      ap (λ n. later_steps n last steps link caller) one ∙ later_one more last steps link caller
-      ∙ ap (λ b. cond b (record { link = link; steps = steps; reach = reach.Limit })
-      (later_after more (steps + 1) (caller_step side_meaning link caller 0 None).state caller (caller_step side_meaning link caller 0 None).outcome)) free
-      ∙ ap (λ (state : LinkState EndState). later_after more (steps + 1) state caller (caller_step side_meaning link caller 0 None).outcome) (sym left)
+  -- a step of which this is left, where the run has a step left
+  done_one : (more steps : ℕ) (link : LaneLink L) (caller follows : ℕ) (wished : Option Wish) → eqb steps STEPS_MOST ≡ false → (after : LaneLink L) (done : Outcome)
+      → after ≡ (step_on form link caller follows wished).state → done ≡ (step_on form link caller follows wished).outcome
+      → cond (eqb steps STEPS_MOST) (record { link = link; steps = steps; reach = reach.Limit })
+      (later_after more (steps + 1) (step_on form link caller follows wished).state caller (step_on form link caller follows wished).outcome) ≡ later_after more (steps + 1) after caller done
+  done_one more steps link caller follows wished free after done left does =
+      ap (λ b. cond b (record { link = link; steps = steps; reach = reach.Limit })
+      (later_after more (steps + 1) (step_on form link caller follows wished).state caller (step_on form link caller follows wished).outcome)) free
+      ∙ ap (λ (state : LaneLink L). later_after more (steps + 1) state caller (step_on form link caller follows wished).outcome) (sym left)
       ∙ ap (later_after more (steps + 1) after caller) (sym does)
 
--- the first step of a call
-call_one : (more steps : ℕ) (link : LinkState EndState) (caller follows : ℕ) (wanted : Wish)
-    → call_steps more steps link caller follows wanted
-    ≡ cond (eqb steps STEPS_MOST) (record { link = link; steps = steps; reach = reach.Limit })
-    (later_after more (steps + 1) (caller_step side_meaning link caller follows (Some wanted)).state caller (caller_step side_meaning link caller follows (Some wanted)).outcome)
-unfolding call_steps
-call_one more steps link caller follows wanted = refl
-
-module _ (more steps : ℕ) (link : LinkState EndState) (caller follows : ℕ) (wanted : Wish) where
-  -- where the run has no step left
-  pub call_limit : eqb steps STEPS_MOST ≡ true → call_steps more steps link caller follows wanted ≡ record { link = link; steps = steps; reach = reach.Limit }
-  call_limit limit =
-      call_one more steps link caller follows wanted
-      ∙ ap (λ b. cond b (record { link = link; steps = steps; reach = reach.Limit })
-      (later_after more (steps + 1) (caller_step side_meaning link caller follows (Some wanted)).state caller (caller_step side_meaning link caller follows (Some wanted)).outcome)) limit
+  -- a later step that is done
+  pub later_done : (count more last steps : ℕ) (link : LaneLink L) (caller : ℕ) → count ≡ suc more → eqb steps STEPS_MOST ≡ false → (after : LaneLink L) (done : Outcome)
+      → after ≡ (step_on form link caller 0 None).state → done ≡ (step_on form link caller 0 None).outcome
+      → later_steps form count last steps link caller ≡ later_after more (steps + 1) after caller done
+  later_done count more last steps link caller one free after done left does =
+      ap (λ n. later_steps form n last steps link caller) one ∙ later_one more last steps link caller ∙ done_one more steps link caller 0 None free after done left does
 
   -- a first step that is done
-  pub call_done : eqb steps STEPS_MOST ≡ false → (after : LinkState EndState) (done : Outcome)
-      → after ≡ (caller_step side_meaning link caller follows (Some wanted)).state → done ≡ (caller_step side_meaning link caller follows (Some wanted)).outcome
-      → call_steps more steps link caller follows wanted ≡ later_after more (steps + 1) after caller done
-  call_done free after done left does =
-      call_one more steps link caller follows wanted
-      ∙ ap (λ b. cond b (record { link = link; steps = steps; reach = reach.Limit })
-      (later_after more (steps + 1) (caller_step side_meaning link caller follows (Some wanted)).state caller (caller_step side_meaning link caller follows (Some wanted)).outcome)) free
-      ∙ ap (λ (state : LinkState EndState). later_after more (steps + 1) state caller (caller_step side_meaning link caller follows (Some wanted)).outcome) (sym left)
-      ∙ ap (later_after more (steps + 1) after caller) (sym does)
+  pub call_done : (more steps : ℕ) (link : LaneLink L) (caller follows : ℕ) (wanted : Wish) → eqb steps STEPS_MOST ≡ false → (after : LaneLink L) (done : Outcome)
+      → after ≡ (step_on form link caller follows (Some wanted)).state → done ≡ (step_on form link caller follows (Some wanted)).outcome
+      → call_steps form more steps link caller follows wanted ≡ later_after more (steps + 1) after caller done
+  call_done more steps link caller follows wanted free after done left does =
+      call_one more steps link caller follows wanted ∙ done_one more steps link caller follows (Some wanted) free after done left does
 
 -- two numbers that aren't the same
 pub not_equal : (a b : ℕ) → a ≢ b → eqb a b ≡ false

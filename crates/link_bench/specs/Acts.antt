@@ -21,7 +21,7 @@ use Rattle.link_bench.specs.declared.acts.ActAnswer.TheVariants as answer
 use Rattle.link_bench.specs.declared.benches.BenchFault.{BenchFault}
 use Rattle.link_bench.specs.declared.benches.BenchFault.TheVariants as fault
 use Rattle.link_bench.specs.declared.bench_crashes.Reclaim.{Reclaim}
-use Rattle.link_bench.specs.Benches.{BenchState, BenchWalk, advance_walk, calling_fault, call_walk, is_in_call, ready_fault, step_fault, used_fault, with_begun, with_new_caller}
+use Rattle.link_bench.specs.Benches.{BenchState, BenchWalk, advance_walk, calling_fault, call_walk, is_in_call, link_in, ready_fault, step_fault, used_fault, with_begun, with_new_caller}
 use Rattle.link_bench.specs.BenchCrashes.{reclaim_answer, reclaim_leaves}
 use Rattle.link_bench.specs.Turns.{Pumped, pump_turns}
 use Rattle.link_bench.specs.Watchers.{Seeing, watched}
@@ -101,14 +101,14 @@ wish_of (call.Unbind address) = wish.Unbind address
 abbrev pub misfit : BenchState → ℕ → CallWish (List ℕ) → Option ActAnswer
 misfit bench caller (call.Send source destination payload) =
     if nat_le (length payload) PAYLOAD_MOST then None else Some (answer.TooLong caller (length payload))
-misfit bench caller (call.Give number) = if is_holding bench.link caller number then None else Some (answer.Refused caller (fault.NotHeld number))
+misfit bench caller (call.Give number) = if is_holding (link_in bench) caller number then None else Some (answer.Refused caller (fault.NotHeld number))
 misfit bench caller other = None
 
 -- a call is made whole, or is begun, and follows the incarnation that the link is in
 abbrev pub made_call : {W : Type 0} → Seeing W → BenchState → W → ℕ → ℕ → How → Wish → Acted W
 made_call sees bench watcher steps caller how.Whole wanted = walked sees watcher caller (call_walk bench steps caller wanted)
 made_call sees bench watcher steps caller how.Begun wanted =
-    answers (with_begun bench caller (Some (record { follows = bench.link.era.inc; wish = wanted }))) watcher steps (answer.Begun caller)
+    answers (with_begun bench caller (Some (record { follows = (link_in bench).era.inc; wish = wanted }))) watcher steps (answer.Begun caller)
 
 -- a call of a caller
 unfoldable pub call_act : {W : Type 0} → Seeing W → BenchState → W → ℕ → ℕ → How → CallWish (List ℕ) → Acted W
@@ -139,11 +139,11 @@ side_refusal one other receiver = None
 -- why two callers make no turns, if they don't: both are in use, neither is in a call, and they are on two ends
 unfoldable pub pump_refusal : BenchState → ℕ → ℕ → Option ActAnswer
 pump_refusal bench sender receiver =
-    first_refusal (option_map (answer.Refused sender) (used_fault (end_of bench.link.callers sender)))
-    (first_refusal (option_map (answer.Refused receiver) (used_fault (end_of bench.link.callers receiver)))
+    first_refusal (option_map (answer.Refused sender) (used_fault (end_of (link_in bench).callers sender)))
+    (first_refusal (option_map (answer.Refused receiver) (used_fault (end_of (link_in bench).callers receiver)))
     (first_refusal (option_map (answer.Refused sender) (calling_fault (is_in_call bench sender)))
     (first_refusal (option_map (answer.Refused receiver) (calling_fault (is_in_call bench receiver)))
-    (side_refusal (end_of bench.link.callers sender) (end_of bench.link.callers receiver) receiver))))
+    (side_refusal (end_of (link_in bench).callers sender) (end_of (link_in bench).callers receiver) receiver))))
 
 -- so many turns of two callers
 unfoldable pub pump_act : {W : Type 0} → Seeing W → BenchState → W → ℕ → ℕ → ℕ → ℕ → Acted W
@@ -158,8 +158,8 @@ reclaimed caller (Err why) = answer.Refused caller why
 -- a reclaim of a caller
 abbrev pub reclaim_act : {W : Type 0} → BenchState → W → ℕ → ℕ → Acted W
 reclaim_act bench watcher steps caller =
-    let why = unreclaimed_by bench.link caller in
-    answers (reclaim_leaves bench caller why) watcher steps (reclaimed caller (reclaim_answer (end_of bench.link.callers caller) why))
+    let why = unreclaimed_by (link_in bench) caller in
+    answers (reclaim_leaves bench caller why) watcher steps (reclaimed caller (reclaim_answer (end_of (link_in bench).callers caller) why))
 
 -- a new caller at an end, under the least free number
 abbrev pub caller_act : {W : Type 0} → BenchState → W → ℕ → End → Option ℕ → Acted W
@@ -168,7 +168,7 @@ caller_act bench watcher steps end (Some number) = answers (with_new_caller benc
 
 -- an act of callers that are no actor's own
 abbrev pub free_act : {W : Type 0} → Seeing W → BenchState → W → ℕ → LinkAct (List ℕ) → Acted W
-free_act sees bench watcher steps (act.Caller end) = caller_act bench watcher steps end (free_number bench.link.callers)
+free_act sees bench watcher steps (act.Caller end) = caller_act bench watcher steps end (free_number (link_in bench).callers)
 free_act sees bench watcher steps (act.Call caller made wanted) = call_act sees bench watcher steps caller made wanted
 free_act sees bench watcher steps (act.Step caller more) = step_act sees bench watcher steps caller more
 free_act sees bench watcher steps (act.Pump sender receiver count) = pump_act sees bench watcher steps sender receiver count
@@ -184,7 +184,7 @@ own_in bench own (act.Caller end) = None
 own_in bench own (act.Call caller made wanted) = own_caller own caller
 own_in bench own (act.Step caller more) = own_caller own caller
 own_in bench own (act.Pump sender receiver count) =
-    option_or (own_caller own sender) (if is_some (end_of bench.link.callers sender) then own_caller own receiver else None)
+    option_or (own_caller own sender) (if is_some (end_of (link_in bench).callers sender) then own_caller own receiver else None)
 own_in bench own (act.Reclaim caller) = own_caller own caller
 
 -- an act on a link with so many own callers, the first ones, which are not there to others

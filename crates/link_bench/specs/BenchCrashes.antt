@@ -3,32 +3,25 @@ use Rattle.std.specs.Prelude.{ℕ, slice_set, Option, Some, None, Result, Ok, Er
 use Rattle.rp_base.specs.declared.kinds.End.{End}
 use Rattle.lane_model.specs.declared.recoveries.ReclaimRefusal.{ReclaimRefusal}
 use Rattle.lane_model.specs.declared.recoveries.ReclaimRefusal.TheVariants as refusal
-use Rattle.lane_model.specs.Forms.{list_form}
 use Rattle.lane_model.specs.Links.{end_of}
 use Rattle.lane_model.specs.Recoveries.{link_after_close, link_after_reclaim, link_after_reopen}
-use Rattle.ring_core.specs.RingSteps.{ring_form}
-use Rattle.channel_bus.specs.Sides.{side_meaning}
 use Rattle.link_bench.specs.declared.benches.BenchFault.{BenchFault}
 use Rattle.link_bench.specs.declared.benches.BenchFault.TheVariants as fault
 use Rattle.link_bench.specs.declared.bench_crashes.Reclaim.{Reclaim}
 use Rattle.link_bench.specs.declared.bench_crashes.Reclaim.TheVariants as reclaim
-use Rattle.link_bench.specs.Benches.{BenchState}
+use Rattle.link_bench.specs.Benches.{BenchState, link_in, on_rings}
 
 -- the bench after a close of the incarnation that its link is in
 abbrev pub after_close : BenchState → BenchState
-after_close bench = record bench { link = link_after_close bench.link bench.link.era.inc; rings = link_after_close bench.rings bench.link.era.inc }
+after_close bench = record bench { rings = link_after_close bench.rings (link_in bench).era.inc }
 
 -- the bench without this caller, and without the call that it has begun
 abbrev pub after_reclaim : BenchState → ℕ → BenchState
-after_reclaim bench caller = record {
-  link = link_after_reclaim (list_form side_meaning) bench.link caller;
-  rings = link_after_reclaim (ring_form side_meaning) bench.rings caller;
-  begun = slice_set bench.begun caller None;
-}
+after_reclaim bench caller = record { rings = link_after_reclaim on_rings bench.rings caller; begun = slice_set bench.begun caller None }
 
 -- the bench in its next incarnation; what is begun stays so
 abbrev pub after_reopen : BenchState → BenchState
-after_reopen bench = record bench { link = link_after_reopen (list_form side_meaning) bench.link; rings = link_after_reopen (ring_form side_meaning) bench.rings }
+after_reopen bench = record bench { rings = link_after_reopen on_rings bench.rings }
 
 -- how a reclaim of a caller in use ends
 abbrev pub reclaim_end : Option ReclaimRefusal → Reclaim
@@ -49,4 +42,4 @@ left_by_reclaim bench caller None why = bench
 
 -- the bench after a reclaim
 abbrev pub reclaim_leaves : BenchState → ℕ → Option ReclaimRefusal → BenchState
-reclaim_leaves bench caller why = left_by_reclaim bench caller (end_of bench.link.callers caller) why
+reclaim_leaves bench caller why = left_by_reclaim bench caller (end_of (link_in bench).callers caller) why

@@ -10,7 +10,7 @@ use Rattle.lane_model.specs.declared.recoveries.ReclaimRefusal.{ReclaimRefusal}
 use Rattle.lane_model.specs.declared.recoveries.ReclaimRefusal.TheVariants as refusal
 use Rattle.lane_model.specs.declared.recoveries.ReopenFault.{ReopenFault}
 use Rattle.lane_model.specs.declared.recoveries.ReopenFault.TheVariants as reopen
-use Rattle.link_bench.specs.Benches.{BenchState, with_new_caller}
+use Rattle.link_bench.specs.Benches.{BenchState, link_in, with_new_caller}
 use Rattle.link_bench.specs.BenchCrashes.{after_close, after_reclaim}
 
 -- the end of the remote
@@ -21,12 +21,12 @@ is_remote None = false
 
 -- a new caller at an end, under the least free number
 abbrev pub with_fresh_caller : BenchState → End → BenchState
-with_fresh_caller bench end = with_new_caller bench end (free_number bench.link.callers)
+with_fresh_caller bench end = with_new_caller bench end (free_number (link_in bench).callers)
 
 -- the bench without this caller where it is one of the remote end; caller 1 is made anew at once
 abbrev pub without_remote : BenchState → ℕ → BenchState
 without_remote bench caller =
-    if is_remote (end_of bench.link.callers caller) then (if caller == 1 then with_fresh_caller (after_reclaim bench caller) side.Remote else after_reclaim bench caller) else bench
+    if is_remote (end_of (link_in bench).callers caller) then (if caller == 1 then with_fresh_caller (after_reclaim bench caller) side.Remote else after_reclaim bench caller) else bench
 
 -- the same of one who may be none
 abbrev pub without_one : BenchState → Option ℕ → BenchState
@@ -49,7 +49,7 @@ without_others first bench from count = fold (without_other first) bench (range_
 -- the bench without the callers of the remote end: who has its receiver's turn ends first, so that nobody who holds a buffer needs another's turn, then the others by number
 abbrev pub without_remotes : BenchState → BenchState
 without_remotes bench =
-    let first = holder bench.link.to_remote.receiver in
+    let first = holder (link_in bench).to_remote.receiver in
     without_others first (without_one bench first) 0 64
 
 -- the bench after a crash of the remote end: its incarnation is closed, and its remote callers are gone
@@ -72,12 +72,12 @@ renewed_unless bench (Some why) = bench
 
 -- the bench that a reopening finds
 abbrev pub readied_bench : BenchState → BenchState
-readied_bench bench = renewed_unless bench (unreclaimed_by bench.link 0)
+readied_bench bench = renewed_unless bench (unreclaimed_by (link_in bench) 0)
 
 -- why a bench is not reopened: caller 0 is not reclaimed, or the link behind it is not reopened
 abbrev pub unopened_unless : BenchState → Option ReclaimRefusal → Option ReopenFault
-unopened_unless bench None = unopened_by (with_new_host bench).link
+unopened_unless bench None = unopened_by (link_in (with_new_host bench))
 unopened_unless bench (Some why) = Some (unready_for why)
 
 abbrev pub reopen_refusal_of : BenchState → Option ReopenFault
-reopen_refusal_of bench = unopened_unless bench (unreclaimed_by bench.link 0)
+reopen_refusal_of bench = unopened_unless bench (unreclaimed_by (link_in bench) 0)

@@ -9,7 +9,7 @@ use Rattle.channel_bus.specs.Sides.{EndState}
 use Rattle.lane_model.specs.Lanes.{holder}
 use Rattle.lane_model.specs.Links.{LinkState}
 use Rattle.ring_core.specs.RingWords.{words_of}
-use Rattle.link_bench.specs.Benches.{BenchState, RingsState}
+use Rattle.link_bench.specs.Benches.{BenchState, RingsState, link_in}
 
 -- where the buffers of a lane begin: those of lane 0, so many of 512 bytes, at the base, and those of lane 1 behind them
 abbrev pub lane_base : ℕ → ℕ → ℕ → ℕ
@@ -41,7 +41,7 @@ turn_holder link =
 -- the life of a link and the words of both its lanes, over buffers that begin at an address, so many of them on lane 0
 abbrev pub snapshot_at : BenchState → ℕ → ℕ → Snapshot
 snapshot_at bench base capacity = record {
-  era = bench.link.era;
+  era = (link_in bench).era;
   to_host = lane_words bench.rings 0 (lane_base base capacity 0);
   to_remote = lane_words bench.rings 1 (lane_base base capacity 1);
 }

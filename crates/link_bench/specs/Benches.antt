@@ -12,8 +12,9 @@ use Rattle.lane_model.specs.declared.calls.Outcome.{Outcome}
 use Rattle.lane_model.specs.declared.calls.Outcome.TheVariants as outcome
 use Rattle.lane_model.specs.declared.calls.LinkConfig.{LinkConfig}
 use Rattle.lane_model.specs.declared.lane_links.LaneLink.{LaneLink}
-use Rattle.lane_model.specs.Lanes.{message_at}
-use Rattle.lane_model.specs.Links.{LinkState, caller_step, end_of, form_step, link_of, opened_link, with_caller}
+use Rattle.lane_model.specs.Forms.{FormMeaning, list_form}
+use Rattle.lane_model.specs.Lanes.{Stepped, message_at}
+use Rattle.lane_model.specs.Links.{LinkState, caller_step, end_of, form_step, link_of, with_caller}
 use Rattle.lane_model.specs.Conditions.{MayStep, is_calling, is_holding}
 use Rattle.ring_core.specs.declared.states.RingState.{RingState}
 use Rattle.ring_core.specs.RingLinks.{opened_ring_link}
@@ -41,20 +42,29 @@ abbrev pub reach_of_done : Done → Reach
 reach_of_done (step_done.At step) = reach.At step
 reach_of_done (step_done.Ended end) = reach.Ended end
 
--- a link over rings, with all its words
+-- a link over rings: each lane has its lists and counts and, beside them, all words of its rings
 abbrev pub RingsState : Type 0
 RingsState = LaneLink (RingState EndState)
 
--- a link, and for each number of a caller the call that it has begun and of which no step is done
-pub record BenchState : Type 0 where
-  pub link : LinkState EndState
-  -- the rings under the lists, of which the lists say all but the words
-  pub rings : RingsState
-  pub begun : List (Option BegunCall)
+-- the form of a lane that has its lists alone, and the one that has the words of its rings too
+abbrev pub on_lists : FormMeaning (LaneState EndState) EndState
+on_lists = list_form side_meaning
+
+abbrev pub on_rings : FormMeaning (RingState EndState) EndState
+on_rings = ring_form side_meaning
 
 -- the lists and counts that a link over rings stands for
 abbrev pub lists_of : RingsState → LinkState EndState
-lists_of link = link_of (ring_form side_meaning) link
+lists_of link = link_of on_rings link
+
+-- a link, and for each number of a caller the call that it has begun and of which no step is done
+pub record BenchState : Type 0 where
+  pub rings : RingsState
+  pub begun : List (Option BegunCall)
+
+-- the link of a bench: its lists and counts, without the words
+abbrev pub link_in : BenchState → LinkState EndState
+link_in bench = lists_of bench.rings
 
 -- nothing is begun
 abbrev pub no_begun : List (Option BegunCall)
@@ -62,11 +72,7 @@ no_begun = replicate 64 None
 
 -- a bench over a new link
 abbrev pub new_bench_of : LinkConfig → EndState → EndState → BenchState
-new_bench_of config host remote = record {
-  link = opened_link config host remote;
-  rings = opened_ring_link config host remote;
-  begun = no_begun;
-}
+new_bench_of config host remote = record { rings = opened_ring_link config host remote; begun = no_begun }
 
 -- the call that a caller has begun and of which no step is done
 abbrev pub begun_of : BenchState → ℕ → Option BegunCall
@@ -74,70 +80,48 @@ begun_of bench caller = option_and_then (λ found. found) (slice_get bench.begun
 
 -- a caller is in a call from its beginning on
 abbrev pub is_in_call : BenchState → ℕ → Bool
-is_in_call bench caller = is_some (begun_of bench caller) || is_calling bench.link caller
+is_in_call bench caller = is_some (begun_of bench caller) || is_calling (link_in bench) caller
+
+-- a step of a call on a link of some form. What it does to the call, the lists alone say
+abbrev pub step_on : {L : Type 0} → FormMeaning L EndState → LaneLink L → ℕ → ℕ → Option Wish → Stepped (LaneLink L)
+step_on form link caller follows wished = record {
+  state = (form_step form side_meaning link caller follows wished).state;
+  outcome = (caller_step side_meaning (link_of form link) caller follows wished).outcome;
+}
 
 -- how far a call came: the link that it leaves, the steps of the run until then, and what it reached
-pub record Walk : Type 0 where
-  pub link : LinkState EndState
+pub record Walk (L : Type 0) : Type 0 where
+  pub link : LaneLink L
   pub steps : ℕ
   pub reach : Reach
 
 -- what a step does to the call: it ends it, or the later steps say
-abbrev pub walk_on : LinkState EndState → ℕ → Outcome → (ℕ → Walk) → Walk
+abbrev pub walk_on : {L : Type 0} → LaneLink L → ℕ → Outcome → (ℕ → Walk L) → Walk L
 walk_on link steps (outcome.At step) later = later step
 walk_on link steps (outcome.Ended ended) later = record { link = link; steps = steps; reach = reach.Ended ended }
 
 -- the later steps of a call, at most so many: up to its end, or to the most steps of a run; `last` is the step that was done last
-unfoldable pub later_steps : ℕ → ℕ → ℕ → LinkState EndState → ℕ → Walk
-later_steps zero last steps link caller = record { link = link; steps = steps; reach = reach.At last }
-later_steps (suc more) last steps link caller =
+unfoldable pub later_steps : {L : Type 0} → FormMeaning L EndState → ℕ → ℕ → ℕ → LaneLink L → ℕ → Walk L
+later_steps form zero last steps link caller = record { link = link; steps = steps; reach = reach.At last }
+later_steps form (suc more) last steps link caller =
     if steps == STEPS_MOST then record { link = link; steps = steps; reach = reach.Limit }
-    else (let step = caller_step side_meaning link caller 0 None in
-    walk_on step.state (steps + 1) step.outcome (λ done. later_steps more done (steps + 1) step.state caller))
+    else (let step = step_on form link caller 0 None in
+    walk_on step.state (steps + 1) step.outcome (λ done. later_steps form more done (steps + 1) step.state caller))
 
 -- a call from its first step on, with at most so many steps behind it
-unfoldable pub call_steps : ℕ → ℕ → LinkState EndState → ℕ → ℕ → Wish → Walk
-call_steps more steps link caller follows wish =
+unfoldable pub call_steps : {L : Type 0} → FormMeaning L EndState → ℕ → ℕ → LaneLink L → ℕ → ℕ → Wish → Walk L
+call_steps form more steps link caller follows wish =
     if steps == STEPS_MOST then record { link = link; steps = steps; reach = reach.Limit }
-    else (let step = caller_step side_meaning link caller follows (Some wish) in
-    walk_on step.state (steps + 1) step.outcome (λ done. later_steps more done (steps + 1) step.state caller))
+    else (let step = step_on form link caller follows (Some wish) in
+    walk_on step.state (steps + 1) step.outcome (λ done. later_steps form more done (steps + 1) step.state caller))
 
--- what a step leaves of the rings: the call ends with it, or later steps follow
-abbrev pub rings_on : RingsState → Outcome → RingsState → RingsState
-rings_on left (outcome.At step) later = later
-rings_on left (outcome.Ended ended) later = left
-
--- the rings after a step, which does to its call what it does on the lists
-abbrev pub rings_after : RingsState → ℕ → ℕ → Option Wish → RingsState
-rings_after rings caller follows wished = (form_step (ring_form side_meaning) side_meaning rings caller follows wished).state
-
-abbrev pub rings_outcome : RingsState → ℕ → ℕ → Option Wish → Outcome
-rings_outcome rings caller follows wished = (caller_step side_meaning (lists_of rings) caller follows wished).outcome
-
--- the rings after the later steps of a call, at most so many: up to its end, or to the most steps of a run
-unfoldable pub later_rings : ℕ → ℕ → RingsState → ℕ → RingsState
-later_rings zero steps rings caller = rings
-later_rings (suc more) steps rings caller =
-    if steps == STEPS_MOST then rings
-    else rings_on (rings_after rings caller 0 None) (rings_outcome rings caller 0 None) (later_rings more (steps + 1) (rings_after rings caller 0 None) caller)
-
--- the rings after a call from its first step on, with at most so many steps behind it
-unfoldable pub call_rings : ℕ → ℕ → RingsState → ℕ → ℕ → Wish → RingsState
-call_rings more steps rings caller follows wish =
-    if steps == STEPS_MOST then rings
-    else rings_on (rings_after rings caller follows (Some wish)) (rings_outcome rings caller follows (Some wish))
-    (later_rings more (steps + 1) (rings_after rings caller follows (Some wish)) caller)
-
--- a whole call, which follows the incarnation that the link is in: it ends within seven steps
-abbrev pub whole_call : ℕ → LinkState EndState → ℕ → Wish → Walk
-whole_call steps link caller wish = call_steps 6 steps link caller link.era.inc wish
+-- a walk, with the lists that its link stands for
+abbrev pub walk_lists : {L : Type 0} → FormMeaning L EndState → Walk L → Walk (LaneState EndState)
+walk_lists form walk = record { link = link_of form walk.link; steps = walk.steps; reach = walk.reach }
 
 -- the bench with a new caller at an end, under this number if there is one
 abbrev pub with_new_caller : BenchState → End → Option ℕ → BenchState
-with_new_caller bench end number = record bench {
-  link = record bench.link { callers = with_caller bench.link.callers end number };
-  rings = record bench.rings { callers = with_caller bench.rings.callers end number };
-}
+with_new_caller bench end number = record bench { rings = record bench.rings { callers = with_caller bench.rings.callers end number } }
 
 -- the bench in which a caller has begun this call, or none
 abbrev pub with_begun : BenchState → ℕ → Option BegunCall → BenchState
@@ -149,29 +133,32 @@ pub record BenchWalk : Type 0 where
   pub steps : ℕ
   pub reach : Reach
 
--- the bench over the link and the rings that a call leaves
-abbrev pub bench_walk : BenchState → Walk → RingsState → BenchWalk
-bench_walk bench walk rings = record { bench = record bench { link = walk.link; rings = rings }; steps = walk.steps; reach = walk.reach }
+-- the bench over the rings that a call leaves
+abbrev pub bench_walk : BenchState → Walk (RingState EndState) → BenchWalk
+bench_walk bench walk = record { bench = record bench { rings = walk.link }; steps = walk.steps; reach = walk.reach }
 
 -- one step of the call that a caller is in and at most so many more, from its first step or from where it stands; a call is begun no more once a step of it is done
 abbrev pub advance_steps : BenchState → ℕ → ℕ → ℕ → Option BegunCall → BenchWalk
 advance_steps bench more steps caller (Some call) =
     if steps == STEPS_MOST then record { bench = bench; steps = steps; reach = reach.Limit }
-    else bench_walk (with_begun bench caller None) (call_steps more steps bench.link caller call.follows call.wish) (call_rings more steps bench.rings caller call.follows call.wish)
-advance_steps bench more steps caller None = bench_walk bench (later_steps (more + 1) 0 steps bench.link caller) (later_rings (more + 1) steps bench.rings caller)
+    else bench_walk (with_begun bench caller None) (call_steps on_rings more steps bench.rings caller call.follows call.wish)
+advance_steps bench more steps caller None = bench_walk bench (later_steps on_rings (more + 1) 0 steps bench.rings caller)
 
 -- so many steps of the call that a caller is in
 abbrev pub advance_walk : BenchState → ℕ → ℕ → ℕ → BenchWalk
 advance_walk bench more steps caller = advance_steps bench more steps caller (begun_of bench caller)
 
--- a whole call of a caller that is in none
-abbrev pub call_walk : BenchState → ℕ → ℕ → Wish → BenchWalk
-call_walk bench steps caller wanted = bench_walk bench (whole_call steps bench.link caller wanted) (call_rings 6 steps bench.rings caller bench.link.era.inc wanted)
+-- a call of a caller that is in none, with at most so many steps behind its first; it follows the incarnation that the link is in
+abbrev pub begin_walk : BenchState → ℕ → ℕ → ℕ → Wish → BenchWalk
+begin_walk bench more steps caller wanted = bench_walk bench (call_steps on_rings more steps bench.rings caller (link_in bench).era.inc wanted)
 
--- the first step of a call of a caller that is in none
+-- a whole call, which ends within seven steps
+abbrev pub call_walk : BenchState → ℕ → ℕ → Wish → BenchWalk
+call_walk bench steps caller wanted = begin_walk bench 6 steps caller wanted
+
+-- the first step of a call
 abbrev pub start_walk : BenchState → ℕ → ℕ → Wish → BenchWalk
-start_walk bench steps caller wanted =
-    bench_walk bench (call_steps 0 steps bench.link caller bench.link.era.inc wanted) (call_rings 0 steps bench.rings caller bench.link.era.inc wanted)
+start_walk bench steps caller wanted = begin_walk bench 0 steps caller wanted
 
 -- the next step of each call that is begun may be done
 abbrev pub AreFitCalls : LinkState EndState → List (Option BegunCall) → Type 0
@@ -194,13 +181,13 @@ caller_fault (Some end) in_call = calling_fault in_call
 
 -- why a caller can't begin a call
 abbrev pub ready_fault : BenchState → ℕ → Option BenchFault
-ready_fault bench caller = caller_fault (end_of bench.link.callers caller) (is_in_call bench caller)
+ready_fault bench caller = caller_fault (end_of (link_in bench).callers caller) (is_in_call bench caller)
 
 -- a give names what its caller holds
 abbrev pub wish_fault : BenchState → ℕ → Wish → Option BenchFault
 wish_fault bench caller (wish.Send message) = None
 wish_fault bench caller wish.Take = None
-wish_fault bench caller (wish.Give number) = if is_holding bench.link caller number then None else Some (fault.NotHeld number)
+wish_fault bench caller (wish.Give number) = if is_holding (link_in bench) caller number then None else Some (fault.NotHeld number)
 wish_fault bench caller (wish.Bind address) = None
 wish_fault bench caller (wish.Unbind address) = None
 
@@ -215,7 +202,7 @@ advance_fault (Some end) in_call = if in_call then None else Some fault.NoCall
 
 -- the same of a caller of a bench
 abbrev pub step_fault : BenchState → ℕ → Option BenchFault
-step_fault bench caller = advance_fault (end_of bench.link.callers caller) (is_in_call bench caller)
+step_fault bench caller = advance_fault (end_of (link_in bench).callers caller) (is_in_call bench caller)
 
 -- the next step of every other caller may be done where it might before
 abbrev pub OthersMay : LinkState EndState → LinkState EndState → ℕ → Type 0
@@ -227,7 +214,7 @@ lane_counts state = (length state.lane.accepted, length state.lane.takers, state
 
 -- the counts of lane 0, to the host, or of lane 1
 abbrev pub counts_of : BenchState → ℕ → ℕ × ℕ × ℕ
-counts_of bench lane = if lane == 0 then lane_counts bench.link.to_host else lane_counts bench.link.to_remote
+counts_of bench lane = if lane == 0 then lane_counts (link_in bench).to_host else lane_counts (link_in bench).to_remote
 
 -- a message fits a buffer
 abbrev pub IsSendable : Wish → Type 0

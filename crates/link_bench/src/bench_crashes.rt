@@ -2,6 +2,7 @@ ghost use Rattle.std.specs.Prelude.{◌≡◌, ◌⊎◌, ◌<◌, IfOk, IfErr, 
 ghost use Rattle.lane_model.specs.declared.recoveries.ReopenFault.TheVariants as reopen_fault;
 ghost use Rattle.lane_model.specs.Recoveries.{unclosed_by, unopened_by, unreclaimed_by};
 ghost use Rattle.lane_model.specs.Links.{end_of};
+ghost use Rattle.link_bench.specs.Benches.{link_in};
 ghost use Rattle.link_bench.specs.BenchCrashes.{after_close, after_reclaim, after_reopen, reclaim_answer, reclaim_leaves};
 
 use crate::benches::{Bench, BenchFault};
@@ -23,7 +24,7 @@ pub enum Reclaim {
 impl Bench {
     /// The life that the link is in.
     pub fn era(&self) -> Era
-        ensures { result ≡ self.now.link.era }
+        ensures { result ≡ (link_in self.now).era }
     {
         self.link.era
     }
@@ -35,8 +36,8 @@ impl Bench {
     /// [`Already`] exactly where it is closed. Nothing changes then.
     pub fn close(&mut self) -> Result<(), Already>
         ensures left { self.new ≡ after_close self.old }
-        ensures done { IfOk result (λ _. unclosed_by self.old.link.era self.old.link.era.inc ≡ None) }
-        ensures refused { IfErr result (λ already. unclosed_by self.old.link.era self.old.link.era.inc ≡ Some already.0) }
+        ensures done { IfOk result (λ _. unclosed_by (link_in self.old).era (link_in self.old).era.inc ≡ None) }
+        ensures refused { IfErr result (λ already. unclosed_by (link_in self.old).era (link_in self.old).era.inc ≡ Some already.0) }
     {
         let inc = self.link.era.inc;
         self.link.close(inc)
@@ -49,8 +50,8 @@ impl Bench {
     ///
     /// [`BenchFault::NoCaller`] exactly where the caller isn't in use.
     pub fn reclaim(&mut self, caller: CallerNo) -> Result<Reclaim, BenchFault>
-        ensures answer { result ≡ reclaim_answer (end_of self.old.link.callers caller) (unreclaimed_by self.old.link caller) }
-        ensures left { self.new ≡ reclaim_leaves self.old caller (unreclaimed_by self.old.link caller) }
+        ensures answer { result ≡ reclaim_answer (end_of (link_in self.old).callers caller) (unreclaimed_by (link_in self.old) caller) }
+        ensures left { self.new ≡ reclaim_leaves self.old caller (unreclaimed_by (link_in self.old) caller) }
     {
         let Some(_) = self.end_of(caller) else {
             return Err(BenchFault::NoCaller);
@@ -84,17 +85,17 @@ impl Bench {
     /// [`ReopenFault::StillHeld`] and [`ReopenFault::IncarnationsSpent`], or want of memory. Nothing
     /// changes then.
     pub fn reopen(&mut self, alloc: Global) -> Result<Books, ReopenFault>
-        ensures refused { IfErr result (λ fault. (self.new ≡ self.old) × ((unopened_by self.old.link ≡ Some fault)
-            ⊎ ((fault ≡ reopen_fault.NoMemory) × (unopened_by self.old.link ≡ None)))) }
-        ensures open { IfOk result (λ _. unopened_by self.old.link ≡ None) }
+        ensures refused { IfErr result (λ fault. (self.new ≡ self.old) × ((unopened_by (link_in self.old) ≡ Some fault)
+            ⊎ ((fault ≡ reopen_fault.NoMemory) × (unopened_by (link_in self.old) ≡ None)))) }
+        ensures open { IfOk result (λ _. unopened_by (link_in self.old) ≡ None) }
         ensures left { IfOk result (λ _. self.new ≡ after_reopen self.old) }
-        ensures inc { IfOk result (λ books. books.inc ≡ self.old.link.era.inc) }
-        ensures to_host { IfOk result (λ books. (books.to_host.entries ≡ self.old.link.to_host.lane.accepted)
-            × (books.to_host_takers.items ≡ self.old.link.to_host.lane.takers)
-            × (books.to_host_handed ≡ length self.old.link.to_host.lane.takers)) }
-        ensures to_remote { IfOk result (λ books. (books.to_remote.entries ≡ self.old.link.to_remote.lane.accepted)
-            × (books.to_remote_takers.items ≡ self.old.link.to_remote.lane.takers)
-            × (books.to_remote_handed ≡ length self.old.link.to_remote.lane.takers)) }
+        ensures inc { IfOk result (λ books. books.inc ≡ (link_in self.old).era.inc) }
+        ensures to_host { IfOk result (λ books. (books.to_host.entries ≡ (link_in self.old).to_host.lane.accepted)
+            × (books.to_host_takers.items ≡ (link_in self.old).to_host.lane.takers)
+            × (books.to_host_handed ≡ length (link_in self.old).to_host.lane.takers)) }
+        ensures to_remote { IfOk result (λ books. (books.to_remote.entries ≡ (link_in self.old).to_remote.lane.accepted)
+            × (books.to_remote_takers.items ≡ (link_in self.old).to_remote.lane.takers)
+            × (books.to_remote_handed ≡ length (link_in self.old).to_remote.lane.takers)) }
     {
         self.link.reopen(alloc)
     }

@@ -4,6 +4,7 @@ ghost use Rattle.lane_model.specs.Lanes.{holder};
 ghost use Rattle.vring_layout.specs.declared.snapshots.SnapshotFault.TheVariants as snapshot_fault;
 ghost use Rattle.vring_layout.specs.Sizes.{IsRingAlign};
 ghost use Rattle.rp_base.specs.Limits.{IsRingSize, ring_capacity};
+ghost use Rattle.link_bench.specs.Benches.{link_in};
 ghost use Rattle.link_bench.specs.BenchRings.{IsSnapshotFault, bench_snapshot, lane_base, lane_bytes, lane_words, placed_bytes, snapshot_at, turn_holder};
 
 use crate::benches::Bench;
@@ -16,7 +17,7 @@ impl Bench {
     /// Who has the first turn of the link that is out: of lane 0's sender and receiver, then of lane
     /// 1's.
     pub fn turn_holder(&self) -> Option<CallerNo>
-        ensures { result ≡ turn_holder self.now.link }
+        ensures { result ≡ turn_holder (link_in self.now) }
     {
         if let Some(holder) = self.link.to_host.sender_holder() {
             return Some(holder);
@@ -37,10 +38,10 @@ impl Bench {
     /// [`SnapshotFault::StillTurn`] exactly where a caller has the turn of lane 0's receiver, or want of
     /// memory.
     pub fn channels(&self, alloc: Global) -> Result<Vec<Channel>, SnapshotFault>
-        ensures free { IfOk result (λ _. holder self.now.link.to_host.receiver ≡ None) }
-        ensures channels { IfOk result (λ channels. channels.items ≡ self.now.link.to_host.desk.channels) }
-        ensures refused { IfErr result (λ why. (option_map snapshot_fault.StillTurn (holder self.now.link.to_host.receiver) ≡ Some why)
-            ⊎ ((why ≡ snapshot_fault.NoMemory) × (holder self.now.link.to_host.receiver ≡ None))) }
+        ensures free { IfOk result (λ _. holder (link_in self.now).to_host.receiver ≡ None) }
+        ensures channels { IfOk result (λ channels. channels.items ≡ (link_in self.now).to_host.desk.channels) }
+        ensures refused { IfErr result (λ why. (option_map snapshot_fault.StillTurn (holder (link_in self.now).to_host.receiver) ≡ Some why)
+            ⊎ ((why ≡ snapshot_fault.NoMemory) × (holder (link_in self.now).to_host.receiver ≡ None))) }
     {
         match self.link.to_host.receiver_holder() {
             Some(holder) => Err(SnapshotFault::StillTurn(holder)),
@@ -56,9 +57,9 @@ impl Bench {
     /// [`SnapshotFault::StillTurn`] exactly where a turn is out, with the holder of the first of lane
     /// 0's sender and receiver, then lane 1's; else only want of memory.
     pub fn snapshot(&self, alloc: Global) -> Result<Snapshot, SnapshotFault>
-        ensures free { OnOk result (turn_holder self.now.link ≡ None) }
+        ensures free { OnOk result (turn_holder (link_in self.now) ≡ None) }
         ensures words { IfOk result (λ snapshot. snapshot ≡ bench_snapshot self.now) }
-        ensures refused { IfErr result (IsSnapshotFault (turn_holder self.now.link)) }
+        ensures refused { IfErr result (IsSnapshotFault (turn_holder (link_in self.now))) }
     {
         self.snapshot_at(alloc, 0, self.link.to_host.sizes().capacity)
     }
@@ -71,9 +72,9 @@ impl Bench {
         capacity: u16,
     ) -> Result<Snapshot, SnapshotFault>
         requires { base + 512 * capacity < 2 ^ 32 }
-        ensures free { OnOk result (turn_holder self.now.link ≡ None) }
+        ensures free { OnOk result (turn_holder (link_in self.now) ≡ None) }
         ensures words { IfOk result (λ snapshot. snapshot ≡ snapshot_at self.now base capacity) }
-        ensures refused { IfErr result (IsSnapshotFault (turn_holder self.now.link)) }
+        ensures refused { IfErr result (IsSnapshotFault (turn_holder (link_in self.now))) }
     {
         match self.turn_holder() {
             Some(holder) => Err(SnapshotFault::StillTurn(holder)),

@@ -5,7 +5,7 @@ ghost use Rattle.lane_model.specs.Links.{end_of, free_number};
 ghost use Rattle.channel_bus.specs.Sides.{side_meaning};
 ghost use Rattle.lane_model.specs.Desks.{IsFreshDesk};
 ghost use Rattle.lane_model.specs.Conditions.{IsConfig, is_holding};
-ghost use Rattle.link_bench.specs.Benches.{IsSendable, advance_walk, begin_fault, call_walk, counts_of, is_in_call, new_bench_of, no_begun, reach_of, ready_fault, start_walk, taken_on, with_begun, with_new_caller};
+ghost use Rattle.link_bench.specs.Benches.{IsSendable, advance_walk, begin_fault, call_walk, counts_of, is_in_call, link_in, new_bench_of, no_begun, reach_of, ready_fault, start_walk, taken_on, with_begun, with_new_caller};
 
 use crate::steps::{BenchLink, call_steps, later_steps};
 use crate::whole_steps::{whole_send, whole_steps};
@@ -75,7 +75,7 @@ impl Model for Bench {
     ghost use Rattle.std.specs.Prelude.{◌≡◌, length};
     ghost use Rattle.link_bench.specs.Benches.{AreFitCalls, lists_of};
 
-    ghost view = { λ b. record { link = lists_of b.link; rings = b.link; begun = b.begun.items } };
+    ghost view = { λ b. record { rings = b.link; begun = b.begun.items } };
 
     ghost invariant = { λ b. (length b.begun.items ≡ 64) × AreFitCalls (lists_of b.link) b.begun.items };
 }
@@ -103,15 +103,15 @@ impl Bench {
     /// A new caller at this end, under the least number that is not in use. There is none exactly
     /// where all 64 are.
     pub fn caller(&mut self, end: End) -> Option<CallerNo>
-        ensures number { result ≡ free_number self.old.link.callers }
-        ensures left { self.new ≡ with_new_caller self.old end (free_number self.old.link.callers) }
+        ensures number { result ≡ free_number (link_in self.old).callers }
+        ensures left { self.new ≡ with_new_caller self.old end (free_number (link_in self.old).callers) }
     {
         self.link.caller(end)
     }
 
     /// The end of the caller of this number, where it is in use.
     pub fn end_of(&self, caller: CallerNo) -> Option<End>
-        ensures end { result ≡ end_of self.now.link.callers caller }
+        ensures end { result ≡ end_of (link_in self.now).callers caller }
         ensures within { IfSome result (λ _. caller < 64) }
     {
         self.link.end_of(u64::from(caller))
@@ -136,7 +136,7 @@ impl Bench {
 
     /// Whether a caller holds the buffer of the message of this number.
     pub fn is_holding(&self, caller: CallerNo, number: u64) -> bool
-        ensures { result ≡ is_holding self.now.link caller number }
+        ensures { result ≡ is_holding (link_in self.now) caller number }
     {
         self.link.is_holding(caller, number)
     }
@@ -181,7 +181,7 @@ impl Bench {
         ensures refused { IfErr result (λ _. self.new ≡ self.old) }
         ensures none { IfOk result (λ _. begin_fault self.old caller wished ≡ None) }
         ensures begun { IfOk result (λ _. self.new
-            ≡ with_begun self.old caller (Some (record { follows = self.old.link.era.inc; wish = wished }))) }
+            ≡ with_begun self.old caller (Some (record { follows = (link_in self.old).era.inc; wish = wished }))) }
     {
         if let Some(fault) = self.begin_fault(caller, &wished) {
             return Err(fault);
@@ -194,7 +194,7 @@ impl Bench {
     pub fn put_begun(&mut self, caller: CallerNo, wished: Wish)
         requires caller { caller < 64 }
         requires ready { begin_fault self.old caller wished ≡ None }
-        ensures { self.new ≡ with_begun self.old caller (Some (record { follows = self.old.link.era.inc; wish = wished })) }
+        ensures { self.new ≡ with_begun self.old caller (Some (record { follows = (link_in self.old).era.inc; wish = wished })) }
     {
         show_sendable(&wished);
         self.begun[usize::from(caller)] = Some(BegunCall {
@@ -306,7 +306,7 @@ impl Bench {
 
     /// The message of a number on the lane that a caller takes from, or no byte where there is none.
     pub fn taken_message(&self, caller: CallerNo, number: u64) -> &[u8]
-        ensures message { result.now ≡ taken_on self.now.link (end_of self.now.link.callers caller) number }
+        ensures message { result.now ≡ taken_on (link_in self.now) (end_of (link_in self.now).callers caller) number }
         ensures short { length result.now ≤ MESSAGE_MOST }
     {
         let message = match self.end_of(caller) {

@@ -3,7 +3,7 @@ ghost use Rattle.rp_base.specs.declared.limits.TheConstants.{STEPS_MOST, MESSAGE
 ghost use Rattle.lane_model.specs.declared.calls.Wish.{Wish};
 ghost use Rattle.lane_model.specs.declared.calls.Wish.TheVariants as wish;
 ghost use Rattle.lane_model.specs.Conditions.{MayStep};
-ghost use Rattle.link_bench.specs.Benches.{OthersMay, call_rings, call_steps, later_rings, later_steps, lists_of, reach_of};
+ghost use Rattle.link_bench.specs.Benches.{OthersMay, call_steps, later_steps, lists_of, on_rings, reach_of};
 
 use crate::benches::Progress;
 use channel_bus::Side;
@@ -17,7 +17,7 @@ pub(crate) type BenchLink = RingLink<Side>;
 /// The later steps of the call that a caller has under way: at most `more`, up to its end or to the
 /// most steps of a run. `last` is the step that was done last. Where the call ends, `end` says how.
 #[inline(always)]
-#[tactic(auto, unfolding(crate::specs::Benches::later_steps, crate::specs::Benches::later_rings))]
+#[tactic(auto, unfolding(crate::specs::Benches::later_steps))]
 pub(crate) fn later_steps(
     link: &mut BenchLink,
     caller: CallerNo,
@@ -28,10 +28,9 @@ pub(crate) fn later_steps(
 ) -> Progress
     requires may { MayStep (lists_of link.old) caller None }
     requires steps { steps.old ≤ STEPS_MOST }
-    ensures link { lists_of link.new ≡ (later_steps more last steps.old (lists_of link.old) caller).link }
-    ensures rings { link.new ≡ later_rings more steps.old link.old caller }
-    ensures steps { steps.new ≡ (later_steps more last steps.old (lists_of link.old) caller).steps }
-    ensures reach { reach_of result end.new ≡ (later_steps more last steps.old (lists_of link.old) caller).reach }
+    ensures link { link.new ≡ (later_steps on_rings more last steps.old link.old caller).link }
+    ensures steps { steps.new ≡ (later_steps on_rings more last steps.old link.old caller).steps }
+    ensures reach { reach_of result end.new ≡ (later_steps on_rings more last steps.old link.old caller).reach }
     ensures within { steps.new ≤ STEPS_MOST }
     ensures others { OthersMay (lists_of link.old) (lists_of link.new) caller }
 {
@@ -50,7 +49,7 @@ pub(crate) fn later_steps(
 }
 
 /// A call of a caller from its first step on, with at most `more` steps behind it.
-#[tactic(auto, unfolding(crate::specs::Benches::call_steps, crate::specs::Benches::call_rings))]
+#[tactic(auto, unfolding(crate::specs::Benches::call_steps))]
 pub(crate) fn call_steps(
     link: &mut BenchLink,
     caller: CallerNo,
@@ -62,10 +61,9 @@ pub(crate) fn call_steps(
 ) -> Progress
     requires may { MayStep (lists_of link.old) caller (Some wished.now) }
     requires steps { steps.old ≤ STEPS_MOST }
-    ensures link { lists_of link.new ≡ (call_steps more steps.old (lists_of link.old) caller follows wished.now).link }
-    ensures rings { link.new ≡ call_rings more steps.old link.old caller follows wished.now }
-    ensures steps { steps.new ≡ (call_steps more steps.old (lists_of link.old) caller follows wished.now).steps }
-    ensures reach { reach_of result end.new ≡ (call_steps more steps.old (lists_of link.old) caller follows wished.now).reach }
+    ensures link { link.new ≡ (call_steps on_rings more steps.old link.old caller follows wished.now).link }
+    ensures steps { steps.new ≡ (call_steps on_rings more steps.old link.old caller follows wished.now).steps }
+    ensures reach { reach_of result end.new ≡ (call_steps on_rings more steps.old link.old caller follows wished.now).reach }
     ensures within { steps.new ≤ STEPS_MOST }
     ensures others { OthersMay (lists_of link.old) (lists_of link.new) caller }
 {
@@ -80,7 +78,7 @@ pub(crate) fn call_steps(
 }
 
 /// A whole send, step by step, of the message that has the bytes of `head` and then those of `body`.
-#[tactic(auto, unfolding(crate::specs::Benches::call_steps, crate::specs::Benches::call_rings))]
+#[tactic(auto, unfolding(crate::specs::Benches::call_steps))]
 pub(crate) fn send_steps(
     link: &mut BenchLink,
     caller: CallerNo,
@@ -93,10 +91,9 @@ pub(crate) fn send_steps(
     requires may { MayStep (lists_of link.old) caller (Some (wish.Send (head.now ++ body.now))) }
     requires fits { length head.now + length body.now ≤ MESSAGE_MOST }
     requires steps { steps.old ≤ STEPS_MOST }
-    ensures link { lists_of link.new ≡ (call_steps 6 steps.old (lists_of link.old) caller follows (wish.Send (head.now ++ body.now))).link }
-    ensures rings { link.new ≡ call_rings 6 steps.old link.old caller follows (wish.Send (head.now ++ body.now)) }
-    ensures steps { steps.new ≡ (call_steps 6 steps.old (lists_of link.old) caller follows (wish.Send (head.now ++ body.now))).steps }
-    ensures reach { reach_of result end.new ≡ (call_steps 6 steps.old (lists_of link.old) caller follows (wish.Send (head.now ++ body.now))).reach }
+    ensures link { link.new ≡ (call_steps on_rings 6 steps.old link.old caller follows (wish.Send (head.now ++ body.now))).link }
+    ensures steps { steps.new ≡ (call_steps on_rings 6 steps.old link.old caller follows (wish.Send (head.now ++ body.now))).steps }
+    ensures reach { reach_of result end.new ≡ (call_steps on_rings 6 steps.old link.old caller follows (wish.Send (head.now ++ body.now))).reach }
     ensures within { steps.new ≤ STEPS_MOST }
     ensures others { OthersMay (lists_of link.old) (lists_of link.new) caller }
 {

@@ -3,7 +3,7 @@ ghost use Rattle.rp_base.specs.declared.limits.TheConstants.{STEPS_MOST, MESSAGE
 ghost use Rattle.lane_model.specs.declared.calls.Wish.TheVariants as wish;
 ghost use Rattle.lane_model.specs.Conditions.{MayStep};
 ghost use Rattle.lane_model.specs.AtOnce.{steps_behind};
-ghost use Rattle.link_bench.specs.Benches.{OthersMay, call_rings, call_steps, lists_of, reach_of};
+ghost use Rattle.link_bench.specs.Benches.{OthersMay, call_steps, lists_of, on_rings, reach_of};
 
 use crate::benches::Progress;
 use crate::steps::{BenchLink, call_steps, send_steps};
@@ -22,10 +22,9 @@ pub(crate) fn whole_steps(
 ) -> Progress
     requires may { MayStep (lists_of link.old) caller (Some wished.now) }
     requires steps { steps.old ≤ STEPS_MOST }
-    ensures link { lists_of link.new ≡ (call_steps 6 steps.old (lists_of link.old) caller follows wished.now).link }
-    ensures rings { link.new ≡ call_rings 6 steps.old link.old caller follows wished.now }
-    ensures steps { steps.new ≡ (call_steps 6 steps.old (lists_of link.old) caller follows wished.now).steps }
-    ensures reach { reach_of result end.new ≡ (call_steps 6 steps.old (lists_of link.old) caller follows wished.now).reach }
+    ensures link { link.new ≡ (call_steps on_rings 6 steps.old link.old caller follows wished.now).link }
+    ensures steps { steps.new ≡ (call_steps on_rings 6 steps.old link.old caller follows wished.now).steps }
+    ensures reach { reach_of result end.new ≡ (call_steps on_rings 6 steps.old link.old caller follows wished.now).reach }
     ensures within { steps.new ≤ STEPS_MOST }
     ensures others { OthersMay (lists_of link.old) (lists_of link.new) caller }
 {
@@ -52,10 +51,9 @@ pub(crate) fn whole_send(
     requires may { MayStep (lists_of link.old) caller (Some (wish.Send (head.now ++ body.now))) }
     requires fits { length head.now + length body.now ≤ MESSAGE_MOST }
     requires steps { steps.old ≤ STEPS_MOST }
-    ensures link { lists_of link.new ≡ (call_steps 6 steps.old (lists_of link.old) caller follows (wish.Send (head.now ++ body.now))).link }
-    ensures rings { link.new ≡ call_rings 6 steps.old link.old caller follows (wish.Send (head.now ++ body.now)) }
-    ensures steps { steps.new ≡ (call_steps 6 steps.old (lists_of link.old) caller follows (wish.Send (head.now ++ body.now))).steps }
-    ensures reach { reach_of result end.new ≡ (call_steps 6 steps.old (lists_of link.old) caller follows (wish.Send (head.now ++ body.now))).reach }
+    ensures link { link.new ≡ (call_steps on_rings 6 steps.old link.old caller follows (wish.Send (head.now ++ body.now))).link }
+    ensures steps { steps.new ≡ (call_steps on_rings 6 steps.old link.old caller follows (wish.Send (head.now ++ body.now))).steps }
+    ensures reach { reach_of result end.new ≡ (call_steps on_rings 6 steps.old link.old caller follows (wish.Send (head.now ++ body.now))).reach }
     ensures within { steps.new ≤ STEPS_MOST }
     ensures others { OthersMay (lists_of link.old) (lists_of link.new) caller }
 {

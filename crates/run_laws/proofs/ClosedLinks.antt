@@ -7,7 +7,6 @@ use Rattle.rp_base.specs.declared.kinds.Switch.{Switch}
 use Rattle.rp_base.specs.declared.limits.TheConstants.{STEPS_MOST}
 use Rattle.lane_model.specs.declared.calls.LinkConfig.{LinkConfig}
 use Rattle.lane_model.specs.Recoveries.{unclosed_by}
-use Rattle.lane_laws.specs.Moves.{Close}
 use Rattle.channel_bus.specs.Sides.{side_meaning}
 use Rattle.script_lang.specs.declared.commands.Command.{Command}
 use Rattle.script_lang.specs.declared.commands.RegionSet.{RegionSet}
@@ -17,14 +16,15 @@ use Rattle.image_maker.specs.Images.{image_of}
 use Rattle.journal.specs.declared.events.Event.{Event}
 use Rattle.journal.specs.declared.events.Event.TheVariants as event
 use Rattle.link_bench.specs.Acts.{IsFitAct}
-use Rattle.link_bench.specs.Benches.{BenchState}
+use Rattle.link_bench.specs.Benches.{BenchState, link_in}
 use Rattle.link_bench.specs.BenchCrashes.{after_close}
 use Rattle.link_bench.specs.Watchers.{nobody_sees}
 use Rattle.link_bench.proofs.Begun.{get-set_other}
 use Rattle.core_laws.specs.BenchMoves.{IsReachedBench}
 use Rattle.core_laws.specs.ClosedLinks.{StaysClosed}
 use Rattle.core_laws.proofs.ActMoves.{act_closed, closed_by}
-use Rattle.core_laws.proofs.LinkMoves.{comes_move, comes_none}
+use Rattle.core_laws.proofs.BenchMoves.{comes_close}
+use Rattle.core_laws.proofs.LinkMoves.{comes_none}
 use Rattle.command_run.specs.declared.acts.Line.{Line}
 use Rattle.command_run.specs.declared.acts.Line.TheVariants as line
 use Rattle.command_run.specs.declared.acts.Making.{Making}
@@ -56,21 +56,21 @@ get_front (x ∷ xs) more (suc i) item found = get_front xs more i item found
 same_item : {X : Type 0} (one other : X) → Some one ≡ Some other → one ≡ other
 same_item one other same = cc
 
-module _ (run : RunState) (place : ℕ) (on : NamedLink) (found : slice_get run.objects.links place ≡ Some on) (reached : IsReachedBench on.bench) (shut : on.bench.link.era.is_live ≡ false) where
+module _ (run : RunState) (place : ℕ) (on : NamedLink) (found : slice_get run.objects.links place ≡ Some on) (reached : IsReachedBench on.bench) (shut : (link_in on.bench).era.is_live ≡ false) where
   abbrev Closed : RunEffect → Type 0
   Closed effect = LeavesClosed on.bench effect.run place
 
   -- a closed link of which nothing changes
-  stays : StaysClosed on.bench.link on.bench.link
-  stays = closed_by on.bench.link on.bench.link (comes_none side_meaning on.bench.link) shut
+  stays : StaysClosed (link_in on.bench) (link_in on.bench)
+  stays = closed_by (link_in on.bench) (link_in on.bench) (comes_none side_meaning (link_in on.bench)) shut
 
   -- the link at the place is this one
-  by_links : (links : List NamedLink) (now : NamedLink) → slice_get links place ≡ Some now → StaysClosed on.bench.link now.bench.link
-      → IsSomeAnd (option_map (λ (named : NamedLink). named.bench) (slice_get links place)) (λ (after : BenchState). StaysClosed on.bench.link after.link)
+  by_links : (links : List NamedLink) (now : NamedLink) → slice_get links place ≡ Some now → StaysClosed (link_in on.bench) (link_in now.bench)
+      → IsSomeAnd (option_map (λ (named : NamedLink). named.bench) (slice_get links place)) (λ (after : BenchState). StaysClosed (link_in on.bench) (link_in after))
   by_links links now there closed =
-      subst (λ (item : Option NamedLink). IsSomeAnd (option_map (λ (named : NamedLink). named.bench) item) (λ (after : BenchState). StaysClosed on.bench.link after.link)) (sym there) closed
+      subst (λ (item : Option NamedLink). IsSomeAnd (option_map (λ (named : NamedLink). named.bench) item) (λ (after : BenchState). StaysClosed (link_in on.bench) (link_in after))) (sym there) closed
 
-  unchanged : IsSomeAnd (bench_at run place) (λ (after : BenchState). StaysClosed on.bench.link after.link)
+  unchanged : IsSomeAnd (bench_at run place) (λ (after : BenchState). StaysClosed (link_in on.bench) (link_in after))
   unchanged = by_links run.objects.links on found stays
 
   -- ---- new links and cores
@@ -111,15 +111,15 @@ module _ (run : RunState) (place : ℕ) (on : NamedLink) (found : slice_get run.
 
   -- ---- the link itself
 
-  closed_again : StaysClosed on.bench.link (close_effect on.name on.bench run.steps).bench.link
+  closed_again : StaysClosed (link_in on.bench) (link_in (close_effect on.name on.bench run.steps).bench)
   unfolding close_effect
   closed_again =
       cond_both (run.steps == STEPS_MOST) (record { bench = on.bench; steps = run.steps; events = []; ending = Some stop.StepLimit })
-      (tells (after_close on.bench) (run.steps + 1) (close_event on.name on.bench.link.era (unclosed_by on.bench.link.era on.bench.link.era.inc)))
-      (λ (effect : Effect). StaysClosed on.bench.link effect.bench.link) (λ _. stays)
-      (λ _. closed_by on.bench.link (after_close on.bench).link (comes_move side_meaning on.bench.link (Close on.bench.link.era.inc) tt) shut)
+      (tells (after_close on.bench) (run.steps + 1) (close_event on.name (link_in on.bench).era (unclosed_by (link_in on.bench).era (link_in on.bench).era.inc)))
+      (λ (effect : Effect). StaysClosed (link_in on.bench) (link_in effect.bench)) (λ _. stays)
+      (λ _. closed_by (link_in on.bench) (link_in (after_close on.bench)) (comes_close on.bench) shut)
 
-  on_itself : (wanted : NamedAct (List ℕ)) → FitsNamed IsFitAct wanted → wanted ≢ under.Manage manager.Reopen → StaysClosed on.bench.link (link_effect on run.steps wanted).bench.link
+  on_itself : (wanted : NamedAct (List ℕ)) → FitsNamed IsFitAct wanted → wanted ≢ under.Manage manager.Reopen → StaysClosed (link_in on.bench) (link_in (link_effect on run.steps wanted).bench)
   unfolding link_effect
   on_itself (under.Make made) fits other = stays
   on_itself (under.Link asked) fits other = act_closed nobody_sees 0 on.bench tt run.steps asked fits reached shut
@@ -138,7 +138,7 @@ module _ (run : RunState) (place : ℕ) (on : NamedLink) (found : slice_get run.
         let now : NamedLink = record link { bench = (link_effect link run.steps wanted).bench } in
         by_links (slice_set run.objects.links at now) now
         (ap (slice_get (slice_set run.objects.links at now)) same.1 ∙ set_there run.objects.links at now link there)
-        (subst (λ (item : NamedLink). StaysClosed on.bench.link (link_effect item run.steps wanted).bench.link) (sym one) (on_itself wanted fits (other (sym same.1)))))
+        (subst (λ (item : NamedLink). StaysClosed (link_in on.bench) (link_in (link_effect item run.steps wanted).bench)) (sym one) (on_itself wanted fits (other (sym same.1)))))
     | inr differ ↦ by_links (slice_set run.objects.links at (record link { bench = (link_effect link run.steps wanted).bench })) on
         (get-set_other run.objects.links at place _ differ.1 ∙ found) stays
   ]

@@ -5,7 +5,7 @@ use Rattle.lane_model.specs.Links.{lanes_of}
 use Rattle.script_lang.specs.declared.commands.Command.{Command}
 use Rattle.script_lang.specs.Runnable.{AreRunnable, IsRunnable}
 use Rattle.link_bench.specs.Acts.{IsFitAct}
-use Rattle.link_bench.specs.Benches.{BenchState}
+use Rattle.link_bench.specs.Benches.{BenchState, link_in}
 use Rattle.core_actors.specs.Actors.{ActorsState}
 use Rattle.crash_recover.specs.Cores.{CoreState}
 use Rattle.core_laws.specs.BenchMoves.{IsReachedBench, IsReachedCore}
@@ -31,9 +31,9 @@ same_calls : (before after : ActorsState) (found : Option BenchState) → after.
     → IfSome found (IsReadyBench before) → IfSome found (IsReadyBench after)
 same_calls before after None host worker taking are = tt
 same_calls before after (Some bench) host worker taking are = record {
-  host = subst (λ (b : Bool). AreFitLanes (lanes_of bench.link side.Host) 0 (not b) after.host_calls) (sym taking)
-      (subst (AreFitLanes (lanes_of bench.link side.Host) 0 (not before.is_taking)) (sym host) are.host);
-  worker = subst (AreFitLanes (lanes_of bench.link side.Remote) 1 true) (sym worker) are.worker;
+  host = subst (λ (b : Bool). AreFitLanes (lanes_of (link_in bench) side.Host) 0 (not b) after.host_calls) (sym taking)
+      (subst (AreFitLanes (lanes_of (link_in bench) side.Host) 0 (not before.is_taking)) (sym host) are.host);
+  worker = subst (AreFitLanes (lanes_of (link_in bench) side.Remote) 1 true) (sym worker) are.worker;
 }
 
 -- what a core of a run is

@@ -13,7 +13,7 @@ use Rattle.proc_state.specs.declared.answers.LifeFault.TheVariants as life_fault
 use Rattle.proc_state.specs.declared.answers.Power.{Power}
 use Rattle.proc_state.specs.Lives.{Outcome, boot_to, crash_as, handover_to, is_up, leave_to, line_of, most, refusal_of, with_user}
 use Rattle.link_bench.specs.declared.acts.LinkAct.{LinkAct}
-use Rattle.link_bench.specs.Benches.{BenchState}
+use Rattle.link_bench.specs.Benches.{BenchState, link_in}
 use Rattle.crash_recover.specs.declared.core_faults.AddFault.{AddFault}
 use Rattle.crash_recover.specs.Cores.{CoreState, LoadState}
 use Rattle.crash_recover.specs.CoreBoots.{Found, boot_as, boot_of, handover_as, handover_of}
@@ -49,11 +49,11 @@ use Rattle.run_laws.proofs.StartsInRuns.{core_behind}
 
 -- a link that is closed
 abbrev Shut : BenchState → Type 0
-Shut bench = bench.link.era.is_live ≡ false
+Shut bench = (link_in bench).era.is_live ≡ false
 
 as_it_was : (found : Option BenchState) → IfSome found Shut → LinkStaysClosed found found
 as_it_was None shut = refl
-as_it_was (Some bench) shut = closed_by bench.link bench.link (comes_none side_meaning bench.link) shut
+as_it_was (Some bench) shut = closed_by (link_in bench) (link_in bench) (comes_none side_meaning (link_in bench)) shut
 
 module _ (core : CoreState) (crashed : core.life.state ≡ Crashed) (reached : IsReachedCore core) (shut : IfSome core.bench Shut) where
   -- a core whose link is the same, and whose state too
@@ -185,7 +185,7 @@ module _ (images : List ImageState) (answer : Answer) (is_quiet : Bool) (on : Na
 
 -- what is done under the name of a crashed core of a run
 pub stays_crashed : (answer : Answer) (run : RunState) (name : List ℕ) (place : ℕ) (on : NamedCoreState) (wanted : NamedAct (List ℕ)) → IsCoreAt run name place on → IsFitNamed wanted
-    → IsReachedCore on.core → on.core.life.state ≡ Crashed → IfSome on.core.bench (λ (bench : BenchState). bench.link.era.is_live ≡ false) → wanted ≢ under.Core act.Recover
+    → IsReachedCore on.core → on.core.life.state ≡ Crashed → IfSome on.core.bench (λ (bench : BenchState). (link_in bench).era.is_live ≡ false) → wanted ≢ under.Core act.Recover
     → IsSomeAnd (core_at (name_effect answer run name wanted).run place) (StaysCrashed on.core)
 unfolding name_effect without_link_effect
 stays_crashed answer run name place on wanted at fits reached crashed shut other =

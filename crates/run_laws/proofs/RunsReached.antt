@@ -14,7 +14,7 @@ use Rattle.script_lang.specs.declared.commands.Command.{Command}
 use Rattle.script_lang.specs.declared.commands.Command.TheVariants as command
 use Rattle.script_lang.specs.Runnable.{AreRunnable, IsRunnable}
 use Rattle.link_bench.specs.Acts.{IsFitAct}
-use Rattle.link_bench.specs.Benches.{BenchState, new_bench_of}
+use Rattle.link_bench.specs.Benches.{BenchState, link_in, new_bench_of}
 use Rattle.link_bench.specs.BenchCrashes.{after_close}
 use Rattle.link_bench.specs.Watchers.{nobody_sees}
 use Rattle.core_laws.specs.BenchMoves.{IsReached, IsReachedBench, IsReachedCore}
@@ -95,16 +95,16 @@ module _ (name : List ℕ) (bench : BenchState) (steps : ℕ) (is : IsReachedBen
   close_reached : IsReachedBench (close_effect name bench steps).bench
   unfolding close_effect
   close_reached =
-      cond_both (steps == STEPS_MOST) _ (tells (after_close bench) (steps + 1) (close_event name bench.link.era (unclosed_by bench.link.era bench.link.era.inc)))
+      cond_both (steps == STEPS_MOST) _ (tells (after_close bench) (steps + 1) (close_event name (link_in bench).era (unclosed_by (link_in bench).era (link_in bench).era.inc)))
       (λ (effect : Effect). IsReachedBench effect.bench) (λ _. is) (λ _. closed bench is)
 
-  opened_at : (why : Option ReopenFault) → unopened_by bench.link ≡ why → IsReachedBench (opened_effect name bench steps why).bench
+  opened_at : (why : Option ReopenFault) → unopened_by (link_in bench) ≡ why → IsReachedBench (opened_effect name bench steps why).bench
   opened_at None clear = reopened bench is clear
   opened_at (Some why) found = is
 
   reopen_reached : IsReachedBench (reopen_effect name bench steps).bench
   unfolding reopen_effect
-  reopen_reached = opened_at (unopened_by bench.link) refl
+  reopen_reached = opened_at (unopened_by (link_in bench)) refl
 
   managed : (wanted : ManagerAct) → IsReachedBench (manager_effect name bench steps wanted).bench
   managed manager.Close = close_reached
@@ -159,30 +159,30 @@ runs_reached told commands runs =
 in_order : (link : LinkState EndState) → IsReached link → HandsInOrder link
 in_order link reached = record { reached = reached; once = handed_once link reached; front = λ end bound sender was. got_front link reached end bound was sender; whole = got_whole link reached }
 
-core_in_order : (found : Option BenchState) → IfSome found IsReachedBench → IfSome found (λ (bench : BenchState). HandsInOrder bench.link)
+core_in_order : (found : Option BenchState) → IfSome found IsReachedBench → IfSome found (λ (bench : BenchState). HandsInOrder (link_in bench))
 core_in_order None is = is
-core_in_order (Some bench) is = in_order bench.link is.link
+core_in_order (Some bench) is = in_order (link_in bench) is.link
 
 pub links_in_order : (told : Told) (commands : List Command) (named : NamedLink) → AreRunnable commands → Contains (run_of told commands).last.objects.links named
-    → HandsInOrder named.bench.link
+    → HandsInOrder (link_in named.bench)
 links_in_order told commands named runs there =
-    in_order named.bench.link (All-contains (λ (named : NamedLink). IsReachedBench named.bench) _ named (runs_reached told commands runs).links there).link
+    in_order (link_in named.bench) (All-contains (λ (named : NamedLink). IsReachedBench named.bench) _ named (runs_reached told commands runs).links there).link
 
 pub cores_in_order : (told : Told) (commands : List Command) (named : NamedCoreState) → AreRunnable commands → Contains (run_of told commands).last.objects.cores named
-    → IfSome named.core.bench (λ (bench : BenchState). HandsInOrder bench.link)
+    → IfSome named.core.bench (λ (bench : BenchState). HandsInOrder (link_in bench))
 cores_in_order told commands named runs there =
     core_in_order named.core.bench (All-contains (λ (named : NamedCoreState). IsReachedCore named.core) _ named (runs_reached told commands runs).cores there).bench
 
 pub links_sound : (told : Told) (commands : List Command) (named : NamedLink) → AreRunnable commands → Contains (run_of told commands).last.objects.links named
-    → SoundLink named.bench.link
+    → SoundLink (link_in named.bench)
 links_sound told commands named runs there =
-    reached_sound named.bench.link (All-contains (λ (named : NamedLink). IsReachedBench named.bench) _ named (runs_reached told commands runs).links there).link
+    reached_sound (link_in named.bench) (All-contains (λ (named : NamedLink). IsReachedBench named.bench) _ named (runs_reached told commands runs).links there).link
 
-core_sound : (found : Option BenchState) → IfSome found IsReachedBench → IfSome found (λ (bench : BenchState). SoundLink bench.link)
+core_sound : (found : Option BenchState) → IfSome found IsReachedBench → IfSome found (λ (bench : BenchState). SoundLink (link_in bench))
 core_sound None is = is
-core_sound (Some bench) is = reached_sound bench.link is.link
+core_sound (Some bench) is = reached_sound (link_in bench) is.link
 
 pub cores_sound : (told : Told) (commands : List Command) (named : NamedCoreState) → AreRunnable commands → Contains (run_of told commands).last.objects.cores named
-    → IfSome named.core.bench (λ (bench : BenchState). SoundLink bench.link)
+    → IfSome named.core.bench (λ (bench : BenchState). SoundLink (link_in bench))
 cores_sound told commands named runs there =
     core_sound named.core.bench (All-contains (λ (named : NamedCoreState). IsReachedCore named.core) _ named (runs_reached told commands runs).cores there).bench

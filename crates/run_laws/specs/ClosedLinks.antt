@@ -1,7 +1,7 @@
 -- A link of a run whose incarnation is closed (own).
 use Rattle.std.specs.Prelude.{◌≡◌, ◌≢◌, ℕ, List, Option, Some, IsSomeAnd, option_map, slice_get}
 use Rattle.script_lang.specs.declared.commands.Command.{Command}
-use Rattle.link_bench.specs.Benches.{BenchState}
+use Rattle.link_bench.specs.Benches.{BenchState, link_in}
 use Rattle.core_laws.specs.ClosedLinks.{StaysClosed}
 use Rattle.command_run.specs.declared.acts.Line.TheVariants as line
 use Rattle.command_run.specs.declared.acts.ManagerAct.TheVariants as manager
@@ -20,4 +20,4 @@ ReopensOther run place asked = (name : List ℕ) → line_of asked ≡ line.On n
 
 -- the link at this place is closed still, and nothing was handed over
 abbrev pub LeavesClosed : BenchState → RunState → ℕ → Type 0
-LeavesClosed bench run place = IsSomeAnd (bench_at run place) (λ (after : BenchState). StaysClosed bench.link after.link)
+LeavesClosed bench run place = IsSomeAnd (bench_at run place) (λ (after : BenchState). StaysClosed (link_in bench) (link_in after))

@@ -24,7 +24,7 @@ ghost use Rattle.run_laws.specs.ClosedLinks.{LeavesClosed, ReopensOther};
 ghost use Rattle.run_laws.specs.Starts.{IsCoreAt, core_at, state_at};
 ghost use Rattle.script_lang.specs.Runnable.{AreRunnable, IsRunnable};
 ghost use Rattle.lane_model.specs.Soundness.{SoundLink};
-ghost use Rattle.link_bench.specs.Benches.{BenchState};
+ghost use Rattle.link_bench.specs.Benches.{BenchState, link_in};
 ghost use Rattle.run_laws.specs.Kept.{AreKept, AreReady};
 ghost use Rattle.command_run.specs.NamedCores.{NamedCoreState};
 ghost use Rattle.command_run.specs.NamedLinks.{NamedLink};
@@ -55,18 +55,18 @@ pub fn links_reached()
 /// So each link of a run, and the link of each core, is sound after each front of a script.
 pub fn links_sound()
     ensures links { (told : Told) (commands : List Command) (named : NamedLink) → AreRunnable commands
-        → Contains (run_of told commands).last.objects.links named → SoundLink named.bench.link }
+        → Contains (run_of told commands).last.objects.links named → SoundLink (link_in named.bench) }
     ensures cores { (told : Told) (commands : List Command) (named : NamedCoreState) → AreRunnable commands
-        → Contains (run_of told commands).last.objects.cores named → IfSome named.core.bench (λ (bench : BenchState). SoundLink bench.link) }
+        → Contains (run_of told commands).last.objects.cores named → IfSome named.core.bench (λ (bench : BenchState). SoundLink (link_in bench)) }
 {}
 
 /// Each link of a run, and the link of each core, hands over each message at most once and in order, and what each endpoint got from a
 /// sender is a front of what is due to it.
 pub fn links_in_order()
     ensures links { (told : Told) (commands : List Command) (named : NamedLink) → AreRunnable commands
-        → Contains (run_of told commands).last.objects.links named → HandsInOrder named.bench.link }
+        → Contains (run_of told commands).last.objects.links named → HandsInOrder (link_in named.bench) }
     ensures cores { (told : Told) (commands : List Command) (named : NamedCoreState) → AreRunnable commands
-        → Contains (run_of told commands).last.objects.cores named → IfSome named.core.bench (λ (bench : BenchState). HandsInOrder bench.link) }
+        → Contains (run_of told commands).last.objects.cores named → IfSome named.core.bench (λ (bench : BenchState). HandsInOrder (link_in bench)) }
 {}
 
 /// A command that is about the life of a core of a run leaves of it what the core's call leaves, over the image of the script or else of the
@@ -105,7 +105,7 @@ pub fn starts_just_where()
 /// that is closed stands closed at that place behind the command, with nothing more handed over on either lane.
 pub fn closed_hands_none()
     ensures { (answer : Answer) (run : RunState) (asked : Command) (place : ℕ) (on : NamedLink) → IsRunnable asked
-        → slice_get run.objects.links place ≡ Some on → IsReachedBench on.bench → on.bench.link.era.is_live ≡ false → ReopensOther run place asked
+        → slice_get run.objects.links place ≡ Some on → IsReachedBench on.bench → (link_in on.bench).era.is_live ≡ false → ReopensOther run place asked
         → LeavesClosed on.bench (effect_of answer run asked).run place }
 {}
 
@@ -113,7 +113,7 @@ pub fn closed_hands_none()
 /// and its link closed, as it is while a core isn't up.
 pub fn crashed_hands_none()
     ensures { (answer : Answer) (run : RunState) (name : List ℕ) (place : ℕ) (on : NamedCoreState) (wanted : NamedAct (List ℕ)) → IsCoreAt run name place on
-        → IsFitNamed wanted → IsReachedCore on.core → on.core.life.state ≡ state.Crashed → IfSome on.core.bench (λ (bench : BenchState). bench.link.era.is_live ≡ false)
+        → IsFitNamed wanted → IsReachedCore on.core → on.core.life.state ≡ state.Crashed → IfSome on.core.bench (λ (bench : BenchState). (link_in bench).era.is_live ≡ false)
         → wanted ≢ under.Core core.Recover → IsSomeAnd (core_at (name_effect answer run name wanted).run place) (StaysCrashed on.core) }
 {}
 

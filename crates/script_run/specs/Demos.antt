@@ -7,7 +7,7 @@ use Rattle.script_lang.specs.Grammar.{Refusal, script_of}
 use Rattle.image_maker.specs.Demo.{demo_text}
 use Rattle.journal.specs.declared.notices.Notice.TheVariants as notice
 use Rattle.journal.specs.Notices.{report_text}
-use Rattle.link_bench.specs.Benches.{BenchState}
+use Rattle.link_bench.specs.Benches.{BenchState, link_in}
 use Rattle.script_run.specs.declared.demos.Accepted.{Accepted}
 use Rattle.script_run.specs.declared.statuses.Status.TheVariants as status
 use Rattle.command_run.specs.declared.stops.Stop.{Stop}
@@ -27,7 +27,7 @@ accepted_sum first second = record { to_host = first.to_host + second.to_host; t
 -- how many messages the lanes of a link accepted; none where there is no link
 abbrev pub link_accepted : Option BenchState → Accepted
 link_accepted None = none_accepted
-link_accepted (Some bench) = record { to_host = length bench.link.to_host.lane.accepted; to_remote = length bench.link.to_remote.lane.accepted }
+link_accepted (Some bench) = record { to_host = length (link_in bench).to_host.lane.accepted; to_remote = length (link_in bench).to_remote.lane.accepted }
 
 -- those of the link of a core
 abbrev pub core_accepted : Option NamedCoreState → Accepted

@@ -1,5 +1,5 @@
 -- The rings of the link of a core are sound: it is made over rings of a sound table, and each change keeps them.
-use Rattle.channel_bus.specs.Sides.{EndState, side_meaning}
+use Rattle.channel_bus.specs.Sides.{side_meaning}
 use Rattle.core_laws.proofs.CoreMoves.{core_driven}
 use Rattle.core_laws.proofs.Outcomes.{none_mapped, refused, report_left}
 use Rattle.core_laws.specs.BenchMoves.{IsReachedBench, IsReachedCore}
@@ -33,9 +33,6 @@ use Rattle.journal.specs.declared.events.Event.{Event}
 use Rattle.journal.specs.declared.events.Event.TheVariants as event
 use Rattle.lane_laws.proofs.RingLinks.{opened_lane_sound, reopen_kept}
 use Rattle.lane_laws.specs.SoundRingLinks.{HasSoundRings}
-use Rattle.lane_model.specs.Forms.{list_form}
-use Rattle.lane_model.specs.Links.{LinkState}
-use Rattle.lane_model.specs.Recoveries.{link_after_reopen}
 use Rattle.link_bench.specs.Acts.{IsFitAct}
 use Rattle.link_bench.specs.BenchCrashes.{after_reopen}
 use Rattle.link_bench.specs.BenchEnds.{crashed_bench, readied_bench}
@@ -92,7 +89,6 @@ use Rattle.std.specs.List.{range_with_len}
 use Rattle.std.specs.Option.{option_or, unwrap_or}
 use Rattle.std.specs.Result.{result_ok}
 use Rattle.memory_pool.specs.Placements.{placement}
-use Rattle.act_laws.proofs.ActLands.{IsLevel, level_at}
 use Rattle.act_laws.proofs.CoreLands.{LandsIf, crash_lands, drive_lands, ready_lands}
 use Rattle.way_laws.proofs.CoreTales.{link_effect_bench as link_effect_core}
 use Rattle.act_laws.proofs.ReachedActs.{deeds_land}
@@ -158,31 +154,23 @@ loaded_sound core (Err why) sound none = absurd (true≢false (ap is_some none))
 
 -- ---- links with sound rings
 
--- the rings of a bench are sound, and its lists are those that they stand for
-pub record IsRung (bench : BenchState) : Type 0 where
-  pub level : IsLevel bench
-  pub sound : HasSoundRings bench.rings
-
-level_of : (found : Option BenchState) → IfSome found IsRung → IfSome found IsLevel
-level_of None is = tt
-level_of (Some bench) is = is.level
+-- the rings of a bench are sound
+abbrev pub IsRung : BenchState → Type 0
+IsRung bench = HasSoundRings bench.rings
 
 rung_if : (found : Option BenchState) (deeds : Deeds) (left : Option BenchState) → LandsIf found deeds left → IfSome found IsRung → IfSome left IsRung
 rung_if None deeds None lands is = tt
 rung_if None deeds (Some left) lands is = absurd lands
 rung_if (Some bench) deeds None lands is = absurd lands
-rung_if (Some bench) deeds (Some left) lands is = record { level = level_at bench deeds left lands is.level; sound = rings_kept bench deeds left lands is.level is.sound }
+rung_if (Some bench) deeds (Some left) lands is = rings_kept bench deeds left lands is
 
 made_rung : (names : List (List ℕ)) (book first : ℕ) (rings : RingPair) → IsBook book → IsSoundPair rings → IsRung (core_bench names book first rings)
 unfolding core_bench
 made_rung names book first rings fit sound =
     let config = pair_config rings book 1 sound fit.0 fit.1 (omega arith) in
     record {
-      level = refl;
-      sound = record {
-        to_host = opened_lane_sound rings.to_host.num true book (fresh_end rings.service names) config.to_host fit.1;
-        to_remote = opened_lane_sound rings.to_remote.num false book (fresh_end false []) config.to_remote fit.1;
-      };
+      to_host = opened_lane_sound rings.to_host.num true book (fresh_end rings.service names) config.to_host fit.1;
+      to_remote = opened_lane_sound rings.to_remote.num false book (fresh_end false []) config.to_remote fit.1;
     }
 
 rings_rung : (names : List (List ℕ)) (book first : ℕ) (rings : Option RingPair) → IsBook book → IfSome rings IsSoundPair → IfSome (option_map (core_bench names book first) rings) IsRung
@@ -204,20 +192,15 @@ pub record IsRungCore (core : CoreState) : Type 0 where
 
 crashed_rung : (found : Option BenchState) → IfSome found IsRung → IfSome (option_map crashed_bench found) IsRung
 crashed_rung None is = tt
-crashed_rung (Some bench) is = rung_if (Some bench) (crash_deeds bench) (Some (crashed_bench bench)) (crash_lands bench is.level) is
+crashed_rung (Some bench) is = rung_if (Some bench) (crash_deeds bench) (Some (crashed_bench bench)) (crash_lands bench) is
 
 ready_rung : (found : Option BenchState) → IfSome found IsRung → IfSome (option_map readied_bench found) IsRung
 ready_rung None is = tt
-ready_rung (Some bench) is = rung_if (Some bench) (ready_deeds bench) (Some (readied_bench bench)) (ready_lands bench is.level) is
+ready_rung (Some bench) is = rung_if (Some bench) (ready_deeds bench) (Some (readied_bench bench)) (ready_lands bench) is
 
 again_rung : (found : Option BenchState) → IfSome found IsRung → IfSome (option_map (λ (bench : BenchState). after_reopen (readied_bench bench)) found) IsRung
 again_rung None is = tt
-again_rung (Some bench) is =
-    let ready = ready_rung (Some bench) is in
-    record {
-      level = ap (λ (link : LinkState EndState). link_after_reopen (list_form side_meaning) link) ready.level;
-      sound = reopen_kept side_meaning (readied_bench bench).rings ready.sound;
-    }
+again_rung (Some bench) is = reopen_kept side_meaning (readied_bench bench).rings (ready_rung (Some bench) is)
 
 module _ (core : CoreState) (is : IsRungCore core) where
   crashed_core_rung : (life : CoreLife) → IsRungCore (crashed_core life core)
@@ -323,7 +306,7 @@ drive_rung : (core : CoreState) → IsReachedCore core → IsRungCore core → I
 drive_rung core reached is = record {
   load = cond_both (is_idle core) _ _ (λ (step : DriveStep). IsFitLoad step.core) (λ _. is.load)
       (λ _. actor_load (acting core) (with_turn_after (acting core) core) (record { book = is.load.book; regions = is.load.regions; rings = is.load.rings }));
-  bench = rung_if core.bench (drive_deeds core) (drive_step core).core.bench (drive_lands core reached (level_of core.bench is.bench)) is.bench;
+  bench = rung_if core.bench (drive_deeds core) (drive_step core).core.bench (drive_lands core reached) is.bench;
 }
 
 -- ---- drives
@@ -356,7 +339,7 @@ act_rung core steps asked (Some bench) found fit reached is =
     record {
       load = record { book = is.load.book; regions = is.load.regions; rings = is.load.rings };
       bench = rung_if (Some bench) (act_deeds actors_after_end 2 bench core.actors steps asked) (Some (act_on_core core bench steps asked).bench)
-          (deeds_land actors_after_end 2 bench core.actors steps asked fit reached rung.level) rung;
+          (deeds_land actors_after_end 2 bench core.actors steps asked fit reached) rung;
     }
 
 -- ---- what is done under the name of a core

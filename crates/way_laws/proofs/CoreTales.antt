@@ -14,9 +14,7 @@ use Rattle.proc_state.specs.declared.answers.LifeFault.{LifeFault}
 use Rattle.proc_state.specs.declared.answers.Power.{Power}
 use Rattle.proc_state.specs.declared.answers.Power.TheVariants as power
 use Rattle.proc_state.specs.Lives.{CoreLife, is_offline, is_up, life_after_boot, life_after_detach, life_after_handover, life_after_shutdown}
-use Rattle.lane_model.specs.Forms.{list_form}
 use Rattle.lane_model.specs.Links.{LinkState}
-use Rattle.lane_model.specs.Recoveries.{link_after_reopen}
 use Rattle.lane_laws.specs.Moves.{Enlist, link_after_move}
 use Rattle.lane_laws.specs.Ways.{IsOpened}
 use Rattle.lane_laws.proofs.LinkRuns.{move_sound}
@@ -29,7 +27,7 @@ use Rattle.link_bench.specs.declared.acts.LinkAct.{LinkAct}
 use Rattle.link_bench.specs.Acts.{IsFitAct}
 use Rattle.link_bench.specs.BenchCrashes.{after_reopen}
 use Rattle.link_bench.specs.BenchEnds.{readied_bench}
-use Rattle.link_bench.specs.Benches.{BenchState}
+use Rattle.link_bench.specs.Benches.{BenchState, link_in}
 use Rattle.crash_recover.specs.declared.core_answers.Leave.{Leave}
 use Rattle.crash_recover.specs.declared.core_answers.Start.{Start}
 use Rattle.crash_recover.specs.declared.core_answers.Start.TheVariants as start
@@ -66,9 +64,8 @@ use Rattle.command_run.specs.Stores.{Answer}
 use Rattle.run_laws.proofs.CoreWalks.{FitsNamed}
 use Rattle.act_laws.specs.Accounts.{Account}
 use Rattle.way_laws.specs.CoreAccounts.{begun_account, core_account_after, core_act_deeds, deed_account, drive_account, left_account, life_account, ready_if, recovery_account, started_account, unless_some}
-use Rattle.act_laws.specs.CoreDeeds.{drive_deeds, ready_deeds}
+use Rattle.act_laws.specs.CoreDeeds.{drive_deeds}
 use Rattle.act_laws.specs.Deeds.{Deeds, no_deeds}
-use Rattle.act_laws.proofs.ActLands.{IsLevel, level_at}
 use Rattle.act_laws.proofs.CoreLands.{LandsIf, drive_lands, ready_lands, report_lands}
 use Rattle.act_laws.proofs.Lands.{both_if}
 use Rattle.act_laws.proofs.ReachedActs.{deeds_land}
@@ -80,11 +77,6 @@ TaleIf end None None = Unit {0}
 TaleIf end None (Some account) = ⊥
 TaleIf end (Some bench) None = ⊥
 TaleIf end (Some bench) (Some account) = IsTale end bench account
-
-pub level_if : (end : End) (found : Option BenchState) (account : Option Account) → TaleIf end found account → IfSome found IsLevel
-level_if end None account is = tt
-level_if end (Some bench) None is = absurd is
-level_if end (Some bench) (Some account) is = is.level
 
 deeds_if : (end : End) (found : Option BenchState) (account : Option Account) (deeds : Deeds) (now : Option BenchState) → TaleIf end found account → LandsIf found deeds now → TaleIf end now (deed_account end found deeds account)
 deeds_if end None None deeds None is lands = tt
@@ -98,13 +90,12 @@ deeds_if end (Some bench) (Some account) deeds (Some now) is lands = deeds_kept 
 
 -- a bench at the start of an incarnation
 record IsBegun (bench : BenchState) : Type 0 where
-  pub level : IsLevel bench
-  pub opened : IsOpened side_meaning bench.link
-  pub live : bench.link.era.is_live ≡ true
+  pub opened : IsOpened side_meaning (link_in bench)
+  pub live : (link_in bench).era.is_live ≡ true
 
 begun_if : (end : End) (found : Option BenchState) → IfSome found IsBegun → TaleIf end found (begun_account found)
 begun_if end None is = tt
-begun_if end (Some bench) is = new_tale end bench is.level is.opened is.live
+begun_if end (Some bench) is = new_tale end bench is.opened is.live
 
 opened_enlisted : (link : LinkState EndState) (end : End) → IsOpened side_meaning link → IsOpened side_meaning (link_after_move side_meaning link (Enlist end))
 opened_enlisted link end is = record {
@@ -116,7 +107,6 @@ opened_enlisted link end is = record {
 made_begun : (names : List (List ℕ)) (book first : ℕ) (rings : RingPair) → IsBegun (core_bench names book first rings)
 unfolding core_bench
 made_begun names book first rings = record {
-  level = refl;
   opened = opened_enlisted _ side.Remote (opened_enlisted _ side.Host
       (opened side_meaning (config_of rings book first) (fresh_end rings.service names) (fresh_end false []) (record { endpoints = refl; bindings = refl }) (record { endpoints = refl; bindings = refl })));
   live = refl;
@@ -185,15 +175,14 @@ module _ (end : End) (core : CoreState) (account : Option Account) (is : TaleIf 
 
   -- ---- a recovery
 
-  ready_lands_if : (found : Option BenchState) → IfSome found IsLevel → LandsIf found (ready_if found) (option_map readied_bench found)
-  ready_lands_if None level = tt
-  ready_lands_if (Some bench) level = ready_lands bench level
+  ready_lands_if : (found : Option BenchState) → LandsIf found (ready_if found) (option_map readied_bench found)
+  ready_lands_if None = tt
+  ready_lands_if (Some bench) = ready_lands bench
 
-  again_begun : (found : Option BenchState) → IfSome found IsLevel → IfSome (option_map (λ (bench : BenchState). after_reopen (readied_bench bench)) found) IsBegun
-  again_begun None level = tt
-  again_begun (Some bench) level = record {
-    level = ap (λ (link : LinkState EndState). link_after_reopen (list_form side_meaning) link) (level_at bench (ready_deeds bench) (readied_bench bench) (ready_lands bench level) level);
-    opened = reopened side_meaning side_laws (readied_bench bench).link;
+  again_begun : (found : Option BenchState) → IfSome (option_map (λ (bench : BenchState). after_reopen (readied_bench bench)) found) IsBegun
+  again_begun None = tt
+  again_begun (Some bench) = record {
+    opened = reopened side_meaning side_laws (link_in (readied_bench bench));
     live = refl;
   }
 
@@ -210,12 +199,11 @@ module _ (end : End) (core : CoreState) (account : Option Account) (is : TaleIf 
   recovery_tale : (found : Found) → TaleIf end (recovery_of core found).core.bench (recovery_account end core found account)
   unfolding recovery_of
   recovery_tale found =
-      let level = level_if end core.bench account is in
       unless_life (recovery_fault core.life) _ _
       (unless_fault core account (reload_fault core found) _ _ is
       (unless_fault (readied_core core) (deed_account end core.bench (ready_if core.bench) account) (reopen_fault core) _ _
-      (deeds_if end core.bench account (ready_if core.bench) (option_map readied_bench core.bench) is (ready_lands_if core.bench level))
-      (begun_if end (after_recovery core (loaded_in core found)).bench (again_begun core.bench level))))
+      (deeds_if end core.bench account (ready_if core.bench) (option_map readied_bench core.bench) is (ready_lands_if core.bench))
+      (begun_if end (after_recovery core (loaded_in core found)).bench (again_begun core.bench))))
 
 -- ---- drives
 
@@ -234,7 +222,7 @@ driven_tale end (suc more) name is_quiet core steps account reached is =
     (step_then name is_quiet (drive_step core) (λ next. drive_steps more name is_quiet next (steps + 1))) account
     (drive_account end more name (drive_step core).core (steps + 1) (deed_account end core.bench (drive_deeds core) account)) is
     (driven_tale end more name is_quiet (drive_step core).core (steps + 1) (deed_account end core.bench (drive_deeds core) account) (core_driven core reached)
-    (deeds_if end core.bench account (drive_deeds core) (drive_step core).core.bench is (drive_lands core reached (level_if end core.bench account is)))))
+    (deeds_if end core.bench account (drive_deeds core) (drive_step core).core.bench is (drive_lands core reached))))
 
 drive_tale : (end : End) (name : List ℕ) (is_quiet : Bool) (core : CoreState) (steps count : ℕ) (account : Option Account) → IsReachedCore core → TaleIf end core.bench account
     → TaleIf end (drive_effect name is_quiet core steps count).core.bench (cond (is_up core.life.state) (drive_account end count name core steps account) account)
@@ -245,10 +233,10 @@ drive_tale end name is_quiet core steps count account reached is =
 
 -- ---- acts on the link of a core
 
-act_lands_if : (core : CoreState) (steps : ℕ) (asked : LinkAct (List ℕ)) (found : Option BenchState) → core.bench ≡ found → IsFitAct asked → IfSome found IsReachedBench → IfSome found IsLevel
+act_lands_if : (core : CoreState) (steps : ℕ) (asked : LinkAct (List ℕ)) (found : Option BenchState) → core.bench ≡ found → IsFitAct asked → IfSome found IsReachedBench
     → LandsIf found (core_act_deeds core found steps asked) (core_act_on core steps asked found).core.bench
-act_lands_if core steps asked None none fit reached level = subst (λ (now : Option BenchState). LandsIf None no_deeds now) (sym none) tt
-act_lands_if core steps asked (Some bench) found fit reached level = deeds_land actors_after_end 2 bench core.actors steps asked fit reached level
+act_lands_if core steps asked None none fit reached = subst (λ (now : Option BenchState). LandsIf None no_deeds now) (sym none) tt
+act_lands_if core steps asked (Some bench) found fit reached = deeds_land actors_after_end 2 bench core.actors steps asked fit reached
 
 pub link_effect_bench : (name : List ℕ) (core : CoreState) (steps : ℕ) (asked : LinkAct (List ℕ)) (found : Option BenchState) → (core_link_effect name core steps asked found).core ≡ (core_act_on core steps asked found).core
 unfolding core_link_effect
@@ -345,7 +333,7 @@ module _ (end : End) (images : List ImageState) (answer : Answer) (on : NamedCor
 
   crash_on : (kind : CrashKind) → TaleIf end (crash_effect on.name on.core steps kind).core.bench (life_account end images answer on steps (act.Crash kind) account)
   unfolding crash_effect
-  crash_on kind = deeds_if end on.core.bench account _ (report_of (may_step steps) on.core).core.bench is (report_lands (may_step steps) on.core (level_if end on.core.bench account is))
+  crash_on kind = deeds_if end on.core.bench account _ (report_of (may_step steps) on.core).core.bench is (report_lands (may_step steps) on.core)
 
   recover_on : TaleIf end (recover_effect images answer on.name on.core steps).core.bench (life_account end images answer on steps act.Recover account)
   unfolding recover_effect
@@ -373,7 +361,7 @@ module _ (end : End) (images : List ImageState) (answer : Answer) (on : NamedCor
   linked_tale asked fit reached =
       subst (λ (core : CoreState). TaleIf end core.bench (deed_account end on.core.bench (core_act_deeds on.core on.core.bench steps asked) account)) (sym (link_effect_bench on.name on.core steps asked on.core.bench))
       (deeds_if end on.core.bench account _ (core_act_on on.core steps asked on.core.bench).core.bench is
-      (act_lands_if on.core steps asked on.core.bench refl fit reached.bench (level_if end on.core.bench account is)))
+      (act_lands_if on.core steps asked on.core.bench refl fit reached.bench))
 
   pub core_tale : (is_quiet : Bool) (wanted : NamedAct (List ℕ)) → FitsNamed IsFitAct wanted → IsReachedCore on.core
       → TaleIf end (core_effect images answer is_quiet on steps wanted).core.bench (core_account_after end images answer on steps wanted account)

@@ -1,4 +1,4 @@
--- The rings of the link of each core of a run are sound, and stand for its lists.
+-- The rings of the link of each core of a run are sound.
 use Rattle.std.proofs.Common.{◌≡◌, ℕ, ◌==◌, cond, List, All, Option, Some, None, IfSome, slice_get, slice_set, refl, ap, subst, ◌∙◌}
 use Rattle.std.proofs.lemmas.Bool.{eq-eqb}
 use Rattle.std.proofs.lemmas.List.Elements.{All-nil, All-push, All-set}
@@ -6,7 +6,7 @@ use Rattle.lane_laws.specs.SoundRingLinks.{HasSoundRings}
 use Rattle.script_lang.specs.declared.commands.Command.{Command}
 use Rattle.script_lang.specs.Runnable.{AreRunnable, IsRunnable}
 use Rattle.link_bench.specs.Acts.{IsFitAct}
-use Rattle.link_bench.specs.Benches.{BenchState, lists_of}
+use Rattle.link_bench.specs.Benches.{BenchState}
 use Rattle.core_laws.specs.BenchMoves.{IsReachedBench, IsReachedCore}
 use Rattle.command_run.specs.declared.acts.NamedAct.{NamedAct}
 use Rattle.command_run.specs.Acts.{line_of}
@@ -62,20 +62,9 @@ run_rung told commands runs =
       cores = All-nil (λ (named : NamedCoreState). IsRungCore named.core);
     })).cores
 
-sound_if : (found : Option BenchState) → IfSome found IsRung → IfSome found (λ (bench : BenchState). HasSoundRings bench.rings)
-sound_if None is = tt
-sound_if (Some bench) is = is.sound
-
-lists_if : (found : Option BenchState) → IfSome found IsRung → IfSome found (λ (bench : BenchState). lists_of bench.rings ≡ bench.link)
-lists_if None is = tt
-lists_if (Some bench) is = is.level
-
 module _ (told : Told) (commands : List Command) (place : ℕ) (on : NamedCoreState) (runs : AreRunnable commands) (found : slice_get (run_of told commands).last.objects.cores place ≡ Some on) where
   rung : IsRungCore on.core
   rung = item_at (λ (named : NamedCoreState). IsRungCore named.core) (run_of told commands).last.objects.cores place on found (run_rung told commands runs)
 
   pub cores_sound : IfSome on.core.bench (λ (bench : BenchState). HasSoundRings bench.rings)
-  cores_sound = sound_if on.core.bench rung.bench
-
-  pub cores_level : IfSome on.core.bench (λ (bench : BenchState). lists_of bench.rings ≡ bench.link)
-  cores_level = lists_if on.core.bench rung.bench
+  cores_sound = rung.bench

@@ -15,7 +15,7 @@ use Rattle.image_maker.specs.Images.{image_of}
 use Rattle.journal.specs.declared.events.Event.{Event}
 use Rattle.journal.specs.declared.events.Event.TheVariants as event
 use Rattle.link_bench.specs.Acts.{IsFitAct}
-use Rattle.link_bench.specs.Benches.{BenchState}
+use Rattle.link_bench.specs.Benches.{BenchState, link_in}
 use Rattle.link_bench.proofs.Begun.{get-set_other}
 use Rattle.crash_recover.specs.Cores.{new_core}
 use Rattle.core_laws.specs.BenchMoves.{IsReachedBench, IsReachedCore}
@@ -267,7 +267,7 @@ told_at : (end : End) (found : Option NamedCoreState) (account : Option Account)
 told_at end None account on none is = absurd (true≢false (ap is_some (sym none)))
 told_at end (Some core) account on found is = subst (λ (c : NamedCoreState). TaleIf end c.core.bench account) (same_item core on found) is
 
-told_if : (end : End) (found : Option BenchState) (account : Option Account) → TaleIf end found account → IfSome found (λ (bench : BenchState). IsSomeAnd account (IsAccount end bench.link))
+told_if : (end : End) (found : Option BenchState) (account : Option Account) → TaleIf end found account → IfSome found (λ (bench : BenchState). IsSomeAnd account (IsAccount end (link_in bench)))
 told_if end None account is = tt
 told_if end (Some bench) None is = absurd is
 told_if end (Some bench) (Some account) is = account_is end bench account is
@@ -277,5 +277,5 @@ module _ (end : End) (told : Told) (commands : List Command) (place : ℕ) (on :
   tale : TaleIf end on.core.bench (core_account_of end place told commands)
   tale = told_at end _ (core_account_of end place told commands) on found (run_tales end place told commands runs)
 
-  pub cores_told : IfSome on.core.bench (λ (bench : BenchState). IsSomeAnd (core_account_of end place told commands) (IsAccount end bench.link))
+  pub cores_told : IfSome on.core.bench (λ (bench : BenchState). IsSomeAnd (core_account_of end place told commands) (IsAccount end (link_in bench)))
   cores_told = told_if end on.core.bench (core_account_of end place told commands) tale

@@ -13,7 +13,7 @@ use Rattle.script_lang.specs.declared.commands.Command.TheVariants as command
 use Rattle.script_lang.specs.declared.recipes.RecipeLine.{RecipeLine}
 use Rattle.script_lang.specs.Runnable.{AreRunnable, IsBook, IsRunnable}
 use Rattle.link_bench.specs.Acts.{IsFitAct}
-use Rattle.link_bench.specs.Benches.{BenchState, lists_of}
+use Rattle.link_bench.specs.Benches.{BenchState, link_in}
 use Rattle.link_bench.proofs.Begun.{get-set_other}
 use Rattle.core_laws.specs.BenchMoves.{IsReachedBench, IsReachedCore}
 use Rattle.command_run.specs.declared.acts.Line.{Line}
@@ -126,7 +126,7 @@ module _ (run : RunState) (done : Line (List RecipeLine) (List ℕ)) (place : �
   -- a new link at the place, where there was none
   module _ (end : End) (none : slice_get run.objects.links place ≡ None) (fit : MakesFit done) where
     abbrev IsNew : NamedLink → Type 0
-    IsNew made = IsSoundTale end made.bench (new_account made.bench.link)
+    IsNew made = IsSoundTale end made.bench (new_account (link_in made.bench))
 
     new_after : HoldsAfter run done (λ links. IfSome (slice_get links place) IsNew)
     new_after = record {
@@ -150,8 +150,8 @@ behind_tale : (end : End) (on : NamedLink) (steps : ℕ) (acted : Option (NamedA
 behind_tale end on steps None account fits reached tale = tale
 behind_tale end on steps (Some wanted) account fits reached tale = link_tale end on steps wanted account fits reached tale
 
-new_level : (end : End) (found : Option NamedLink) → IfSome found (λ (made : NamedLink). IsSoundTale end made.bench (new_account made.bench.link))
-    → AreLevel end found (option_map (λ (made : NamedLink). new_account made.bench.link) found)
+new_level : (end : End) (found : Option NamedLink) → IfSome found (λ (made : NamedLink). IsSoundTale end made.bench (new_account (link_in made.bench)))
+    → AreLevel end found (option_map (λ (made : NamedLink). new_account (link_in made.bench)) found)
 new_level end None is = tt
 new_level end (Some made) is = is
 
@@ -188,14 +188,14 @@ run_tales end place told commands runs =
     })
     told new_run commands None runs (record { reached = record { links = All-nil (λ (named : NamedLink). IsReachedBench named.bench); cores = All-nil (λ (named : NamedCoreState). IsReachedCore named.core) }; level = tt })).level
 
-told_at : (end : End) (found : Option NamedLink) (account : Option Account) (on : NamedLink) → found ≡ Some on → AreLevel end found account → IsSomeAnd account (IsAccount end on.bench.link)
+told_at : (end : End) (found : Option NamedLink) (account : Option Account) (on : NamedLink) → found ≡ Some on → AreLevel end found account → IsSomeAnd account (IsAccount end (link_in on.bench))
 told_at end None account on none is = absurd (true≢false (ap is_some (sym none)))
 told_at end (Some link) None on found is = absurd is
 told_at end (Some link) (Some account) on found is =
-    subst (λ (l : NamedLink). IsAccount end l.bench.link account) (same_item link on found) (account_is end link.bench account is.tale)
+    subst (λ (l : NamedLink). IsAccount end (link_in l.bench) account) (same_item link on found) (account_is end link.bench account is.tale)
 
 pub links_told : (end : End) (told : Told) (commands : List Command) (place : ℕ) (on : NamedLink) → AreRunnable commands → slice_get (run_of told commands).last.objects.links place ≡ Some on
-    → IsSomeAnd (account_of end place told commands) (IsAccount end on.bench.link)
+    → IsSomeAnd (account_of end place told commands) (IsAccount end (link_in on.bench))
 links_told end told commands place on runs found = told_at end _ (account_of end place told commands) on found (run_tales end place told commands runs)
 
 -- ---- rings
@@ -209,6 +209,3 @@ level_at end (Some link) (Some account) on P found is rest = rest account (subst
 module _ (told : Told) (commands : List Command) (place : ℕ) (on : NamedLink) (runs : AreRunnable commands) (found : slice_get (run_of told commands).last.objects.links place ≡ Some on) where
   pub links_sound : HasSoundRings on.bench.rings
   links_sound = level_at side.Host _ (account_of side.Host place told commands) on (λ (bench : BenchState). HasSoundRings bench.rings) found (run_tales side.Host place told commands runs) (λ account tale. tale.sound)
-
-  pub links_level : lists_of on.bench.rings ≡ on.bench.link
-  links_level = level_at side.Host _ (account_of side.Host place told commands) on (λ (bench : BenchState). lists_of bench.rings ≡ bench.link) found (run_tales side.Host place told commands runs) (λ account tale. tale.tale.level)

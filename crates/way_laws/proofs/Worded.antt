@@ -33,7 +33,7 @@ use Rattle.link_bench.specs.declared.benches.Reach.{Reach}
 use Rattle.link_bench.specs.declared.benches.Reach.TheVariants as reach
 use Rattle.link_bench.specs.Acts.{Acted, answers, call_act, caller_act, first_refusal, free_act, link_act, made_call, misfit, own_in, pump_act, pump_refusal, pumped, reclaim_act, reclaimed, side_refusal, step_act, unless_own, unless_refused, walked, wish_of}
 use Rattle.link_bench.specs.BenchCrashes.{reclaim_answer}
-use Rattle.link_bench.specs.Benches.{BenchState, BenchWalk, advance_steps, advance_walk, begun_of, call_walk, calling_fault, is_in_call, ready_fault, step_fault, taken_on, used_fault}
+use Rattle.link_bench.specs.Benches.{BenchState, BenchWalk, advance_steps, advance_walk, begun_of, call_walk, calling_fault, is_in_call, link_in, ready_fault, step_fault, taken_on, used_fault}
 use Rattle.link_bench.specs.Turns.{pump_turns}
 use Rattle.link_bench.specs.Watchers.{Seeing}
 use Rattle.command_run.specs.CallEvents.{end_event, took_event}
@@ -77,7 +77,7 @@ answer_takes link end other = []
 
 -- where an act answers how far a call came, this is what it tells of takes
 abbrev Tells : {W : Type 0} → Acted W → Deeds → Type 0
-Tells acted deeds = (caller : ℕ) (came : Reach) → acted.answer ≡ answer.Reached caller came → (end : End) → deeds.takes end ≡ reach_takes acted.bench.link caller came end
+Tells acted deeds = (caller : ℕ) (came : Reach) → acted.answer ≡ answer.Reached caller came → (end : End) → deeds.takes end ≡ reach_takes (link_in acted.bench) caller came end
 
 no_reach : {W : Type 0} (acted : Acted W) (deeds : Deeds) → IsNoReach acted.answer → Tells acted deeds
 no_reach acted deeds none caller came is end = absurd (subst IsNoReach is none)
@@ -86,7 +86,7 @@ misfit_none : (bench : BenchState) (caller : ℕ) (wanted : CallWish (List ℕ))
 misfit_none bench caller (call.Send source destination payload) = cond_both (nat_le (length payload) PAYLOAD_MOST) None (Some (answer.TooLong caller (length payload))) (λ (told : Option ActAnswer). IfSome told IsNoReach) (λ _. tt) (λ _. tt)
 misfit_none bench caller (call.Raw message) = tt
 misfit_none bench caller call.Take = tt
-misfit_none bench caller (call.Give number) = cond_both (is_holding bench.link caller number) None (Some (answer.Refused caller (fault.NotHeld number))) (λ (told : Option ActAnswer). IfSome told IsNoReach) (λ _. tt) (λ _. tt)
+misfit_none bench caller (call.Give number) = cond_both (is_holding (link_in bench) caller number) None (Some (answer.Refused caller (fault.NotHeld number))) (λ (told : Option ActAnswer). IfSome told IsNoReach) (λ _. tt) (λ _. tt)
 misfit_none bench caller (call.Bind address) = tt
 misfit_none bench caller (call.Unbind address) = tt
 
@@ -110,11 +110,11 @@ side_none (Some side.Remote) (Some side.Remote) receiver = tt
 pump_none : (bench : BenchState) (sender receiver : ℕ) → IfSome (pump_refusal bench sender receiver) IsNoReach
 unfolding pump_refusal
 pump_none bench sender receiver =
-    first_none _ _ (refused_none sender (used_fault (end_of bench.link.callers sender)))
-    (first_none _ _ (refused_none receiver (used_fault (end_of bench.link.callers receiver)))
+    first_none _ _ (refused_none sender (used_fault (end_of (link_in bench).callers sender)))
+    (first_none _ _ (refused_none receiver (used_fault (end_of (link_in bench).callers receiver)))
     (first_none _ _ (refused_none sender (calling_fault (is_in_call bench sender)))
     (first_none _ _ (refused_none receiver (calling_fault (is_in_call bench receiver)))
-    (side_none (end_of bench.link.callers sender) (end_of bench.link.callers receiver) receiver))))
+    (side_none (end_of (link_in bench).callers sender) (end_of (link_in bench).callers receiver) receiver))))
 
 module _ {W : Type 0} (sees : Seeing W) (bench : BenchState) (watcher : W) (steps : ℕ) where
   unless_tells : (told : Option ActAnswer) (deeds : Deeds) (acted : Acted W) → IfSome told IsNoReach → Tells acted deeds → Tells (unless_refused bench watcher steps told acted) (unless_told told deeds)
@@ -126,10 +126,10 @@ module _ {W : Type 0} (sees : Seeing W) (bench : BenchState) (watcher : W) (step
   unless_fault caller (Some why) deeds acted rest = no_reach (answers bench watcher steps (answer.Refused caller why)) no_deeds tt
 
   walk_tells : (caller : ℕ) (walk : BenchWalk) (moves : List Move) → Tells (walked sees watcher caller walk) (walk_deeds caller walk moves)
-  walk_tells caller walk moves other came is end = ap (answer_takes walk.bench.link end) is
+  walk_tells caller walk moves other came is end = ap (answer_takes (link_in walk.bench) end) is
 
   made_tells : (caller : ℕ) (made : How) (wanted : Wish) → Tells (made_call sees bench watcher steps caller made wanted) (made_deeds bench steps caller made wanted)
-  made_tells caller how.Whole wanted = walk_tells caller (call_walk bench steps caller wanted) (call_moves ((call_walk bench steps caller wanted).steps - steps) caller bench.link.era.inc wanted)
+  made_tells caller how.Whole wanted = walk_tells caller (call_walk bench steps caller wanted) (call_moves ((call_walk bench steps caller wanted).steps - steps) caller (link_in bench).era.inc wanted)
   made_tells caller how.Begun wanted = no_reach (made_call sees bench watcher steps caller how.Begun wanted) no_deeds tt
 
   advance_tells : (caller more : ℕ) (found : Option BegunCall) → Tells (walked sees watcher caller (advance_steps bench more steps caller found)) (advance_deeds bench more steps caller found)
@@ -165,12 +165,12 @@ module _ {W : Type 0} (sees : Seeing W) (bench : BenchState) (watcher : W) (step
   reclaim_none caller (Err why) = tt
 
   free_tells : (asked : LinkAct (List ℕ)) → Tells (free_act sees bench watcher steps asked) (free_deeds sees bench watcher steps asked)
-  free_tells (act.Caller end) = caller_tells end (free_number bench.link.callers)
+  free_tells (act.Caller end) = caller_tells end (free_number (link_in bench).callers)
   free_tells (act.Call caller made wanted) = call_tells caller made wanted
   free_tells (act.Step caller more) = step_tells caller more
   free_tells (act.Pump sender receiver count) = pump_tells sender receiver count
   free_tells (act.Reclaim caller) =
-      no_reach (reclaim_act bench watcher steps caller) (reclaim_deeds caller (end_of bench.link.callers caller) (unreclaimed_by bench.link caller)) (reclaim_none caller (reclaim_answer (end_of bench.link.callers caller) (unreclaimed_by bench.link caller)))
+      no_reach (reclaim_act bench watcher steps caller) (reclaim_deeds caller (end_of (link_in bench).callers caller) (unreclaimed_by (link_in bench) caller)) (reclaim_none caller (reclaim_answer (end_of (link_in bench).callers caller) (unreclaimed_by (link_in bench) caller)))
 
   own_tells : (found : Option ℕ) (deeds : Deeds) (acted : Acted W) → Tells acted deeds → Tells (unless_own bench watcher steps found acted) (unless_told found deeds)
   own_tells None deeds acted rest = rest
@@ -178,6 +178,6 @@ module _ {W : Type 0} (sees : Seeing W) (bench : BenchState) (watcher : W) (step
 
   -- what an act tells of takes that answers how far a call came
   pub act_tells : (own : ℕ) (asked : LinkAct (List ℕ)) (caller : ℕ) (came : Reach) → (link_act sees own bench watcher steps asked).answer ≡ answer.Reached caller came → (end : End)
-      → (act_deeds sees own bench watcher steps asked).takes end ≡ reach_takes (link_act sees own bench watcher steps asked).bench.link caller came end
+      → (act_deeds sees own bench watcher steps asked).takes end ≡ reach_takes (link_in (link_act sees own bench watcher steps asked).bench) caller came end
   unfolding link_act act_deeds
   act_tells own asked = own_tells (own_in bench own asked) (free_deeds sees bench watcher steps asked) (free_act sees bench watcher steps asked) (free_tells asked)

@@ -6,7 +6,7 @@ use Rattle.proc_state.specs.Lives.{is_up}
 use Rattle.script_lang.specs.declared.commands.Command.{Command}
 use Rattle.script_lang.specs.declared.recipes.RecipeLine.{RecipeLine}
 use Rattle.link_bench.specs.declared.acts.LinkAct.{LinkAct}
-use Rattle.link_bench.specs.Benches.{BenchState}
+use Rattle.link_bench.specs.Benches.{BenchState, link_in}
 use Rattle.crash_recover.specs.declared.core_answers.Start.{Start}
 use Rattle.crash_recover.specs.declared.core_faults.CoreFault.{CoreFault}
 use Rattle.crash_recover.specs.CoreBoots.{Found, boot_of, loaded_in}
@@ -39,11 +39,11 @@ use Rattle.way_laws.specs.RunAccounts.{is_place}
 -- deeds on the link that a core has, if it has one
 abbrev pub deed_account : End → Option BenchState → Deeds → Option Account → Option Account
 deed_account end None deeds account = account
-deed_account end (Some bench) deeds account = option_map (λ (now : Account). with_deeds end bench.link.era.is_live now deeds) account
+deed_account end (Some bench) deeds account = option_map (λ (now : Account). with_deeds end (link_in bench).era.is_live now deeds) account
 
 -- a new account of the link that a core has, if it has one
 abbrev pub begun_account : Option BenchState → Option Account
-begun_account found = option_map (λ (bench : BenchState). new_account bench.link) found
+begun_account found = option_map (λ (bench : BenchState). new_account (link_in bench)) found
 
 -- an account where something refuses, or else another
 abbrev pub unless_some : {X A : Type 0} → Option X → A → A → A

@@ -8,7 +8,7 @@ use Rattle.lane_laws.specs.Moves.{Close}
 use Rattle.script_lang.specs.declared.commands.Command.{Command}
 use Rattle.script_lang.specs.declared.recipes.RecipeLine.{RecipeLine}
 use Rattle.link_bench.specs.BenchCrashes.{after_reopen}
-use Rattle.link_bench.specs.Benches.{BenchState}
+use Rattle.link_bench.specs.Benches.{BenchState, link_in}
 use Rattle.link_bench.specs.Watchers.{nobody_sees}
 use Rattle.command_run.specs.declared.acts.Line.{Line}
 use Rattle.command_run.specs.declared.acts.Line.TheVariants as line
@@ -25,19 +25,19 @@ use Rattle.way_laws.specs.Notes.{Noting, noted_from}
 
 -- `close X`: a step of the run, where it has one left
 abbrev pub close_deeds : BenchState → ℕ → Deeds
-close_deeds bench steps = if steps == STEPS_MOST then no_deeds else one_move (Close bench.link.era.inc)
+close_deeds bench steps = if steps == STEPS_MOST then no_deeds else one_move (Close (link_in bench).era.inc)
 
 -- `reopen X`: a new account, where nothing keeps the link from it
 abbrev pub reopened_account : BenchState → Option ReopenFault → Account → Account
-reopened_account bench None account = new_account (after_reopen bench).link
+reopened_account bench None account = new_account (link_in (after_reopen bench))
 reopened_account bench (Some why) account = account
 
 -- the account of a link behind what is done under its name
 abbrev pub account_after : End → BenchState → ℕ → NamedAct (List ℕ) → Account → Account
 account_after end bench steps (under.Make made) account = account
-account_after end bench steps (under.Link asked) account = with_deeds end bench.link.era.is_live account (act_deeds nobody_sees 0 bench tt steps asked)
-account_after end bench steps (under.Manage manager.Close) account = with_deeds end bench.link.era.is_live account (close_deeds bench steps)
-account_after end bench steps (under.Manage manager.Reopen) account = reopened_account bench (unopened_by bench.link) account
+account_after end bench steps (under.Link asked) account = with_deeds end (link_in bench).era.is_live account (act_deeds nobody_sees 0 bench tt steps asked)
+account_after end bench steps (under.Manage manager.Close) account = with_deeds end (link_in bench).era.is_live account (close_deeds bench steps)
+account_after end bench steps (under.Manage manager.Reopen) account = reopened_account bench (unopened_by (link_in bench)) account
 account_after end bench steps (under.Show shown) account = account
 account_after end bench steps (under.Core asked) account = account
 
@@ -63,7 +63,7 @@ abbrev pub next_account : End → ℕ → RunState → Line (List RecipeLine) (L
 next_account end place before done after (Some on) account =
     option_map (account_behind end on.bench before.steps (done_at before place done)) account
 next_account end place before done after None account =
-    option_map (λ (made : NamedLink). new_account made.bench.link) (slice_get after.objects.links place)
+    option_map (λ (made : NamedLink). new_account (link_in made.bench)) (slice_get after.objects.links place)
 
 -- what a command adds to the account of the link at a place
 abbrev pub accounting : End → ℕ → Noting (Option Account)

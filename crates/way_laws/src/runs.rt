@@ -18,7 +18,7 @@ ghost use Rattle.link_bench.specs.Acts.{link_act};
 ghost use Rattle.link_bench.specs.Watchers.{nobody_sees};
 ghost use Rattle.command_run.specs.CallEvents.{end_event, took_event};
 ghost use Rattle.act_laws.specs.Deeds.{act_deeds, reach_takes};
-ghost use Rattle.link_bench.specs.Benches.{BenchState, lists_of};
+ghost use Rattle.link_bench.specs.Benches.{BenchState, link_in};
 ghost use Rattle.command_run.specs.NamedCores.{NamedCoreState};
 ghost use Rattle.command_run.specs.NamedLinks.{NamedLink};
 ghost use Rattle.command_run.specs.Runs.{run_of};
@@ -33,7 +33,7 @@ ghost use Rattle.way_laws.specs.RunAccounts.{account_of};
 /// closed nothing more is handed over, and one take at most is told at each end, of a message that was handed over before.
 pub fn links_told()
     ensures { (end : End) (told : Told) (commands : List Command) (place : ℕ) (on : NamedLink) → AreRunnable commands
-        → slice_get (run_of told commands).last.objects.links place ≡ Some on → IsSomeAnd (account_of end place told commands) (IsAccount end on.bench.link) }
+        → slice_get (run_of told commands).last.objects.links place ≡ Some on → IsSomeAnd (account_of end place told commands) (IsAccount end (link_in on.bench)) }
 {}
 
 /// The same of the link of each core of a run, from its boot or last recovery on: the run's own moves are those of the core's actors, of its crash and of
@@ -41,20 +41,15 @@ pub fn links_told()
 pub fn cores_told()
     ensures { (end : End) (told : Told) (commands : List Command) (place : ℕ) (on : NamedCoreState) → AreRunnable commands
         → slice_get (run_of told commands).last.objects.cores place ≡ Some on
-        → IfSome on.core.bench (λ (bench : BenchState). IsSomeAnd (core_account_of end place told commands) (IsAccount end bench.link)) }
+        → IfSome on.core.bench (λ (bench : BenchState). IsSomeAnd (core_account_of end place told commands) (IsAccount end (link_in bench))) }
 {}
 
-/// After each list of commands the rings of each link of the run, and those of the link of each core, are sound, so that each buffer has one owner, and
-/// they stand for its lists.
+/// After each list of commands the rings of each link of the run, and those of the link of each core, are sound, so that each buffer has one owner.
 pub fn links_own()
     ensures rings { (told : Told) (commands : List Command) (place : ℕ) (on : NamedLink) → AreRunnable commands
         → slice_get (run_of told commands).last.objects.links place ≡ Some on → HasSoundRings on.bench.rings }
-    ensures lists { (told : Told) (commands : List Command) (place : ℕ) (on : NamedLink) → AreRunnable commands
-        → slice_get (run_of told commands).last.objects.links place ≡ Some on → lists_of on.bench.rings ≡ on.bench.link }
     ensures core_rings { (told : Told) (commands : List Command) (place : ℕ) (on : NamedCoreState) → AreRunnable commands
         → slice_get (run_of told commands).last.objects.cores place ≡ Some on → IfSome on.core.bench (λ (bench : BenchState). HasSoundRings bench.rings) }
-    ensures core_lists { (told : Told) (commands : List Command) (place : ℕ) (on : NamedCoreState) → AreRunnable commands
-        → slice_get (run_of told commands).last.objects.cores place ≡ Some on → IfSome on.core.bench (λ (bench : BenchState). lists_of bench.rings ≡ bench.link) }
 {}
 
 /// Where an act answers how far a call came, as each call and step of a script does that nothing refuses, what it tells of takes is by how that call
@@ -62,7 +57,7 @@ pub fn links_own()
 pub fn takes_are_worded()
     ensures reached { (own : ℕ) (bench : BenchState) (steps : ℕ) (asked : LinkAct (List ℕ)) (caller : ℕ) (came : Reach)
         → (link_act nobody_sees own bench tt steps asked).answer ≡ answer.Reached caller came
-        → (end : End) → (act_deeds nobody_sees own bench tt steps asked).takes end ≡ reach_takes (link_act nobody_sees own bench tt steps asked).bench.link caller came end }
+        → (end : End) → (act_deeds nobody_sees own bench tt steps asked).takes end ≡ reach_takes (link_in (link_act nobody_sees own bench tt steps asked).bench) caller came end }
     ensures line { (name : List ℕ) (link : LinkState EndState) (caller number : ℕ) (judged : Verdict) (handing : Handing) (end : End) → end_of link.callers caller ≡ Some end
         → reach_takes link caller (reach.Ended (call_end.Took number judged)) end ≡ handing ∷ []
         → end_event name link caller (call_end.Took number judged) ≡ took_event name caller handing.sent.number handing.sent.message handing.verdict }

@@ -7,7 +7,7 @@ use Rattle.link_bench.proofs.benches.Bench.put_begun.Goals as goal
 
 pub invariant_of-self : goal.invariant_of-self
 invariant_of-self c =
-    let bench : BenchState = record { link = (lists_of c.self.inside.link); rings = c.self.inside.link; begun = c.self.inside.begun.items } in
+    let bench : BenchState = record { rings = c.self.inside.link; begun = c.self.inside.begun.items } in
     let call : BegunCall = record { follows = c.self.inside.link.era.inc; wish = c.args.wished } in
     let ready : begin_fault bench c.args.caller c.args.wished ≡ None =
     subst (λ (b : BenchState). begin_fault b c.args.caller c.args.wished ≡ None) (sym c.self.view_is) c.requires.ready in (
