@@ -4,11 +4,11 @@ use Rattle.channel_bus.specs.Sides.{EndState}
 use Rattle.lane_model.specs.AtOnce.{steps_behind}
 use Rattle.link_bench.specs.Benches.{Walk, call_steps, lists_of, on_rings}
 use Rattle.link_bench.proofs.AtOnce.{call_ends, ended_walk, others_end, behind_six}
-use Rattle.link_bench.proofs.whole_steps.whole_steps.Goals.{Then-at_once}
+use Rattle.link_bench.proofs.whole_steps.whole_steps.Goals.{After-steps_of}
 use Rattle.link_bench.proofs.whole_steps.whole_steps.Goals as goal
 
 -- a call that is made at once ends within the steps that the run has left
-done : (c : Then-at_once) → ended_walk c.at_once.new.self (c.args.steps.now + suc (steps_behind c.args.wished.now)) c.at_once.new.end
+done : (c : After-steps_of) → ended_walk c.at_once.new.self (c.args.steps.now + suc (steps_behind c.args.wished.now)) c.at_once.new.end
     ≡ call_steps on_rings 6 c.args.steps.now c.args.link.now c.args.caller c.args.follows c.args.wished.now
 done c =
     let within = behind_six c.args.wished.now in
