@@ -25,19 +25,19 @@ use Rattle.command_run.specs.declared.acts.CoreAct.{CoreAct}
 use Rattle.command_run.specs.declared.acts.CoreAct.TheVariants as core
 
 -- an act with the bytes that it names in place of what code has of them
-abbrev pub bare_named : {P : Type 0} → (P → List ℕ) → NamedAct P → NamedAct (List ℕ)
-bare_named bytes (under.Make made) = under.Make made
-bare_named bytes (under.Link asked) = under.Link (bare_act bytes asked)
-bare_named bytes (under.Manage managed) = under.Manage managed
-bare_named bytes (under.Show shown) = under.Show shown
-bare_named bytes (under.Core asked) = under.Core asked
+abbrev pub bare_named_act : {P : Type 0} → (P → List ℕ) → NamedAct P → NamedAct (List ℕ)
+bare_named_act bytes (under.Make made) = under.Make made
+bare_named_act bytes (under.Link asked) = under.Link (bare_act bytes asked)
+bare_named_act bytes (under.Manage managed) = under.Manage managed
+bare_named_act bytes (under.Show shown) = under.Show shown
+bare_named_act bytes (under.Core asked) = under.Core asked
 
 -- the same of a line, with its recipe
 abbrev pub bare_line : {R P : Type 0} → (R → List RecipeLine) → (P → List ℕ) → Line R P → Line (List RecipeLine) (List ℕ)
 bare_line recipe bytes (line.Image name lines) = line.Image name (recipe lines)
 bare_line recipe bytes (line.Quiet set) = line.Quiet set
 bare_line recipe bytes (line.Dump name image) = line.Dump name image
-bare_line recipe bytes (line.On name done) = line.On name (bare_named bytes done)
+bare_line recipe bytes (line.On name done) = line.On name (bare_named_act bytes done)
 
 -- what a script's link begins with: it is live in incarnation 1, and its buffers begin at address 0
 abbrev pub config_of : ℕ → ℕ → ℕ → LinkConfig

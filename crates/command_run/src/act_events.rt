@@ -113,7 +113,7 @@ fn tell_turns(
     match ended {
         TurnEnd::Whole => tell(&Event::Pumped { name, turns: done }, log),
         TurnEnd::Fault(caller, fault) => {
-            tell_pumped(name, &fault_event(name, caller, fault), done, log)
+            tell_pump_end(name, &fault_event(name, caller, fault), done, log)
         }
         TurnEnd::Reached(caller, Reach::At(step)) => {
             let event = Event::At {
@@ -121,18 +121,18 @@ fn tell_turns(
                 caller: u64::from(caller),
                 step: u64::from(step),
             };
-            tell_pumped(name, &event, done, log)
+            tell_pump_end(name, &event, done, log)
         }
         TurnEnd::Reached(caller, Reach::Ended(end)) => {
             let event = end_event(log.alloc(), name, bench, caller, end)?;
-            tell_pumped(name, &event, done, log)
+            tell_pump_end(name, &event, done, log)
         }
         TurnEnd::Reached(_, Reach::Limit) => Ok(Some(Stop::StepLimit)),
     }
 }
 
 /// Tells how the last turn ended, and how many were whole.
-fn tell_pumped(
+fn tell_pump_end(
     name: Name,
     last: &Event,
     done: u64,

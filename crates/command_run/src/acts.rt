@@ -105,6 +105,70 @@ pub enum CoreAct {
     Drive { count: u64 },
 }
 
+/// An act under the name of a command.
+macro_rules! under {
+    ($name:ident, $act:expr) => {
+        Line::On {
+            name: *$name,
+            act: $act,
+        }
+    };
+}
+
+/// The making of a link, whose host end has the name service or not.
+macro_rules! new_link {
+    ($name:ident, $to_host:ident, $to_remote:ident, $book:ident, $has_service:expr) => {{
+        let config = config_of(*$to_host as u32, *$to_remote as u32, *$book as u32);
+        let has_service = $has_service;
+        under!($name, NamedAct::Make(Making::Link { config, has_service }))
+    }};
+}
+
+/// A call of a caller, whole or begun.
+macro_rules! call {
+    ($how:ident, $name:ident, $caller:ident, $wish:expr) => {
+        under!(
+            $name,
+            NamedAct::Link(LinkAct::Call {
+                caller: *$caller as CallerNo,
+                how: How::$how,
+                wish: $wish,
+            })
+        )
+    };
+}
+
+/// What a call wishes, by the fields of its command.
+macro_rules! wish {
+    (Send, $source:ident, $destination:ident, $payload:ident) => {
+        CallWish::Send {
+            source: *$source as u32,
+            destination: *$destination as u32,
+            payload: $payload.bytes(),
+        }
+    };
+    (Raw, $message:ident) => {
+        CallWish::Raw {
+            message: $message.bytes(),
+        }
+    };
+    (Give, $number:ident) => {
+        CallWish::Give { number: *$number }
+    };
+    ($kind:ident, $address:ident) => {
+        CallWish::$kind {
+            address: *$address as u32,
+        }
+    };
+}
+
+/// An act on a core.
+macro_rules! on_core {
+    ($name:ident, $act:expr) => {
+        under!($name, NamedAct::Core($act))
+    };
+}
+
 /// What a command is about.
 pub(crate) fn line_of(command: &Command) -> Line<&Recipe, &[u8]>
     requires { IsRunnable command.now }
@@ -126,348 +190,168 @@ pub(crate) fn line_of(command: &Command) -> Line<&Recipe, &[u8]>
             entries_to_host,
             entries_to_remote,
             book,
-        } => {
-            let config = config_of(
-                *entries_to_host as u32,
-                *entries_to_remote as u32,
-                *book as u32,
-            );
-            Line::On {
-                name: *name,
-                act: NamedAct::Make(Making::Link {
-                    config,
-                    has_service: false,
-                }),
-            }
-        }
+        } => new_link!(name, entries_to_host, entries_to_remote, book, false),
         Command::NsLink {
             name,
             entries_to_host,
             entries_to_remote,
             book,
-        } => {
-            let config = config_of(
-                *entries_to_host as u32,
-                *entries_to_remote as u32,
-                *book as u32,
-            );
-            Line::On {
-                name: *name,
-                act: NamedAct::Make(Making::Link {
-                    config,
-                    has_service: true,
-                }),
-            }
-        }
+        } => new_link!(name, entries_to_host, entries_to_remote, book, true),
         Command::Core {
             name,
             regions,
             book,
-        } => Line::On {
-            name: *name,
-            act: NamedAct::Make(Making::Core {
-                regions: *regions,
-                book: *book as u32,
-            }),
-        },
-        Command::Caller { name, end } => Line::On {
-            name: *name,
-            act: NamedAct::Link(LinkAct::Caller { end: *end }),
-        },
+        } => {
+            let (regions, book) = (*regions, *book as u32);
+            under!(name, NamedAct::Make(Making::Core { regions, book }))
+        }
+        Command::Caller { name, end } => under!(
+            name,
+            NamedAct::Link(LinkAct::Caller { end: *end })
+        ),
         Command::Send {
             name,
             caller,
             source,
             destination,
             payload,
-        } => Line::On {
-            name: *name,
-            act: NamedAct::Link(LinkAct::Call {
-                caller: *caller as CallerNo,
-                how: How::Whole,
-                wish: CallWish::Send {
-                    source: *source as u32,
-                    destination: *destination as u32,
-                    payload: payload.bytes(),
-                },
-            }),
-        },
+        } => call!(
+            Whole,
+            name,
+            caller,
+            wish!(Send, source, destination, payload)
+        ),
         Command::Raw {
             name,
             caller,
             message,
-        } => Line::On {
-            name: *name,
-            act: NamedAct::Link(LinkAct::Call {
-                caller: *caller as CallerNo,
-                how: How::Whole,
-                wish: CallWish::Raw {
-                    message: message.bytes(),
-                },
-            }),
-        },
-        Command::Take { name, caller } => Line::On {
-            name: *name,
-            act: NamedAct::Link(LinkAct::Call {
-                caller: *caller as CallerNo,
-                how: How::Whole,
-                wish: CallWish::Take,
-            }),
-        },
+        } => call!(Whole, name, caller, wish!(Raw, message)),
+        Command::Take { name, caller } => call!(Whole, name, caller, CallWish::Take),
         Command::Give {
             name,
             caller,
             number,
-        } => Line::On {
-            name: *name,
-            act: NamedAct::Link(LinkAct::Call {
-                caller: *caller as CallerNo,
-                how: How::Whole,
-                wish: CallWish::Give { number: *number },
-            }),
-        },
+        } => call!(Whole, name, caller, wish!(Give, number)),
         Command::Bind {
             name,
             caller,
             address,
-        } => Line::On {
-            name: *name,
-            act: NamedAct::Link(LinkAct::Call {
-                caller: *caller as CallerNo,
-                how: How::Whole,
-                wish: CallWish::Bind {
-                    address: *address as u32,
-                },
-            }),
-        },
+        } => call!(Whole, name, caller, wish!(Bind, address)),
         Command::Unbind {
             name,
             caller,
             address,
-        } => Line::On {
-            name: *name,
-            act: NamedAct::Link(LinkAct::Call {
-                caller: *caller as CallerNo,
-                how: How::Whole,
-                wish: CallWish::Unbind {
-                    address: *address as u32,
-                },
-            }),
-        },
+        } => call!(Whole, name, caller, wish!(Unbind, address)),
         Command::BeginSend {
             name,
             caller,
             source,
             destination,
             payload,
-        } => Line::On {
-            name: *name,
-            act: NamedAct::Link(LinkAct::Call {
-                caller: *caller as CallerNo,
-                how: How::Begun,
-                wish: CallWish::Send {
-                    source: *source as u32,
-                    destination: *destination as u32,
-                    payload: payload.bytes(),
-                },
-            }),
-        },
+        } => call!(
+            Begun,
+            name,
+            caller,
+            wish!(Send, source, destination, payload)
+        ),
         Command::BeginRaw {
             name,
             caller,
             message,
-        } => Line::On {
-            name: *name,
-            act: NamedAct::Link(LinkAct::Call {
-                caller: *caller as CallerNo,
-                how: How::Begun,
-                wish: CallWish::Raw {
-                    message: message.bytes(),
-                },
-            }),
-        },
-        Command::BeginTake { name, caller } => Line::On {
-            name: *name,
-            act: NamedAct::Link(LinkAct::Call {
-                caller: *caller as CallerNo,
-                how: How::Begun,
-                wish: CallWish::Take,
-            }),
-        },
+        } => call!(Begun, name, caller, wish!(Raw, message)),
+        Command::BeginTake { name, caller } => call!(Begun, name, caller, CallWish::Take),
         Command::BeginGive {
             name,
             caller,
             number,
-        } => Line::On {
-            name: *name,
-            act: NamedAct::Link(LinkAct::Call {
-                caller: *caller as CallerNo,
-                how: How::Begun,
-                wish: CallWish::Give { number: *number },
-            }),
-        },
+        } => call!(Begun, name, caller, wish!(Give, number)),
         Command::BeginBind {
             name,
             caller,
             address,
-        } => Line::On {
-            name: *name,
-            act: NamedAct::Link(LinkAct::Call {
-                caller: *caller as CallerNo,
-                how: How::Begun,
-                wish: CallWish::Bind {
-                    address: *address as u32,
-                },
-            }),
-        },
+        } => call!(Begun, name, caller, wish!(Bind, address)),
         Command::BeginUnbind {
             name,
             caller,
             address,
-        } => Line::On {
-            name: *name,
-            act: NamedAct::Link(LinkAct::Call {
-                caller: *caller as CallerNo,
-                how: How::Begun,
-                wish: CallWish::Unbind {
-                    address: *address as u32,
-                },
-            }),
-        },
+        } => call!(Begun, name, caller, wish!(Unbind, address)),
         Command::Step {
             name,
             caller,
             count,
-        } => Line::On {
-            name: *name,
-            act: NamedAct::Link(LinkAct::Step {
-                caller: *caller as CallerNo,
-                more: *count - 1,
-            }),
-        },
-        Command::Finish { name, caller } => Line::On {
-            name: *name,
-            act: NamedAct::Link(LinkAct::Step {
-                caller: *caller as CallerNo,
-                more: 6,
-            }),
-        },
+        } => {
+            let (caller, more) = (*caller as CallerNo, *count - 1);
+            under!(name, NamedAct::Link(LinkAct::Step { caller, more }))
+        }
+        Command::Finish { name, caller } => {
+            let (caller, more) = (*caller as CallerNo, 6);
+            under!(name, NamedAct::Link(LinkAct::Step { caller, more }))
+        }
         Command::Pump {
             name,
             sender,
             receiver,
             count,
-        } => Line::On {
-            name: *name,
-            act: NamedAct::Link(LinkAct::Pump {
+        } => {
+            let pump = LinkAct::Pump {
                 sender: *sender as CallerNo,
                 receiver: *receiver as CallerNo,
                 count: *count,
-            }),
-        },
-        Command::Reclaim { name, caller } => Line::On {
-            name: *name,
-            act: NamedAct::Link(LinkAct::Reclaim {
-                caller: *caller as CallerNo,
-            }),
-        },
-        Command::Close { name } => Line::On {
-            name: *name,
-            act: NamedAct::Manage(ManagerAct::Close),
-        },
-        Command::Reopen { name } => Line::On {
-            name: *name,
-            act: NamedAct::Manage(ManagerAct::Reopen),
-        },
-        Command::Books { name } => Line::On {
-            name: *name,
-            act: NamedAct::Show(LinkView::Books),
-        },
-        Command::Ring { name, lane } => Line::On {
-            name: *name,
-            act: NamedAct::Show(LinkView::Ring { lane: *lane }),
-        },
-        Command::Channels { name } => Line::On {
-            name: *name,
-            act: NamedAct::Show(LinkView::Channels),
-        },
+            };
+            under!(name, NamedAct::Link(pump))
+        }
+        Command::Reclaim { name, caller } => {
+            let caller = *caller as CallerNo;
+            under!(name, NamedAct::Link(LinkAct::Reclaim { caller }))
+        }
+        Command::Close { name } => under!(name, NamedAct::Manage(ManagerAct::Close)),
+        Command::Reopen { name } => under!(name, NamedAct::Manage(ManagerAct::Reopen)),
+        Command::Books { name } => under!(name, NamedAct::Show(LinkView::Books)),
+        Command::Ring { name, lane } => under!(
+            name,
+            NamedAct::Show(LinkView::Ring { lane: *lane })
+        ),
+        Command::Channels { name } => under!(name, NamedAct::Show(LinkView::Channels)),
         Command::Region {
             name,
             kind,
             da,
             pa,
             len,
-        } => Line::On {
-            name: *name,
-            act: NamedAct::Core(CoreAct::Region(Region {
+        } => {
+            let region = Region {
                 kind: *kind,
                 da: *da as u32,
                 pa: *pa as u32,
                 len: *len as u32,
-            })),
-        },
+            };
+            on_core!(name, CoreAct::Region(region))
+        }
         Command::Driver {
             name,
             channel,
             kind,
-        } => Line::On {
-            name: *name,
-            act: NamedAct::Core(CoreAct::Driver {
-                channel: *channel,
-                kind: *kind,
-            }),
-        },
-        Command::Boot { name, image } => Line::On {
-            name: *name,
-            act: NamedAct::Core(CoreAct::Boot { image: *image }),
-        },
-        Command::Handover { name, image } => Line::On {
-            name: *name,
-            act: NamedAct::Core(CoreAct::Handover { image: *image }),
-        },
-        Command::Shutdown { name } => Line::On {
-            name: *name,
-            act: NamedAct::Core(CoreAct::Shutdown),
-        },
-        Command::Detach { name } => Line::On {
-            name: *name,
-            act: NamedAct::Core(CoreAct::Detach),
-        },
-        Command::State { name } => Line::On {
-            name: *name,
-            act: NamedAct::Core(CoreAct::State),
-        },
-        Command::Table { name } => Line::On {
-            name: *name,
-            act: NamedAct::Core(CoreAct::Table),
-        },
-        Command::Recover { name } => Line::On {
-            name: *name,
-            act: NamedAct::Core(CoreAct::Recover),
-        },
-        Command::Trace { name, trace } => Line::On {
-            name: *name,
-            act: NamedAct::Core(CoreAct::Trace { trace: *trace }),
-        },
-        Command::Mem { name, da, len } => Line::On {
-            name: *name,
-            act: NamedAct::Core(CoreAct::Mem {
-                da: *da as u32,
-                len: *len as u32,
-            }),
-        },
-        Command::Crash { name, kind } => Line::On {
-            name: *name,
-            act: NamedAct::Core(CoreAct::Crash { kind: *kind }),
-        },
-        Command::Recovery { name, switch } => Line::On {
-            name: *name,
-            act: NamedAct::Core(CoreAct::Recovery { switch: *switch }),
-        },
-        Command::Drive { name, count } => Line::On {
-            name: *name,
-            act: NamedAct::Core(CoreAct::Drive { count: *count }),
-        },
+        } => {
+            let (channel, kind) = (*channel, *kind);
+            on_core!(name, CoreAct::Driver { channel, kind })
+        }
+        Command::Boot { name, image } => on_core!(name, CoreAct::Boot { image: *image }),
+        Command::Handover { name, image } => on_core!(name, CoreAct::Handover { image: *image }),
+        Command::Shutdown { name } => on_core!(name, CoreAct::Shutdown),
+        Command::Detach { name } => on_core!(name, CoreAct::Detach),
+        Command::State { name } => on_core!(name, CoreAct::State),
+        Command::Table { name } => on_core!(name, CoreAct::Table),
+        Command::Recover { name } => on_core!(name, CoreAct::Recover),
+        Command::Trace { name, trace } => on_core!(name, CoreAct::Trace { trace: *trace }),
+        Command::Mem { name, da, len } => {
+            let (da, len) = (*da as u32, *len as u32);
+            on_core!(name, CoreAct::Mem { da, len })
+        }
+        Command::Crash { name, kind } => on_core!(name, CoreAct::Crash { kind: *kind }),
+        Command::Recovery { name, switch } => {
+            on_core!(name, CoreAct::Recovery { switch: *switch })
+        }
+        Command::Drive { name, count } => on_core!(name, CoreAct::Drive { count: *count }),
     }
 }
 

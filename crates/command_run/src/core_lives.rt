@@ -40,7 +40,7 @@ impl NamedCore {
         ensures effect { IfOk result (λ ending. HasCoreEffect (boot_effect images.now (answer_of fetched.now) self.old.name self.old.core log.old.steps image) self.new.core log.old log.new ending) }
     {
         let found = find_image(images, fetched, image.bytes());
-        let started = self.core.boot_found(log.alloc(), image, found);
+        let started = self.core.boot_with(log.alloc(), image, found);
         self.tell_start(image, started, log)
     }
 
@@ -58,7 +58,7 @@ impl NamedCore {
         ensures effect { IfOk result (λ ending. HasCoreEffect (handover_effect images.now (answer_of fetched.now) self.old.name self.old.core log.old.steps image) self.new.core log.old log.new ending) }
     {
         let found = find_image(images, fetched, image.bytes());
-        let started = self.core.handover_found(log.alloc(), image, found);
+        let started = self.core.handover_with(log.alloc(), image, found);
         self.tell_start(image, started, log)
     }
 
@@ -76,7 +76,7 @@ impl NamedCore {
     {
         let image = self.booted_image();
         let found = find_image(images, fetched, image.bytes());
-        let started = self.core.recover_found(log.alloc(), found);
+        let started = self.core.recover_with(log.alloc(), found);
         self.tell_start(image, started, log)
     }
 
@@ -204,7 +204,7 @@ impl NamedCore {
             }
             Ok(Leave::Last(None)) => self.tell(last, log),
             Ok(Leave::Last(Some(inc))) => {
-                self.tell_closed(inc, log)?;
+                self.tell_close(inc, log)?;
                 self.tell(last, log)
             }
             Ok(Leave::Limit) => Ok(Some(Stop::StepLimit)),
@@ -241,7 +241,7 @@ impl NamedCore {
         match report {
             Ok(Crash::First(None)) => self.tell(&Event::Crashed { name, kind }, log),
             Ok(Crash::First(Some(inc))) => {
-                self.tell_closed(inc, log)?;
+                self.tell_close(inc, log)?;
                 self.tell(&Event::Crashed { name, kind }, log)
             }
             Ok(Crash::Already) => self.tell(&Event::AlreadyCrashed { name }, log),
@@ -251,7 +251,7 @@ impl NamedCore {
     }
 
     /// Counts the step that closed an incarnation of the core's link, and tells it.
-    fn tell_closed(&self, inc: Inc, log: &mut RunLog) -> Result<(), NoMemory>
+    fn tell_close(&self, inc: Inc, log: &mut RunLog) -> Result<(), NoMemory>
         requires { log.old.steps < STEPS_MOST }
         ensures { OnOk result (log.new ≡ record { lines = log.old.lines ++ line (event.Closed self.now.name inc); steps = log.old.steps + 1 }) }
     {

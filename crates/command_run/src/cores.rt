@@ -1,5 +1,5 @@
 ghost use Rattle.std.specs.Prelude.{◌≡◌, IfOk};
-ghost use Rattle.command_run.specs.Acts.{IsFitCore, IsFitNamed, bare_named};
+ghost use Rattle.command_run.specs.Acts.{IsFitCore, IsFitNamed, bare_named_act};
 ghost use Rattle.command_run.specs.Logs.{HasCoreEffect};
 ghost use Rattle.command_run.specs.CoreEffects.{core_tells, driver_effect, is_on, recovery_effect, region_effect, state_effect};
 ghost use Rattle.command_run.specs.CoreCommands.{core_act_effect, core_effect};
@@ -44,9 +44,9 @@ impl NamedCore {
         is_quiet: bool,
         log: &mut RunLog,
     ) -> Result<Option<Stop>, NoMemory>
-        requires fit { IsFitNamed (bare_named (λ bytes. bytes.now) act.now) }
+        requires fit { IsFitNamed (bare_named_act (λ bytes. bytes.now) act.now) }
         ensures name { self.new.name ≡ self.old.name }
-        ensures effect { IfOk result (λ ending. HasCoreEffect (core_effect images.now (answer_of fetched.now) is_quiet self.old log.old.steps (bare_named (λ bytes. bytes.now) act.now)) self.new.core log.old log.new ending) }
+        ensures effect { IfOk result (λ ending. HasCoreEffect (core_effect images.now (answer_of fetched.now) is_quiet self.old log.old.steps (bare_named_act (λ bytes. bytes.now) act.now)) self.new.core log.old log.new ending) }
     {
         match act {
             NamedAct::Make(_) => self.tell(&Event::Exists { name: self.name }, log),

@@ -68,13 +68,13 @@ pub fn run_command<F: FirmwareStore, K: Sink>(
     if let Command::Drive { name, count } = command {
         return objects.drive(*name, *count, log, out);
     }
-    let fetched = fetch_asked(log.alloc(), objects, command, store)?;
+    let fetched = fetch_for_command(log.alloc(), objects, command, store)?;
     Ok(objects.run(command, &fetched, log)?)
 }
 
 /// Fetches the image for which a command asks the store. A command that asks for none leaves the
 /// store as it is.
-fn fetch_asked<F: FirmwareStore>(
+fn fetch_for_command<F: FirmwareStore>(
     alloc: Global,
     objects: &Objects,
     command: &Command,

@@ -2,7 +2,7 @@ ghost use Rattle.std.specs.Prelude.{◌≡◌, ◌++◌, IfOk, OnOk};
 ghost use Rattle.journal.specs.Lines.{transcript};
 ghost use Rattle.journal.specs.declared.events.Event.TheVariants as event;
 ghost use Rattle.link_bench.specs.Acts.{IsFitAct, bare_act};
-ghost use Rattle.command_run.specs.Acts.{IsFitNamed, IsFitView, bare_named};
+ghost use Rattle.command_run.specs.Acts.{IsFitNamed, IsFitView, bare_named_act};
 ghost use Rattle.command_run.specs.Effects.{act_effect, tells};
 ghost use Rattle.command_run.specs.LinkCommands.{link_effect, manager_effect, view_events};
 ghost use Rattle.command_run.specs.Logs.{HasEffect};
@@ -42,9 +42,9 @@ impl NamedBench {
         act: &NamedAct<&[u8]>,
         log: &mut RunLog,
     ) -> Result<Option<Stop>, NoMemory>
-        requires fit { IsFitNamed (bare_named (λ bytes. bytes.now) act.now) }
+        requires fit { IsFitNamed (bare_named_act (λ bytes. bytes.now) act.now) }
         ensures name { self.new.name ≡ self.old.name }
-        ensures effect { IfOk result (λ ending. HasEffect (link_effect self.old log.old.steps (bare_named (λ bytes. bytes.now) act.now)) self.new.bench log.old log.new ending) }
+        ensures effect { IfOk result (λ ending. HasEffect (link_effect self.old log.old.steps (bare_named_act (λ bytes. bytes.now) act.now)) self.new.bench log.old log.new ending) }
     {
         match act {
             NamedAct::Make(_) => self.tell(&Event::Exists { name: self.name }, log),

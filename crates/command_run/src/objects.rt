@@ -2,7 +2,7 @@ ghost use Rattle.std.specs.Prelude.{◌≡◌, ◌<◌, ◌++◌, Some, None, Er
 ghost use Rattle.std.specs.Option.{option_copied};
 ghost use Rattle.lane_model.specs.Conditions.{IsConfig};
 ghost use Rattle.script_lang.specs.Runnable.{IsBook, IsRunnable};
-ghost use Rattle.command_run.specs.Acts.{IsFitNamed, bare_named};
+ghost use Rattle.command_run.specs.Acts.{IsFitNamed, bare_named_act};
 ghost use Rattle.rp_io.specs.declared.faults.FetchFault.TheVariants as fetch_fault;
 ghost use Rattle.journal.specs.Lines.{transcript};
 ghost use Rattle.command_run.specs.declared.acts.CoreAct.TheVariants as core;
@@ -142,8 +142,8 @@ impl Objects {
         fetched: &Fetched,
         log: &mut RunLog,
     ) -> Result<Option<Stop>, NoMemory>
-        requires fit { IsFitNamed (bare_named (λ bytes. bytes.now) act.now) }
-        ensures { IfOk result (λ ending. HasRunEffect (name_effect (answer_of fetched.now) (record { objects = self.old; steps = log.old.steps }) name (bare_named (λ bytes. bytes.now) act.now)) self.new log.old log.new ending) }
+        requires fit { IsFitNamed (bare_named_act (λ bytes. bytes.now) act.now) }
+        ensures { IfOk result (λ ending. HasRunEffect (name_effect (answer_of fetched.now) (record { objects = self.old; steps = log.old.steps }) name (bare_named_act (λ bytes. bytes.now) act.now)) self.new log.old log.new ending) }
     {
         match place_of(self.links.as_slice(), name.bytes()) {
             Some(place) => self.links[place].run(act, log),
@@ -198,28 +198,28 @@ impl Objects {
         fetched: &Fetched,
         log: &mut RunLog,
     ) -> Result<Option<Stop>, NoMemory>
-        requires fit { IsFitNamed (bare_named (λ bytes. bytes.now) act.now) }
-        ensures { IfOk result (λ ending. HasRunEffect (without_link_effect (answer_of fetched.now) (record { objects = self.old; steps = log.old.steps }) name (bare_named (λ bytes. bytes.now) act.now)) self.new log.old log.new ending) }
+        requires fit { IsFitNamed (bare_named_act (λ bytes. bytes.now) act.now) }
+        ensures { IfOk result (λ ending. HasRunEffect (without_link_effect (answer_of fetched.now) (record { objects = self.old; steps = log.old.steps }) name (bare_named_act (λ bytes. bytes.now) act.now)) self.new log.old log.new ending) }
     {
         match core_place(self.cores.as_slice(), name.bytes()) {
             Some(place) => {
                 let images = self.images.as_slice();
                 self.cores[place].run(act, images, fetched, self.is_quiet, log)
             }
-            None => self.run_unnamed(name, act, log),
+            None => self.run_on_new_name(name, act, log),
         }
     }
 
     /// Does what is asked under a name that no link and no core has.
     #[tactic(auto, unfolding(crate::specs::Runs::unnamed_effect))]
-    fn run_unnamed(
+    fn run_on_new_name(
         &mut self,
         name: Name,
         act: &NamedAct<&[u8]>,
         log: &mut RunLog,
     ) -> Result<Option<Stop>, NoMemory>
-        requires fit { IsFitNamed (bare_named (λ bytes. bytes.now) act.now) }
-        ensures { IfOk result (λ ending. HasRunEffect (unnamed_effect (record { objects = self.old; steps = log.old.steps }) name (bare_named (λ bytes. bytes.now) act.now)) self.new log.old log.new ending) }
+        requires fit { IsFitNamed (bare_named_act (λ bytes. bytes.now) act.now) }
+        ensures { IfOk result (λ ending. HasRunEffect (unnamed_effect (record { objects = self.old; steps = log.old.steps }) name (bare_named_act (λ bytes. bytes.now) act.now)) self.new log.old log.new ending) }
     {
         match act {
             NamedAct::Make(

@@ -9,7 +9,7 @@ use Rattle.core_actors.specs.declared.progress.DriveProgress.TheVariants as prog
 use Rattle.core_actors.specs.Actors.{other_actor}
 use Rattle.crash_recover.specs.Cores.{CoreState}
 use Rattle.core_actors.specs.ActorSteps.{host_is_idle, is_rest, worker_is_idle}
-use Rattle.crash_recover.specs.Drives.{DriveStep, actor_step, drive_step, is_idle, is_idle_actor, tried_step, with_turn_after}
+use Rattle.crash_recover.specs.Drives.{DriveStep, actor_step, drive_step, is_idle, is_idle_actor, step_or_rest, with_turn_after}
 
 -- a step that found something to do
 pub does_something : (step : DriveProgress) → (step ≡ progress.Rest → ⊥) → is_rest step ≡ false
@@ -31,7 +31,7 @@ turned : CoreState → Actor → Bool → DriveStep
 turned core next idle = cond idle (record { core = core; driven = driven.Idle }) (step_of core next (is_idle_actor core next))
 
 -- the worker makes the step where it is its turn and it has something to do
-pub worker_drives : (core : CoreState) → core.actors.next ≡ actor.Worker → worker_is_idle core.bench core.actors ≡ false → drive_step core ≡ tried_step actor.Worker core
+pub worker_drives : (core : CoreState) → core.actors.next ≡ actor.Worker → worker_is_idle core.bench core.actors ≡ false → drive_step core ≡ step_or_rest actor.Worker core
 unfolding turned step_of
 worker_drives core next busy =
     ap (λ (turn : Actor). turned core turn (is_idle core)) next

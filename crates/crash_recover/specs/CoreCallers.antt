@@ -74,8 +74,8 @@ pub record CoreStep : Type 0 where
   pub reach : Reach
 
 -- a step on the link of a core: where it ended the call, the drivers see the end
-abbrev pub step_walked : CoreState → ℕ → BenchWalk → CoreStep
-step_walked core caller walk = record {
+abbrev pub walk_step : CoreState → ℕ → BenchWalk → CoreStep
+walk_step core caller walk = record {
   core = record core { bench = Some walk.bench; actors = watched actors_after_end walk.bench caller walk.reach core.actors };
   reach = walk.reach;
 }
@@ -83,7 +83,7 @@ step_walked core caller walk = record {
 -- one step of the call that a caller is in
 abbrev pub core_step_on : CoreState → ℕ → Option BenchState → CoreStep
 core_step_on core caller None = record { core = core; reach = reach.Limit }
-core_step_on core caller (Some bench) = step_walked core caller (advance_walk bench 0 0 caller)
+core_step_on core caller (Some bench) = walk_step core caller (advance_walk bench 0 0 caller)
 
 abbrev pub core_step : CoreState → ℕ → CoreStep
 core_step core caller = core_step_on core caller core.bench

@@ -23,14 +23,14 @@ pub record DriveStep : Type 0 where
   pub driven : Driven
 
 -- a step of the host actor on a core's link
-abbrev pub host_walked : CoreState → BenchWalk → ActorsState → DriveStep
-host_walked core walk actors = record {
+abbrev pub host_walk_step : CoreState → BenchWalk → ActorsState → DriveStep
+host_walk_step core walk actors = record {
   core = record core { bench = Some walk.bench; actors = host_reached actors walk.bench walk.reach };
   driven = driven_by 0 walk.reach;
 }
 
 abbrev pub host_step_on : CoreState → BenchState → DriveStep
-host_step_on core bench = host_walked core (link_step bench 0 (first_or_take core.actors.host_calls)) (host_begun bench core.actors)
+host_step_on core bench = host_walk_step core (link_step bench 0 (first_or_take core.actors.host_calls)) (host_begun bench core.actors)
 
 -- the same of a core that may have no link, where there is no host actor
 abbrev pub host_step : CoreState → Option BenchState → DriveStep
@@ -38,8 +38,8 @@ host_step core None = record { core = core; driven = driven.Idle }
 host_step core (Some bench) = host_step_on core bench
 
 -- a step of the worker on a core's link
-abbrev pub worker_walked : CoreState → BenchWalk → DriveStep
-worker_walked core walk = record {
+abbrev pub worker_walk_step : CoreState → BenchWalk → DriveStep
+worker_walk_step core walk = record {
   core = record core { bench = Some walk.bench; actors = worker_reached core.actors walk.bench walk.reach };
   driven = driven_by 1 walk.reach;
 }
@@ -85,7 +85,7 @@ record_step core = reported (record_run core core.loaded)
 -- a step of the worker on the link of a core
 abbrev pub worker_call : CoreState → Option BenchState → DriveStep
 worker_call core None = record { core = core; driven = driven.Idle }
-worker_call core (Some bench) = worker_walked core (link_step bench 1 (first_or_take core.actors.worker_calls))
+worker_call core (Some bench) = worker_walk_step core (link_step bench 1 (first_or_take core.actors.worker_calls))
 
 -- a step of the worker: on the link where it makes a call, else it runs a record
 abbrev pub worker_step : CoreState → DriveStep
@@ -115,8 +115,8 @@ abbrev pub with_turn_after : Actor → CoreState → CoreState
 with_turn_after actor core = record core { actors = with_next_after actor core.actors }
 
 -- a step of an actor that may have nothing to do
-abbrev pub tried_step : Actor → CoreState → DriveStep
-tried_step actor core =
+abbrev pub step_or_rest : Actor → CoreState → DriveStep
+step_or_rest actor core =
     if is_idle_actor core actor then record { core = core; driven = driven.Idle }
     else actor_step actor (with_turn_after actor core)
 

@@ -35,12 +35,12 @@ impl Core {
         self.life.state() == LifeState::Offline && self.life.incarnation() != Inc::MAX
     }
 
-    /// Boots the core with the image that a store has under a name, as [`Core::boot_found`] does. The
+    /// Boots the core with the image that a store has under a name, as [`Core::boot_with`] does. The
     /// store is only asked where the core needs an image.
     ///
     /// # Errors
     ///
-    /// Those of [`Core::boot_found`]. The core is as it was then.
+    /// Those of [`Core::boot_with`]. The core is as it was then.
     pub fn boot<F: FirmwareStore>(
         &mut self,
         alloc: Global,
@@ -60,7 +60,7 @@ impl Core {
         ensures same { result ≢ Err (fault.Fetch fetch.Failed) → F.faults store.new ≡ F.faults store.old }
     {
         let image = fetch_where(self.needs_image(), alloc, name, store)?;
-        let start = self.boot_found(alloc, name_of(name), Ok(image.as_slice()))?;
+        let start = self.boot_with(alloc, name_of(name), Ok(image.as_slice()))?;
         Ok(start.power())
     }
 
@@ -76,7 +76,7 @@ impl Core {
     /// and [`CoreFault::NoMemory`] where memory ran out, which only a boot that starts the core
     /// answers. The core is as it was then.
     #[tactic(auto, unfolding(crate::specs::CoreBoots::boot_of))]
-    pub fn boot_found(
+    pub fn boot_with(
         &mut self,
         alloc: Global,
         name: Name,
@@ -163,7 +163,7 @@ impl Core {
     /// found and [`CoreFault::Load`] as [`load`] answers, and [`CoreFault::NoMemory`] where memory ran
     /// out. The core is as it was then.
     #[tactic(auto, unfolding(crate::specs::CoreBoots::handover_of))]
-    pub fn handover_found(
+    pub fn handover_with(
         &mut self,
         alloc: Global,
         name: Name,
@@ -190,12 +190,12 @@ impl Core {
         self.life.state() == LifeState::Offline
     }
 
-    /// Hands the core over with the image that a store has under a name, as [`Core::handover_found`]
+    /// Hands the core over with the image that a store has under a name, as [`Core::handover_with`]
     /// does. The store is only asked where the core is offline.
     ///
     /// # Errors
     ///
-    /// Those of [`Core::handover_found`]. The core is as it was then.
+    /// Those of [`Core::handover_with`]. The core is as it was then.
     pub fn handover<F: FirmwareStore>(
         &mut self,
         alloc: Global,
@@ -215,7 +215,7 @@ impl Core {
         ensures same { result ≢ Err (fault.Fetch fetch.Failed) → F.faults store.new ≡ F.faults store.old }
     {
         let image = fetch_where(self.is_offline(), alloc, name, store)?;
-        self.handover_found(alloc, name_of(name), Ok(image.as_slice()))?;
+        self.handover_with(alloc, name_of(name), Ok(image.as_slice()))?;
         Ok(())
     }
 

@@ -3,7 +3,7 @@ ghost use Rattle.lane_model.specs.declared.calls.CallEnd.{CallEnd};
 ghost use Rattle.core_actors.specs.declared.actors.Actor.TheVariants as actor;
 ghost use Rattle.core_actors.specs.Actors.{actors_view};
 ghost use Rattle.core_actors.specs.ActorSteps.{driven_of, host_is_idle, is_rest, waits, worker_is_idle};
-ghost use Rattle.crash_recover.specs.Drives.{drive_step, is_idle, record_run, record_step, reported_by, tried_step, with_turn_after};
+ghost use Rattle.crash_recover.specs.Drives.{drive_step, is_idle, record_run, record_step, reported_by, step_or_rest, with_turn_after};
 
 use crate::cores::Core;
 use core_actors::{Actor, DriveProgress, Driven};
@@ -64,8 +64,8 @@ impl Core {
     #[inline(always)]
     fn host_step(&mut self, end: &mut CallEnd) -> Result<DriveProgress, NoMemory>
         ensures rests { IfOk result (λ progress. is_rest progress ≡ host_is_idle self.old.bench self.old.actors) }
-        ensures driven { IfOk result (λ progress. driven_of progress end.new ≡ (tried_step actor.Host self.old).driven) }
-        ensures left { OnOk result (self.new ≡ (tried_step actor.Host self.old).core) }
+        ensures driven { IfOk result (λ progress. driven_of progress end.new ≡ (step_or_rest actor.Host self.old).driven) }
+        ensures left { OnOk result (self.new ≡ (step_or_rest actor.Host self.old).core) }
         ensures unchanged { OnErr result (self.new ≡ self.old) }
     {
         let Some(bench) = &mut self.bench else {
@@ -82,8 +82,8 @@ impl Core {
     #[inline(always)]
     fn worker_step(&mut self, end: &mut CallEnd) -> Result<DriveProgress, NoMemory>
         ensures rests { IfOk result (λ progress. is_rest progress ≡ worker_is_idle self.old.bench self.old.actors) }
-        ensures driven { IfOk result (λ progress. driven_of progress end.new ≡ (tried_step actor.Worker self.old).driven) }
-        ensures left { OnOk result (self.new ≡ (tried_step actor.Worker self.old).core) }
+        ensures driven { IfOk result (λ progress. driven_of progress end.new ≡ (step_or_rest actor.Worker self.old).driven) }
+        ensures left { OnOk result (self.new ≡ (step_or_rest actor.Worker self.old).core) }
         ensures unchanged { OnErr result (self.new ≡ self.old) }
     {
         let Some(bench) = &mut self.bench else {

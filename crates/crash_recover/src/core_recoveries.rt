@@ -40,11 +40,11 @@ impl Core {
     }
 
     /// Recovers the core with the image that a store has under the name that was booted or handed over,
-    /// as [`Core::recover_found`] does. Where the core's life refuses it, the store is not asked.
+    /// as [`Core::recover_with`] does. Where the core's life refuses it, the store is not asked.
     ///
     /// # Errors
     ///
-    /// Those of [`Core::recover_found`]. A name that is no text is [`FetchFault::Missing`].
+    /// Those of [`Core::recover_with`]. A name that is no text is [`FetchFault::Missing`].
     pub fn recover<F: FirmwareStore>(
         &mut self,
         alloc: Global,
@@ -64,7 +64,7 @@ impl Core {
             return Err(CoreFault::Life(fault));
         }
         let image = self.fetch_image(alloc, store)?;
-        self.recover_found(alloc, Ok(image.as_slice()))?;
+        self.recover_with(alloc, Ok(image.as_slice()))?;
         Ok(())
     }
 
@@ -103,7 +103,7 @@ impl Core {
     /// core stays crashed, with a new caller 0 where the old one was reclaimed. [`CoreFault::NoMemory`]
     /// may come at the load, or after all other tests.
     #[tactic(auto, using(crate::proofs::Restarts::recovers, crate::proofs::Restarts::start_fault), unfolding(crate::specs::CoreRecoveries::recovery_of))]
-    pub fn recover_found(
+    pub fn recover_with(
         &mut self,
         alloc: Global,
         found: Result<&[u8], FetchFault>,

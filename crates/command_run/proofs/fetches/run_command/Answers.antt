@@ -61,12 +61,12 @@ returns-in_err-fetched g c =
     let found = err_from_is_err_and c.from_residual.result c.from_residual.ensures.1 in
     record {
       effect = subst (λ (r : Result (Option Stop) CommandFault). RunsTold r images run c.args.command.now c.args.objects.now c.args.log.now c.args.log.now (sink.written c.args.out.now) (sink.written c.args.out.now)
-          (sink.faults c.args.out.now) (sink.faults c.args.out.now) (store.faults c.args.store.now) (store.faults c.fetch_asked.new.store))
+          (sink.faults c.args.out.now) (sink.faults c.args.out.now) (store.faults c.args.store.now) (store.faults c.fetch_for_command.new.store))
           (sym (found.1 ∙ ap (λ (why : CommandFault). Err why) found.2))
-          (fetch_told images run c.args.command.now c.args.objects.now c.args.log.now (sink.written c.args.out.now) (sink.faults c.args.out.now) (store.faults c.args.store.now) (store.faults c.fetch_asked.new.store)
+          (fetch_told images run c.args.command.now c.args.objects.now c.args.log.now (sink.written c.args.out.now) (sink.faults c.args.out.now) (store.faults c.args.store.now) (store.faults c.fetch_for_command.new.store)
           c.in_err-fetched.field-0.0 c.in_err-fetched.ensures.fault (λ is. c.in_err-fetched.ensures.asked (ap (λ (why : CommandFault). Err why) is)));
-      kept = c.fetch_asked.ensures.kept;
-      unasked = c.fetch_asked.ensures.unasked;
+      kept = c.fetch_for_command.ensures.kept;
+      unasked = c.fetch_for_command.ensures.unasked;
     }
 
 pub returns-in_err-run : goal.returns-in_err-run
@@ -78,11 +78,11 @@ returns-in_err-run g c =
     let found = err_from_is_err_and c.from_residual-in_err-run.result c.from_residual-in_err-run.ensures.1 in
     record {
       effect = subst (λ (r : Result (Option Stop) CommandFault). RunsTold r images run c.args.command.now c.run.new.self c.args.log.now c.run.new.log (sink.written c.args.out.now) (sink.written c.args.out.now)
-          (sink.faults c.args.out.now) (sink.faults c.args.out.now) (store.faults c.args.store.now) (store.faults c.fetch_asked.new.store))
+          (sink.faults c.args.out.now) (sink.faults c.args.out.now) (store.faults c.args.store.now) (store.faults c.fetch_for_command.new.store))
           (sym (found.1 ∙ ap (λ (why : CommandFault). Err why) found.2))
           ((λ shelf. (front_of_none (sink.written c.args.out.now) _, refl)), c.in_ok-fetched.ensures.same);
-      kept = c.fetch_asked.ensures.kept;
-      unasked = c.fetch_asked.ensures.unasked;
+      kept = c.fetch_for_command.ensures.kept;
+      unasked = c.fetch_for_command.ensures.unasked;
     }
 
 pub returns-clause-effect : goal.returns-clause-effect

@@ -6,7 +6,7 @@ use Rattle.crash_recover.specs.declared.core_faults.CoreFault.{CoreFault}
 use Rattle.crash_recover.specs.declared.core_faults.CoreFault.TheVariants as fault
 use Rattle.crash_recover.specs.Cores.{CoreOutcome}
 use Rattle.crash_recover.proofs.Restarts.{start_fault, unopened_recovery}
-use Rattle.crash_recover.proofs.cores.Core.recover_found.Goals as goal
+use Rattle.crash_recover.proofs.cores.Core.recover_with.Goals as goal
 
 pub returns-in_err-reopen-clause-answer : goal.returns-in_err-reopen-clause-answer
 returns-in_err-reopen-clause-answer c = λ had_memory.
