@@ -33,7 +33,7 @@ fn run(alloc: Global) -> Result<u64, NoMemory> {
     let host = Side::new(alloc, false, Vec::new(alloc))?;
     let remote = Side::new(alloc, false, Vec::new(alloc))?;
     let (link, mut manager) = SharedLink::make(alloc, config, host, remote)?;
-    if !can_manage(&link, &mut manager) {
+    if !can_manage(&link, &mut manager) || !shows_words(alloc, &link, &mut manager) {
         return Ok(0);
     }
     let Some(mut sender) = link.caller(&mut manager, End::Remote) else {
@@ -58,6 +58,20 @@ fn can_manage(link: &SharedLink<Side>, manager: &mut Manager) -> bool
         side.channels().list(0).is_none()
     });
     carried == Some(0) && matches!(first, Ok(true))
+}
+
+/// Whether the words of the new link are those of two new rings: to the host, on which the device sends, all 256 buffers are available,
+/// and to the remote none is.
+fn shows_words(alloc: Global, link: &SharedLink<Side>, manager: &mut Manager) -> bool
+    requires { IsManagerOf link.now manager.old }
+    ensures { IsManagerOf link.now manager.new }
+{
+    match link.snapshot(alloc, manager) {
+        Ok(words) => {
+            words.era.is_live && words.to_host.avail_idx == 256 && words.to_remote.avail_idx == 0
+        }
+        Err(_) => false,
+    }
 }
 
 /// All messages, one after the other. Answers how many were given back.

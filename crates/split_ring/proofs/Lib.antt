@@ -22,3 +22,6 @@ pub mod Gathering
 pub mod Refusals
 pub mod ManagerSteps
 pub mod Reopening
+pub mod StateSteps
+pub mod Reopened
+pub mod Finding

@@ -35,7 +35,7 @@ use Rattle.link_words.specs.Sides.{no_sides, sides_at}
 use Rattle.link_words.specs.Rule.{IsCallOf}
 use Rattle.link_words.specs.Steps.{IsStepOf, HasWord, StoresWord, turn_number}
 use Rattle.link_words.specs.Turns.{turns_in}
-use Rattle.link_words.specs.Words.{lane_to, receiver_slot, receiver_word, turn_word, words_of}
+use Rattle.link_words.specs.Words.{lane_to, receiver_side, receiver_slot, receiver_word, turn_word, words_of}
 use Rattle.link_words.proofs.Apart.{found_apart}
 use Rattle.link_words.proofs.Closes.{era_of_word}
 use Rattle.link_words.proofs.Exact.{copied_one}
@@ -47,6 +47,19 @@ use Rattle.link_words.proofs.TurnWords.{back_again, receiver_of}
 use Rattle.split_ring.specs.Gathers.{IsCalling, TakesSide, PutsSide, FindsTurnFree, FreesTurn, Meets}
 use Rattle.split_ring.proofs.Gathering.{manager_at, same_place}
 use Rattle.split_ring.proofs.Reopening.{manager_calls, rests_none}
+
+-- a turn by its word
+pub free_by : {C : Type 0} (t : Turn C) → 0 ≡ turn_word t → t ≡ turn.Free
+free_by turn.Free is = refl
+free_by (turn.Taken caller call) is = absurd (omega (arith, is))
+free_by (turn.Leaving caller ended) is = absurd (omega (arith, is))
+free_by turn.Manager is = absurd (omega (arith, is))
+
+pub held_by : {C : Type 0} (t : Turn C) (h : ℕ) → h + 1 ≡ turn_word t → holder t ≡ Some h
+held_by turn.Free h is = absurd (omega (arith, is))
+held_by (turn.Taken caller call) h is = ap Some (let e : caller ≡ h = omega (arith, is) in e)
+held_by (turn.Leaving caller ended) h is = ap Some (let e : caller ≡ h = omega (arith, is) in e)
+held_by turn.Manager h is = ap Some (let e : 64 ≡ h = omega (arith, is) in e)
 
 module _ {D : Type 0} (coded : Coded D) (meaning : DeskMeaning D) where
   abbrev Links : (me : SeatState) → Type 0
@@ -89,19 +102,24 @@ module _ {D : Type 0} (coded : Coded D) (meaning : DeskMeaning D) where
   place_at v call slots me c = ap (λ (s : SeatState). place_of_number 64 s.0.passes) c.is ∙ same_place 64 call (place_of_number 64 v.passes) v.passes
 
   -- the call after a step, where the manager's own pass is in these calls
-  next_is : (v : View) (call call' : Call) (slots slots' : List (ℕ × Slot)) (me me' : SeatState) → IsCalling v call slots me → IsCalling v call' slots' me' → call_at (manager_place me) me'.0.passes ≡ call'
+  pub next_is : (v : View) (call call' : Call) (slots slots' : List (ℕ × Slot)) (me me' : SeatState) → IsCalling v call slots me → IsCalling v call' slots' me' → call_at (manager_place me) me'.0.passes ≡ call'
   next_is v call call' slots slots' me me' c c' = ap (λ (k : ℕ). call_at k me'.0.passes) (place_at v call slots me c ∙ sym (place_at v call' slots' me' c')) ∙ manager_calls v call' slots' me' c'
 
-  side_right : {tables : _} (state : LaneLink (RingState (PlacedDesk coded tables))) (e : End) (number : ℕ) (x : ReceiverSide) (a b : LaneSides)
-      → IsCallAt (turns_in (after_deed (placed_meaning coded tables meaning) state (ManagerTakes lane_turn.Receiver e))) 0 number (gathered e (λ g. record g { receiver = Some x }) a b) → x.desk ≡ right_to (lane_to state e).lane.desk
-  side_right state side.Host number x a b at = ap (λ (y : ReceiverSide). y.desk) (at.2.receiver x refl).1
-  side_right state side.Remote number x a b at = ap (λ (y : ReceiverSide). y.desk) (at.3.receiver x refl).1
+  receiver_at : {tables : _} (state : LaneLink (RingState (PlacedDesk coded tables))) (e : End) (number : ℕ) (x : ReceiverSide) (a b : LaneSides)
+      → IsCallAt (turns_in (after_deed (placed_meaning coded tables meaning) state (ManagerTakes lane_turn.Receiver e))) 0 number (gathered e (λ g. record g { receiver = Some x }) a b) → x ≡ receiver_side (lane_to state e)
+  receiver_at state side.Host number x a b at = (at.2.receiver x refl).1
+  receiver_at state side.Remote number x a b at = (at.3.receiver x refl).1
 
-  -- the side state that the manager took has the right to the desk of its end
+  -- the side state that the manager took is that of its lane
+  pub receiver_taken : (v : View) (e : End) (x : ReceiverSide) (a b : LaneSides) (slots slots' : List (ℕ × Slot)) (me me' : SeatState) → IsCalling v (Gathers a b) slots me → IsCalling v (gathered e (λ g. record g { receiver = Some x }) a b) slots' me'
+      → (s : FindsTurnFree coded meaning lane_turn.Receiver e me me') → x ≡ receiver_side (lane_to s.state e)
+  receiver_taken v e x a b slots slots' me me' c c' s =
+      receiver_at s.state e (number_at (manager_place me) me.0.passes) x a b (subst (λ (call : Call). IsCallOf (after_deed (placed_meaning coded me.0.sizes.desks meaning) s.state (ManagerTakes lane_turn.Receiver e)) 0 (number_at (manager_place me) me.0.passes) call) (next_is v (Gathers a b) (gathered e (λ g. record g { receiver = Some x }) a b) slots slots' me me' c c') s.after)
+
+  -- so it has the right to the desk of its end
   pub right_taken : (v : View) (e : End) (x : ReceiverSide) (a b : LaneSides) (slots slots' : List (ℕ × Slot)) (me me' : SeatState) → IsCalling v (Gathers a b) slots me → IsCalling v (gathered e (λ g. record g { receiver = Some x }) a b) slots' me'
       → (s : FindsTurnFree coded meaning lane_turn.Receiver e me me') → x.desk ≡ right_to (lane_to s.state e).lane.desk
-  right_taken v e x a b slots slots' me me' c c' s =
-      side_right s.state e (number_at (manager_place me) me.0.passes) x a b (subst (λ (call : Call). IsCallOf (after_deed (placed_meaning coded me.0.sizes.desks meaning) s.state (ManagerTakes lane_turn.Receiver e)) 0 (number_at (manager_place me) me.0.passes) call) (next_is v (Gathers a b) (gathered e (λ g. record g { receiver = Some x }) a b) slots slots' me me' c c') s.after)
+  right_taken v e x a b slots slots' me me' c c' s = ap (λ (y : ReceiverSide). y.desk) (receiver_taken v e x a b slots slots' me me' c c' s)
 
   -- so the right is to the desk of that end
   pub right_table : (v : View) (e : End) (x : ReceiverSide) (a b : LaneSides) (slots slots' : List (ℕ × Slot)) (me me' : SeatState) → IsCalling v (Gathers a b) slots me → IsCalling v (gathered e (λ g. record g { receiver = Some x }) a b) slots' me'
@@ -124,18 +142,6 @@ module _ {D : Type 0} (coded : Coded D) (meaning : DeskMeaning D) where
   pub desk_known : (me me' : SeatState) (e : End) (x : ReceiverSide) (m : LaneLink (RingState D)) (s : FindsTurnFree coded meaning lane_turn.Receiver e me me') → x.desk ≡ right_to (lane_to s.state e).lane.desk → KnowsState coded me.0 m
       → x.desk.code ≡ coded.code (lane_to m e).lane.desk
   desk_known me me' e x m s right knows = ap (λ r. r.code) right ∙ ap coded.code (ap (λ (l : Links me). (lane_to l e).lane.desk.desk) (state_known me _ _ me' m s knows) ∙ desk_there me.0.sizes.desks m e)
-
-  free_by : (t : Turn Receiving) → 0 ≡ turn_word t → t ≡ turn.Free
-  free_by turn.Free is = refl
-  free_by (turn.Taken caller call) is = absurd (omega (arith, is))
-  free_by (turn.Leaving caller ended) is = absurd (omega (arith, is))
-  free_by turn.Manager is = absurd (omega (arith, is))
-
-  held_by : (t : Turn Receiving) (h : ℕ) → h + 1 ≡ turn_word t → holder t ≡ Some h
-  held_by turn.Free h is = absurd (omega (arith, is))
-  held_by (turn.Taken caller call) h is = ap Some (let e : caller ≡ h = omega (arith, is) in e)
-  held_by (turn.Leaving caller ended) h is = ap Some (let e : caller ≡ h = omega (arith, is) in e)
-  held_by turn.Manager h is = ap Some (let e : 64 ≡ h = omega (arith, is) in e)
 
   -- the word of a receiver's turn that was found
   found_turn : {tables : _} (state : LaneLink (RingState (PlacedDesk coded tables))) (e : End) (n : ℕ) → n ≡ get_or (layout (words_of 0 [] state)) (place_in (receiver_word e)) 0 → n ≡ turn_word (lane_to state e).lane.receiver

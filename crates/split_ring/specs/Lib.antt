@@ -15,4 +15,7 @@ pub mod Callers
 pub mod Forms
 pub mod PartsOf
 pub mod Gathers
+pub mod States
 pub mod Reopens
+pub mod ManagerCalls
+pub mod Snapshots

@@ -1,6 +1,9 @@
 //! The manager takes the side states of the lanes with their turns, and leaves them again.
 ghost use Rattle.std.specs.Prelude.{◌≡◌, false, ℕ, List, ◌∷◌, [], IfOk, IfErr, Some, None};
+ghost use Rattle.lane_model.specs.declared.lane_links.LaneLink.{LaneLink};
 ghost use Rattle.lane_model.specs.declared.recoveries.LaneTurn.TheVariants as lane_turn;
+ghost use Rattle.lane_model.specs.Crashes.{turn_out};
+ghost use Rattle.ring_core.specs.declared.states.RingState.{RingState};
 ghost use Rattle.link_words.specs.declared.rule.Call.TheVariants.{Gathers};
 ghost use Rattle.link_words.specs.declared.rule.LaneSides.{LaneSides};
 ghost use Rattle.link_words.specs.declared.rule.ReceiverSide.{ReceiverSide};
@@ -9,11 +12,13 @@ ghost use Rattle.link_words.specs.declared.rule.Slot.{Slot};
 ghost use Rattle.link_words.specs.declared.rule.Slot.TheVariants.{Empty, Receiver, Sender};
 ghost use Rattle.link_words.specs.declared.rule.View.{View};
 ghost use Rattle.link_words.specs.Parts.{has_for_manager, has_sender_for_manager};
+ghost use Rattle.link_words.specs.PlacedLinks.{KnowsState};
 ghost use Rattle.link_words.specs.Reopens.{AreInUse, MayGather, both_sides, gathered, manager_call};
 ghost use Rattle.link_words.specs.Sides.{no_sides, sides_at};
-ghost use Rattle.link_words.specs.Words.{sender_slot, receiver_slot};
+ghost use Rattle.link_words.specs.Words.{lane_to, sender_slot, receiver_slot};
 ghost use Rattle.split_ring.specs.Gathers.{IsCalling, TakesSide, PutsSide, FindsTurnFree, FreesTurn, Meets, IsHolderIn, lane_slots, TakesLane, IsAsBefore, MeetsLane, PutsLane};
 ghost use Rattle.split_ring.specs.Seats.{IsSeatOf};
+ghost use Rattle.split_ring.specs.States.{AreSidesOf, lane_left, lane_taken};
 
 use crate::links::SharedLink;
 use crate::sends::sender_slot;
@@ -138,6 +143,8 @@ impl<D: Desk> SharedLink<D> {
         ensures users { IfOk result (λ states. AreInUse seat.old.me.0 lane states.receiver.hands) }
         ensures met { IfErr result (λ holder. IsAsBefore lane seat.old.me seat.new.me × MeetsLane D.row.coded D.meaning lane holder seat.old.me) }
         ensures holder { IfErr result (λ holder. IsHolderIn seat.old.me.0 holder) }
+        ensures known { IfOk result (λ states. (m : LaneLink (RingState D)) → KnowsState D.row.coded seat.old.me.0 m → KnowsState D.row.coded seat.new.me.0 (lane_taken D.meaning m lane) × AreSidesOf (lane_to m lane) states.sender states.receiver) }
+        ensures refused { IfErr result (λ holder. (m : LaneLink (RingState D)) → KnowsState D.row.coded seat.old.me.0 m → KnowsState D.row.coded seat.new.me.0 m × (turn_out (lane_to m lane).lane ≡ Some holder)) }
     {
         let sender = match self.take_sender(seat, lane) {
             Ok(side) => side,
@@ -158,6 +165,7 @@ impl<D: Desk> SharedLink<D> {
         requires manager { (v : View) × (a : LaneSides) × (b : LaneSides) × (slots : List (ℕ × Slot)) × IsCalling v (Gathers a b) (lane_slots lane slots) seat.old.me × (sides_at lane a b ≡ both_sides states.sender states.receiver) }
         ensures seat { IsSeatOf self.now.table.shared.table_id self.now.sizes seat.new.table_id seat.new.me }
         ensures put { PutsLane lane seat.old.me seat.new.me }
+        ensures state { (m : LaneLink (RingState D)) → KnowsState D.row.coded seat.old.me.0 m → KnowsState D.row.coded seat.new.me.0 (lane_left D.meaning m lane) }
     {
         let LaneStates { sender, receiver } = states;
         self.put_receiver(seat, lane, receiver);

@@ -3,6 +3,10 @@ ghost use Rattle.std.specs.Prelude.{◌≡◌, ◌+◌, ◌<◌, ◌≤◌, ◌^
 ghost use Rattle.rp_base.specs.declared.kinds.End.TheVariants as side;
 ghost use Rattle.rp_base.specs.declared.kinds.End.{End};
 ghost use Rattle.rp_base.specs.declared.limits.TheConstants.{BOOK_MOST};
+ghost use Rattle.lane_model.specs.declared.lane_links.LaneLink.{LaneLink};
+ghost use Rattle.lane_model.specs.Recoveries.{link_after_reopen};
+ghost use Rattle.ring_core.specs.declared.states.RingState.{RingState};
+ghost use Rattle.ring_core.specs.RingSteps.{ring_form};
 ghost use Rattle.link_words.specs.declared.rule.Call.TheVariants.{Gathers, Reopens};
 ghost use Rattle.link_words.specs.declared.rule.LaneSides.{LaneSides};
 ghost use Rattle.link_words.specs.declared.rule.ReceiverSide.{ReceiverSide};
@@ -14,12 +18,15 @@ ghost use Rattle.link_words.specs.Histories.{LaneBooks};
 ghost use Rattle.link_words.specs.Layouts.{layout};
 ghost use Rattle.link_words.specs.Passes.{Manages};
 ghost use Rattle.link_words.specs.PlacedDesks.{table_at};
-ghost use Rattle.link_words.specs.Reopens.{AreBooksOf, AreInUse, both_sides};
+ghost use Rattle.link_words.specs.PlacedLinks.{KnowsState};
+ghost use Rattle.link_words.specs.Reopens.{AreBooksOf, AreInUse, books_by, both_sides};
+ghost use Rattle.link_words.specs.Sides.{sides_at};
 ghost use Rattle.split_ring.specs.Gathers.{IsCalling, IsHolderIn};
 ghost use Rattle.split_ring.specs.Openings.{opened_words};
 ghost use Rattle.split_ring.specs.Reopens.{all_slots, HasNone, HasAll, MeetsTurn, spent_by, unopened_from, AreTold, next_view, IsReopening};
 ghost use Rattle.split_ring.specs.Seats.{IsSeatOf};
 ghost use Rattle.split_ring.specs.Sends.{live_era};
+ghost use Rattle.split_ring.specs.States.{AreSidesOf, all_left, all_taken, turns_out};
 
 use crate::callers::Manager;
 use crate::gathers::LaneStates;
@@ -104,7 +111,8 @@ fn spent(inc: Inc) -> Option<ReopenFault>
 }
 
 impl<D: Desk> SharedLink<D> {
-    ghost use Rattle.split_ring.specs.Callers.{IsManagerOf};
+    ghost use Rattle.split_ring.specs.Callers.{IsManagerOf, IsStateOf};
+    ghost use Rattle.split_ring.specs.ManagerCalls.{ReopensState};
 
     /// Opens the next incarnation, with both lanes empty and both desks reset. The answer is what each lane accepted
     /// and handed over in the one that was closed. Its memory is taken first.
@@ -116,6 +124,7 @@ impl<D: Desk> SharedLink<D> {
         requires { IsManagerOf self.now manager.old }
         ensures manager { IsManagerOf self.now manager.new }
         ensures answer { IsReopening D.row.coded D.meaning manager.old.seat.me.0 result manager.new.seat.me.0 }
+        ensures state { (m : LaneLink (RingState D)) → IsStateOf D.row.coded manager.old m → ReopensState D.row.coded D.meaning m result manager.new }
     {
         let room = match self.reopen_room(alloc) {
             Ok(room) => room,
@@ -162,6 +171,9 @@ impl<D: Desk> SharedLink<D> {
         ensures closed { IfOk result (λ inc. (inc ≡ seat.old.me.0.inc) × (inc < 4294967296) × (seat.new.me ≡ (record seat.old.me.0 { is_closed = true }, seat.old.me.1))) }
         ensures unknown { IfErr result (λ _. seat.old.me.0.is_closed ≡ false) }
         ensures open { IfErr result (λ era. (era ≡ live_era seat.old.me.0.inc) × (seat.new.me ≡ (record seat.old.me.0 { is_closed = false }, seat.old.me.1))) }
+        ensures state { (m : LaneLink (RingState D)) → KnowsState D.row.coded seat.old.me.0 m → KnowsState D.row.coded seat.new.me.0 m }
+        ensures shut { IfOk result (λ inc. (m : LaneLink (RingState D)) → KnowsState D.row.coded seat.old.me.0 m → m.era ≡ record { inc = inc; is_live = false }) }
+        ensures live { IfErr result (λ era. (m : LaneLink (RingState D)) → KnowsState D.row.coded seat.old.me.0 m → (m.era ≡ era) × (m.era.is_live ≡ true)) }
     {
         let era = era_of(learn_era(&self.table.shared, seat));
         if era.is_live { Err(era) } else { Ok(era.inc) }
@@ -170,7 +182,7 @@ impl<D: Desk> SharedLink<D> {
     /// The side states of both lanes, by one attempt at each turn.
     ///
     /// Errors: the holder of the first turn that was another's. The manager has none then.
-    fn take_lanes(&self, seat: &mut LinkSeat) -> Result<(LaneStates, LaneStates), CallerNo>
+    pub(crate) fn take_lanes(&self, seat: &mut LinkSeat) -> Result<(LaneStates, LaneStates), CallerNo>
         requires seat { IsSeatOf self.now.table.shared.table_id self.now.sizes seat.old.table_id seat.old.me }
         requires manager { (v : View) × HasNone v seat.old.me }
         ensures seat { IsSeatOf self.now.table.shared.table_id self.now.sizes seat.new.table_id seat.new.me }
@@ -178,6 +190,8 @@ impl<D: Desk> SharedLink<D> {
         ensures users { IfOk result (λ lanes. AreInUse seat.old.me.0 side.Host lanes.0.receiver.hands × AreInUse seat.old.me.0 side.Remote lanes.1.receiver.hands) }
         ensures met { IfErr result (λ holder. ((v : View) → HasNone v seat.old.me → HasNone v seat.new.me) × MeetsTurn D.row.coded D.meaning holder seat.old.me) }
         ensures holder { IfErr result (λ holder. IsHolderIn seat.old.me.0 holder) }
+        ensures known { IfOk result (λ lanes. (m : LaneLink (RingState D)) → KnowsState D.row.coded seat.old.me.0 m → KnowsState D.row.coded seat.new.me.0 (all_taken D.meaning m) × AreSidesOf m.to_host lanes.0.sender lanes.0.receiver × AreSidesOf m.to_remote lanes.1.sender lanes.1.receiver) }
+        ensures refused { IfErr result (λ holder. (m : LaneLink (RingState D)) → KnowsState D.row.coded seat.old.me.0 m → KnowsState D.row.coded seat.new.me.0 m × (turns_out m ≡ Some holder)) }
     {
         let host = match self.take_lane(seat, End::Host) {
             Ok(states) => states,
@@ -193,11 +207,12 @@ impl<D: Desk> SharedLink<D> {
     }
 
     /// The manager leaves the four turns, with these side states.
-    fn put_lanes(&self, seat: &mut LinkSeat, host: LaneStates, remote: LaneStates)
+    pub(crate) fn put_lanes(&self, seat: &mut LinkSeat, host: LaneStates, remote: LaneStates)
         requires seat { IsSeatOf self.now.table.shared.table_id self.now.sizes seat.old.table_id seat.old.me }
         requires manager { (v : View) × HasAll v host.sender host.receiver remote.sender remote.receiver seat.old.me }
         ensures seat { IsSeatOf self.now.table.shared.table_id self.now.sizes seat.new.table_id seat.new.me }
         ensures put { (v : View) (a b : LaneSides) → IsCalling v (Gathers a b) all_slots seat.old.me → HasNone v seat.new.me }
+        ensures state { (m : LaneLink (RingState D)) → KnowsState D.row.coded seat.old.me.0 m → KnowsState D.row.coded seat.new.me.0 (all_left D.meaning m) }
     {
         self.put_lane(seat, End::Remote, remote);
         self.put_lane(seat, End::Host, host);
@@ -222,6 +237,8 @@ impl<D: Desk> SharedLink<D> {
         ensures next { (v : View) → HasAll v host.sender host.receiver remote.sender remote.receiver seat.old.me → v.inc ≡ inc → HasNone (next_view v) seat.new.me }
         ensures books { (v : View) → HasAll v host.sender host.receiver remote.sender remote.receiver seat.old.me → v.inc ≡ inc → v.is_closed ≡ true → (told : End → LaneBooks) × AreBooksOf v told × AreTold result told }
         ensures inc { result.inc ≡ inc }
+        ensures told { AreTold result (λ e. books_by (sides_at e (both_sides host.sender host.receiver) (both_sides remote.sender remote.receiver))) }
+        ensures state { (m : LaneLink (RingState D)) → KnowsState D.row.coded seat.old.me.0 m → KnowsState D.row.coded seat.new.me.0 (link_after_reopen (ring_form D.meaning) m) }
     {
         begin_reopening(&self.table.shared, seat);
         self.reset_words(seat, &room.words);
@@ -247,6 +264,7 @@ impl<D: Desk> SharedLink<D> {
         requires words { words.now ≡ layout (opened_words self.now.sizes) }
         ensures seat { IsSeatOf self.now.table.shared.table_id self.now.sizes seat.new.table_id seat.new.me }
         ensures all { (v : View) (inc : ℕ) (a b : LaneSides) (slots : List (ℕ × Slot)) → IsCalling v (Reopens 0 inc a b) slots seat.old.me → IsCalling v (Reopens (length (fresh_of self.now.sizes)) inc a b) slots seat.new.me }
+        ensures state { (m : LaneLink (RingState D)) → KnowsState D.row.coded seat.old.me.0 m → KnowsState D.row.coded seat.new.me.0 m }
     {
         let entries = u64::from(self.sizes.to_host.entries)
             + u64::from(self.sizes.to_remote.entries);

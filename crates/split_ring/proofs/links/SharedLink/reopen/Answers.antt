@@ -1,4 +1,4 @@
-use Rattle.std.proofs.Common.{◌+◌, ◌<◌, ℕ, refl, sym, ap, ◌∙◌, subst, true, false}
+use Rattle.std.proofs.Common.{◌+◌, ◌<◌, ℕ, refl, sym, ap, ◌∙◌, subst, inl, inr, true, false}
 use Rattle.link_words.specs.declared.rule.View.{View}
 use Rattle.link_words.specs.Reopens.{both_sides}
 use Rattle.split_ring.specs.Reopens.{next_view, unopened_from}
@@ -6,6 +6,13 @@ use Rattle.split_ring.proofs.Reopening.{rests_none, none_view, manager_again, re
 use Rattle.rp_base.specs.declared.kinds.End.TheVariants as side
 use Rattle.link_words.specs.Calls.{SeatState}
 use Rattle.split_ring.proofs.Gathering.{holder_by, in_use_by}
+use Rattle.rp_base.specs.declared.kinds.Era.{Era}
+use Rattle.lane_model.specs.declared.lane_links.LaneLink.{LaneLink}
+use Rattle.ring_core.specs.declared.states.RingState.{RingState}
+use Rattle.link_words.specs.PlacedLinks.{KnowsState}
+use Rattle.split_ring.specs.States.{all_taken}
+use Rattle.split_ring.proofs.StateSteps.{all_again}
+use Rattle.split_ring.proofs.Reopened.{told_books, unopened_is, unopened_live, unopened_turn}
 use Rattle.split_ring.proofs.links.SharedLink.reopen.Goals as goal
 
 pub returns-in-Err-find_closed-clause-manager : goal.returns-in-Err-find_closed-clause-manager
@@ -82,4 +89,38 @@ returns-in-None-clause-answer g c =
       c.open_next.ensures.inc ∙ closed.0,
       subst (λ (k : ℕ). k + 1 < 4294967296) closed.0 c.in-None.ensures.none.2,
       none_view me (next_view v) c.open_next.new.seat.me c.requires.rests refl next,
+    )
+
+pub returns-in-Err-clause-state : goal.returns-in-Err-clause-state
+returns-in-Err-clause-state g c = λ m is. (inl refl, is)
+
+pub returns-in-Err-find_closed-clause-state : goal.returns-in-Err-find_closed-clause-state
+returns-in-Err-find_closed-clause-state g c = λ m is.
+    let era = c.in-Err-find_closed.ensures.live m is.known in
+    (inr (unopened_live g.D.Desk.meaning m c.in-Err-find_closed.era era.0 era.1), record { known = c.find_closed.ensures.state m is.known; users = is.users })
+
+pub returns-in-Err-take_lanes-clause-state : goal.returns-in-Err-take_lanes-clause-state
+returns-in-Err-take_lanes-clause-state g c = λ m is.
+    let met = c.in-Err-take_lanes.ensures.refused m (c.find_closed.ensures.state m is.known) in
+    (inr (unopened_turn g.D.Desk.meaning m c.in-Ok-find_closed.inc c.in-Err-take_lanes.holder (c.in-Ok-find_closed.ensures.shut m is.known) met.1), record { known = met.0; users = is.users })
+
+pub returns-in-Some-clause-state : goal.returns-in-Some-clause-state
+returns-in-Some-clause-state g c = λ m is.
+    let meaning = g.D.Desk.meaning in let h = c.in-Ok-take_lanes.lanes.0 in let r = c.in-Ok-take_lanes.lanes.1 in
+    let taken = c.in-Ok-take_lanes.ensures.known m (c.find_closed.ensures.state m is.known) in (
+      inr (unopened_is meaning m c.in-Ok-find_closed.inc h.sender r.sender h.receiver r.receiver (c.in-Ok-find_closed.ensures.shut m is.known) taken.1 taken.2 ∙ sym c.in-Some.ensures.fault),
+      record {
+        known = subst (λ (l : LaneLink (RingState g.row.D.Denot)). KnowsState g.row.D.coded c.put_lanes.new.seat.me.0 l) (all_again meaning m h.sender r.sender h.receiver r.receiver taken.1 taken.2) (c.put_lanes.ensures.state (all_taken meaning m) taken.0);
+        users = is.users;
+      },
+    )
+
+pub returns-in-None-clause-state : goal.returns-in-None-clause-state
+returns-in-None-clause-state g c = λ m is.
+    let meaning = g.D.Desk.meaning in let h = c.in-Ok-take_lanes.lanes.0 in let r = c.in-Ok-take_lanes.lanes.1 in let era = c.in-Ok-find_closed.ensures.shut m is.known in
+    let taken = c.in-Ok-take_lanes.ensures.known m (c.find_closed.ensures.state m is.known) in (
+      unopened_is meaning m c.in-Ok-find_closed.inc h.sender r.sender h.receiver r.receiver era taken.1 taken.2 ∙ sym c.in-None.ensures.fault,
+      c.open_next.ensures.inc ∙ sym (ap (λ (e : Era). e.inc) era),
+      told_books m c.open_next.result h.sender r.sender h.receiver r.receiver taken.1 taken.2 c.open_next.ensures.told,
+      record { known = c.open_next.ensures.state (all_taken meaning m) taken.0; users = is.users },
     )

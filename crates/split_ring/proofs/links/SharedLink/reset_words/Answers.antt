@@ -5,6 +5,8 @@ use Rattle.link_words.specs.Fresh.{fresh_of}
 use Rattle.split_ring.specs.Gathers.{IsCalling}
 use Rattle.split_ring.proofs.Apart.{words_many}
 use Rattle.split_ring.proofs.Reopening.{fresh_many, reset_low, reset_next, may_reset}
+use Rattle.split_ring.proofs.ManagerSteps.{carrier_of}
+use Rattle.split_ring.proofs.Reopened.{still_known}
 use Rattle.split_ring.proofs.links.SharedLink.reset_words.Goals as goal
 
 pub bounds-words-reset_place : goal.bounds-words-reset_place
@@ -40,6 +42,8 @@ loop-number-preserved g c =
     let inv = c.loop-number.invariant in let n = c.loop-number.number in let me = c.loop-number.seat.me in let me1 = c.reset_index.new.manager.me in (
       record { at_table = c.reset_index.ensures.same.0 ∙ inv.0.at_table; told = ap (λ (s : SeatState). s.0.sizes) c.reset_index.ensures.told ∙ inv.0.told },
       λ v inc a b slots start. reset_next v n inc a b slots me me1 (inv.1 v inc a b slots start) c.reset_index.ensures.told,
+      λ m knows. let q = c.requires.manager in let was = inv.1 q.0 q.1 q.2 q.3 q.4 q.5 in
+          still_known g.row.D.coded me me1 m c.reset_index.ensures.copy (carrier_of q.0 (Reopens n q.1 q.2 q.3) (Reopens (n + 1) q.1 q.2 q.3) q.4 q.4 me me1 was (reset_next q.0 n q.1 q.2 q.3 q.4 me me1 was c.reset_index.ensures.told)) (inv.2 m knows),
     )
 
 pub returns-clause-all : goal.returns-clause-all

@@ -9,6 +9,7 @@ use Rattle.link_words.specs.Reopens.{gathered}
 use Rattle.link_words.specs.declared.rule.Slot.TheVariants.{Empty}
 use Rattle.split_ring.proofs.Reopening.{manager_calls}
 use Rattle.split_ring.proofs.Gathering.{no_receiver, no_sender, holder_by, in_use_by, users_by, may_gather, may_gather_at, takes_both, as_before, sender_held}
+use Rattle.split_ring.proofs.StateSteps.{meets_receiver, meets_sender, takes_lane}
 use Rattle.split_ring.proofs.links.SharedLink.take_lane.Goals as goal
 
 pub take_sender-requires-clause-manager : goal.take_sender-requires-clause-manager
@@ -49,3 +50,17 @@ returns-in-Err-take_receiver-clause-holder g c = let q = c.requires.manager in l
     let taken : IsCalling q.0 call ((sender_slot lane, Empty) ∷ q.3) me1 = c.in-Ok.ensures.taken q.0 q.1 q.2 q.3 q.4 in
     holder_by c.args.seat.now.me.0 me1.0 c.in-Err-take_receiver.holder (users_by c.args.seat.now.me me1 q.4 taken)
     (c.in-Err-take_receiver.ensures.holder (ap (has_for_manager lane) (manager_calls q.0 call ((sender_slot lane, Empty) ∷ q.3) me1 taken) ∙ no_receiver lane c.in-Ok.side q.1 q.2 q.5))
+
+pub returns-in-Ok-take_receiver-clause-known : goal.returns-in-Ok-take_receiver-clause-known
+returns-in-Ok-take_receiver-clause-known g c = λ m knows. let q = c.requires.manager in
+    takes_lane g.row.D.coded g.D.Desk.meaning c.args.lane c.in-Ok.side c.in-Ok-take_receiver.receiver q.0 q.1 q.2 q.3 c.args.seat.now.me c.take_sender.new.seat.me c.take_receiver.new.seat.me m q.4
+    c.in-Ok.ensures.taken c.in-Ok.ensures.step c.in-Ok-take_receiver.ensures.taken c.in-Ok-take_receiver.ensures.step knows
+
+pub returns-in-Err-clause-refused : goal.returns-in-Err-clause-refused
+returns-in-Err-clause-refused g c = λ m knows. let met = c.in-Err.ensures.met in
+    meets_sender g.row.D.coded g.D.Desk.meaning c.args.lane c.in-Err.holder c.args.seat.now.me c.take_sender.new.seat.me m met.0 met.1 knows
+
+pub returns-in-Err-take_receiver-clause-refused : goal.returns-in-Err-take_receiver-clause-refused
+returns-in-Err-take_receiver-clause-refused g c = λ m knows. let q = c.requires.manager in let met = c.in-Err-take_receiver.ensures.met in
+    meets_receiver g.row.D.coded g.D.Desk.meaning c.args.lane c.in-Ok.side c.in-Err-take_receiver.holder q.0 q.1 q.2 q.3 c.args.seat.now.me c.take_sender.new.seat.me c.take_receiver.new.seat.me c.put_sender.new.seat.me m q.4
+    c.in-Ok.ensures.taken c.in-Ok.ensures.step met.0 met.1 c.put_sender.ensures.put c.put_sender.ensures.step knows

@@ -1,9 +1,14 @@
-use Rattle.std.proofs.Common.{[], refl, inl, inr}
+use Rattle.std.proofs.Common.{[], refl, inl, inr, subst}
+use Rattle.lane_model.specs.declared.lane_links.LaneLink.{LaneLink}
+use Rattle.ring_core.specs.declared.states.RingState.{RingState}
+use Rattle.link_words.specs.PlacedLinks.{KnowsState}
 use Rattle.rp_base.specs.declared.kinds.End.TheVariants as side
 use Rattle.link_words.specs.Reopens.{both_sides}
 use Rattle.link_words.specs.Sides.{no_sides}
 use Rattle.split_ring.specs.Gathers.{lane_slots}
 use Rattle.split_ring.proofs.Gathering.{holder_by, in_use_by, users_by}
+use Rattle.split_ring.specs.States.{lane_taken}
+use Rattle.split_ring.proofs.StateSteps.{host_again, host_out, none_out, remote_out}
 use Rattle.split_ring.proofs.links.SharedLink.take_lanes.Goals as goal
 
 pub take_lane-requires-2-clause-manager : goal.take_lane-requires-2-clause-manager
@@ -36,3 +41,21 @@ returns-in-Err-take_lane-clause-holder g c = let q = c.requires.manager in
 
 pub returns-in-Err-clause-met : goal.returns-in-Err-clause-met
 returns-in-Err-clause-met g c = ((λ v none. c.in-Err.ensures.met.0 v no_sides no_sides [] refl none), inl c.in-Err.ensures.met.1)
+
+pub returns-in-Ok-take_lane-clause-known : goal.returns-in-Ok-take_lane-clause-known
+returns-in-Ok-take_lane-clause-known g c = λ m knows.
+    let host = c.in-Ok.ensures.known m knows in let remote = c.in-Ok-take_lane.ensures.known (lane_taken g.D.Desk.meaning m side.Host) host.0 in (
+      remote.0,
+      host.1,
+      record { sender_free = remote.1.sender_free; receiver_free = remote.1.receiver_free; sender = remote.1.sender; takers = remote.1.takers; held = remote.1.held },
+    )
+
+pub returns-in-Err-clause-refused : goal.returns-in-Err-clause-refused
+returns-in-Err-clause-refused g c = λ m knows. let met = c.in-Err.ensures.refused m knows in (met.0, host_out m c.in-Err.holder met.1)
+
+pub returns-in-Err-take_lane-clause-refused : goal.returns-in-Err-take_lane-clause-refused
+returns-in-Err-take_lane-clause-refused g c = λ m knows.
+    let meaning = g.D.Desk.meaning in let host = c.in-Ok.ensures.known m knows in let m1 = lane_taken meaning m side.Host in let met = c.in-Err-take_lane.ensures.refused m1 host.0 in (
+      subst (λ (l : LaneLink (RingState g.row.D.Denot)). KnowsState g.row.D.coded c.put_lane.new.seat.me.0 l) (host_again meaning m host.1.sender_free host.1.receiver_free) (c.put_lane.ensures.state m1 met.0),
+      remote_out m c.in-Err-take_lane.holder (none_out m.to_host.lane host.1.sender_free host.1.receiver_free) met.1,
+    )

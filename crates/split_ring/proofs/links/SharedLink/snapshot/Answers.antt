@@ -1,0 +1,102 @@
+use Rattle.std.proofs.Common.{◌≡◌, ◌*◌, ℕ, refl, sym, ap, ◌∙◌, subst}
+use Rattle.rp_base.specs.declared.kinds.End.TheVariants as side
+use Rattle.lane_model.specs.declared.lane_links.LaneLink.{LaneLink}
+use Rattle.ring_core.specs.declared.states.RingState.{RingState}
+use Rattle.link_words.specs.declared.rule.LinkSizes.{LinkSizes}
+use Rattle.link_words.specs.Calls.{SeatState}
+use Rattle.link_words.specs.PlacedLinks.{KnowsState}
+use Rattle.link_words.specs.Reopens.{both_sides}
+use Rattle.split_ring.specs.Reopens.{HasAll, all_slots}
+use Rattle.split_ring.specs.Snapshots.{IsLaneFound}
+use Rattle.split_ring.specs.States.{all_taken}
+use Rattle.split_ring.proofs.Finding.{shown_known}
+use Rattle.split_ring.proofs.Gathering.{may_gather}
+use Rattle.split_ring.proofs.ManagerSteps.{rests_here}
+use Rattle.split_ring.proofs.Reopening.{manager_again, none_view}
+use Rattle.split_ring.proofs.StateSteps.{all_again, nothing_out}
+use Rattle.split_ring.proofs.links.SharedLink.snapshot.Goals as goal
+
+pub take_lanes-requires-clause-manager : goal.take_lanes-requires-clause-manager
+take_lanes-requires-clause-manager g c = let q = c.requires in let me = c.args.manager.now.seat.me in (me.0, rests_here me q.rests q.empty)
+
+pub returns-in-Err-clause-manager : goal.returns-in-Err-clause-manager
+returns-in-Err-clause-manager g c = let q = c.requires in let me = c.args.manager.now.seat.me in
+    (manager_again _ _ _ _ me.0 c.take_lanes.new.seat.me c.take_lanes.ensures.seat (c.in-Err.ensures.met.0 me.0 (rests_here me q.rests q.empty)) q.knows, refl)
+
+pub returns-in-Err-clause-view : goal.returns-in-Err-clause-view
+returns-in-Err-clause-view g c = let q = c.requires in let me = c.args.manager.now.seat.me in none_view me me.0 c.take_lanes.new.seat.me q.rests refl (c.in-Err.ensures.met.0 me.0 (rests_here me q.rests q.empty))
+
+pub returns-in-Err-clause-refused : goal.returns-in-Err-clause-refused
+returns-in-Err-clause-refused g c = c.in-Err.ensures.holder
+
+pub returns-in-Err-clause-state : goal.returns-in-Err-clause-state
+returns-in-Err-clause-state g c = λ m is. let met = c.in-Err.ensures.refused m is.known in (record { known = met.0; users = is.users }, met.1)
+
+pub find_words-found-requires-clause-manager : goal.find_words-found-requires-clause-manager
+find_words-found-requires-clause-manager g c = let q = c.requires in let me = c.args.manager.now.seat.me in let h = c.in-Ok.lanes.0 in let r = c.in-Ok.lanes.1 in
+    may_gather me.0 (both_sides h.sender h.receiver) (both_sides r.sender r.receiver) all_slots c.take_lanes.new.seat.me (c.in-Ok.ensures.taken me.0 (rests_here me q.rests q.empty))
+
+pub put_lanes-requires-clause-manager : goal.put_lanes-requires-clause-manager
+put_lanes-requires-clause-manager g c = let q = c.requires in let me = c.args.manager.now.seat.me in let h = c.in-Ok.lanes.0 in let r = c.in-Ok.lanes.1 in
+    (me.0, subst (HasAll me.0 h.sender h.receiver r.sender r.receiver) (sym c.find_words-found.ensures.same.1) (c.in-Ok.ensures.taken me.0 (rests_here me q.rests q.empty)))
+
+pub returns-in-Ok-found-clause-manager : goal.returns-in-Ok-found-clause-manager
+returns-in-Ok-found-clause-manager g c =
+    let q = c.requires in let me = c.args.manager.now.seat.me in let h = c.in-Ok.lanes.0 in let r = c.in-Ok.lanes.1 in let me3 = c.put_lanes.new.seat.me in
+    let taken = c.in-Ok.ensures.taken me.0 (rests_here me q.rests q.empty) in let still = subst (HasAll me.0 h.sender h.receiver r.sender r.receiver) (sym c.find_words-found.ensures.same.1) taken in
+    let left = c.put_lanes.ensures.put me.0 (both_sides h.sender h.receiver) (both_sides r.sender r.receiver) still in
+    (manager_again _ _ _ _ me.0 me3 c.put_lanes.ensures.seat left q.knows, refl)
+
+pub returns-in-Ok-found-clause-view : goal.returns-in-Ok-found-clause-view
+returns-in-Ok-found-clause-view g c =
+    let q = c.requires in let me = c.args.manager.now.seat.me in let h = c.in-Ok.lanes.0 in let r = c.in-Ok.lanes.1 in let me3 = c.put_lanes.new.seat.me in
+    let taken = c.in-Ok.ensures.taken me.0 (rests_here me q.rests q.empty) in let still = subst (HasAll me.0 h.sender h.receiver r.sender r.receiver) (sym c.find_words-found.ensures.same.1) taken in
+    let left = c.put_lanes.ensures.put me.0 (both_sides h.sender h.receiver) (both_sides r.sender r.receiver) still in
+    none_view me me.0 me3 q.rests refl left
+
+pub returns-in-Ok-found-clause-words : goal.returns-in-Ok-found-clause-words
+returns-in-Ok-found-clause-words g c =
+    let q = c.requires in let me = c.args.manager.now.seat.me in let h = c.in-Ok.lanes.0 in let r = c.in-Ok.lanes.1 in let me1 = c.take_lanes.new.seat.me in let found = c.in-Ok-found in record {
+      me = me1;
+      host_sender = h.sender;
+      host_receiver = h.receiver;
+      remote_sender = r.sender;
+      remote_receiver = r.receiver;
+      all = c.in-Ok.ensures.taken me.0 (rests_here me q.rests q.empty);
+      era = found.ensures.era;
+      to_host = found.ensures.to_host;
+      to_remote = subst (λ (z : LinkSizes). IsLaneFound g.row.D.coded g.D.Desk.meaning me1 side.Remote (512 * z.to_host.capacity) found.snapshot.to_remote) (sym q.told) found.ensures.to_remote;
+    }
+
+pub returns-in-Ok-found-clause-state : goal.returns-in-Ok-found-clause-state
+returns-in-Ok-found-clause-state g c = λ m is.
+    let h = c.in-Ok.lanes.0 in let r = c.in-Ok.lanes.1 in let me1 = c.take_lanes.new.seat.me in let me3 = c.put_lanes.new.seat.me in let coded = g.row.D.coded in let meaning = g.D.Desk.meaning in
+    let known = c.in-Ok.ensures.known m is.known in let m1 = all_taken meaning m in
+    let still = c.put_lanes.ensures.state m1 (subst (λ (s : SeatState). KnowsState coded s.0 m1) (sym c.find_words-found.ensures.same.1) known.0) in
+    let again = subst (λ (l : LaneLink (RingState g.row.D.Denot)). KnowsState coded me3.0 l) (all_again meaning m h.sender r.sender h.receiver r.receiver known.1 known.2) still in
+    let none = nothing_out m h.sender r.sender h.receiver r.receiver known.1 known.2 in
+    let found = c.in-Ok-found in let many = ap (λ (z : LinkSizes). z.to_host.capacity) (sym c.take_lanes.ensures.seat.told) in
+    (record { known = again; users = is.users }, (none, shown_known coded meaning me1 m1 c.args.self.now.sizes.to_host.capacity found.snapshot found.ensures.era found.ensures.to_host found.ensures.to_remote many known.0))
+
+pub returns-in-Err-found-clause-manager : goal.returns-in-Err-found-clause-manager
+returns-in-Err-found-clause-manager g c =
+    let q = c.requires in let me = c.args.manager.now.seat.me in let h = c.in-Ok.lanes.0 in let r = c.in-Ok.lanes.1 in let me3 = c.put_lanes.new.seat.me in
+    let taken = c.in-Ok.ensures.taken me.0 (rests_here me q.rests q.empty) in let still = subst (HasAll me.0 h.sender h.receiver r.sender r.receiver) (sym c.find_words-found.ensures.same.1) taken in
+    let left = c.put_lanes.ensures.put me.0 (both_sides h.sender h.receiver) (both_sides r.sender r.receiver) still in
+    (manager_again _ _ _ _ me.0 me3 c.put_lanes.ensures.seat left q.knows, refl)
+
+pub returns-in-Err-found-clause-view : goal.returns-in-Err-found-clause-view
+returns-in-Err-found-clause-view g c =
+    let q = c.requires in let me = c.args.manager.now.seat.me in let h = c.in-Ok.lanes.0 in let r = c.in-Ok.lanes.1 in let me3 = c.put_lanes.new.seat.me in
+    let taken = c.in-Ok.ensures.taken me.0 (rests_here me q.rests q.empty) in let still = subst (HasAll me.0 h.sender h.receiver r.sender r.receiver) (sym c.find_words-found.ensures.same.1) taken in
+    let left = c.put_lanes.ensures.put me.0 (both_sides h.sender h.receiver) (both_sides r.sender r.receiver) still in
+    none_view me me.0 me3 q.rests refl left
+
+pub returns-in-Err-found-clause-state : goal.returns-in-Err-found-clause-state
+returns-in-Err-found-clause-state g c = λ m is.
+    let h = c.in-Ok.lanes.0 in let r = c.in-Ok.lanes.1 in let me1 = c.take_lanes.new.seat.me in let me3 = c.put_lanes.new.seat.me in let coded = g.row.D.coded in let meaning = g.D.Desk.meaning in
+    let known = c.in-Ok.ensures.known m is.known in let m1 = all_taken meaning m in
+    let still = c.put_lanes.ensures.state m1 (subst (λ (s : SeatState). KnowsState coded s.0 m1) (sym c.find_words-found.ensures.same.1) known.0) in
+    let again = subst (λ (l : LaneLink (RingState g.row.D.Denot)). KnowsState coded me3.0 l) (all_again meaning m h.sender r.sender h.receiver r.receiver known.1 known.2) still in
+    let none = nothing_out m h.sender r.sender h.receiver r.receiver known.1 known.2 in
+    (record { known = again; users = is.users }, none)

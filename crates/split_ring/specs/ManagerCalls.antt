@@ -1,0 +1,39 @@
+-- What the manager's calls answer and leave of a link whose state it knows (own).
+use Rattle.std.specs.Prelude.{◌≡◌, ◌⊎◌, ◌*◌, ℕ, Result, Ok, Err, Some, None}
+use base.Stored.{Coded}
+use Rattle.lane_model.specs.declared.lane_links.LaneLink.{LaneLink}
+use Rattle.lane_model.specs.declared.recoveries.Books.{Books}
+use Rattle.lane_model.specs.declared.recoveries.ReopenFault.{ReopenFault}
+use Rattle.lane_model.specs.declared.recoveries.ReopenFault.TheVariants as fault
+use Rattle.lane_model.specs.Desks.{DeskMeaning}
+use Rattle.lane_model.specs.Links.{link_of}
+use Rattle.lane_model.specs.Recoveries.{link_after_reopen, unopened_by}
+use Rattle.ring_core.specs.declared.states.RingState.{RingState}
+use Rattle.ring_core.specs.RingSteps.{ring_form}
+use Rattle.ring_core.specs.RingWords.{words_of}
+use Rattle.vring_layout.specs.declared.snapshots.Snapshot.{Snapshot}
+use Rattle.vring_layout.specs.declared.snapshots.SnapshotFault.{SnapshotFault}
+use Rattle.vring_layout.specs.declared.snapshots.SnapshotFault.TheVariants as snapshot_fault
+use Rattle.link_words.specs.Histories.{books_of}
+use Rattle.link_words.specs.Words.{lane_to}
+use Rattle.split_ring.specs.declared.callers.Manager.{Manager}
+use Rattle.split_ring.specs.Callers.{IsStateOf}
+use Rattle.split_ring.specs.Reopens.{AreTold}
+use Rattle.split_ring.specs.States.{turns_out}
+
+-- a reopening of a link in this state has this answer, and leaves its manager so: the books are those of the incarnation that was closed, and the state
+-- that behind a reopening; a refusal that isn't want of memory is the one that the state gives, and leaves it
+abbrev pub ReopensState : {D : Type 0} → Coded D → DeskMeaning D → LaneLink (RingState D) → Result Books ReopenFault → Manager → Type 0
+ReopensState coded meaning m (Ok books) after = (unopened_by (link_of (ring_form meaning) m) ≡ None) × (books.inc ≡ m.era.inc) × AreTold books (λ e. books_of (lane_to m e))
+    × IsStateOf coded after (link_after_reopen (ring_form meaning) m)
+ReopensState coded meaning m (Err why) after = ((why ≡ fault.NoMemory) ⊎ (unopened_by (link_of (ring_form meaning) m) ≡ Some why)) × IsStateOf coded after m
+
+-- the era and the words of a link in this state, with its buffers from address 0 on, 512 bytes each, those of the lane to the host first
+abbrev pub snapshot_of : {D : Type 0} → LaneLink (RingState D) → Snapshot
+snapshot_of m = record { era = m.era; to_host = words_of m.to_host.rings 0; to_remote = words_of m.to_remote.rings (512 * m.to_host.rings.sizes.capacity) }
+
+-- a snapshot of a link in this state has this answer
+abbrev pub ShowsState : {D : Type 0} → LaneLink (RingState D) → Result Snapshot SnapshotFault → Type 0
+ShowsState m (Ok snapshot) = (turns_out m ≡ None) × (snapshot ≡ snapshot_of m)
+ShowsState m (Err (snapshot_fault.StillTurn holder)) = turns_out m ≡ Some holder
+ShowsState m (Err snapshot_fault.NoMemory) = turns_out m ≡ None
