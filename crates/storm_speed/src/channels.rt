@@ -1,10 +1,9 @@
 //! The same traffic over two bounded channels, timed.
 use crate::work::Work;
-use crossbeam_channel::{Receiver, Sender, bounded};
+use crossbeam_channel::{Receiver, Sender, TryRecvError, bounded};
 use crossbeam_utils::Backoff;
 use std::alloc::{AllocError, Global};
 use std::sync::Wait;
-use std::sync::atomic::{AtomicU64, Ordering};
 use std::thread;
 use std::thread::Threads;
 use std::time::{Clock, Duration, Instant};
@@ -15,16 +14,9 @@ const CAPACITY: usize = 256;
 /// A thread's ends: it sends on one channel and receives from the other.
 #[derive(Drop)]
 struct Worker<const N: usize> {
+    /// The thread drops it when it has sent its messages. With the last sender the channel is disconnected.
     sender: Sender<[u8; N], Global>,
     receiver: Receiver<[u8; N], Global>,
-    is_host: bool,
-}
-
-/// How many messages were received at each end.
-#[derive(Drop)]
-struct Received {
-    host: AtomicU64,
-    remote: AtomicU64,
 }
 
 /// How long this work takes with messages of `N` bytes. There is none where the clock or the memory fails.
@@ -34,19 +26,9 @@ pub fn time<R: Threads + Wait + Clock + Sync, const N: usize>(
     work: Work,
 ) -> Option<Duration> {
     let workers = workers::<N>(alloc, work.each).ok()?;
-    let received = Received {
-        host: AtomicU64::new(0),
-        remote: AtomicU64::new(0),
-    };
-    let (count, all) = (work.count, work.all());
+    let count = work.count;
     let start = Instant::now(rt).ok()?;
-    if thread::map_vec(
-        rt,
-        workers,
-        &|worker: Worker<N>| -> u64 { do_work(rt, worker, count, all, &received) },
-    )
-    .is_err()
-    {
+    if thread::map_vec(rt, workers, &|worker: Worker<N>| do_work(rt, worker, count)).is_err() {
         return None;
     }
     start.elapsed(rt).ok()
@@ -61,54 +43,39 @@ fn workers<const N: usize>(alloc: Global, each: u8) -> Result<Vec<Worker<N>>, Al
         workers.push(Worker {
             sender: host_sender.clone()?,
             receiver: host_receiver.clone()?,
-            is_host: true,
         })?;
         workers.push(Worker {
             sender: remote_sender.clone()?,
             receiver: remote_receiver.clone()?,
-            is_host: false,
         })?;
     }
     Ok(workers)
 }
 
-/// Sends so many messages, and receives until all are received at its end. Answers how many of them it received itself.
-fn do_work<R: Wait, const N: usize>(
-    rt: &R,
-    worker: Worker<N>,
-    count: u32,
-    all: u64,
-    received: &Received,
-) -> u64 {
-    let here = if worker.is_host {
-        &received.host
-    } else {
-        &received.remote
-    };
+/// Sends so many messages, and receives until the other end has sent its own and each was received.
+fn do_work<R: Wait, const N: usize>(rt: &R, worker: Worker<N>, count: u32) {
+    let Worker { sender, receiver } = worker;
     let idle = Backoff::new();
     let mut sent = 0;
-    let mut mine = 0u64;
     for _ in rt.forever() {
+        if sent >= count {
+            break;
+        }
         let before = sent;
-        if sent < count && worker.sender.try_send(rt, [1; N]).is_ok() {
+        if sender.try_send(rt, [1; N]).is_ok() {
             sent += 1;
         }
-        match worker.receiver.try_recv(rt) {
-            Ok(_message) => {
-                mine = mine.wrapping_add(1);
-                here.fetch_add(1, Ordering::SeqCst);
-                idle.reset();
-            }
-            Err(_) => {
-                if sent == count && here.load(Ordering::SeqCst) >= all {
-                    return mine;
-                }
-                if sent == before {
-                    idle.snooze();
-                } else {
-                    idle.reset();
-                }
-            }
+        match receiver.try_recv(rt) {
+            Err(_) if sent == before => idle.snooze(),
+            Ok(_) | Err(_) => idle.reset(),
+        }
+    }
+    drop(sender);
+    for _ in rt.forever() {
+        match receiver.try_recv(rt) {
+            Ok(_message) => idle.reset(),
+            Err(TryRecvError::Empty) => idle.snooze(),
+            Err(TryRecvError::Disconnected) => return,
         }
     }
     unreachable!()
