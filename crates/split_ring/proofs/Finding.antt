@@ -163,7 +163,7 @@ module _ {D : Type 0} (coded : Coded D) (meaning : DeskMeaning D) where
       let many : (returns : Bool) → length (ring_of r returns) ≡ words.num = λ returns. ap (λ (x : Rings). length (ring_of x returns)) (sym same) ∙ (ring_long (lane_to p e) returns (sound_at p e sound) ∙ (ap (λ (z : RingSizes). z.entries) (sizes_there me.0.sizes p e fits) ∙ sym f.num)) in
       let avail : words.avail ≡ map (λ (x : UsedWord). x.id % 65536) (ring_of r words.device_writes) = ext_get_or 0 words.avail _ (f.long.0 ∙ (sym (many words.device_writes) ∙ sym (length-map (ring_of r words.device_writes) (λ (x : UsedWord). x.id % 65536))))
       (λ k low. let near : k < words.num = (let long = f.long.0 in omega (arith, low, long)) in finds_known me m _ (f.avail k near) knows ∙ (ap (λ (x : Rings). (entry_in x words.device_writes k).id % 65536) same
-          ∙ sym (get_or-map (λ (x : UsedWord). x.id % 65536) (ring_of r words.device_writes) k (entry_of 0) 0 (let long = many words.device_writes in omega (arith, near, long))))) in
+      ∙ sym (get_or-map (λ (x : UsedWord). x.id % 65536) (ring_of r words.device_writes) k (entry_of 0) 0 (let long = many words.device_writes in omega (arith, near, long))))) in
       let used : words.used ≡ ring_of r (not words.device_writes) = ext_get_or (entry_of 0) words.used (ring_of r (not words.device_writes)) (f.long.1 ∙ sym (many (not words.device_writes)))
       (λ k low. let near : k < words.num = (let long = f.long.1 in omega (arith, low, long)) in finds_known me m _ (f.used k near) knows ∙ ap (λ (x : Rings). entry_in x (not words.device_writes) k) same) in
       let first = finds_known me m _ f.avail_idx knows ∙ ap (λ (x : Rings). index_of x words.device_writes) same in let second = finds_known me m _ f.used_idx knows ∙ ap (λ (x : Rings). index_of x (not words.device_writes)) same in

@@ -51,7 +51,7 @@ sender_out_first s h held = λ i. option_or (held i) (holder s.receiver)
 receiver_out_last : {D : Type 0} (s : LaneState D) (h : ℕ) → s.sender ≡ turn.Free → holder s.receiver ≡ Some h → turn_out s ≡ Some h
 receiver_out_last s h free held = (λ i. option_or (holder (free i)) (holder s.receiver)) ∙ held
 
--- the turns that the manager has of the lane to the host are those of a lane that is gone from the other
+-- both turns of the lane to the host, which were free, are taken and left; and all four
 pub host_again : {D : Type 0} (meaning : DeskMeaning D) (m : LaneLink (RingState D)) → m.to_host.lane.sender ≡ turn.Free → m.to_host.lane.receiver ≡ turn.Free → lane_left meaning (lane_taken meaning m side.Host) side.Host ≡ m
 host_again meaning m sender receiver = lane_again meaning m side.Host sender receiver
 

@@ -182,7 +182,10 @@ impl<D: Desk> SharedLink<D> {
     /// The side states of both lanes, by one attempt at each turn.
     ///
     /// Errors: the holder of the first turn that was another's. The manager has none then.
-    pub(crate) fn take_lanes(&self, seat: &mut LinkSeat) -> Result<(LaneStates, LaneStates), CallerNo>
+    pub(crate) fn take_lanes(
+        &self,
+        seat: &mut LinkSeat,
+    ) -> Result<(LaneStates, LaneStates), CallerNo>
         requires seat { IsSeatOf self.now.table.shared.table_id self.now.sizes seat.old.table_id seat.old.me }
         requires manager { (v : View) × HasNone v seat.old.me }
         ensures seat { IsSeatOf self.now.table.shared.table_id self.now.sizes seat.new.table_id seat.new.me }

@@ -27,11 +27,7 @@ use vring_layout::{AvailableWords, RingWords, Snapshot, SnapshotFault, UsedWord,
 fn ring_if(returns: bool) -> Ring
     ensures { result ≡ ring_if returns }
 {
-    if returns {
-        Ring::Return
-    } else {
-        Ring::Forward
-    }
+    if returns { Ring::Return } else { Ring::Forward }
 }
 
 /// Where the index of the return ring or of the forward ring of a lane stands.
@@ -76,11 +72,7 @@ impl<D: Desk> SharedLink<D> {
     ///
     /// Errors: `StillTurn` exactly where a turn was another's, with the holder of the first such turn: of the sender's and the
     /// receiver's of the lane to the host, then of the lane to the remote; else `NoMemory`. After each answer the manager has no turn.
-    pub fn snapshot(
-        &self,
-        alloc: Global,
-        manager: &mut Manager,
-    ) -> Result<Snapshot, SnapshotFault>
+    pub fn snapshot(&self, alloc: Global, manager: &mut Manager) -> Result<Snapshot, SnapshotFault>
         requires { IsManagerOf self.now manager.old }
         ensures manager { IsManagerOf self.now manager.new × (manager.new.users ≡ manager.old.users) }
         ensures view { manager.new.seat.me.0 ≡ record manager.old.seat.me.0 { copy = manager.new.seat.me.0.copy } }
