@@ -325,8 +325,7 @@ impl Bench {
         Ok(ActAnswer::Reached(caller, reach))
     }
 
-    /// So many turns of two callers, where both are in use, neither is in a call, and they are on two
-    /// ends.
+    /// So many turns of two callers on two ends, where both are in use and neither is in a call.
     #[tactic(auto, unfolding(crate::specs::Acts::pump_act))]
     fn pump_act<W: Watcher>(
         &mut self,

@@ -31,9 +31,7 @@ impl Bench {
 
     /// Closes the incarnation that the link is in.
     ///
-    /// # Errors
-    ///
-    /// [`Already`] exactly where it is closed. Nothing changes then.
+    /// Errors: [`Already`] exactly where it is closed. Nothing changes then.
     pub fn close(&mut self) -> Result<(), Already>
         ensures left { self.new ≡ after_close self.old }
         ensures done { IfOk result (λ _. unclosed_by (link_in self.old).era (link_in self.old).era.inc ≡ None) }
@@ -43,12 +41,9 @@ impl Bench {
         self.link.close(inc)
     }
 
-    /// Reclaims a caller: its call is gone, a begun one too, its turn is free, what it held is back, and
-    /// its number is free.
+    /// Reclaims a caller, as [`Reclaim`] says. A call that it has only begun is gone too.
     ///
-    /// # Errors
-    ///
-    /// [`BenchFault::NoCaller`] exactly where the caller isn't in use.
+    /// Errors: [`BenchFault::NoCaller`] exactly where the caller isn't in use.
     pub fn reclaim(&mut self, caller: CallerNo) -> Result<Reclaim, BenchFault>
         ensures answer { result ≡ reclaim_answer (end_of (link_in self.old).callers caller) (unreclaimed_by (link_in self.old) caller) }
         ensures left { self.new ≡ reclaim_leaves self.old caller (unreclaimed_by (link_in self.old) caller) }

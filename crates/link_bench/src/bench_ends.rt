@@ -1,8 +1,7 @@
-ghost use Rattle.std.specs.Prelude.{◌≡◌, ◌<◌, None, IfNone};
+ghost use Rattle.std.specs.Prelude.{◌≡◌, None, IfNone};
 ghost use Rattle.lane_model.specs.Recoveries.{unopened_by};
 ghost use Rattle.link_bench.specs.Benches.{link_in};
 ghost use Rattle.link_bench.specs.BenchEnds.{reopen_refusal_of, readied_bench, crashed_bench, without_other, without_remote, without_remotes};
-ghost use Rattle.lane_model.specs.Lanes.{holder};
 
 use crate::benches::Bench;
 use lane_model::{ReclaimRefusal, ReopenFault};

@@ -14,8 +14,7 @@ use std::alloc::Global;
 use vring_layout::{RingWords, Snapshot, SnapshotFault, ring_bytes, vring_size};
 
 impl Bench {
-    /// Who has the first turn of the link that is out: of lane 0's sender and receiver, then of lane
-    /// 1's.
+    /// Who has the first turn that is out: that of lane 0's sender, its receiver, then lane 1's.
     pub fn turn_holder(&self) -> Option<CallerNo>
         ensures { result ≡ turn_holder (link_in self.now) }
     {
@@ -33,10 +32,8 @@ impl Bench {
 
     /// The channels of the host end, in the order of creation.
     ///
-    /// # Errors
-    ///
-    /// [`SnapshotFault::StillTurn`] exactly where a caller has the turn of lane 0's receiver, or want of
-    /// memory.
+    /// Errors: [`SnapshotFault::StillTurn`] exactly where a caller has the turn of lane 0's
+    /// receiver, or want of memory.
     pub fn channels(&self, alloc: Global) -> Result<Vec<Channel>, SnapshotFault>
         ensures free { IfOk result (λ _. holder (link_in self.now).to_host.receiver ≡ None) }
         ensures channels { IfOk result (λ channels. channels.items ≡ (link_in self.now).to_host.desk.channels) }
@@ -52,10 +49,8 @@ impl Bench {
     /// The era of the link and the words of both its lanes as they stand. No memory was given to the
     /// link, so its buffers stand from address 0 on.
     ///
-    /// # Errors
-    ///
-    /// [`SnapshotFault::StillTurn`] exactly where a turn is out, with the holder of the first of lane
-    /// 0's sender and receiver, then lane 1's; else only want of memory.
+    /// Errors: [`SnapshotFault::StillTurn`] exactly where a turn is out, with the holder that
+    /// [`Bench::turn_holder`] answers; else only want of memory.
     pub fn snapshot(&self, alloc: Global) -> Result<Snapshot, SnapshotFault>
         ensures free { OnOk result (turn_holder (link_in self.now) ≡ None) }
         ensures words { IfOk result (λ snapshot. snapshot ≡ bench_snapshot self.now) }
@@ -86,8 +81,7 @@ impl Bench {
         }
     }
 
-    /// The words of a lane's rings over buffers that begin at a device address: lane 0 to the host, 1
-    /// to the remote.
+    /// The words of the rings of lane 0, to the host, or 1, over buffers from a device address on.
     fn lane_words(&self, alloc: Global, lane: u64, at: Da) -> Result<RingWords, NoMemory>
         ensures words { IfOk result (λ words. words ≡ lane_words self.now.rings lane at) }
         ensures sizes { IfOk result (λ words. IsRingSize words.num × (words.capacity ≡ ring_capacity words.num)) }
@@ -128,8 +122,7 @@ impl Bench {
     }
 }
 
-/// Where the buffers of a lane begin: those of lane 0, `capacity` of 512 bytes, at the base, and those
-/// of lane 1 behind them.
+/// Where a lane's buffers begin: `capacity` of 512 bytes of lane 0 at the base, lane 1's behind.
 pub fn lane_base(base: Da, capacity: u16, lane: u64) -> Da
     requires { base + 512 * capacity < 2 ^ 32 }
     ensures { result ≡ lane_base base capacity lane }

@@ -15,8 +15,7 @@ pub enum Done {
 }
 
 impl Bench {
-    /// Why no step of a call of this caller can be done, if none can: it isn't in use, or it is in no
-    /// call.
+    /// Why this caller can do no step of a call, if it can't: it isn't in use, or it is in no call.
     pub fn step_fault(&self, caller: CallerNo) -> Option<BenchFault>
         ensures fault { result ≡ step_fault self.now caller }
         ensures within { IfNone result (caller < 64) }
@@ -30,10 +29,7 @@ impl Bench {
 
     /// Does one step of the call that a caller is in. A call that was begun does its first.
     ///
-    /// # Errors
-    ///
-    /// [`BenchFault::NoCaller`] where the caller isn't in use, then [`BenchFault::NoCall`] where it is
-    /// in no call. The bench is as it was then.
+    /// Errors: as [`Bench::step_fault`] answers. The bench is as it was then.
     pub fn step(&mut self, caller: CallerNo) -> Result<Done, BenchFault>
         ensures may { OnOk result (step_fault self.old caller ≡ None) }
         ensures left { OnOk result (self.new ≡ (advance_walk self.old 0 0 caller).bench) }

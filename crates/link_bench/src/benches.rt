@@ -16,8 +16,7 @@ use rp_base::{CALLERS_MOST, CallerNo, End, Inc, NoMemory, STEPS_MOST};
 use std::alloc::Global;
 use std::marker::Model;
 
-/// A call that a caller has begun and of which no step is done: the incarnation that it follows, and
-/// what it wants.
+/// A call that is begun and has done no step: the incarnation that it follows, and what it wants.
 #[derive(Drop)]
 pub struct BegunCall {
     pub follows: Inc,
@@ -59,8 +58,7 @@ pub enum BenchFault {
     NotHeld(u64),
 }
 
-/// A link with the calls that its callers have begun. What a caller holds is known by the number of
-/// its message, and kept by the link.
+/// A link with the calls that are begun. It keeps what each caller holds, by the message's number.
 #[derive(Drop)]
 pub struct Bench {
     pub(crate) link: BenchLink,
@@ -81,8 +79,7 @@ impl Model for Bench {
 }
 
 impl Bench {
-    /// A bench over a new link with an end each for the host and the remote, and with no caller. It
-    /// takes the room of the link at once.
+    /// A bench over a new link of these ends, with no caller. It takes the link's room at once.
     pub fn new(
         alloc: Global,
         config: LinkConfig,
@@ -100,8 +97,7 @@ impl Bench {
         })
     }
 
-    /// A new caller at this end, under the least number that is not in use. There is none exactly
-    /// where all 64 are.
+    /// A new caller at this end, under the least free number, or none exactly where all are in use.
     pub fn caller(&mut self, end: End) -> Option<CallerNo>
         ensures number { result ≡ free_number (link_in self.old).callers }
         ensures left { self.new ≡ with_new_caller self.old end (free_number (link_in self.old).callers) }
@@ -172,10 +168,7 @@ impl Bench {
 
     /// Begins a call, which follows the incarnation that the link is in, and does no step of it.
     ///
-    /// # Errors
-    ///
-    /// [`BenchFault::NoCaller`], then [`BenchFault::InCall`], then [`BenchFault::NotHeld`] of a give
-    /// of what the caller doesn't hold. The bench is as it was then.
+    /// Errors: as [`Bench::begin_fault`] answers. The bench is as it was then.
     pub fn begin(&mut self, caller: CallerNo, wished: Wish) -> Result<(), BenchFault>
         ensures fault { IfErr result (λ why. begin_fault self.old caller wished ≡ Some why) }
         ensures refused { IfErr result (λ _. self.new ≡ self.old) }
@@ -282,8 +275,7 @@ impl Bench {
         call_steps(&mut self.link, caller, follows, wished, 0, steps, end)
     }
 
-    /// Makes a whole send of the message that has the bytes of `head` and then those of `body`;
-    /// `steps` counts its steps.
+    /// Makes a whole send of the bytes of `head`, then those of `body`; `steps` counts its steps.
     pub fn send(
         &mut self,
         caller: CallerNo,

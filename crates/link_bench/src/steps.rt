@@ -1,6 +1,5 @@
 ghost use Rattle.std.specs.Prelude.{◌≡◌, ◌≤◌, ◌++◌, ◌+◌, length, Some, None};
 ghost use Rattle.rp_base.specs.declared.limits.TheConstants.{STEPS_MOST, MESSAGE_MOST};
-ghost use Rattle.lane_model.specs.declared.calls.Wish.{Wish};
 ghost use Rattle.lane_model.specs.declared.calls.Wish.TheVariants as wish;
 ghost use Rattle.lane_model.specs.Conditions.{MayStep};
 ghost use Rattle.link_bench.specs.Benches.{OthersMay, call_steps, later_steps, lists_of, on_rings, reach_of};

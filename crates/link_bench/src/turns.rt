@@ -1,4 +1,4 @@
-ghost use Rattle.std.specs.Prelude.{◌≡◌, ◌<◌, ◌≤◌, None, IfOk, IfSome, OnOk, length};
+ghost use Rattle.std.specs.Prelude.{◌≡◌, ◌<◌, ◌≤◌, IfOk, IfSome, OnOk, length};
 ghost use Rattle.rp_base.specs.declared.limits.TheConstants.{PAYLOAD_MOST, STEPS_MOST};
 ghost use Rattle.lane_model.specs.declared.calls.Wish.TheVariants as wish;
 ghost use Rattle.byteorder.specs.Endian.{little_bytes};
@@ -67,8 +67,7 @@ impl Bench {
         Ok(count)
     }
 
-    /// A turn: a send of its number, a take, and the give of what was taken. `ended` says how
-    /// it ended.
+    /// A turn: a send of its number, a take, the give of what it took. `ended` says how it ended.
     #[tactic(auto, unfolding(crate::specs::Turns::one_turn))]
     fn turn<W: Watcher>(
         &mut self,
@@ -132,10 +131,8 @@ impl Bench {
         ensures ended { ended.new ≡ ended_by (turn_call self.old steps.old receiver (wish.Give number)).number }
         ensures within { steps.new ≤ STEPS_MOST }
     {
-        if self
-            .turn_call(receiver, &Wish::Give(number), steps, ended)
-            .is_some()
-        {
+        let given = self.turn_call(receiver, &Wish::Give(number), steps, ended);
+        if given.is_some() {
             *ended = TurnEnd::Whole;
         }
     }
@@ -167,8 +164,7 @@ impl Bench {
         reach_number(sender, progress, &end, ended)
     }
 
-    /// A call of a turn, with the tests that each call has: the number of its message. Where it doesn't
-    /// end well, `ended` says how.
+    /// A call of a turn, with each call's tests: its message's number, or in `ended` how it ended.
     #[tactic(auto, unfolding(crate::specs::Turns::turn_call))]
     fn turn_call(
         &mut self,
@@ -192,9 +188,7 @@ impl Bench {
         let progress = self.call(caller, wished, steps, &mut end);
         reach_number(caller, progress, &end, ended)
     }
-}
 
-impl Bench {
     /// The take of a turn, with the tests that each call has: the number of its message, with its end.
     /// Where it doesn't end well, `ended` says how.
     #[tactic(auto, unfolding(crate::specs::Turns::turn_call))]
@@ -244,9 +238,7 @@ fn reach_number(
         (
             Progress::Ended,
             CallEnd::Sent(number) | CallEnd::Took(number, _) | CallEnd::Gave(number),
-        ) => {
-            return Some(*number);
-        }
+        ) => return Some(*number),
         (Progress::Ended, _) => Reach::Ended(*end),
         (Progress::At(step), _) => Reach::At(step),
         (Progress::Limit, _) => Reach::Limit,

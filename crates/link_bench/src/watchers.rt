@@ -1,5 +1,3 @@
-ghost use Rattle.link_bench.specs.Watchers.{nobody_sees};
-
 use crate::benches::Bench;
 use lane_model::CallEnd;
 use rp_base::{CallerNo, NoMemory};

@@ -37,8 +37,7 @@ pub(crate) fn whole_steps(
     call_steps(link, caller, follows, wished, 6, steps, end)
 }
 
-/// A whole send of the message that has the bytes of `head` and then those of `body`, at once or step
-/// by step.
+/// A whole send of the bytes of `head` and then those of `body`, at once or step by step.
 pub(crate) fn whole_send(
     link: &mut BenchLink,
     caller: CallerNo,
