@@ -121,8 +121,7 @@ impl Actors {
         }
     }
 
-    /// Has the drivers see a message that a host caller was handed with this verdict, whatever its
-    /// number.
+    /// Has the drivers see a message of any number that a host caller was handed with this verdict.
     #[inline(never)]
     fn see_take(&mut self, message: &[u8], verdict: &Verdict)
         requires short { length message.now ≤ MESSAGE_MOST }

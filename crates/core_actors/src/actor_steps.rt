@@ -23,9 +23,8 @@ const HOST_CALLER: CallerNo = 0;
 /// The caller of the worker.
 const WORKER_CALLER: CallerNo = 1;
 
-/// What a step of an actor does: a call under way goes on by one step, else the first of these calls
-/// begins, or a take where there is none, and does its first. Where the call ends, `end` says how.
-/// One that can't begin does nothing.
+/// A step of an actor: a call under way does one step, else the first of these calls, or a take
+/// where there is none, begins and does its first, unless it can't begin. `end` says how it ended.
 #[inline(always)]
 fn link_step(
     bench: &mut Bench,
@@ -48,8 +47,7 @@ fn link_step(
     }
 }
 
-/// Begins a call of a caller that is in none, and does its first step. One that can't begin does
-/// nothing.
+/// Begins a call of a caller in none, and does its first step. One that can't begin does nothing.
 #[inline(never)]
 fn begin_step(bench: &mut Bench, caller: CallerNo, wished: &Wish, end: &mut CallEnd) -> Progress
     requires caller { caller < 64 }
@@ -135,18 +133,14 @@ impl Actors {
     ///
     /// Errors: only for want of memory. Memory and actors are as they were then.
     #[inline(never)]
-    pub fn run_record(
-        &mut self,
-        loaded: &mut Loaded,
-        linked: bool,
-    ) -> Result<DriveProgress, NoMemory>
-        requires { length loaded.old.memory ≡ loaded.old.map.memory_len }
-        ensures loaded { OnOk result (loaded.new ≡ record loaded.old { memory = memory_after loaded.old.memory loaded.old.map linked (actors_view self.old).worker }) }
-        ensures memory { length loaded.new.memory ≡ length loaded.old.memory }
-        ensures actors { OnOk result (actors_view self.new ≡ actors_after_record (with_next_after actor.Worker (actors_view self.old)) loaded.old.memory loaded.old.map linked) }
-        ensures driven { IfOk result (λ progress. (end : CallEnd) → driven_of progress end ≡ driven_by_work (work_of loaded.old.memory loaded.old.map linked (actors_view self.old).worker)) }
+    pub fn run_record(&mut self, load: &mut Loaded, linked: bool) -> Result<DriveProgress, NoMemory>
+        requires { length load.old.memory ≡ load.old.map.memory_len }
+        ensures loaded { OnOk result (load.new ≡ record load.old { memory = memory_after load.old.memory load.old.map linked (actors_view self.old).worker }) }
+        ensures memory { length load.new.memory ≡ length load.old.memory }
+        ensures actors { OnOk result (actors_view self.new ≡ actors_after_record (with_next_after actor.Worker (actors_view self.old)) load.old.memory load.old.map linked) }
+        ensures driven { IfOk result (λ progress. (end : CallEnd) → driven_of progress end ≡ driven_by_work (work_of load.old.memory load.old.map linked (actors_view self.old).worker)) }
         ensures works { IfOk result (λ progress. is_rest progress ≡ false) }
-        ensures same { OnErr result (loaded.new ≡ loaded.old) }
+        ensures same { OnErr result (load.new ≡ load.old) }
         ensures unchanged { OnErr result (actors_view self.new ≡ actors_view self.old) }
     {
         self.make_worker_room()?;
@@ -154,7 +148,7 @@ impl Actors {
         let mut wish = Wish::Take;
         match self
             .worker
-            .work(&mut loaded.memory, &loaded.map, linked, &mut wish)
+            .work(&mut load.memory, &load.map, linked, &mut wish)
         {
             Task::Nothing | Task::Halted => Ok(DriveProgress::Stepped),
             Task::Asked => {

@@ -12,8 +12,7 @@ use rp_base::{Da, DriverKind, Name, NoMemory};
 use std::alloc::Global;
 use std::collections::VecDeque;
 
-/// One of the two who make calls on a core's link: the drivers of the host, as caller 0, and the
-/// worker of the remote, as caller 1.
+/// Who makes calls on a core's link: the host's drivers, as caller 0, or the remote's worker, as 1.
 #[derive(Clone, Copy)]
 pub enum Actor {
     Host,
@@ -37,8 +36,7 @@ impl Actor {
 pub struct Actors {
     pub(crate) drivers: Drivers,
     pub(crate) worker: Worker,
-    /// The calls that the host actor is yet to make, the next one first. One under way stays there
-    /// until it has ended.
+    /// The calls that the host actor is yet to make, in order. One under way stays until it ends.
     pub(crate) host_calls: VecDeque<Wish>,
     /// The same of the worker.
     pub(crate) worker_calls: VecDeque<Wish>,

@@ -1,4 +1,4 @@
-ghost use Rattle.std.specs.Prelude.{◌≡◌, ◌<◌, ◌&&◌, not, Some};
+ghost use Rattle.std.specs.Prelude.{◌≡◌, ◌<◌, ◌&&◌, not};
 ghost use Rattle.core_actors.specs.Actors.{actors_view};
 ghost use Rattle.core_actors.specs.ActorSteps.{begins_with_take, host_is_idle, is_drained, is_empty, waits, worker_is_idle};
 
