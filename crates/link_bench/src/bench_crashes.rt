@@ -74,11 +74,8 @@ impl Bench {
     /// was begun keeps the incarnation that it follows. Answers the books of the incarnation before: of
     /// each lane the messages accepted, who took each that was handed over, and how many those are.
     ///
-    /// # Errors
-    ///
-    /// [`ReopenFault::StillOpen`] where the link is live, then [`ReopenFault::StillTurn`],
-    /// [`ReopenFault::StillHeld`] and [`ReopenFault::IncarnationsSpent`], or want of memory. Nothing
-    /// changes then.
+    /// Errors: [`ReopenFault::StillOpen`], then `StillTurn`, `StillHeld` and `IncarnationsSpent`, or
+    /// want of memory. Nothing changes then.
     pub fn reopen(&mut self, alloc: Global) -> Result<Books, ReopenFault>
         ensures refused { IfErr result (λ fault. (self.new ≡ self.old) × ((unopened_by (link_in self.old) ≡ Some fault)
             ⊎ ((fault ≡ reopen_fault.NoMemory) × (unopened_by (link_in self.old) ≡ None)))) }
