@@ -36,8 +36,7 @@ impl Start {
 pub enum Leave {
     /// The core is up, for this many users.
     Users(u32),
-    /// It was the last user. This is the incarnation of the core's link that was closed, if it had one
-    /// that was live.
+    /// It was the last user. This is the incarnation of the link that was closed, if it was live.
     Last(Option<Inc>),
     /// The link is to be closed, which is a step, and none may be taken. Nothing has changed.
     Limit,

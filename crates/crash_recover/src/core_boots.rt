@@ -38,9 +38,7 @@ impl Core {
     /// Boots the core with the image that a store has under a name, as [`Core::boot_with`] does. The
     /// store is only asked where the core needs an image.
     ///
-    /// # Errors
-    ///
-    /// Those of [`Core::boot_with`]. The core is as it was then.
+    /// Errors: those of [`Core::boot_with`]. The core is as it was then.
     pub fn boot<F: FirmwareStore>(
         &mut self,
         alloc: Global,
@@ -66,8 +64,7 @@ impl Core {
 
     /// Boots the core with an image that was found under this name, or wasn't. An offline core loads it
     /// and runs, with a link where the image has a device for RPMsg. A detached core is attached: it
-    /// keeps its memory and the name of its image, and gets such a link. A core with users counts one
-    /// more.
+    /// keeps its memory and its image's name, and gets such a link. A core with users counts one more.
     ///
     /// # Errors
     ///
@@ -157,11 +154,8 @@ impl Core {
     /// Hands the core over with an image that was found under this name, or wasn't: another party has
     /// loaded it and started the core, which is detached.
     ///
-    /// # Errors
-    ///
-    /// [`CoreFault::Life`] where the core isn't offline, then [`CoreFault::Fetch`] where no image was
-    /// found and [`CoreFault::Load`] as [`load`] answers, and [`CoreFault::NoMemory`] where memory ran
-    /// out. The core is as it was then.
+    /// Errors: [`CoreFault::Life`] where the core isn't offline, then those of the image, as
+    /// [`Core::boot_with`] answers them. The core is as it was then.
     #[tactic(auto, unfolding(crate::specs::CoreBoots::handover_of))]
     pub fn handover_with(
         &mut self,
@@ -193,9 +187,7 @@ impl Core {
     /// Hands the core over with the image that a store has under a name, as [`Core::handover_with`]
     /// does. The store is only asked where the core is offline.
     ///
-    /// # Errors
-    ///
-    /// Those of [`Core::handover_with`]. The core is as it was then.
+    /// Errors: those of [`Core::handover_with`]. The core is as it was then.
     pub fn handover<F: FirmwareStore>(
         &mut self,
         alloc: Global,
@@ -232,8 +224,7 @@ impl Core {
         Ok(loaded)
     }
 
-    /// The link over these rings in an incarnation, with the drivers of the core, where there are
-    /// rings.
+    /// The link over these rings in an incarnation, with the core's drivers, where there are rings.
     fn link_over(
         &self,
         alloc: Global,
@@ -322,8 +313,7 @@ fn bench_of(
     }
 }
 
-/// The link of a core over its device's rings, with drivers of these names and a caller at each end. It keeps no address of its
-/// buffers: the load has them.
+/// The link over a device's rings, with a caller at each end. The load has its buffers' addresses.
 fn core_bench(
     alloc: Global,
     rings: &RingPair,

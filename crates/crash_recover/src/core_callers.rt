@@ -1,4 +1,4 @@
-ghost use Rattle.std.specs.Prelude.{◌≡◌, ◌<◌, true, None, Some, IfErr, IfOk, OnErr, OnOk, is_some};
+ghost use Rattle.std.specs.Prelude.{◌≡◌, true, None, Some, IfErr, IfOk, OnErr, OnOk, is_some};
 ghost use Rattle.link_bench.specs.Benches.{reach_of_done};
 ghost use Rattle.link_bench.specs.BenchRings.{IsSnapshotFault};
 ghost use Rattle.crash_recover.specs.CoreCallers.{IsStepFault, after_core_reclaim, core_begin_fault, core_channels, core_receiver, core_reclaim_answer, core_snapshot, core_step, core_step_fault, core_turn_holder, is_own, new_caller, with_core_call, with_core_caller};
@@ -34,8 +34,7 @@ impl From<NoMemory> for StepFault {
 /// The calls of the core's link for callers other than the core's own, which are 0 and 1. The core has
 /// a link: there is one exactly where [`Core::link`] gives it.
 impl Core {
-    /// A new caller at this end of the core's link, under the least number that is not in use. There is
-    /// none exactly where all 64 are.
+    /// A new caller at this end of the core's link, as [`Bench::caller`] gives one.
     pub fn caller(&mut self, end: End) -> Option<CallerNo>
         requires { is_some self.old.bench ≡ true }
         ensures number { result ≡ new_caller self.old }
@@ -48,13 +47,9 @@ impl Core {
         bench.caller(end)
     }
 
-    /// Begins a call on the core's link, which follows the incarnation that the link is in, and does no
-    /// step of it.
+    /// Begins a call on the core's link, as [`Bench::begin`] does.
     ///
-    /// # Errors
-    ///
-    /// [`BenchFault::NoCaller`], for the callers 0 and 1 too, then [`BenchFault::InCall`], then
-    /// [`BenchFault::NotHeld`] of a give of what the caller doesn't hold. The core is as it was then.
+    /// Errors: [`BenchFault::NoCaller`] for the core's own callers, else those of [`Bench::begin`].
     pub fn begin(&mut self, caller: CallerNo, wished: Wish) -> Result<(), BenchFault>
         requires { is_some self.old.bench ≡ true }
         ensures may { OnOk result (core_begin_fault self.old caller wished ≡ None) }
@@ -76,11 +71,8 @@ impl Core {
     /// host, the drivers see the end: what one sends is the last of the host actor's calls, and an
     /// endpoint that was unbound is driven no more.
     ///
-    /// # Errors
-    ///
-    /// [`BenchFault::NoCaller`], for the callers 0 and 1 too, then [`BenchFault::NoCall`], then
-    /// [`StepFault::NoMemory`] where there is no room for what a driver may send. The core is as it was
-    /// then.
+    /// Errors: [`BenchFault::NoCaller`] for the core's own callers, else those of [`Bench::step`],
+    /// then [`StepFault::NoMemory`], where a driver may send. The core is as it was then.
     pub fn step(&mut self, _alloc: Global, caller: CallerNo) -> Result<Done, StepFault>
         requires { is_some self.old.bench ≡ true }
         ensures may { OnOk result (core_step_fault self.old caller ≡ None) }
@@ -102,13 +94,9 @@ impl Core {
         Ok(self.actors.step_of(bench, caller)?)
     }
 
-    /// Reclaims a caller of the core's link: its call is gone, a begun one too, its turn is free, what
-    /// it held is back, and its number is free.
+    /// Reclaims a caller of the core's link, as [`Bench::reclaim`] does.
     ///
-    /// # Errors
-    ///
-    /// [`BenchFault::NoCaller`] exactly where the caller isn't in use, or is one of the core's own, 0 or
-    /// 1. The core is as it was then.
+    /// Errors: [`BenchFault::NoCaller`] exactly where the caller isn't in use, or is the core's own.
     pub fn reclaim(&mut self, caller: CallerNo) -> Result<Reclaim, BenchFault>
         requires { is_some self.old.bench ≡ true }
         ensures answer { result ≡ core_reclaim_answer caller self.old.bench }
@@ -127,10 +115,7 @@ impl Core {
     /// The era of the core's link and the words of both its lanes as they stand, over the buffers that
     /// the image's device for RPMsg was given.
     ///
-    /// # Errors
-    ///
-    /// [`SnapshotFault::StillTurn`] exactly where a turn is out, with the holder of the first of lane
-    /// 0's sender and receiver, then lane 1's; else only want of memory.
+    /// Errors: those of [`Bench::snapshot`].
     pub fn snapshot(&self, alloc: Global) -> Result<Snapshot, SnapshotFault>
         requires { is_some self.now.bench ≡ true }
         ensures free { OnOk result (core_turn_holder self.now ≡ None) }
@@ -151,10 +136,7 @@ impl Core {
 
     /// The channels of the host end of the core's link, in the order of creation.
     ///
-    /// # Errors
-    ///
-    /// [`SnapshotFault::StillTurn`] exactly where a caller has the turn of lane 0's receiver; else only
-    /// want of memory.
+    /// Errors: those of [`Bench::channels`].
     pub fn channels(&self, alloc: Global) -> Result<Vec<Channel>, SnapshotFault>
         requires { is_some self.now.bench ≡ true }
         ensures free { OnOk result (core_receiver self.now ≡ None) }

@@ -14,9 +14,7 @@ impl Core {
     /// incarnation of its link and ends all remote callers; as soon as caller 1 is gone, a new remote
     /// caller is made. Its users and its memory stay.
     ///
-    /// # Errors
-    ///
-    /// [`LifeFault::NotPowered`] exactly where the core is offline or detached. It is as it was then.
+    /// Errors: [`LifeFault::NotPowered`] exactly where the core is offline or detached.
     pub fn report(&mut self, kind: CrashKind) -> Result<Report, LifeFault>
         ensures answer { result ≡ result_map_both report_in_short (λ why. why) (report_of true self.old).answer }
         ensures left { self.new ≡ after_report self.old }

@@ -1,8 +1,7 @@
-ghost use Rattle.std.specs.Prelude.{◌≡◌, ◌<◌, false, OnErr, OnOk, IfOk};
+ghost use Rattle.std.specs.Prelude.{◌≡◌, false, OnErr, OnOk, IfOk};
 ghost use Rattle.lane_model.specs.declared.calls.CallEnd.{CallEnd};
 ghost use Rattle.core_actors.specs.declared.actors.Actor.TheVariants as actor;
-ghost use Rattle.core_actors.specs.Actors.{actors_view};
-ghost use Rattle.core_actors.specs.ActorSteps.{driven_of, host_is_idle, is_rest, waits, worker_is_idle};
+ghost use Rattle.core_actors.specs.ActorSteps.{driven_of, host_is_idle, is_rest, worker_is_idle};
 ghost use Rattle.crash_recover.specs.Drives.{drive_step, is_idle, record_run, record_step, reported_by, step_or_rest, with_turn_after};
 
 use crate::cores::Core;

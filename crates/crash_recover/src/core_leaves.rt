@@ -1,4 +1,4 @@
-ghost use Rattle.std.specs.Prelude.{◌≡◌, ℕ, true, false, Ok, None, Some, option_and_then};
+ghost use Rattle.std.specs.Prelude.{◌≡◌, ℕ, true, false, Ok, Some, option_and_then};
 ghost use Rattle.link_bench.specs.BenchHolds.{caller_out};
 ghost use Rattle.rp_base.specs.declared.kinds.LifeState.TheVariants as state;
 ghost use Rattle.proc_state.specs.Lives.{is_offline};
@@ -13,8 +13,7 @@ use proc_state::{Left, Life};
 use rp_base::{CallerNo, Inc};
 
 impl Core {
-    /// Counts one user fewer. With the last one the core goes offline: its image, its memory and its
-    /// link are gone.
+    /// Counts one user fewer. With the last one the core goes offline: image, memory and link go.
     ///
     /// # Errors
     ///
@@ -78,9 +77,7 @@ impl Core {
     /// Counts one user of an attached core fewer. With the last one the core is left to the other
     /// party: it is detached and keeps its memory, and its link is gone.
     ///
-    /// # Errors
-    ///
-    /// [`CoreFault::Life`] where the core isn't attached, then [`CoreFault::CallerOut`] as
+    /// Errors: [`CoreFault::Life`] where the core isn't attached, then [`CoreFault::CallerOut`] as
     /// [`Core::shutdown`] answers it. The core is as it was then.
     pub fn detach(&mut self) -> Result<Left, CoreFault>
         ensures answer { result ≡ (in_short left_of (detach_of true self.old)).answer }

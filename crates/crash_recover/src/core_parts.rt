@@ -71,8 +71,7 @@ impl Core {
     }
 }
 
-/// Where the blocks of memory stand: the regions that always are mapped, as they were declared, then
-/// the placed blocks without windows.
+/// Where the blocks of memory stand, in the order of [`Core::part`].
 fn memory_ranges(
     alloc: Global,
     regions: &[Region],

@@ -42,9 +42,7 @@ impl Core {
     /// Recovers the core with the image that a store has under the name that was booted or handed over,
     /// as [`Core::recover_with`] does. Where the core's life refuses it, the store is not asked.
     ///
-    /// # Errors
-    ///
-    /// Those of [`Core::recover_with`]. A name that is no text is [`FetchFault::Missing`].
+    /// Errors: those of [`Core::recover_with`]. A name that is no text is [`FetchFault::Missing`].
     pub fn recover<F: FirmwareStore>(
         &mut self,
         alloc: Global,

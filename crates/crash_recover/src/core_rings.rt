@@ -28,19 +28,14 @@ impl Core {
 }
 
 /// The bytes of a lane's ring over the buffers of a device for RPMsg.
-fn pair_bytes(
-    bench: &Bench,
-    alloc: Global,
-    lane: u64,
-    rings: &RingPair,
-) -> Result<Vec<u8>, NoMemory>
-    requires sound { IsSoundPair rings.now }
-    requires buffers { HasBuffers rings.now }
-    ensures bytes { IfOk result (λ bytes. bytes.items ≡ pair_bytes bench.now.rings lane rings.now) }
+fn pair_bytes(bench: &Bench, alloc: Global, lane: u64, pair: &RingPair) -> Result<Vec<u8>, NoMemory>
+    requires sound { IsSoundPair pair.now }
+    requires buffers { HasBuffers pair.now }
+    ensures bytes { IfOk result (λ bytes. bytes.items ≡ pair_bytes bench.now.rings lane pair.now) }
     ensures short { IfOk result (λ bytes. length bytes.items < 2 ^ 32) }
 {
-    let at = lane_base(rings.base, ring_capacity(rings.to_host.num), lane);
-    bench.placed_bytes(alloc, lane, at, ring_of_lane(rings, lane).align)
+    let at = lane_base(pair.base, ring_capacity(pair.to_host.num), lane);
+    bench.placed_bytes(alloc, lane, at, ring_of_lane(pair, lane).align)
 }
 
 /// The ring of a lane.

@@ -51,8 +51,7 @@ impl Model for Core {
 
 impl Core {
     /// A core with these regions and drivers that was never booted. Each lane of its link is to
-    /// accept `book` messages in one incarnation, from 1 to 262,144. Of two drivers of one name the
-    /// first counts.
+    /// accept `book` messages in one incarnation. Of two drivers of one name the first counts.
     ///
     /// Errors: only for want of memory.
     pub fn new(
@@ -78,10 +77,8 @@ impl Core {
 
     /// Adds a region behind the others, and answers its number.
     ///
-    /// # Errors
-    ///
-    /// [`AddFault::NotOffline`] where the core isn't offline, then [`AddFault::Region`] where the
-    /// region doesn't fit beside the others, then [`AddFault::NoMemory`]. The core is as it was then.
+    /// Errors: [`AddFault::NotOffline`], then [`AddFault::Region`] where the region doesn't fit
+    /// beside the others, then [`AddFault::NoMemory`]. The core is as it was then.
     pub fn add_region(&mut self, alloc: Global, region: Region) -> Result<u16, AddFault>
         ensures number { IfOk result (λ index. index ≡ length self.old.regions) }
         ensures added { OnOk result (self.new ≡ record self.old { regions = self.old.regions ++ region ∷ [] }) }
@@ -97,10 +94,7 @@ impl Core {
 
     /// Declares a driver for the channels of a name, behind the others.
     ///
-    /// # Errors
-    ///
-    /// [`AddFault::NotOffline`] where the core isn't offline, then [`AddFault::DriverTaken`] where one
-    /// of the name is declared, then [`AddFault::DriversFull`] at sixteen, then
+    /// Errors: [`AddFault::NotOffline`], then [`AddFault::DriverTaken`], [`AddFault::DriversFull`] and
     /// [`AddFault::NoMemory`]. The core is as it was then.
     pub fn add_driver(
         &mut self,
@@ -133,8 +127,7 @@ impl Core {
         self.life.set_recovery(on);
     }
 
-    /// The name of the image that was booted or handed over. There is none exactly where the core is
-    /// offline.
+    /// The name of the image that was booted or handed over, or none exactly where the core is offline.
     pub fn image(&self) -> Option<&Name>
         ensures name { option_copied result ≡ self.now.image }
         ensures there { is_some result ≡ not (is_offline self.now.life.state) }
@@ -150,8 +143,7 @@ impl Core {
         self.loaded.as_ref()
     }
 
-    /// The link of the core. There is none where the core has no users, or its image no device for
-    /// RPMsg.
+    /// The link of the core, or none where the core has no users or its image no device for RPMsg.
     pub fn link(&self) -> Option<&Bench>
         ensures link { option_copied result ≡ self.now.bench }
         ensures unlinked { self.now.life.users ≡ 0 → result ≡ None }
