@@ -32,8 +32,8 @@ impl Bench {
 
     /// The channels of the host end, in the order of creation.
     ///
-    /// Errors: [`SnapshotFault::StillTurn`] exactly where lane 0's receiver's turn is out, or no
-    /// memory.
+    /// Errors: [`SnapshotFault::StillTurn`] exactly where a caller has the turn of lane 0's receiver,
+    /// or want of memory.
     pub fn channels(&self, alloc: Global) -> Result<Vec<Channel>, SnapshotFault>
         ensures free { IfOk result (λ _. holder (link_in self.now).to_host.receiver ≡ None) }
         ensures channels { IfOk result (λ channels. channels.items ≡ (link_in self.now).to_host.desk.channels) }
