@@ -24,9 +24,9 @@ use Rattle.link_bench.specs.declared.benches.BenchFault.{BenchFault}
 use Rattle.link_bench.specs.declared.benches.BenchFault.TheVariants as fault
 use Rattle.link_bench.specs.declared.benches.Reach.TheVariants as reach
 use Rattle.link_bench.specs.declared.turns.TurnEnd.{TurnEnd}
-use Rattle.link_bench.specs.Acts.{Acted, call_act, caller_act, free_act, link_act, made_call, misfit, own_in, pump_act, pump_refusal, step_act, unless_own, unless_refused, walked, wish_of}
-use Rattle.link_bench.specs.BenchCrashes.{left_by_reclaim}
-use Rattle.link_bench.specs.Benches.{BenchState, BenchWalk, IsSendable, advance_fault, advance_steps, advance_walk, begin_fault, begin_walk, begun_of, bench_walk, call_steps, is_in_call, later_steps, link_in, on_rings, ready_fault, step_fault, wish_fault, with_begun}
+use Rattle.link_bench.specs.Acts.{Acted, call_act, caller_act, free_act, link_act, made_call, misfit, own_in, pump_act, pump_refusal, step_act, unless_own, unless_refused, walk_act, wish_of}
+use Rattle.link_bench.specs.BenchCrashes.{reclaim_leaves_at}
+use Rattle.link_bench.specs.Benches.{BenchState, BenchWalk, IsSendable, advance_fault, advance_steps, advance_walk, begin_fault, begin_walk, begun_call_of, bench_walk, call_steps, is_in_call, later_steps, link_in, on_rings, ready_fault, step_fault, wish_fault, with_begun}
 use Rattle.link_bench.specs.Turns.{Pumped, TurnCall, Turns, is_whole, one_turn, pump_turns, take_turn, tested_call, then_more, turn_call, turn_message}
 use Rattle.link_bench.specs.Watchers.{Seeing}
 use Rattle.link_bench.proofs.Begun.{begin_may}
@@ -167,7 +167,7 @@ FitSends (act.Reclaim caller) = Unit {0}
 
 -- what a bench allows: the next step of the call that a caller is in, and reclaims in a closed era alone
 pub record MayAct (bench : BenchState) : Type 0 where
-  pub go : (caller : ℕ) → is_in_call bench caller ≡ true → MayGo bench caller (begun_of bench caller)
+  pub go : (caller : ℕ) → is_in_call bench caller ≡ true → MayGo bench caller (begun_call_of bench caller)
   pub shut : (caller : ℕ) → unreclaimed_by (link_in bench) caller ≡ None → (link_in bench).era.is_live ≡ false
 
 module _ {W : Type 0} (sees : Seeing W) (bench : BenchState) (watcher : W) (steps : ℕ) (may : MayAct bench) where
@@ -187,8 +187,8 @@ module _ {W : Type 0} (sees : Seeing W) (bench : BenchState) (watcher : W) (step
   step_lands : (caller more : ℕ) → LandsAt bench (free_deeds sees bench watcher steps (act.Step caller more)) (step_act sees bench watcher steps caller more).bench
   unfolding step_act
   step_lands caller more =
-      unless_fault sees bench watcher steps caller (step_fault bench caller) (advance_deeds bench more steps caller (begun_of bench caller)) (walked sees watcher caller (advance_walk bench more steps caller))
-      (λ none. advance_lands bench more steps caller (begun_of bench caller) (may.go caller (in_call_at (end_of (link_in bench).callers caller) (is_in_call bench caller) none)))
+      unless_fault sees bench watcher steps caller (step_fault bench caller) (advance_deeds bench more steps caller (begun_call_of bench caller)) (walk_act sees watcher caller (advance_walk bench more steps caller))
+      (λ none. advance_lands bench more steps caller (begun_call_of bench caller) (may.go caller (in_call_at (end_of (link_in bench).callers caller) (is_in_call bench caller) none)))
 
   pump_act_lands : (sender receiver count : ℕ) → FitTurns → LandsAt bench (free_deeds sees bench watcher steps (act.Pump sender receiver count)) (pump_act sees bench watcher steps sender receiver count).bench
   unfolding pump_act
@@ -205,7 +205,7 @@ module _ {W : Type 0} (sees : Seeing W) (bench : BenchState) (watcher : W) (step
   }
 
   reclaim_lands : (caller : ℕ) (found : Option End) (why : Option ReclaimRefusal) → unreclaimed_by (link_in bench) caller ≡ why
-      → LandsAt bench (reclaim_deeds caller found why) (left_by_reclaim bench caller found why)
+      → LandsAt bench (reclaim_deeds caller found why) (reclaim_leaves_at bench caller found why)
   reclaim_lands caller (Some end) None none = record { whole = (tt, tt); may = (may.shut caller none, tt); leads = refl; takes = λ other. refl }
   reclaim_lands caller (Some end) (Some why) found = stays bench
   reclaim_lands caller None why found = stays bench

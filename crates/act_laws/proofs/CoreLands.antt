@@ -19,8 +19,8 @@ use Rattle.channel_bus.specs.Sides.{EndState, side_meaning}
 use Rattle.link_bench.specs.declared.benches.BenchFault.{BenchFault}
 use Rattle.link_bench.specs.declared.benches.Reach.TheVariants as reach
 use Rattle.link_bench.specs.BenchCrashes.{after_close, after_reclaim}
-use Rattle.link_bench.specs.BenchEnds.{crashed_bench, is_first, is_remote, readied_bench, renewed_unless, with_fresh_caller, without_one, without_other, without_others, without_remote}
-use Rattle.link_bench.specs.Benches.{BenchState, BenchWalk, IsSendable, advance_walk, begin_fault, begun_of, is_in_call, link_in, start_walk}
+use Rattle.link_bench.specs.BenchEnds.{bench_to_reopen, crashed_bench, is_first, is_remote, with_fresh_caller, with_new_host_unless, without_one, without_other, without_others, without_remote}
+use Rattle.link_bench.specs.Benches.{BenchState, BenchWalk, IsSendable, advance_walk, begin_fault, begun_call_of, is_in_call, link_in, start_walk}
 use Rattle.link_bench.proofs.Begun.{begin_may}
 use Rattle.link_bench.proofs.Lists.{reclaim_lists}
 use Rattle.core_actors.specs.declared.actors.Actor.{Actor}
@@ -30,7 +30,7 @@ use Rattle.core_actors.specs.declared.progress.Driven.TheVariants as driven
 use Rattle.crash_recover.specs.CoreCrashes.{first_report, report_as, report_of}
 use Rattle.crash_recover.specs.Cores.{CoreState, LoadState}
 use Rattle.core_actors.specs.ActorSteps.{first_or_take, has_calls, link_step}
-use Rattle.crash_recover.specs.Drives.{DriveStep, acting, actor_step, drive_step, host_step, is_idle, record_run, record_step, reported_by, with_turn_after, worker_call}
+use Rattle.crash_recover.specs.Drives.{DriveStep, actor_step, actor_to_step, core_with_report, drive_step, host_step, is_idle, record_run, record_step, with_turn_after, worker_call}
 use Rattle.core_laws.specs.BenchMoves.{IsReachedBench, IsReachedCore}
 use Rattle.core_laws.proofs.BenchMoves.{unreclaimed_shut}
 use Rattle.core_laws.proofs.CoreMoves.{first_sendable}
@@ -114,14 +114,14 @@ crash_lands bench =
 
 -- ---- a recovery
 
-renewed_lands : (bench : BenchState) (why : Option ReclaimRefusal) → unreclaimed_by (link_in bench) 0 ≡ why → LandsAt bench (renewed_deeds why) (renewed_unless bench why)
+renewed_lands : (bench : BenchState) (why : Option ReclaimRefusal) → unreclaimed_by (link_in bench) 0 ≡ why → LandsAt bench (renewed_deeds why) (with_new_host_unless bench why)
 renewed_lands bench None none =
     let gone = reclaim_at bench 0 (unreclaimed_shut (link_in bench) 0 none) in
     then_at bench (one_move (Reclaim 0)) (after_reclaim bench 0) (one_move (Enlist side.Host)) (with_fresh_caller (after_reclaim bench 0) side.Host) gone
     (fresh_at (after_reclaim bench 0) side.Host)
 renewed_lands bench (Some why) found = stays bench
 
-pub ready_lands : (bench : BenchState) → LandsAt bench (ready_deeds bench) (readied_bench bench)
+pub ready_lands : (bench : BenchState) → LandsAt bench (ready_deeds bench) (bench_to_reopen bench)
 ready_lands bench = renewed_lands bench (unreclaimed_by (link_in bench) 0) refl
 
 -- ---- what a core has of a link
@@ -169,8 +169,8 @@ step_lands bench caller wanted reached sendable =
     let none : BenchWalk = record { bench = bench; steps = 0; reach = reach.Limit } in
     let start = walk_deeds caller (start_walk bench 0 caller wanted) (call_moves ((start_walk bench 0 caller wanted).steps - 0) caller (link_in bench).era.inc wanted) in
     both_known (is_in_call bench caller) (λ (walk : BenchWalk) (deeds : Deeds). LandsAt bench deeds walk.bench) (advance_walk bench 0 0 caller)
-    (cond (is_some (begin_fault bench caller wanted)) none (start_walk bench 0 caller wanted)) (advance_deeds bench 0 0 caller (begun_of bench caller)) (cond (is_some (begin_fault bench caller wanted)) no_deeds start)
-    (λ in_call. advance_lands bench 0 0 caller (begun_of bench caller) ((may_act bench reached).go caller in_call))
+    (cond (is_some (begin_fault bench caller wanted)) none (start_walk bench 0 caller wanted)) (advance_deeds bench 0 0 caller (begun_call_of bench caller)) (cond (is_some (begin_fault bench caller wanted)) no_deeds start)
+    (λ in_call. advance_lands bench 0 0 caller (begun_call_of bench caller) ((may_act bench reached).go caller in_call))
     (λ _. both_known (is_some (begin_fault bench caller wanted)) (λ (walk : BenchWalk) (deeds : Deeds). LandsAt bench deeds walk.bench) none (start_walk bench 0 caller wanted) no_deeds start
     (λ _. stays bench)
     (λ ready. begin_lands bench 0 0 caller wanted (begin_may bench caller wanted sendable (no_fault (begin_fault bench caller wanted) ready))))
@@ -185,7 +185,7 @@ worker_lands : (core : CoreState) (found : Option BenchState) → core.bench ≡
 worker_lands core None none sendable reached = subst (λ (now : Option BenchState). LandsIf None no_deeds now) (sym none) tt
 worker_lands core (Some bench) found sendable reached = step_lands bench 1 (first_or_take core.actors.worker_calls) reached sendable
 
-reported_lands : (came : Driven) (core : CoreState) → LandsIf core.bench (record_deeds came core) (reported_by came core).bench
+reported_lands : (came : Driven) (core : CoreState) → LandsIf core.bench (record_deeds came core) (core_with_report came core).bench
 reported_lands driven.Idle core = stays_if core.bench
 reported_lands driven.Stepped core = stays_if core.bench
 reported_lands (driven.Ended caller end) core = stays_if core.bench
@@ -213,6 +213,6 @@ actor_lands actor.Worker core is =
 pub drive_lands : (core : CoreState) → IsReachedCore core → LandsIf core.bench (drive_deeds core) (drive_step core).core.bench
 drive_lands core is =
     both_if (is_idle core) (λ (step : DriveStep) (deeds : Deeds). LandsIf core.bench deeds step.core.bench) (record { core = core; driven = driven.Idle })
-    (actor_step (acting core) (with_turn_after (acting core) core)) no_deeds (actor_deeds (acting core) (with_turn_after (acting core) core))
+    (actor_step (actor_to_step core) (with_turn_after (actor_to_step core) core)) no_deeds (actor_deeds (actor_to_step core) (with_turn_after (actor_to_step core) core))
     (stays_if core.bench)
-    (actor_lands (acting core) (with_turn_after (acting core) core) (record { bench = is.bench; calls = record { host = is.calls.host; worker = is.calls.worker } }))
+    (actor_lands (actor_to_step core) (with_turn_after (actor_to_step core) core) (record { bench = is.bench; calls = record { host = is.calls.host; worker = is.calls.worker } }))

@@ -5,7 +5,7 @@ use Rattle.link_bench.specs.declared.acts.LinkAct.{LinkAct}
 use Rattle.link_bench.specs.declared.acts.LinkAct.TheVariants as act
 use Rattle.link_bench.specs.declared.benches.BegunCall.{BegunCall}
 use Rattle.link_bench.specs.Acts.{IsFitAct, link_act}
-use Rattle.link_bench.specs.Benches.{BenchState, begun_of, is_in_call, link_in}
+use Rattle.link_bench.specs.Benches.{BenchState, begun_call_of, is_in_call, link_in}
 use Rattle.link_bench.specs.Watchers.{Seeing}
 use Rattle.core_laws.specs.BenchMoves.{IsReachedBench}
 use Rattle.core_laws.proofs.BenchMoves.{begun_at, begun_or, calling_may, unreclaimed_shut}
@@ -15,13 +15,13 @@ use Rattle.act_laws.proofs.ActLands.{FitSends, LandsAt, MayAct, MayGo, act_lands
 
 -- ---- what a reached bench allows
 
-go_at : (bench : BenchState) (caller : ℕ) (found : Option BegunCall) → begun_of bench caller ≡ found → IsReachedBench bench → is_in_call bench caller ≡ true → MayGo bench caller found
+go_at : (bench : BenchState) (caller : ℕ) (found : Option BegunCall) → begun_call_of bench caller ≡ found → IsReachedBench bench → is_in_call bench caller ≡ true → MayGo bench caller found
 go_at bench caller (Some call) is reached in_call = reached.fit caller call (begun_at (slice_get bench.begun caller) call is)
-go_at bench caller None none reached in_call = calling_may (link_in bench) caller (begun_or (begun_of bench caller) (is_calling (link_in bench) caller) none in_call)
+go_at bench caller None none reached in_call = calling_may (link_in bench) caller (begun_or (begun_call_of bench caller) (is_calling (link_in bench) caller) none in_call)
 
 pub may_act : (bench : BenchState) → IsReachedBench bench → MayAct bench
 may_act bench reached = record {
-  go = λ caller in_call. go_at bench caller (begun_of bench caller) refl reached in_call;
+  go = λ caller in_call. go_at bench caller (begun_call_of bench caller) refl reached in_call;
   shut = λ caller none. unreclaimed_shut (link_in bench) caller none;
 }
 

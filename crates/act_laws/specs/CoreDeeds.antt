@@ -10,7 +10,7 @@ use Rattle.lane_model.specs.Recoveries.{unreclaimed_by}
 use Rattle.lane_laws.specs.Moves.{Close, Enlist, Reclaim}
 use Rattle.link_bench.specs.BenchCrashes.{after_close}
 use Rattle.link_bench.specs.BenchEnds.{is_first, is_remote, without_one, without_other}
-use Rattle.link_bench.specs.Benches.{BenchState, begin_fault, begun_of, is_in_call, link_in, start_walk}
+use Rattle.link_bench.specs.Benches.{BenchState, begin_fault, begun_call_of, is_in_call, link_in, start_walk}
 use Rattle.core_actors.specs.declared.actors.Actor.{Actor}
 use Rattle.core_actors.specs.declared.actors.Actor.TheVariants as actor
 use Rattle.crash_recover.specs.declared.core_answers.Crash.{Crash}
@@ -20,7 +20,7 @@ use Rattle.core_actors.specs.declared.progress.Driven.TheVariants as driven
 use Rattle.crash_recover.specs.CoreCrashes.{report_of}
 use Rattle.crash_recover.specs.Cores.{CoreState}
 use Rattle.core_actors.specs.ActorSteps.{first_or_take, has_calls}
-use Rattle.crash_recover.specs.Drives.{acting, is_idle, record_run, with_turn_after}
+use Rattle.crash_recover.specs.Drives.{actor_to_step, is_idle, record_run, with_turn_after}
 use Rattle.act_laws.specs.Deeds.{Deeds, advance_deeds, call_moves, deeds_then, no_deeds, one_move, walk_deeds}
 
 -- ---- a crash
@@ -78,7 +78,7 @@ begun_deeds bench caller wanted =
 
 -- a step on the link: a call under way goes on by one step, else one begins
 abbrev pub link_deeds : BenchState → ℕ → Wish → Deeds
-link_deeds bench caller wanted = if is_in_call bench caller then advance_deeds bench 0 0 caller (begun_of bench caller) else begun_deeds bench caller wanted
+link_deeds bench caller wanted = if is_in_call bench caller then advance_deeds bench 0 0 caller (begun_call_of bench caller) else begun_deeds bench caller wanted
 
 -- a step on the link that a core has or not
 abbrev pub actor_link_deeds : Option BenchState → ℕ → Wish → Deeds
@@ -102,4 +102,4 @@ actor_deeds actor.Worker core =
 
 -- one step of the actors of a core
 abbrev pub drive_deeds : CoreState → Deeds
-drive_deeds core = if is_idle core then no_deeds else actor_deeds (acting core) (with_turn_after (acting core) core)
+drive_deeds core = if is_idle core then no_deeds else actor_deeds (actor_to_step core) (with_turn_after (actor_to_step core) core)

@@ -20,7 +20,7 @@ use Rattle.link_bench.specs.declared.benches.Reach.{Reach}
 use Rattle.link_bench.specs.declared.benches.Reach.TheVariants as reach
 use Rattle.link_bench.specs.declared.turns.TurnEnd.{TurnEnd}
 use Rattle.link_bench.specs.Acts.{misfit, own_in, pump_refusal, wish_of}
-use Rattle.link_bench.specs.Benches.{BenchState, BenchWalk, advance_steps, begin_fault, begun_of, call_walk, link_in, ready_fault, step_fault}
+use Rattle.link_bench.specs.Benches.{BenchState, BenchWalk, advance_steps, begin_fault, begun_call_of, call_walk, link_in, ready_fault, step_fault}
 use Rattle.link_bench.specs.Turns.{is_whole, one_turn, turn_call, turn_message}
 use Rattle.link_bench.specs.Watchers.{Seeing}
 
@@ -129,7 +129,7 @@ free_deeds sees bench watcher steps (act.Caller end) = caller_deeds end (free_nu
 free_deeds sees bench watcher steps (act.Call caller made wanted) =
     unless_told (ready_fault bench caller) (unless_told (misfit bench caller wanted) (made_deeds bench steps caller made (wish_of wanted)))
 free_deeds sees bench watcher steps (act.Step caller more) =
-    unless_told (step_fault bench caller) (advance_deeds bench more steps caller (begun_of bench caller))
+    unless_told (step_fault bench caller) (advance_deeds bench more steps caller (begun_call_of bench caller))
 free_deeds sees bench watcher steps (act.Pump sender receiver count) =
     unless_told (pump_refusal bench sender receiver) (pump_deeds sees count 0 sender receiver bench watcher steps)
 free_deeds sees bench watcher steps (act.Reclaim caller) = reclaim_deeds caller (end_of (link_in bench).callers caller) (unreclaimed_by (link_in bench) caller)

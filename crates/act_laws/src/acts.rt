@@ -10,7 +10,7 @@ ghost use Rattle.channel_bus.specs.Sides.{EndState};
 ghost use Rattle.link_bench.specs.declared.acts.LinkAct.{LinkAct};
 ghost use Rattle.link_bench.specs.Acts.{IsFitAct, link_act};
 ghost use Rattle.link_bench.specs.BenchCrashes.{after_close, after_reclaim, after_reopen};
-ghost use Rattle.link_bench.specs.BenchEnds.{crashed_bench, readied_bench};
+ghost use Rattle.link_bench.specs.BenchEnds.{bench_to_reopen, crashed_bench};
 ghost use Rattle.link_bench.specs.Benches.{BenchState, RingsState, call_steps, later_steps, link_in, lists_of, new_bench_of, on_lists, on_rings, walk_lists, with_new_caller};
 ghost use Rattle.link_bench.specs.Watchers.{nobody_sees};
 ghost use Rattle.lane_laws.specs.Moves.{Close};
@@ -38,7 +38,7 @@ pub fn cores_do()
     ensures drive { (core : CoreState) (bench left : BenchState) → IsReachedCore core → core.bench ≡ Some bench
         → (drive_step core).core.bench ≡ Some left → AreDone bench (drive_deeds core) left }
     ensures crash { (bench : BenchState) → AreDone bench (crash_deeds bench) (crashed_bench bench) }
-    ensures ready { (bench : BenchState) → AreDone bench (ready_deeds bench) (readied_bench bench) }
+    ensures ready { (bench : BenchState) → AreDone bench (ready_deeds bench) (bench_to_reopen bench) }
 {}
 
 /// What happens to a link over rings happens to its lists and counts as on the machine that has these alone, and so do the steps and the ends

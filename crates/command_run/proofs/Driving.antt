@@ -6,7 +6,7 @@ use Rattle.journal.specs.declared.events.Event.{Event}
 use Rattle.journal.specs.declared.events.Event.TheVariants as event
 use Rattle.crash_recover.specs.Cores.{CoreState}
 use Rattle.core_actors.specs.declared.progress.Driven.TheVariants as driven
-use Rattle.crash_recover.specs.Drives.{DriveStep, acting, actor_step, drive_step, is_idle, with_turn_after}
+use Rattle.crash_recover.specs.Drives.{DriveStep, actor_step, actor_to_step, drive_step, is_idle, with_turn_after}
 use Rattle.command_run.specs.declared.stops.Stop.{Stop}
 use Rattle.rp_io.specs.Contents.{AppendsFront}
 use Rattle.command_run.specs.Logs.{DrivesHanding, DrivesOn, Hands, HandsCoreEffect, HasCoreEffect, Keeps, LogState}
@@ -80,7 +80,7 @@ module _ (name : List ℕ) (is_quiet : Bool) where
   rests_by false false most over rests = absurd (true≢false (sym rests))
 
   idle_step : (core : CoreState) → is_idle core ≡ true → drive_step core ≡ record { core = core; driven = driven.Idle }
-  idle_step core idle = ap (λ (b : Bool). cond b (record { core = core; driven = driven.Idle }) (actor_step (acting core) (with_turn_after (acting core) core))) idle
+  idle_step core idle = ap (λ (b : Bool). cond b (record { core = core; driven = driven.Idle }) (actor_step (actor_to_step core) (with_turn_after (actor_to_step core) core))) idle
 
   pub steps_idle : (core next : CoreState) (steps : ℕ) (log after : LogState) → (is_crashed core.life.state || steps == STEPS_MOST) ≡ false → false ≡ not (is_idle core)
       → next ≡ (drive_step core).core → Keeps log after (step_events name is_quiet (drive_step core))

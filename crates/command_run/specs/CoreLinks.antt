@@ -5,7 +5,7 @@ use Rattle.journal.specs.declared.events.Event.TheVariants as event
 use Rattle.link_bench.specs.declared.acts.LinkAct.{LinkAct}
 use Rattle.link_bench.specs.Benches.{BenchState, link_in}
 use Rattle.link_bench.specs.BenchRings.{turn_holder}
-use Rattle.crash_recover.specs.CoreActs.{act_on_core, acted_core}
+use Rattle.crash_recover.specs.CoreActs.{act_on_core, core_after_act}
 use Rattle.crash_recover.specs.CoreRings.{core_ring}
 use Rattle.crash_recover.specs.Cores.{CoreState}
 use Rattle.command_run.specs.declared.acts.LinkView.{LinkView}
@@ -20,7 +20,7 @@ unfoldable pub core_link_effect : List ℕ → CoreState → ℕ → LinkAct (Li
 core_link_effect name core steps act None = core_tells core steps (event.NoLink name)
 core_link_effect name core steps act (Some bench) =
     let acted = act_on_core core bench steps act in
-    record { core = acted_core core acted; steps = acted.steps; events = answer_events name (link_in acted.bench) acted.answer; ending = answer_ending acted.answer }
+    record { core = core_after_act core acted; steps = acted.steps; events = answer_events name (link_in acted.bench) acted.answer; ending = answer_ending acted.answer }
 
 -- who has the first turn of a core's link that is out
 abbrev pub core_turn_holder : CoreState → Option ℕ

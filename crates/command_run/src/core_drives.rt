@@ -4,7 +4,7 @@ ghost use Rattle.journal.specs.Lines.{transcript};
 ghost use Rattle.command_run.specs.Logs.{DrivesHanding, DrivesOn, HandsCoreEffect, HasCoreEffect, Keeps};
 ghost use Rattle.command_run.specs.Fetches.{EndsCut};
 ghost use Rattle.rp_base.specs.declared.limits.TheConstants.{STEPS_MOST};
-ghost use Rattle.core_actors.specs.ActorSteps.{driven_of};
+ghost use Rattle.core_actors.specs.ActorSteps.{drive_of_progress};
 ghost use Rattle.crash_recover.specs.Drives.{drive_step, is_idle};
 ghost use Rattle.remote_code.specs.Faults.{fault_number};
 ghost use Rattle.rp_base.specs.declared.kinds.CrashKind.TheVariants as kind;
@@ -202,7 +202,7 @@ impl NamedCore {
         is_quiet: bool,
         log: &mut RunLog,
     ) -> Result<(), NoMemory>
-        ensures { IfOk result (λ _. Keeps log.old log.new (driven_events self.now.name is_quiet self.now.core.bench (driven_of progress end.now))) }
+        ensures { IfOk result (λ _. Keeps log.old log.new (driven_events self.now.name is_quiet self.now.core.bench (drive_of_progress progress end.now))) }
     {
         match progress {
             DriveProgress::Rest | DriveProgress::Nothing | DriveProgress::Stepped => Ok(()),

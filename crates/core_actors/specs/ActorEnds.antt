@@ -14,7 +14,7 @@ use Rattle.lane_model.specs.declared.calls.CallEnd.TheVariants as ended
 use Rattle.lane_model.specs.Links.{end_of}
 use Rattle.host_driver.specs.Drivers.{DriversState, created_answer, after_created, delivered_answer, after_delivered, after_destroyed}
 use Rattle.remote_core.specs.Workers.{WorkerState, after_take}
-use Rattle.link_bench.specs.Benches.{BenchState, link_in, taken_on}
+use Rattle.link_bench.specs.Benches.{BenchState, link_in, message_on}
 use Rattle.core_actors.specs.Actors.{ActorsState}
 
 -- ---- the drivers
@@ -76,8 +76,8 @@ sends_of None = []
 sends_of (Some message) = wish.Send message ∷ []
 
 -- the actors once the drivers have seen the end of a call of a host caller: what a driver sends is the last of the host actor's calls
-abbrev pub driven_on : ActorsState → List ℕ → CallEnd → ActorsState
-driven_on actors message end = record actors {
+abbrev pub actors_after_drivers : ActorsState → List ℕ → CallEnd → ActorsState
+actors_after_drivers actors message end = record actors {
   drivers = after_end actors.drivers end;
   host_calls = actors.host_calls ++ sends_of (end_answer actors.drivers message end);
 }
@@ -85,18 +85,18 @@ driven_on actors message end = record actors {
 -- ---- the ends of calls
 
 -- the number of the message that a call was handed
-abbrev pub number_taken : CallEnd → Option ℕ
-number_taken (ended.Took number verdict) = Some number
-number_taken end = None
+abbrev pub taken_number : CallEnd → Option ℕ
+taken_number (ended.Took number verdict) = Some number
+taken_number end = None
 
 -- the message of the number that a caller was handed, or no byte
-abbrev pub message_numbered : BenchState → ℕ → Option ℕ → List ℕ
-message_numbered bench caller None = []
-message_numbered bench caller (Some number) = taken_on (link_in bench) (end_of (link_in bench).callers caller) number
+abbrev pub message_of_number : BenchState → ℕ → Option ℕ → List ℕ
+message_of_number bench caller None = []
+message_of_number bench caller (Some number) = message_on (link_in bench) (end_of (link_in bench).callers caller) number
 
 -- the message that a caller was handed by a call that ended so, or no byte
 abbrev pub message_of : BenchState → ℕ → CallEnd → List ℕ
-message_of bench caller end = message_numbered bench caller (number_taken end)
+message_of bench caller end = message_of_number bench caller (taken_number end)
 
 -- whether a call that ended so is made again: another had the turn, no buffer was there, or no message
 abbrev pub is_tried_again : CallEnd → Bool
@@ -106,8 +106,8 @@ is_tried_again (ended.Empty accepted) = true
 is_tried_again end = false
 
 -- the calls that are left once the first one ended so
-abbrev pub left_of : CallEnd → List Wish → List Wish
-left_of end calls = if is_tried_again end then calls else drop 1 calls
+abbrev pub calls_after_end : CallEnd → List Wish → List Wish
+calls_after_end end calls = if is_tried_again end then calls else drop 1 calls
 
 -- the call that gives the buffer of a message back, if there is one
 abbrev pub gives_of : Option ℕ → List Wish
@@ -115,9 +115,9 @@ gives_of None = []
 gives_of (Some number) = wish.Give number ∷ []
 
 -- the host actor once its call ended so: a take that is not among its calls is gone, whatever its end
-abbrev pub host_ended : ActorsState → CallEnd → ActorsState
-host_ended actors end = record actors {
-  host_calls = (if actors.is_taking then actors.host_calls else left_of end actors.host_calls) ++ gives_of (number_taken end);
+abbrev pub host_after_call : ActorsState → CallEnd → ActorsState
+host_after_call actors end = record actors {
+  host_calls = (if actors.is_taking then actors.host_calls else calls_after_end end actors.host_calls) ++ gives_of (taken_number end);
   is_taking = false;
 }
 
@@ -128,8 +128,8 @@ worker_after_end worker message (Some number) = after_take message worker
 
 abbrev pub worker_after_call : ActorsState → List ℕ → CallEnd → ActorsState
 worker_after_call actors message end = record actors {
-  worker = worker_after_end actors.worker message (number_taken end);
-  worker_calls = gives_of (number_taken end) ++ left_of end actors.worker_calls;
+  worker = worker_after_end actors.worker message (taken_number end);
+  worker_calls = gives_of (taken_number end) ++ calls_after_end end actors.worker_calls;
 }
 
 -- ---- calls of others
@@ -137,7 +137,7 @@ worker_after_call actors message end = record actors {
 -- the actors once the call of a caller at this end has ended so: the drivers see the ends of the host's calls
 abbrev pub actors_at_end : Option End → List ℕ → CallEnd → ActorsState → ActorsState
 actors_at_end None message end actors = actors
-actors_at_end (Some side.Host) message end actors = driven_on actors message end
+actors_at_end (Some side.Host) message end actors = actors_after_drivers actors message end
 actors_at_end (Some side.Remote) message end actors = actors
 
 -- the same of a caller of a link, which is what the actors see of it

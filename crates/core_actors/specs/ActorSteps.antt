@@ -17,16 +17,16 @@ use Rattle.core_actors.specs.declared.progress.Driven.TheVariants as driven
 use Rattle.core_actors.specs.declared.progress.DriveProgress.{DriveProgress}
 use Rattle.core_actors.specs.declared.progress.DriveProgress.TheVariants as progress
 use Rattle.core_actors.specs.Actors.{ActorsState, other_actor}
-use Rattle.core_actors.specs.ActorEnds.{driven_on, host_ended, message_of, worker_after_call}
+use Rattle.core_actors.specs.ActorEnds.{actors_after_drivers, host_after_call, message_of, worker_after_call}
 
 -- what a step was, by what it answers and by the end of a call beside it
-abbrev pub driven_of : DriveProgress → CallEnd → Driven
-driven_of progress.Rest end = driven.Idle
-driven_of progress.Nothing end = driven.Idle
-driven_of progress.Stepped end = driven.Stepped
-driven_of (progress.Ended caller) end = driven.Ended caller end
-driven_of (progress.Worker fault) end = driven.Worker fault
-driven_of (progress.Crashed kind) end = driven.Crashed kind
+abbrev pub drive_of_progress : DriveProgress → CallEnd → Driven
+drive_of_progress progress.Rest end = driven.Idle
+drive_of_progress progress.Nothing end = driven.Idle
+drive_of_progress progress.Stepped end = driven.Stepped
+drive_of_progress (progress.Ended caller) end = driven.Ended caller end
+drive_of_progress (progress.Worker fault) end = driven.Worker fault
+drive_of_progress (progress.Crashed kind) end = driven.Crashed kind
 
 -- whether a step found that there was nothing to do
 abbrev pub is_rest : DriveProgress → Bool
@@ -56,51 +56,51 @@ abbrev pub is_empty : List Wish → Bool
 is_empty calls = length calls == 0
 
 -- the host actor as it makes its step: without a call it begins a take
-abbrev pub host_begun_as : Bool → ActorsState → ActorsState
-host_begun_as in_call actors = if in_call then actors else record actors { is_taking = is_empty actors.host_calls }
+abbrev pub host_at_step_as : Bool → ActorsState → ActorsState
+host_at_step_as in_call actors = if in_call then actors else record actors { is_taking = is_empty actors.host_calls }
 
-abbrev pub host_begun : BenchState → ActorsState → ActorsState
-host_begun bench actors = host_begun_as (is_in_call bench 0) actors
+abbrev pub host_at_step : BenchState → ActorsState → ActorsState
+host_at_step bench actors = host_at_step_as (is_in_call bench 0) actors
 
 -- the host actor, by how far its call came
-abbrev pub host_reached : ActorsState → BenchState → Reach → ActorsState
-host_reached actors bench (reach.At step) = actors
-host_reached actors bench (reach.Ended end) = driven_on (host_ended actors end) (message_of bench 0 end) end
-host_reached actors bench reach.Limit = record actors { host_calls = drop 1 actors.host_calls; is_taking = false }
+abbrev pub host_after_step : ActorsState → BenchState → Reach → ActorsState
+host_after_step actors bench (reach.At step) = actors
+host_after_step actors bench (reach.Ended end) = actors_after_drivers (host_after_call actors end) (message_of bench 0 end) end
+host_after_step actors bench reach.Limit = record actors { host_calls = drop 1 actors.host_calls; is_taking = false }
 
 -- what a step on the link was
-abbrev pub driven_by : ℕ → Reach → Driven
-driven_by caller (reach.At step) = driven.Stepped
-driven_by caller (reach.Ended end) = driven.Ended caller end
-driven_by caller reach.Limit = driven.Stepped
+abbrev pub drive_of_reach : ℕ → Reach → Driven
+drive_of_reach caller (reach.At step) = driven.Stepped
+drive_of_reach caller (reach.Ended end) = driven.Ended caller end
+drive_of_reach caller reach.Limit = driven.Stepped
 
 -- the worker, by how far its call came
-abbrev pub worker_reached : ActorsState → BenchState → Reach → ActorsState
-worker_reached actors bench (reach.At step) = actors
-worker_reached actors bench (reach.Ended end) = worker_after_call actors (message_of bench 1 end) end
-worker_reached actors bench reach.Limit = record actors { worker_calls = drop 1 actors.worker_calls }
+abbrev pub worker_after_step : ActorsState → BenchState → Reach → ActorsState
+worker_after_step actors bench (reach.At step) = actors
+worker_after_step actors bench (reach.Ended end) = worker_after_call actors (message_of bench 1 end) end
+worker_after_step actors bench reach.Limit = record actors { worker_calls = drop 1 actors.worker_calls }
 
 -- the call that a record asks for, if it asks for one
-abbrev pub asked_by : Work → List Wish
-asked_by (work.Ask wanted) = wanted ∷ []
-asked_by work.Nothing = []
-asked_by work.Halted = []
-asked_by (work.Crash kind) = []
-asked_by (work.Fault fault) = []
+abbrev pub wishes_of_work : Work → List Wish
+wishes_of_work (work.Ask wanted) = wanted ∷ []
+wishes_of_work work.Nothing = []
+wishes_of_work work.Halted = []
+wishes_of_work (work.Crash kind) = []
+wishes_of_work (work.Fault fault) = []
 
 -- what the step of a record was
-abbrev pub driven_by_work : Work → Driven
-driven_by_work work.Nothing = driven.Stepped
-driven_by_work (work.Ask wanted) = driven.Stepped
-driven_by_work work.Halted = driven.Stepped
-driven_by_work (work.Crash kind) = driven.Crashed kind
-driven_by_work (work.Fault fault) = driven.Worker fault
+abbrev pub drive_of_work : Work → Driven
+drive_of_work work.Nothing = driven.Stepped
+drive_of_work (work.Ask wanted) = driven.Stepped
+drive_of_work work.Halted = driven.Stepped
+drive_of_work (work.Crash kind) = driven.Crashed kind
+drive_of_work (work.Fault fault) = driven.Worker fault
 
 -- the actors once the worker ran a record of this memory
 abbrev pub actors_after_record : ActorsState → List ℕ → Mapping → Bool → ActorsState
 actors_after_record actors memory map linked = record actors {
   worker = after_work memory map linked actors.worker;
-  worker_calls = actors.worker_calls ++ asked_by (work_of memory map linked actors.worker);
+  worker_calls = actors.worker_calls ++ wishes_of_work (work_of memory map linked actors.worker);
 }
 
 -- whether the worker makes a call: one is under way, or is yet to be made

@@ -4,8 +4,8 @@ ghost use Rattle.rp_base.specs.declared.limits.TheConstants.{MESSAGE_MOST};
 ghost use Rattle.lane_model.specs.declared.calls.CallEnd.TheVariants as ended;
 ghost use Rattle.core_actors.specs.Actors.{actors_view};
 ghost use Rattle.link_bench.specs.Benches.{reach_of};
-ghost use Rattle.core_actors.specs.ActorEnds.{actors_after_end, after_endpoint, after_verdict, driven_on, endpoint_answer, host_ended, is_tried_again, message_of, number_taken, verdict_answer, worker_after_call};
-ghost use Rattle.core_actors.specs.ActorSteps.{host_begun_as, host_reached, worker_reached};
+ghost use Rattle.core_actors.specs.ActorEnds.{actors_after_drivers, actors_after_end, after_endpoint, after_verdict, endpoint_answer, host_after_call, is_tried_again, message_of, taken_number, verdict_answer, worker_after_call};
+ghost use Rattle.core_actors.specs.ActorSteps.{host_after_step, host_at_step_as, worker_after_step};
 
 use crate::actors::Actors;
 use host_driver::Drivers;
@@ -31,7 +31,7 @@ impl Watcher for Actors {
 impl Actors {
     /// Has the host actor begin a take where it is in no call and has none to make.
     pub(crate) fn begin_host(&mut self, is_in_call: bool)
-        ensures view { actors_view self.new ≡ host_begun_as is_in_call (actors_view self.old) }
+        ensures view { actors_view self.new ≡ host_at_step_as is_in_call (actors_view self.old) }
         ensures calls { self.new.host_calls ≡ self.old.host_calls }
     {
         if !is_in_call {
@@ -40,9 +40,9 @@ impl Actors {
     }
 
     /// Has the host actor see how far its call came, on the link that it is made on.
-    pub(crate) fn host_reached(&mut self, bench: &Bench, progress: Progress, end: &CallEnd)
+    pub(crate) fn reach_host(&mut self, bench: &Bench, progress: Progress, end: &CallEnd)
         requires { deque_len self.old.host_calls + 2 ≤ deque_capacity self.old.host_calls }
-        ensures { actors_view self.new ≡ host_reached (actors_view self.old) bench.now (reach_of progress end.now) }
+        ensures { actors_view self.new ≡ host_after_step (actors_view self.old) bench.now (reach_of progress end.now) }
     {
         match progress {
             Progress::At(_) => {}
@@ -58,23 +58,23 @@ impl Actors {
     #[inline(never)]
     fn end_host(&mut self, bench: &Bench, end: &CallEnd)
         requires { deque_len self.old.host_calls + 2 ≤ deque_capacity self.old.host_calls }
-        ensures { actors_view self.new ≡ driven_on (host_ended (actors_view self.old) end.now) (message_of bench.now 0 end.now) end.now }
+        ensures { actors_view self.new ≡ actors_after_drivers (host_after_call (actors_view self.old) end.now) (message_of bench.now 0 end.now) end.now }
     {
-        self.host_ended(end);
+        self.end_host_call(end);
         self.see_end(message_of(bench, 0, end), end);
     }
 
     /// Has the host actor see the end of its call.
-    fn host_ended(&mut self, end: &CallEnd)
+    fn end_host_call(&mut self, end: &CallEnd)
         requires { deque_len self.old.host_calls + 2 ≤ deque_capacity self.old.host_calls }
-        ensures view { actors_view self.new ≡ host_ended (actors_view self.old) end.now }
+        ensures view { actors_view self.new ≡ host_after_call (actors_view self.old) end.now }
         ensures room { deque_len self.new.host_calls < deque_capacity self.new.host_calls }
     {
         if !self.is_taking && !is_tried_again(end) {
             self.host_calls.pop_front();
         }
         self.is_taking = false;
-        if let Some(number) = number_taken(end) {
+        if let Some(number) = taken_number(end) {
             self.host_calls.push_back_reserved(Wish::Give(number));
         }
     }
@@ -112,7 +112,7 @@ impl Actors {
     fn see_end(&mut self, message: &[u8], end: &CallEnd)
         requires short { length message.now ≤ MESSAGE_MOST }
         requires room { deque_len self.old.host_calls < deque_capacity self.old.host_calls }
-        ensures { actors_view self.new ≡ driven_on (actors_view self.old) message.now end.now }
+        ensures { actors_view self.new ≡ actors_after_drivers (actors_view self.old) message.now end.now }
     {
         match end {
             CallEnd::Took(_, verdict) => self.see_take(message, verdict),
@@ -126,7 +126,7 @@ impl Actors {
     fn see_take(&mut self, message: &[u8], verdict: &Verdict)
         requires short { length message.now ≤ MESSAGE_MOST }
         requires room { deque_len self.old.host_calls < deque_capacity self.old.host_calls }
-        ensures { actors_view self.new ≡ driven_on (actors_view self.old) message.now (ended.Took 0 verdict.now) }
+        ensures { actors_view self.new ≡ actors_after_drivers (actors_view self.old) message.now (ended.Took 0 verdict.now) }
     {
         if let Some(answer) = verdict_answer(&mut self.drivers, message, verdict) {
             self.host_calls.push_back_reserved(Wish::Send(answer));
@@ -134,9 +134,9 @@ impl Actors {
     }
 
     /// Has the worker see how far its call came, on the link that it is made on.
-    pub(crate) fn worker_reached(&mut self, bench: &Bench, progress: Progress, end: &CallEnd)
+    pub(crate) fn reach_worker(&mut self, bench: &Bench, progress: Progress, end: &CallEnd)
         requires { deque_len self.old.worker_calls < deque_capacity self.old.worker_calls }
-        ensures { actors_view self.new ≡ worker_reached (actors_view self.old) bench.now (reach_of progress end.now) }
+        ensures { actors_view self.new ≡ worker_after_step (actors_view self.old) bench.now (reach_of progress end.now) }
     {
         match progress {
             Progress::At(_) => {}
@@ -157,7 +157,7 @@ impl Actors {
         if !is_tried_again(end) {
             self.worker_calls.pop_front();
         }
-        if let Some(number) = number_taken(end) {
+        if let Some(number) = taken_number(end) {
             self.worker.took(&whole(message));
             self.worker_calls.push_front_reserved(Wish::Give(number));
         }
@@ -169,7 +169,7 @@ fn message_of<'a>(bench: &'a Bench, caller: CallerNo, end: &CallEnd) -> &'a [u8]
     ensures message { result.now ≡ message_of bench.now caller end.now }
     ensures short { length result.now ≤ MESSAGE_MOST }
 {
-    match number_taken(end) {
+    match taken_number(end) {
         Some(number) => bench.taken_message(caller, number),
         None => &[],
     }
@@ -186,8 +186,8 @@ fn is_tried_again(end: &CallEnd) -> bool
 }
 
 /// The number of the message that a call was handed.
-fn number_taken(end: &CallEnd) -> Option<u64>
-    ensures { result ≡ number_taken end.now }
+fn taken_number(end: &CallEnd) -> Option<u64>
+    ensures { result ≡ taken_number end.now }
 {
     match end {
         CallEnd::Took(number, _) => Some(*number),

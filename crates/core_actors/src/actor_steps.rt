@@ -4,9 +4,9 @@ ghost use Rattle.remote_core.specs.Works.{memory_after, work_of};
 ghost use Rattle.core_actors.specs.Actors.{actors_view};
 ghost use Rattle.core_actors.specs.declared.actors.Actor.TheVariants as actor;
 ghost use Rattle.link_bench.specs.Benches.{advance_walk, begin_fault, is_in_call, reach_of, reach_of_done, step_fault};
-ghost use Rattle.link_bench.specs.Watchers.{watched};
+ghost use Rattle.link_bench.specs.Watchers.{watcher_after};
 ghost use Rattle.core_actors.specs.ActorEnds.{actors_after_end};
-ghost use Rattle.core_actors.specs.ActorSteps.{actors_after_record, begun_step, driven_by, driven_by_work, driven_of, first_or_take, host_begun, host_reached, is_rest, link_step, with_next_after, worker_reached};
+ghost use Rattle.core_actors.specs.ActorSteps.{actors_after_record, begun_step, drive_of_progress, drive_of_reach, drive_of_work, first_or_take, host_after_step, host_at_step, is_rest, link_step, with_next_after, worker_after_step};
 
 use crate::actors::{Actor, Actors};
 use crate::progress::DriveProgress;
@@ -88,8 +88,8 @@ impl Actors {
         requires { goes_on ≡ is_in_call bench.old 0 }
         ensures bench { OnOk result (bench.new ≡ (link_step bench.old 0 (first_or_take (actors_view self.old).host_calls)).bench) }
         ensures actors { OnOk result (let walk = link_step bench.old 0 (first_or_take (actors_view self.old).host_calls) in
-            actors_view self.new ≡ host_reached (host_begun bench.old (with_next_after actor.Host (actors_view self.old))) walk.bench walk.reach) }
-        ensures driven { IfOk result (λ progress. driven_of progress end.new ≡ driven_by 0 (link_step bench.old 0 (first_or_take (actors_view self.old).host_calls)).reach) }
+            actors_view self.new ≡ host_after_step (host_at_step bench.old (with_next_after actor.Host (actors_view self.old))) walk.bench walk.reach) }
+        ensures driven { IfOk result (λ progress. drive_of_progress progress end.new ≡ drive_of_reach 0 (link_step bench.old 0 (first_or_take (actors_view self.old).host_calls)).reach) }
         ensures works { IfOk result (λ progress. is_rest progress ≡ false) }
         ensures same { OnErr result (bench.new ≡ bench.old) }
         ensures unchanged { OnErr result (actors_view self.new ≡ actors_view self.old) }
@@ -98,7 +98,7 @@ impl Actors {
         self.next = Actor::Worker;
         self.begin_host(goes_on);
         let progress = link_step(bench, HOST_CALLER, goes_on, &self.host_calls, end);
-        self.host_reached(bench, progress, end);
+        self.reach_host(bench, progress, end);
         Ok(progress_by(HOST_CALLER, progress))
     }
 
@@ -116,8 +116,8 @@ impl Actors {
         requires { goes_on ≡ is_in_call bench.old 1 }
         ensures bench { OnOk result (bench.new ≡ (link_step bench.old 1 (first_or_take (actors_view self.old).worker_calls)).bench) }
         ensures actors { OnOk result (let walk = link_step bench.old 1 (first_or_take (actors_view self.old).worker_calls) in
-            actors_view self.new ≡ worker_reached (with_next_after actor.Worker (actors_view self.old)) walk.bench walk.reach) }
-        ensures driven { IfOk result (λ progress. driven_of progress end.new ≡ driven_by 1 (link_step bench.old 1 (first_or_take (actors_view self.old).worker_calls)).reach) }
+            actors_view self.new ≡ worker_after_step (with_next_after actor.Worker (actors_view self.old)) walk.bench walk.reach) }
+        ensures driven { IfOk result (λ progress. drive_of_progress progress end.new ≡ drive_of_reach 1 (link_step bench.old 1 (first_or_take (actors_view self.old).worker_calls)).reach) }
         ensures works { IfOk result (λ progress. is_rest progress ≡ false) }
         ensures same { OnErr result (bench.new ≡ bench.old) }
         ensures unchanged { OnErr result (actors_view self.new ≡ actors_view self.old) }
@@ -125,7 +125,7 @@ impl Actors {
         self.make_worker_room()?;
         self.next = Actor::Host;
         let progress = link_step(bench, WORKER_CALLER, goes_on, &self.worker_calls, end);
-        self.worker_reached(bench, progress, end);
+        self.reach_worker(bench, progress, end);
         Ok(progress_by(WORKER_CALLER, progress))
     }
 
@@ -138,7 +138,7 @@ impl Actors {
         ensures loaded { OnOk result (load.new ≡ record load.old { memory = memory_after load.old.memory load.old.map linked (actors_view self.old).worker }) }
         ensures memory { length load.new.memory ≡ length load.old.memory }
         ensures actors { OnOk result (actors_view self.new ≡ actors_after_record (with_next_after actor.Worker (actors_view self.old)) load.old.memory load.old.map linked) }
-        ensures driven { IfOk result (λ progress. (end : CallEnd) → driven_of progress end ≡ driven_by_work (work_of load.old.memory load.old.map linked (actors_view self.old).worker)) }
+        ensures driven { IfOk result (λ progress. (end : CallEnd) → drive_of_progress progress end ≡ drive_of_work (work_of load.old.memory load.old.map linked (actors_view self.old).worker)) }
         ensures works { IfOk result (λ progress. is_rest progress ≡ false) }
         ensures same { OnErr result (load.new ≡ load.old) }
         ensures unchanged { OnErr result (actors_view self.new ≡ actors_view self.old) }
@@ -168,7 +168,7 @@ impl Actors {
         requires may { step_fault bench.old caller ≡ None }
         ensures bench { OnOk result (bench.new ≡ (advance_walk bench.old 0 0 caller).bench) }
         ensures actors { OnOk result (let walk = advance_walk bench.old 0 0 caller in
-            actors_view self.new ≡ watched actors_after_end walk.bench caller walk.reach (actors_view self.old)) }
+            actors_view self.new ≡ watcher_after actors_after_end walk.bench caller walk.reach (actors_view self.old)) }
         ensures done { IfOk result (λ done. reach_of_done done ≡ (advance_walk bench.old 0 0 caller).reach) }
         ensures same { OnErr result (bench.new ≡ bench.old) }
         ensures unchanged { OnErr result (actors_view self.new ≡ actors_view self.old) }
@@ -184,7 +184,7 @@ impl Actors {
 
 /// What a step on the link was, by how far its call came.
 fn progress_by(caller: CallerNo, progress: Progress) -> DriveProgress
-    ensures driven { (end : CallEnd) → driven_of result end ≡ driven_by caller (reach_of progress end) }
+    ensures driven { (end : CallEnd) → drive_of_progress result end ≡ drive_of_reach caller (reach_of progress end) }
     ensures works { is_rest result ≡ false }
 {
     match progress {

@@ -1,5 +1,5 @@
 ghost use Rattle.std.specs.Prelude.{◌≡◌};
-ghost use Rattle.core_actors.specs.ActorSteps.{driven_of, is_rest};
+ghost use Rattle.core_actors.specs.ActorSteps.{drive_of_progress, is_rest};
 
 use lane_model::CallEnd;
 use remote_code::WorkerFault;
@@ -47,7 +47,7 @@ impl DriveProgress {
 
     /// What the step was, by the end of the call that it wrote.
     pub fn driven(self, end: CallEnd) -> Driven
-        ensures { result ≡ driven_of self end }
+        ensures { result ≡ drive_of_progress self end }
     {
         match self {
             DriveProgress::Rest | DriveProgress::Nothing => Driven::Idle,

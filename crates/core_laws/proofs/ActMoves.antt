@@ -15,8 +15,8 @@ use Rattle.link_bench.specs.declared.acts.LinkAct.{LinkAct}
 use Rattle.link_bench.specs.declared.benches.BegunCall.{BegunCall}
 use Rattle.link_bench.specs.declared.benches.Reach.TheVariants as reach
 use Rattle.link_bench.specs.Acts.{IsFitAct, link_act}
-use Rattle.link_bench.specs.BenchCrashes.{left_by_reclaim}
-use Rattle.link_bench.specs.Benches.{BenchState, BenchWalk, IsSendable, advance_steps, begin_fault, begun_of, bench_walk, call_steps, call_walk, is_in_call, link_in, on_rings, with_begun}
+use Rattle.link_bench.specs.BenchCrashes.{reclaim_leaves_at}
+use Rattle.link_bench.specs.Benches.{BenchState, BenchWalk, IsSendable, advance_steps, begin_fault, begun_call_of, bench_walk, call_steps, call_walk, is_in_call, link_in, on_rings, with_begun}
 use Rattle.link_bench.specs.Watchers.{Seeing}
 use Rattle.link_bench.proofs.Begun.{begin_may}
 use Rattle.core_laws.specs.BenchMoves.{ComesBy, IsReachedBench}
@@ -28,7 +28,7 @@ use Rattle.core_laws.proofs.LinkMoves.{comes_move, comes_none, comes_then}
 
 -- ---- moves
 
-comes_advance : (bench : BenchState) (more steps caller : ℕ) (found : Option BegunCall) → begun_of bench caller ≡ found → is_in_call bench caller ≡ true
+comes_advance : (bench : BenchState) (more steps caller : ℕ) (found : Option BegunCall) → begun_call_of bench caller ≡ found → is_in_call bench caller ≡ true
     → IsReachedBench bench → ComesBy side_meaning (link_in bench) (link_in (advance_steps bench more steps caller found).bench)
 comes_advance bench more steps caller (Some call) is in_call reached =
     let leaves = call_leaves more steps bench.rings caller call.follows call.wish (reached.fit caller call (begun_at (slice_get bench.begun caller) call is)) in
@@ -36,7 +36,7 @@ comes_advance bench more steps caller (Some call) is in_call reached =
     (bench_walk (with_begun bench caller None) (call_steps on_rings more steps bench.rings caller call.follows call.wish))
     (λ (walk : BenchWalk). ComesBy side_meaning (link_in bench) (link_in walk.bench)) (λ _. comes_none side_meaning (link_in bench)) (λ _. leaves.came)
 comes_advance bench more steps caller None none in_call reached =
-    let may = calling_may (link_in bench) caller (begun_or (begun_of bench caller) (is_calling (link_in bench) caller) none in_call) in
+    let may = calling_may (link_in bench) caller (begun_or (begun_call_of bench caller) (is_calling (link_in bench) caller) none in_call) in
     (later_leaves (more + 1) 0 steps bench.rings caller may).came
 
 comes_call : (bench : BenchState) (steps caller : ℕ) (wanted : Wish) → begin_fault bench caller wanted ≡ None → IsSendable wanted
@@ -45,7 +45,7 @@ comes_call bench steps caller wanted ready sendable =
     (call_leaves 6 steps bench.rings caller (link_in bench).era.inc wanted (begin_may bench caller wanted sendable ready)).came
 
 comes_tried : (bench : BenchState) (caller : ℕ) (end : Option End) (why : Option ReclaimRefusal) → unreclaimed_by (link_in bench) caller ≡ why
-    → ComesBy side_meaning (link_in bench) (link_in (left_by_reclaim bench caller end why))
+    → ComesBy side_meaning (link_in bench) (link_in (reclaim_leaves_at bench caller end why))
 comes_tried bench caller (Some end) None none = comes_reclaim bench caller (unreclaimed_shut (link_in bench) caller none)
 comes_tried bench caller (Some end) (Some why) none = comes_none side_meaning (link_in bench)
 comes_tried bench caller None why none = comes_none side_meaning (link_in bench)
@@ -66,7 +66,7 @@ module _ (start : LinkState EndState) where
         on bench _ is (begun_reached bench caller (record { follows = (link_in bench).era.inc; wish = wanted }) is.reached ready fit) (comes_none side_meaning (link_in bench));
     called = λ bench watcher steps caller wanted other ready fit is. on bench _ is (called bench 6 steps caller wanted is.reached ready fit) (comes_call bench steps caller wanted ready fit);
     advanced = λ bench watcher more steps caller other in_call is.
-        on bench _ is (advanced bench more steps caller is.reached in_call) (comes_advance bench more steps caller (begun_of bench caller) refl in_call is.reached);
+        on bench _ is (advanced bench more steps caller is.reached in_call) (comes_advance bench more steps caller (begun_call_of bench caller) refl in_call is.reached);
     reclaimed = λ bench watcher caller other is.
         on bench _ is (reclaim_tried bench caller is.reached) (comes_tried bench caller (end_of (link_in bench).callers caller) (unreclaimed_by (link_in bench) caller) refl);
     seen = λ bench watcher caller end is. is;

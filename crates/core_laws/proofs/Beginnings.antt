@@ -9,15 +9,15 @@ use Rattle.proc_state.specs.declared.answers.Power.TheVariants as power
 use Rattle.proc_state.specs.Lives.{CoreLife, is_offline, life_after_boot}
 use Rattle.link_bench.specs.Benches.{BenchState}
 use Rattle.link_bench.specs.BenchCrashes.{after_reopen}
-use Rattle.link_bench.specs.BenchEnds.{readied_bench}
+use Rattle.link_bench.specs.BenchEnds.{bench_to_reopen}
 use Rattle.crash_recover.specs.declared.core_answers.Start.{Start}
 use Rattle.crash_recover.specs.declared.core_answers.Start.TheVariants as start
 use Rattle.crash_recover.specs.declared.core_faults.CoreFault.{CoreFault}
 use Rattle.crash_recover.specs.declared.core_faults.CoreFault.TheVariants as fault
 use Rattle.core_actors.specs.Actors.{driver_names}
 use Rattle.crash_recover.specs.Cores.{CoreOutcome, CoreState, loaded_rings, refuse_or}
-use Rattle.crash_recover.specs.CoreBoots.{Found, boot_as, boot_of, core_bench, first_boot, image_fault, loaded_in, started_core, with_load}
-use Rattle.crash_recover.specs.CoreRecoveries.{readied_core, recovery_fault, recovery_of, reload_fault, reopen_fault}
+use Rattle.crash_recover.specs.CoreBoots.{Found, boot_as, boot_of, core_bench, first_boot, image_fault, load_in, started_core, with_load}
+use Rattle.crash_recover.specs.CoreRecoveries.{core_to_reopen, recovery_fault, recovery_of, reload_fault, reopen_fault}
 use Rattle.core_laws.specs.Beginnings.{BeginsEmpty, begins_life}
 
 -- a new link of a core
@@ -41,9 +41,9 @@ reopened_empty bench = record {
   to_remote = record { accepted = refl; takers = refl; held = refl; returned = refl; sender = refl; receiver = refl };
 }
 
-readied_empty : (bench : Option BenchState) → IfSome (option_map (λ (b : BenchState). after_reopen (readied_bench b)) bench) BeginsEmpty
+readied_empty : (bench : Option BenchState) → IfSome (option_map (λ (b : BenchState). after_reopen (bench_to_reopen b)) bench) BeginsEmpty
 readied_empty None = tt
-readied_empty (Some bench) = reopened_empty (readied_bench bench)
+readied_empty (Some bench) = reopened_empty (bench_to_reopen bench)
 
 -- where a life begins with this outcome its link is empty
 abbrev pub Empties : CoreOutcome Start CoreFault → Type 0
@@ -54,10 +54,10 @@ users_begin_none users did begins same = true≢false (sym (ap begins_life same 
 
 first_empties : (life : CoreLife) (core : CoreState) (name : List ℕ) (found : Found) → Empties (first_boot life core name found)
 first_empties life core name found =
-    let done : CoreOutcome Start CoreFault = record { core = started_core life (with_load core name (loaded_in core found)); answer = Ok (start.Running life.incarnation) } in
+    let done : CoreOutcome Start CoreFault = record { core = started_core life (with_load core name (load_in core found)); answer = Ok (start.Running life.incarnation) } in
     cond_both (is_offline core.life.state) (refuse_or core (image_fault core found) done) (record { core = started_core life core; answer = Ok (start.Attached life.incarnation) }) Empties
     (λ _. elim (image_fault core found) as (λ refused. Empties (refuse_or core refused done)) [
-      | None ↦ λ did begins is. linked_empty (driver_names core.actors) core.book life.incarnation (loaded_in core found).rings
+      | None ↦ λ did begins is. linked_empty (driver_names core.actors) core.book life.incarnation (load_in core found).rings
       | Some why ↦ λ did begins is. absurd (cc)
     ])
     (λ _ did begins is. linked_empty (driver_names core.actors) core.book life.incarnation (loaded_rings core.loaded))
@@ -81,4 +81,4 @@ unfolding recovery_of
 recovery_empties core found =
     unless_refused core (option_map fault.Life (recovery_fault core.life)) _
     (unless_refused core (reload_fault core found) _
-    (unless_refused (readied_core core) (reopen_fault core) _ (λ did begins is. readied_empty core.bench)))
+    (unless_refused (core_to_reopen core) (reopen_fault core) _ (λ did begins is. readied_empty core.bench)))

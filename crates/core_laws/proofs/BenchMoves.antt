@@ -19,8 +19,8 @@ use Rattle.channel_bus.specs.Sides.{EndState, side_meaning}
 use Rattle.channel_bus.specs.Laws.{side_laws}
 use Rattle.link_bench.specs.declared.benches.BegunCall.{BegunCall}
 use Rattle.link_bench.specs.declared.benches.Reach.TheVariants as reach
-use Rattle.link_bench.specs.Benches.{AreFitCalls, BenchState, BenchWalk, IsSendable, RingsState, advance_steps, advance_walk, begin_fault, begin_walk, begun_of, bench_walk, call_steps, is_in_call, link_in, lists_of, new_bench_of, on_rings, ready_fault, wish_fault, with_begun, with_new_caller}
-use Rattle.link_bench.specs.BenchCrashes.{after_close, after_reclaim, after_reopen, left_by_reclaim, reclaim_leaves}
+use Rattle.link_bench.specs.Benches.{AreFitCalls, BenchState, BenchWalk, IsSendable, RingsState, advance_steps, advance_walk, begin_fault, begin_walk, begun_call_of, bench_walk, call_steps, is_in_call, link_in, lists_of, new_bench_of, on_rings, ready_fault, wish_fault, with_begun, with_new_caller}
+use Rattle.link_bench.specs.BenchCrashes.{after_close, after_reclaim, after_reopen, reclaim_leaves, reclaim_leaves_at}
 use Rattle.core_laws.specs.BenchMoves.{ComesBy, IsReachedBench}
 use Rattle.link_bench.proofs.Begun.{begin_may, fit_after, fit_cleared, fit_put, neither_fault, none_begun, none_in_none}
 use Rattle.link_bench.proofs.Lists.{close_lists, reclaim_lists}
@@ -73,7 +73,7 @@ pub calling_may : (link : LinkState EndState) (caller : ℕ) → is_calling link
 calling_may link caller is = record { may = calling_at link (end_of link.callers caller) caller is }
 
 -- a link that steps of a caller left who has begun no call
-left_reached : (bench : BenchState) (after : RingsState) (caller : ℕ) → IsReachedBench bench → begun_of bench caller ≡ None
+left_reached : (bench : BenchState) (after : RingsState) (caller : ℕ) → IsReachedBench bench → begun_call_of bench caller ≡ None
     → Leaves (link_in bench) (lists_of after) caller → IsReachedBench (record bench { rings = after })
 left_reached bench after caller reached none leaves = record {
   link = reached_by (link_in bench) (lists_of after) reached.link leaves.came;
@@ -85,7 +85,7 @@ begun_or None under_way none is = is
 begun_or (Some call) under_way none is = absurd (true≢false (ap is_some none))
 
 -- steps of the call that a caller is in
-advance_at : (bench : BenchState) (more steps caller : ℕ) (found : Option BegunCall) → begun_of bench caller ≡ found → is_in_call bench caller ≡ true
+advance_at : (bench : BenchState) (more steps caller : ℕ) (found : Option BegunCall) → begun_call_of bench caller ≡ found → is_in_call bench caller ≡ true
     → IsReachedBench bench → IsReachedBench (advance_steps bench more steps caller found).bench
 advance_at bench more steps caller (Some call) is in_call reached =
     let may = reached.fit caller call (begun_at (slice_get bench.begun caller) call is) in
@@ -99,18 +99,18 @@ advance_at bench more steps caller (Some call) is in_call reached =
       fit = fit_cleared bench.begun caller (lists_of after) (λ other one differ at. leaves.others other (Some one.wish) differ (reached.fit other one at));
     })
 advance_at bench more steps caller None none in_call reached =
-    let may = calling_may (link_in bench) caller (begun_or (begun_of bench caller) (is_calling (link_in bench) caller) none in_call) in
+    let may = calling_may (link_in bench) caller (begun_or (begun_call_of bench caller) (is_calling (link_in bench) caller) none in_call) in
     left_reached bench _ caller reached none (later_leaves (more + 1) 0 steps bench.rings caller may)
 
 pub advanced : (bench : BenchState) (more steps caller : ℕ) → IsReachedBench bench → is_in_call bench caller ≡ true
     → IsReachedBench (advance_walk bench more steps caller).bench
-advanced bench more steps caller reached in_call = advance_at bench more steps caller (begun_of bench caller) refl in_call reached
+advanced bench more steps caller reached in_call = advance_at bench more steps caller (begun_call_of bench caller) refl in_call reached
 
 -- who may begin a call has begun none
-ready_none : (bench : BenchState) (caller : ℕ) (wanted : Wish) → begin_fault bench caller wanted ≡ None → begun_of bench caller ≡ None
+ready_none : (bench : BenchState) (caller : ℕ) (wanted : Wish) → begin_fault bench caller wanted ≡ None → begun_call_of bench caller ≡ None
 ready_none bench caller wanted ready =
     let both = neither_fault (ready_fault bench caller) (wish_fault bench caller wanted) ready in
-    no_call (begun_of bench caller) (none_begun (end_of (link_in bench).callers caller) (is_some (begun_of bench caller)) (is_calling (link_in bench) caller) both.0)
+    no_call (begun_call_of bench caller) (none_begun (end_of (link_in bench).callers caller) (is_some (begun_call_of bench caller)) (is_calling (link_in bench) caller) both.0)
 
 -- a call from its first step on
 pub called : (bench : BenchState) (more steps caller : ℕ) (wanted : Wish) → IsReachedBench bench → begin_fault bench caller wanted ≡ None
@@ -148,7 +148,7 @@ pub unreclaimed_shut : (link : LinkState EndState) (caller : ℕ) → unreclaime
 unreclaimed_shut link caller none = shut_at link.era.is_live _ _ none
 
 reclaim_at : (bench : BenchState) (caller : ℕ) (end : Option End) (why : Option ReclaimRefusal) → unreclaimed_by (link_in bench) caller ≡ why
-    → IsReachedBench bench → IsReachedBench (left_by_reclaim bench caller end why)
+    → IsReachedBench bench → IsReachedBench (reclaim_leaves_at bench caller end why)
 reclaim_at bench caller (Some end) None none reached = reclaimed bench caller (unreclaimed_shut (link_in bench) caller none) reached
 reclaim_at bench caller (Some end) (Some why) none reached = reached
 reclaim_at bench caller None why none reached = reached

@@ -14,8 +14,8 @@ use Rattle.link_bench.specs.declared.acts.LinkAct.TheVariants as act
 use Rattle.link_bench.specs.declared.benches.BegunCall.{BegunCall}
 use Rattle.link_bench.specs.declared.benches.Reach.TheVariants as reach
 use Rattle.link_bench.specs.Acts.{IsFitAct, link_act}
-use Rattle.link_bench.specs.BenchCrashes.{left_by_reclaim}
-use Rattle.link_bench.specs.Benches.{BenchState, BenchWalk, IsSendable, advance_steps, bench_walk, begun_of, call_steps, link_in, on_rings, with_begun}
+use Rattle.link_bench.specs.BenchCrashes.{reclaim_leaves_at}
+use Rattle.link_bench.specs.Benches.{BenchState, BenchWalk, IsSendable, advance_steps, bench_walk, begun_call_of, call_steps, link_in, on_rings, with_begun}
 use Rattle.link_bench.specs.Watchers.{Seeing}
 use Rattle.core_actors.specs.Actors.{ActorsState}
 use Rattle.crash_recover.specs.CoreActs.{core_act, core_act_on}
@@ -125,7 +125,7 @@ advance_none bench more steps caller (Some call) is =
     (λ (walk : BenchWalk). HasNoneBegun walk.bench) (λ _. is)
     (λ _. record { host = cleared_begun bench.begun caller 0 is.host; worker = cleared_begun bench.begun caller 1 is.worker })
 
-reclaim_none : (bench : BenchState) (caller : ℕ) (found : Option End) (why : Option ReclaimRefusal) → HasNoneBegun bench → HasNoneBegun (left_by_reclaim bench caller found why)
+reclaim_none : (bench : BenchState) (caller : ℕ) (found : Option End) (why : Option ReclaimRefusal) → HasNoneBegun bench → HasNoneBegun (reclaim_leaves_at bench caller found why)
 reclaim_none bench caller (Some end) None is = reclaim_begun bench caller is
 reclaim_none bench caller (Some end) (Some why) is = is
 reclaim_none bench caller None why is = is
@@ -156,7 +156,7 @@ ready_steps state = record {
   };
   advanced = λ bench actors more steps caller other in_call is. record {
     reached = advanced bench more steps caller is.reached in_call;
-    begun = advance_none bench more steps caller (begun_of bench caller) is.begun;
+    begun = advance_none bench more steps caller (begun_call_of bench caller) is.begun;
     calls = λ running. (advance_ready actors bench caller (omega (arith, other)) is.begun (is.calls running) more steps is.reached in_call).1;
   };
   reclaimed = λ bench actors caller other is. record {

@@ -33,13 +33,13 @@ use Rattle.core_actors.specs.Actors.{ActorsState, driver_names}
 use Rattle.link_bench.specs.Benches.{BenchState, BenchWalk, IsSendable, RingsState, advance_walk, begin_fault, is_in_call, link_in, on_rings, start_walk}
 use Rattle.link_bench.specs.BenchCrashes.{after_close, after_reclaim, after_reopen}
 use Rattle.crash_recover.specs.CoreBoots.{config_of, core_bench, fresh_end}
-use Rattle.link_bench.specs.BenchEnds.{crashed_bench, is_first, is_remote, with_fresh_caller, without_one, without_other, without_others, without_remote, readied_bench, renewed_unless, reopen_refusal_of, unopened_unless}
+use Rattle.link_bench.specs.BenchEnds.{crashed_bench, is_first, is_remote, with_fresh_caller, without_one, without_other, without_others, without_remote, bench_to_reopen, with_new_host_unless, reopen_refusal_of, reopen_refusal_by}
 use Rattle.crash_recover.specs.CoreCrashes.{after_report}
-use Rattle.crash_recover.specs.CoreRecoveries.{after_recovery, fault_with, link_fault, readied_core, reopen_fault, reopened_core, spent_fault}
+use Rattle.crash_recover.specs.CoreRecoveries.{after_recovery, core_to_reopen, fault_with, link_fault, reopen_fault, reopened_core, spent_fault}
 use Rattle.crash_recover.specs.Cores.{CoreState, LoadState, loaded_rings, new_core}
-use Rattle.core_actors.specs.ActorEnds.{actors_at_end, driven_on, end_answer, gives_of, host_ended, left_of, message_of, number_taken, sends_of}
-use Rattle.core_actors.specs.ActorSteps.{asked_by, first_or_take, has_calls, host_begun, host_begun_as, host_reached, link_step, worker_reached}
-use Rattle.crash_recover.specs.Drives.{DriveStep, acting, actor_step, drive_step, host_step, is_idle, placed_map, record_run, record_step, reported_by, with_turn_after, worker_call, worker_step}
+use Rattle.core_actors.specs.ActorEnds.{actors_after_drivers, actors_at_end, calls_after_end, end_answer, gives_of, host_after_call, message_of, sends_of, taken_number}
+use Rattle.core_actors.specs.ActorSteps.{first_or_take, has_calls, host_after_step, host_at_step, host_at_step_as, link_step, wishes_of_work, worker_after_step}
+use Rattle.crash_recover.specs.Drives.{DriveStep, actor_step, actor_to_step, core_with_report, drive_step, host_step, is_idle, placed_map, record_run, record_step, with_turn_after, worker_call, worker_step}
 use Rattle.core_laws.proofs.Outcomes.{Stays, report_stays}
 use Rattle.core_laws.specs.BenchMoves.{AreSendable, IsReachedBench, IsReachedCore, IsShortLink}
 use Rattle.core_laws.proofs.Sendable.{end_short, gives_sendable, left_sendable, message_short, none_sendable, sends_sendable, work_sendable}
@@ -109,17 +109,17 @@ map_reached (Some bench) f each is = each bench is
 
 -- ---- a recovery
 
-ready_at : (bench : BenchState) (why : Option ReclaimRefusal) → unreclaimed_by (link_in bench) 0 ≡ why → IsReachedBench bench → IsReachedBench (renewed_unless bench why)
+ready_at : (bench : BenchState) (why : Option ReclaimRefusal) → unreclaimed_by (link_in bench) 0 ≡ why → IsReachedBench bench → IsReachedBench (with_new_host_unless bench why)
 ready_at bench None none reached = enlisted (after_reclaim bench 0) side.Host (reclaimed bench 0 (unreclaimed_shut (link_in bench) 0 none) reached)
 ready_at bench (Some why) is reached = reached
 
-pub readied : (bench : BenchState) → IsReachedBench bench → IsReachedBench (readied_bench bench)
+pub readied : (bench : BenchState) → IsReachedBench bench → IsReachedBench (bench_to_reopen bench)
 readied bench reached = ready_at bench (unreclaimed_by (link_in bench) 0) refl reached
 
-pub core_readied : (core : CoreState) → IsReachedCore core → IsReachedCore (readied_core core)
-core_readied core is = record { bench = map_reached core.bench readied_bench readied is.bench; calls = is.calls }
+pub core_readied : (core : CoreState) → IsReachedCore core → IsReachedCore (core_to_reopen core)
+core_readied core is = record { bench = map_reached core.bench bench_to_reopen readied is.bench; calls = is.calls }
 
-clear_at : (bench : BenchState) (why : Option ReclaimRefusal) → unopened_unless bench why ≡ None → unopened_by (link_in (renewed_unless bench why)) ≡ None
+clear_at : (bench : BenchState) (why : Option ReclaimRefusal) → reopen_refusal_by bench why ≡ None → unopened_by (link_in (with_new_host_unless bench why)) ≡ None
 clear_at bench None clear = clear
 clear_at bench (Some why) clear = absurd (true≢false (ap is_some clear))
 
@@ -127,13 +127,13 @@ first_none : (refusal : Option ReopenFault) (later : Option CoreFault) → optio
 first_none None later none = refl
 first_none (Some why) later none = absurd (true≢false (ap is_some none))
 
-bench_reopened : (bench : BenchState) (is_spent : Bool) → link_fault bench is_spent ≡ None → IsReachedBench bench → IsReachedBench (after_reopen (readied_bench bench))
+bench_reopened : (bench : BenchState) (is_spent : Bool) → link_fault bench is_spent ≡ None → IsReachedBench bench → IsReachedBench (after_reopen (bench_to_reopen bench))
 bench_reopened bench is_spent none reached =
-    reopened (readied_bench bench) (readied bench reached)
+    reopened (bench_to_reopen bench) (readied bench reached)
     (clear_at bench (unreclaimed_by (link_in bench) 0) (first_none (reopen_refusal_of bench) (spent_fault is_spent) none))
 
 found_reopened : (found : Option BenchState) (is_spent : Bool) → fault_with found is_spent ≡ None → IfSome found IsReachedBench
-    → IfSome (option_map (λ bench. after_reopen (readied_bench bench)) found) IsReachedBench
+    → IfSome (option_map (λ bench. after_reopen (bench_to_reopen bench)) found) IsReachedBench
 found_reopened None is_spent none is = is
 found_reopened (Some bench) is_spent none is = bench_reopened bench is_spent none is
 
@@ -190,29 +190,29 @@ first_sendable [] are = tt
 first_sendable (first ∷ later) are = are 0 first (omega arith)
 
 -- the actors of a core, as its drivers see the end of a call of a host caller
-driven_sendable : (actors : ActorsState) (message : List ℕ) (end : CallEnd) → length message ≤ MESSAGE_MOST → AreSendable actors → AreSendable (driven_on actors message end)
+driven_sendable : (actors : ActorsState) (message : List ℕ) (end : CallEnd) → length message ≤ MESSAGE_MOST → AreSendable actors → AreSendable (actors_after_drivers actors message end)
 driven_sendable actors message end short are = record {
   host = All-append IsSendable actors.host_calls (sends_of (end_answer actors.drivers message end)) are.host
       (sends_sendable (end_answer actors.drivers message end) (end_short actors.drivers message end short));
   worker = are.worker;
 }
 
-host_end_sendable : (actors : ActorsState) (end : CallEnd) → AreSendable actors → AreSendable (host_ended actors end)
+host_end_sendable : (actors : ActorsState) (end : CallEnd) → AreSendable actors → AreSendable (host_after_call actors end)
 host_end_sendable actors end are = record {
-  host = All-append IsSendable (cond actors.is_taking actors.host_calls (left_of end actors.host_calls)) (gives_of (number_taken end))
-      (cond_both actors.is_taking actors.host_calls (left_of end actors.host_calls) (λ (calls : List Wish). All IsSendable calls)
+  host = All-append IsSendable (cond actors.is_taking actors.host_calls (calls_after_end end actors.host_calls)) (gives_of (taken_number end))
+      (cond_both actors.is_taking actors.host_calls (calls_after_end end actors.host_calls) (λ (calls : List Wish). All IsSendable calls)
       (λ _. are.host) (λ _. left_sendable end actors.host_calls are.host))
-      (gives_sendable (number_taken end));
+      (gives_sendable (taken_number end));
   worker = are.worker;
 }
 
-host_sendable : (actors : ActorsState) (bench : BenchState) (came : Reach) → IsShortLink (link_in bench) → AreSendable actors → AreSendable (host_reached actors bench came)
+host_sendable : (actors : ActorsState) (bench : BenchState) (came : Reach) → IsShortLink (link_in bench) → AreSendable actors → AreSendable (host_after_step actors bench came)
 host_sendable actors bench (reach.At step) short are = are
 host_sendable actors bench (reach.Ended end) short are =
-    driven_sendable (host_ended actors end) (message_of bench 0 end) end (message_short bench 0 end short) (host_end_sendable actors end are)
+    driven_sendable (host_after_call actors end) (message_of bench 0 end) end (message_short bench 0 end short) (host_end_sendable actors end are)
 host_sendable actors bench reach.Limit short are = record { host = All-drop IsSendable 1 actors.host_calls are.host; worker = are.worker }
 
-host_begun_sendable : (in_call : Bool) (actors : ActorsState) → AreSendable actors → AreSendable (host_begun_as in_call actors)
+host_begun_sendable : (in_call : Bool) (actors : ActorsState) → AreSendable actors → AreSendable (host_at_step_as in_call actors)
 host_begun_sendable true actors are = are
 host_begun_sendable false actors are = record { host = are.host; worker = are.worker }
 
@@ -223,14 +223,14 @@ host_step_reached core (Some bench) is reached =
     let left = step_reached bench 0 (first_or_take core.actors.host_calls) reached (first_sendable core.actors.host_calls is.calls.host) in
     record {
       bench = left;
-      calls = host_sendable (host_begun bench core.actors) walk.bench walk.reach left.link.short (host_begun_sendable (is_in_call bench 0) core.actors is.calls);
+      calls = host_sendable (host_at_step bench core.actors) walk.bench walk.reach left.link.short (host_begun_sendable (is_in_call bench 0) core.actors is.calls);
     }
 
-worker_sendable : (actors : ActorsState) (bench : BenchState) (came : Reach) → AreSendable actors → AreSendable (worker_reached actors bench came)
+worker_sendable : (actors : ActorsState) (bench : BenchState) (came : Reach) → AreSendable actors → AreSendable (worker_after_step actors bench came)
 worker_sendable actors bench (reach.At step) are = are
 worker_sendable actors bench (reach.Ended end) are = record {
   host = are.host;
-  worker = All-append IsSendable (gives_of (number_taken end)) (left_of end actors.worker_calls) (gives_sendable (number_taken end))
+  worker = All-append IsSendable (gives_of (taken_number end)) (calls_after_end end actors.worker_calls) (gives_sendable (taken_number end))
       (left_sendable end actors.worker_calls are.worker);
 }
 worker_sendable actors bench reach.Limit are = record { host = are.host; worker = All-drop IsSendable 1 actors.worker_calls are.worker }
@@ -244,7 +244,7 @@ call_reached core (Some bench) is reached =
       calls = worker_sendable core.actors walk.bench walk.reach is.calls;
     }
 
-reported_reached : (event : Driven) (core : CoreState) → IsReachedCore core → IsReachedCore (reported_by event core)
+reported_reached : (event : Driven) (core : CoreState) → IsReachedCore core → IsReachedCore (core_with_report event core)
 reported_reached driven.Idle core is = is
 reported_reached driven.Stepped core is = is
 reported_reached (driven.Ended caller end) core is = is
@@ -259,7 +259,7 @@ run_reached core (Some load) is =
       bench = is.bench;
       calls = record {
         host = is.calls.host;
-        worker = All-append IsSendable core.actors.worker_calls (asked_by (work_of load.memory map (is_some core.bench) core.actors.worker)) is.calls.worker
+        worker = All-append IsSendable core.actors.worker_calls (wishes_of_work (work_of load.memory map (is_some core.bench) core.actors.worker)) is.calls.worker
             (work_sendable load.memory map (is_some core.bench) core.actors.worker);
       };
     }
@@ -277,7 +277,7 @@ actor_reached actor.Worker core is = worker_step_reached core is
 pub core_driven : (core : CoreState) → IsReachedCore core → IsReachedCore (drive_step core).core
 core_driven core is =
     cond_both (is_idle core) _ _ (λ (step : DriveStep). IsReachedCore step.core) (λ _. is)
-    (λ _. actor_reached (acting core) (with_turn_after (acting core) core)
+    (λ _. actor_reached (actor_to_step core) (with_turn_after (actor_to_step core) core)
     (record { bench = is.bench; calls = record { host = is.calls.host; worker = is.calls.worker } }))
 
 -- ---- calls of others

@@ -28,7 +28,7 @@ use Rattle.link_bench.specs.declared.turns.TurnEnd.{TurnEnd}
 use Rattle.link_bench.specs.Benches.{BenchState, IsSendable, advance_fault, advance_walk, begin_fault, call_walk, is_in_call, link_in, ready_fault, step_fault, used_fault, wish_fault, with_begun, with_new_caller}
 use Rattle.link_bench.specs.Turns.{Pumped, TurnCall, Turns, give_turn, is_whole, one_turn, pump_turns, take_turn, tested_call, then_more, turn_call, turn_message}
 use Rattle.link_bench.specs.Acts.{Acted, IsFitAct, IsFitWish, call_act, caller_act, first_refusal, free_act, link_act, made_call, misfit, own_caller, own_in, pump_act, pump_refusal, step_act, unless_own, unless_refused, wish_of}
-use Rattle.link_bench.specs.Watchers.{Seeing, watched}
+use Rattle.link_bench.specs.Watchers.{Seeing, watcher_after}
 use Rattle.core_laws.proofs.Sendable.{header_length}
 
 -- ---- what a refusal that there isn't says
@@ -135,7 +135,7 @@ module _ {W : Type 0} (sees : Seeing W) (own : ℕ) (Fits : Wish → Type 0) (P 
   unless_kept bench watcher steps None acted is rest = rest refl
   unless_kept bench watcher steps (Some told) acted is rest = is
 
-  watch_kept : (bench : BenchState) (watcher : W) (caller : ℕ) (came : Reach) → P bench watcher → P bench (watched sees bench caller came watcher)
+  watch_kept : (bench : BenchState) (watcher : W) (caller : ℕ) (came : Reach) → P bench watcher → P bench (watcher_after sees bench caller came watcher)
   watch_kept bench watcher caller (reach.At step) is = is
   watch_kept bench watcher caller (reach.Ended end) is = keep.seen bench watcher caller end is
   watch_kept bench watcher caller reach.Limit is = is
@@ -194,7 +194,7 @@ module _ {W : Type 0} (sees : Seeing W) (own : ℕ) (Fits : Wish → Type 0) (P 
   taken_kept fit receiver bench watcher steps other is =
       let taken = turn_call bench steps receiver wish.Take in
       let left = turn_call_kept bench watcher steps receiver wish.Take other (fit 0).1 is in
-      let seer = watched sees taken.bench receiver (call_walk bench steps receiver wish.Take).reach watcher in
+      let seer = watcher_after sees taken.bench receiver (call_walk bench steps receiver wish.Take).reach watcher in
       then_kept watcher taken taken.number (give_turn seer receiver taken.bench taken.steps) left
       (λ number. turn_call_kept taken.bench seer taken.steps receiver (wish.Give number) other (fit number).2 (watch_kept taken.bench watcher receiver _ left))
 

@@ -21,15 +21,15 @@ use Rattle.core_actors.specs.declared.progress.Driven.{Driven}
 use Rattle.core_actors.specs.declared.progress.Driven.TheVariants as driven
 use Rattle.crash_recover.specs.declared.core_faults.CoreFault.{CoreFault}
 use Rattle.core_actors.specs.Actors.{driver_names}
-use Rattle.link_bench.specs.BenchCrashes.{after_reopen, left_by_reclaim, reclaim_leaves}
+use Rattle.link_bench.specs.BenchCrashes.{after_reopen, reclaim_leaves, reclaim_leaves_at}
 use Rattle.link_bench.specs.Benches.{BenchState, BenchWalk, advance_walk, begin_fault, is_in_call, link_in, start_walk, with_new_caller}
 use Rattle.crash_recover.specs.CoreBoots.{core_bench}
-use Rattle.link_bench.specs.BenchEnds.{crashed_bench, readied_bench, renewed_unless}
+use Rattle.link_bench.specs.BenchEnds.{bench_to_reopen, crashed_bench, with_new_host_unless}
 use Rattle.crash_recover.specs.CoreCrashes.{after_report}
-use Rattle.crash_recover.specs.CoreRecoveries.{after_recovery, fault_with, readied_core, recovery_fault, reopen_fault, reopened_core, spent_fault, unrecovered_to}
+use Rattle.crash_recover.specs.CoreRecoveries.{after_recovery, core_to_reopen, fault_with, recovery_fault, recovery_fault_to, reopen_fault, reopened_core, spent_fault}
 use Rattle.crash_recover.specs.Cores.{CoreState, LoadState, loaded_rings}
 use Rattle.core_actors.specs.ActorSteps.{first_or_take, has_calls, link_step}
-use Rattle.crash_recover.specs.Drives.{DriveStep, acting, actor_step, drive_step, host_step, is_idle, record_run, record_step, reported_by, with_turn_after, worker_call, worker_step}
+use Rattle.crash_recover.specs.Drives.{DriveStep, actor_step, actor_to_step, core_with_report, drive_step, host_step, is_idle, record_run, record_step, with_turn_after, worker_call, worker_step}
 use Rattle.core_laws.specs.KeptCores.{IsKeptBench, IsKeptCore, next_life, with_next_life}
 use Rattle.core_laws.proofs.Outcomes.{IsSame, Stays, report_stays}
 use Rattle.core_laws.proofs.KeptCrashes.{crash_kept, gone_kept, host_renewed}
@@ -47,7 +47,7 @@ caller_kept life bench end is = record {
 }
 
 reclaim_at : (life : CoreLife) (bench : BenchState) (caller : ℕ) (end : Option End) (why : Option ReclaimRefusal) → 1 < caller → IsKeptBench life bench
-    → IsKeptBench life (left_by_reclaim bench caller end why)
+    → IsKeptBench life (reclaim_leaves_at bench caller end why)
 reclaim_at life bench caller (Some end) None other is = gone_kept life bench caller (λ same. omega (arith, other, same)) (λ same. omega (arith, other, same)) is
 reclaim_at life bench caller (Some end) (Some why) other is = is
 reclaim_at life bench caller None why other is = is
@@ -88,15 +88,15 @@ map_kept : (before after : CoreLife) (found : Option BenchState) (f : BenchState
 map_kept before after None f each is = tt
 map_kept before after (Some bench) f each is = each bench is
 
-ready_at : (life : CoreLife) (bench : BenchState) (why : Option ReclaimRefusal) → IsKeptBench life bench → IsKeptBench life (renewed_unless bench why)
+ready_at : (life : CoreLife) (bench : BenchState) (why : Option ReclaimRefusal) → IsKeptBench life bench → IsKeptBench life (with_new_host_unless bench why)
 ready_at life bench None is = host_renewed life bench is
 ready_at life bench (Some why) is = is
 
-readied : (life : CoreLife) (bench : BenchState) → IsKeptBench life bench → IsKeptBench life (readied_bench bench)
+readied : (life : CoreLife) (bench : BenchState) → IsKeptBench life bench → IsKeptBench life (bench_to_reopen bench)
 readied life bench is = ready_at life bench (unreclaimed_by (link_in bench) 0) is
 
-pub core_readied : (core : CoreState) → IsKeptCore core → IsKeptCore (readied_core core)
-core_readied core is = map_kept core.life core.life core.bench readied_bench (readied core.life) is
+pub core_readied : (core : CoreState) → IsKeptCore core → IsKeptCore (core_to_reopen core)
+core_readied core is = map_kept core.life core.life core.bench bench_to_reopen (readied core.life) is
 
 opened : (life : CoreLife) (bench : BenchState) → IsKeptBench life bench → IsKeptBench (next_life life) (after_reopen bench)
 opened life bench is = record {
@@ -108,7 +108,7 @@ opened life bench is = record {
 
 pub core_reopened : (core : CoreState) → IsKeptCore core → IsKeptCore (with_next_life (reopened_core core))
 core_reopened core is =
-    map_kept core.life (next_life core.life) core.bench (λ bench. after_reopen (readied_bench bench)) (λ bench one. opened core.life (readied_bench bench) (readied core.life bench one)) is
+    map_kept core.life (next_life core.life) core.bench (λ bench. after_reopen (bench_to_reopen bench)) (λ bench one. opened core.life (bench_to_reopen bench) (readied core.life bench one)) is
 
 none_later : (first later : Option CoreFault) → option_or first later ≡ None → later ≡ None
 none_later None later none = none
@@ -123,14 +123,14 @@ unspent_with None is_spent none = unspent is_spent none
 unspent_with (Some bench) is_spent none = unspent is_spent (none_later _ (spent_fault is_spent) none)
 
 -- a life that is recovered is the next one, which runs
-recovered_life : (life : CoreLife) → unrecovered_to (Some Running) life ≡ None → (life.incarnation == most) ≡ false → IsSame (next_life life) (recovery_to (Some Running) life).life
+recovered_life : (life : CoreLife) → recovery_fault_to (Some Running) life ≡ None → (life.incarnation == most) ≡ false → IsSame (next_life life) (recovery_to (Some Running) life).life
 recovered_life life may more =
     cond_both life.recovery (started_life Running life.users tt life) (refusal_of life_fault.RecoveryOff life) (λ (left : Outcome (Unit {0})). IsSame (next_life life) left.life)
     (λ _. cond_both (life.incarnation == most) (refusal_of life_fault.IncarnationsSpent life) _ (λ (left : Outcome (Unit {0})). IsSame (next_life life) left.life)
     (λ spent. absurd (true≢false (sym spent ∙ more))) (λ _. record { inc = refl; up = refl }))
     (λ off. absurd (true≢false (ap is_some (sym (ap (λ (on : Bool). cond on None (Some life_fault.RecoveryOff)) off) ∙ may))))
 
-runs_again : (state : LifeState) (life : CoreLife) → unrecovered_to (line_of state).recovery life ≡ None → (life.incarnation == most) ≡ false → IsSame (next_life life) (recovery_to (line_of state).recovery life).life
+runs_again : (state : LifeState) (life : CoreLife) → recovery_fault_to (line_of state).recovery life ≡ None → (life.incarnation == most) ≡ false → IsSame (next_life life) (recovery_to (line_of state).recovery life).life
 runs_again Offline life may more = absurd (true≢false (ap is_some may))
 runs_again Running life may more = absurd (true≢false (ap is_some may))
 runs_again Crashed life may more = recovered_life life may more
@@ -175,7 +175,7 @@ worker_call_kept : (core : CoreState) (found : Option BenchState) → IsKeptCore
 worker_call_kept core None is kept = is
 worker_call_kept core (Some bench) is kept = step_kept core.life bench 1 (first_or_take core.actors.worker_calls) kept
 
-reported_kept : (event : Driven) (core : CoreState) → IsKeptCore core → IsKeptCore (reported_by event core)
+reported_kept : (event : Driven) (core : CoreState) → IsKeptCore core → IsKeptCore (core_with_report event core)
 reported_kept driven.Idle core is = is
 reported_kept driven.Stepped core is = is
 reported_kept (driven.Ended caller end) core is = is
@@ -198,4 +198,4 @@ actor_kept actor.Worker core is = worker_kept core is
 
 pub core_driven : (core : CoreState) → IsKeptCore core → IsKeptCore (drive_step core).core
 core_driven core is =
-    cond_both (is_idle core) _ _ (λ (step : DriveStep). IsKeptCore step.core) (λ _. is) (λ _. actor_kept (acting core) (with_turn_after (acting core) core) is)
+    cond_both (is_idle core) _ _ (λ (step : DriveStep). IsKeptCore step.core) (λ _. is) (λ _. actor_kept (actor_to_step core) (with_turn_after (actor_to_step core) core) is)

@@ -33,7 +33,7 @@ use Rattle.lane_model.proofs.SoundLanes.{turn_step_has}
 use Rattle.channel_bus.specs.Sides.{EndState, side_meaning}
 use Rattle.link_bench.specs.declared.benches.BegunCall.{BegunCall}
 use Rattle.link_bench.specs.declared.benches.Reach.TheVariants as reach
-use Rattle.link_bench.specs.Benches.{BenchState, BenchWalk, RingsState, advance_steps, advance_walk, begun_of, bench_walk, call_steps, call_walk, later_steps, link_in, lists_of, on_rings, start_walk, with_begun}
+use Rattle.link_bench.specs.Benches.{BenchState, BenchWalk, RingsState, advance_steps, advance_walk, begun_call_of, bench_walk, call_steps, call_walk, later_steps, link_in, lists_of, on_rings, start_walk, with_begun}
 use Rattle.link_bench.proofs.KeptWalks.{call_keeps, later_keeps}
 use Rattle.core_laws.specs.KeptCores.{IsKeptBench, IsKeptLink, IsUnmanagedLane, IsUnmanagedTurn}
 
@@ -168,7 +168,7 @@ module _ (life : CoreLife) where
   advance_at bench more steps caller None is = later_kept (more + 1) 0 steps bench.rings caller is
 
   pub advance_kept : (bench : BenchState) (more steps caller : ℕ) → IsKeptBench life bench → IsKeptBench life (advance_walk bench more steps caller).bench
-  advance_kept bench more steps caller is = advance_at bench more steps caller (begun_of bench caller) is
+  advance_kept bench more steps caller is = advance_at bench more steps caller (begun_call_of bench caller) is
 
   pub whole_kept : (bench : BenchState) (steps caller : ℕ) (wanted : Wish) → IsKeptBench life bench → IsKeptBench life (call_walk bench steps caller wanted).bench
   whole_kept bench steps caller wanted is = call_kept 6 steps bench.rings caller (link_in bench).era.inc wanted is

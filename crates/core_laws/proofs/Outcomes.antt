@@ -21,10 +21,10 @@ use Rattle.crash_recover.specs.declared.core_faults.CoreFault.TheVariants as fau
 use Rattle.link_bench.specs.BenchHolds.{caller_out}
 use Rattle.link_bench.specs.Benches.{BenchState}
 use Rattle.crash_recover.specs.Cores.{CoreOutcome, CoreState, LoadState, refuse_or}
-use Rattle.crash_recover.specs.CoreBoots.{Found, boot_as, boot_of, first_boot, handover_as, handover_of, image_fault, loaded_in, started_core, with_load}
+use Rattle.crash_recover.specs.CoreBoots.{Found, boot_as, boot_of, first_boot, handover_as, handover_of, image_fault, load_in, started_core, with_load}
 use Rattle.crash_recover.specs.CoreCrashes.{crashed_core, first_report, report_as, report_of}
 use Rattle.crash_recover.specs.CoreLeaves.{close_or, detach_of, detached_core, leave_as, live_inc, shutdown_of, unloaded_core}
-use Rattle.crash_recover.specs.CoreRecoveries.{after_recovery, readied_core, recovery_fault, recovery_of, reload_fault, reopen_fault}
+use Rattle.crash_recover.specs.CoreRecoveries.{after_recovery, core_to_reopen, recovery_fault, recovery_of, reload_fault, reopen_fault}
 
 -- ---- lives
 
@@ -99,7 +99,7 @@ pub record Stays (P : CoreState → Type 0) : Type 0 where
   pub unlinked : (core : CoreState) (life : CoreLife) (image : Option (List ℕ)) (loaded : Option LoadState) → P core
       → P (record core { life = life; image = image; loaded = loaded; bench = None })
   pub crashed : (core : CoreState) (life : CoreLife) → IsStopped core.life life → P core → P (crashed_core life core)
-  pub readied : (core : CoreState) → recovery_fault core.life ≡ None → P core → P (readied_core core)
+  pub readied : (core : CoreState) → recovery_fault core.life ≡ None → P core → P (core_to_reopen core)
   pub recovered : (core : CoreState) (given : LoadState) → recovery_fault core.life ≡ None → reopen_fault core ≡ None → P core → P (after_recovery core given)
 
 module _ (P : CoreState → Type 0) where
@@ -129,7 +129,7 @@ module _ (P : CoreState → Type 0) where
     first_at : (life : CoreLife) (core : CoreState) (name : List ℕ) (found : Found) → is_up life.state ≡ true → P core → P (first_boot life core name found).core
     first_at life core name found up is =
         cond_both (is_offline core.life.state) _ _ (λ (out : CoreOutcome Start CoreFault). P out.core)
-        (λ _. refused core (image_fault core found) _ is (λ _. stays.started (with_load core name (loaded_in core found)) life up))
+        (λ _. refused core (image_fault core found) _ is (λ _. stays.started (with_load core name (load_in core found)) life up))
         (λ _. stays.started core life up)
 
     boot_at : (core : CoreState) (name : List ℕ) (found : Found) (answer : Result Power LifeFault) → (life_after_boot core.life).answer ≡ answer → P core
@@ -148,7 +148,7 @@ module _ (P : CoreState → Type 0) where
     handover_at core name found (Err why) answer is = is
     handover_at core name found (Ok done) answer is =
         refused core (image_fault core found) _ is
-        (λ _. stays.same core (life_after_handover core.life).life (Some name) (Some (loaded_in core found)) (handover_same core.life.state core.life done refl answer) is)
+        (λ _. stays.same core (life_after_handover core.life).life (Some name) (Some (load_in core found)) (handover_same core.life.state core.life done refl answer) is)
 
     pub handover_stays : (core : CoreState) (name : List ℕ) (found : Found) → P core → P (handover_of core name found).core
     unfolding handover_of
@@ -186,5 +186,5 @@ module _ (P : CoreState → Type 0) where
     recovery_stays core found is =
         refused core (option_map fault.Life (recovery_fault core.life)) _ is (λ may.
         refused core (reload_fault core found) _ is (λ _.
-        refused (readied_core core) (reopen_fault core) _ (stays.readied core (none_mapped fault.Life (recovery_fault core.life) may) is)
-        (λ opens. stays.recovered core (loaded_in core found) (none_mapped fault.Life (recovery_fault core.life) may) opens is)))
+        refused (core_to_reopen core) (reopen_fault core) _ (stays.readied core (none_mapped fault.Life (recovery_fault core.life) may) is)
+        (λ opens. stays.recovered core (load_in core found) (none_mapped fault.Life (recovery_fault core.life) may) opens is)))

@@ -15,8 +15,8 @@ use Rattle.link_bench.specs.declared.benches.BegunCall.{BegunCall}
 use Rattle.link_bench.specs.declared.benches.BenchFault.{BenchFault}
 use Rattle.link_bench.specs.declared.benches.BenchFault.TheVariants as fault
 use Rattle.link_bench.specs.declared.benches.Reach.TheVariants as reach
-use Rattle.link_bench.specs.Benches.{BenchState, BenchWalk, advance_steps, advance_walk, begin_fault, begun_of, bench_walk, caller_fault, calling_fault, is_in_call, later_steps, link_in, on_rings, start_walk, wish_fault}
-use Rattle.core_actors.specs.ActorEnds.{gives_of, left_of, number_taken, sends_of}
+use Rattle.link_bench.specs.Benches.{BenchState, BenchWalk, advance_steps, advance_walk, begin_fault, begun_call_of, bench_walk, caller_fault, calling_fault, is_in_call, later_steps, link_in, on_rings, start_walk, wish_fault}
+use Rattle.core_actors.specs.ActorEnds.{calls_after_end, gives_of, sends_of, taken_number}
 use Rattle.core_actors.specs.ActorSteps.{first_or_take}
 use Rattle.core_laws.specs.PendingCalls.{AreFitLanes, AreGivable, IsNamedEnd, given_after, given_by, is_among}
 use Rattle.core_laws.proofs.PendingSteps.{IsNext}
@@ -86,7 +86,7 @@ module _ (held : List Holding) (caller : ℕ) where
 
   -- what a host actor's calls give back once its call has ended
   pub host_calls_left : (taking : Bool) (calls : List Wish) (ended : CallEnd) → AreGivable held caller (given_after ended calls) → IsNamedEnd ended (not taking)
-      → AreGivable held caller (given_by (cond taking calls (left_of ended calls)) ++ given_by (gives_of (number_taken ended)))
+      → AreGivable held caller (given_by (cond taking calls (calls_after_end ended calls)) ++ given_by (gives_of (taken_number ended)))
   host_calls_left true calls (end.Took number judged) are named = givable_behind (given_by calls) number are.0 are.1 are.2
   host_calls_left false calls (end.Took number judged) are named =
       givable_behind (given_by (drop 1 calls)) number are.0 (among_drop calls number are.1) (givable_drop calls are.2)
@@ -103,7 +103,7 @@ module _ (held : List Holding) (caller : ℕ) where
   host_calls_left taking calls (end.Refused why) are named = plain taking calls (drop 1 calls) are (givable_drop calls are)
 
   -- and what the worker's give back, whose gives come first
-  pub worker_calls_left : (calls : List Wish) (ended : CallEnd) → AreGivable held caller (given_after ended calls) → AreGivable held caller (given_by (gives_of (number_taken ended) ++ left_of ended calls))
+  pub worker_calls_left : (calls : List Wish) (ended : CallEnd) → AreGivable held caller (given_after ended calls) → AreGivable held caller (given_by (gives_of (taken_number ended) ++ calls_after_end ended calls))
   worker_calls_left calls (end.Took number judged) are = (are.0, among_drop calls number are.1, givable_drop calls are.2)
   worker_calls_left calls (end.Gave number) are = are
   worker_calls_left calls (end.Sent number) are = givable_drop calls are
@@ -127,11 +127,11 @@ module _ (bench : BenchState) (caller : ℕ) (end : End) (user : end_of (link_in
   -- a caller that is in no call has no call on its lanes
   pub silent : is_in_call bench caller ≡ false → is_in_call_on (lanes_of (link_in bench) end) caller ≡ false
   silent none =
-      let parts = or_parts (is_some (begun_of bench caller)) (is_calling (link_in bench) caller) none in
+      let parts = or_parts (is_some (begun_call_of bench caller)) (is_calling (link_in bench) caller) none in
       subst (λ (found : Option End). option_map_or (λ end. is_in_call_on (lanes_of (link_in bench) end) caller) found false ≡ false) user parts.1
 
   -- one that has begun no call, and is in one, has it on its lanes
-  pub calling : begun_of bench caller ≡ None → is_in_call bench caller ≡ true → MayStep (link_in bench) caller None
+  pub calling : begun_call_of bench caller ≡ None → is_in_call bench caller ≡ true → MayStep (link_in bench) caller None
   calling none is =
       let on_link = sym (ap (λ (found : Option BegunCall). is_some found || is_calling (link_in bench) caller) none) ∙ is in
       let on_lanes = subst (λ (found : Option End). option_map_or (λ end. is_in_call_on (lanes_of (link_in bench) end) caller) found false ≡ true) user on_link in
@@ -152,7 +152,7 @@ module _ (bench : BenchState) (caller : ℕ) (end : End) (user : end_of (link_in
       ap (λ (why : Option BenchFault). option_or why (wish_fault bench caller (first_or_take calls))) ready ∙ wished
 
 -- what holds of each way of a step on the link holds of the step
-pub linked : (bench : BenchState) (caller : ℕ) (wanted : Wish) (P : BenchWalk → Type 0) (in_call : Bool) → begun_of bench caller ≡ None
+pub linked : (bench : BenchState) (caller : ℕ) (wanted : Wish) (P : BenchWalk → Type 0) (in_call : Bool) → begun_call_of bench caller ≡ None
     → (in_call ≡ true → P (bench_walk bench (later_steps on_rings 1 0 0 bench.rings caller)))
     → (in_call ≡ false → begin_fault bench caller wanted ≡ None) → (in_call ≡ false → P (start_walk bench 0 caller wanted))
     → P (cond in_call (advance_walk bench 0 0 caller) (cond (is_some (begin_fault bench caller wanted)) (record { bench = bench; steps = 0; reach = reach.Limit }) (start_walk bench 0 caller wanted)))

@@ -27,13 +27,13 @@ use Rattle.core_actors.specs.declared.progress.Driven.TheVariants as driven
 use Rattle.core_actors.specs.Actors.{ActorsState}
 use Rattle.link_bench.specs.BenchCrashes.{after_close, after_reclaim}
 use Rattle.core_laws.specs.BenchMoves.{AreSendable, IsReachedBench, IsReachedCore}
-use Rattle.link_bench.specs.Benches.{BenchState, BenchWalk, advance_steps, advance_walk, begin_fault, begun_of, is_in_call, link_in, start_walk}
+use Rattle.link_bench.specs.Benches.{BenchState, BenchWalk, advance_steps, advance_walk, begin_fault, begun_call_of, is_in_call, link_in, start_walk}
 use Rattle.link_bench.specs.BenchEnds.{crashed_bench, is_first, is_remote, with_fresh_caller, without_one, without_other, without_others, without_remote}
 use Rattle.crash_recover.specs.CoreCrashes.{after_report, crashed_core}
 use Rattle.crash_recover.specs.Cores.{CoreState, LoadState}
-use Rattle.core_actors.specs.ActorEnds.{end_answer, gives_of, left_of, message_of, number_taken, sends_of}
-use Rattle.core_actors.specs.ActorSteps.{actors_after_record, asked_by, first_or_take, has_calls, host_begun, host_begun_as, host_reached, link_step, worker_reached}
-use Rattle.crash_recover.specs.Drives.{DriveStep, acting, actor_step, drive_step, host_step, is_idle, placed_map, record_run, record_step, reported_by, with_turn_after, worker_call, worker_step}
+use Rattle.core_actors.specs.ActorEnds.{calls_after_end, end_answer, gives_of, message_of, sends_of, taken_number}
+use Rattle.core_actors.specs.ActorSteps.{actors_after_record, first_or_take, has_calls, host_after_step, host_at_step, host_at_step_as, link_step, wishes_of_work, worker_after_step}
+use Rattle.crash_recover.specs.Drives.{DriveStep, actor_step, actor_to_step, core_with_report, drive_step, host_step, is_idle, placed_map, record_run, record_step, with_turn_after, worker_call, worker_step}
 use Rattle.core_laws.specs.KeptCores.{AreOwnUsed, IsKeptBench, IsKeptCore}
 use Rattle.core_laws.specs.PendingCalls.{AreFitLanes, AreGivable, HasNoneBegun, IsReadyBench, IsReadyCore, given_by}
 use Rattle.link_bench.proofs.Begun.{begin_may}
@@ -62,7 +62,7 @@ module _ (actors : ActorsState) (bench : BenchState) (reached : IsReachedBench b
   -- the lanes of the host actor after its own step, and after the worker's
   host_walk : (in_call : Bool) → is_in_call bench 0 ≡ in_call
       → let walk : BenchWalk = cond in_call (advance_walk bench 0 0 0) (cond (is_some (begin_fault bench 0 (first_or_take actors.host_calls))) (record { bench = bench; steps = 0; reach = reach.Limit }) (start_walk bench 0 0 (first_or_take actors.host_calls))) in
-      ReachFollows walk.reach (lanes_of (link_in walk.bench) side.Host) 0 (not (host_begun_as in_call actors).is_taking) (host_begun_as in_call actors).host_calls
+      ReachFollows walk.reach (lanes_of (link_in walk.bench) side.Host) 0 (not (host_at_step_as in_call actors).is_taking) (host_at_step_as in_call actors).host_calls
   host_walk true is =
       linked bench 0 (first_or_take actors.host_calls) (λ (walk : BenchWalk). ReachFollows walk.reach (lanes_of (link_in walk.bench) side.Host) 0 (not actors.is_taking) actors.host_calls) true begun.host
       (λ _. own_later 0 side.Host (not actors.is_taking) actors.host_calls bench.rings own.host (reached_sound (link_in bench) reached.link) (calling bench 0 side.Host own.host begun.host is) ready.host)
@@ -108,13 +108,13 @@ module _ (actors : ActorsState) (bench : BenchState) (reached : IsReachedBench b
 -- ---- what the ends of calls leave of the calls
 
 host_left : (came : Reach) (actors : ActorsState) (bench : BenchState) → ReachFollows came (lanes_of (link_in bench) side.Host) 0 (not actors.is_taking) actors.host_calls
-    → AreFitLanes (lanes_of (link_in bench) side.Host) 0 (not (host_reached actors bench came).is_taking) (host_reached actors bench came).host_calls
+    → AreFitLanes (lanes_of (link_in bench) side.Host) 0 (not (host_after_step actors bench came).is_taking) (host_after_step actors bench came).host_calls
 host_left (reach.At step) actors bench follows = follows
 host_left reach.Limit actors bench follows = absurd follows
 host_left (reach.Ended ended) actors bench follows =
     let held = (link_in bench).to_host.lane.held in
-    let first : List Wish = cond actors.is_taking actors.host_calls (left_of ended actors.host_calls) in
-    let back = gives_of (number_taken ended) in
+    let first : List Wish = cond actors.is_taking actors.host_calls (calls_after_end ended actors.host_calls) in
+    let back = gives_of (taken_number ended) in
     let sent = end_answer actors.drivers (message_of bench 0 ended) ended in
     let all : given_by ((first ++ back) ++ sends_of sent) ≡ given_by first ++ given_by back =
     given_both (first ++ back) (sends_of sent) ∙ ap (λ (numbers : List ℕ). given_by (first ++ back) ++ numbers) (sends_nothing sent) ∙ none_behind (given_by (first ++ back)) ∙ given_both first back in
@@ -127,7 +127,7 @@ host_left (reach.Ended ended) actors bench follows =
     }
 
 worker_left : (came : Reach) (actors : ActorsState) (bench : BenchState) → ReachFollows came (lanes_of (link_in bench) side.Remote) 1 true actors.worker_calls
-    → AreFitLanes (lanes_of (link_in bench) side.Remote) 1 true (worker_reached actors bench came).worker_calls
+    → AreFitLanes (lanes_of (link_in bench) side.Remote) 1 true (worker_after_step actors bench came).worker_calls
 worker_left (reach.At step) actors bench follows = follows
 worker_left reach.Limit actors bench follows = absurd follows
 worker_left (reach.Ended ended) actors bench follows = record {
@@ -140,7 +140,7 @@ worker_left (reach.Ended ended) actors bench follows = record {
 
 -- a step of one actor leaves the calls of the other
 worker_same : (came : Reach) (in_call : Bool) (actors : ActorsState) (bench : BenchState) → AreFitLanes (lanes_of (link_in bench) side.Remote) 1 true actors.worker_calls
-    → AreFitLanes (lanes_of (link_in bench) side.Remote) 1 true (host_reached (host_begun_as in_call actors) bench came).worker_calls
+    → AreFitLanes (lanes_of (link_in bench) side.Remote) 1 true (host_after_step (host_at_step_as in_call actors) bench came).worker_calls
 worker_same (reach.At step) true actors bench are = are
 worker_same (reach.At step) false actors bench are = are
 worker_same (reach.Ended ended) true actors bench are = are
@@ -149,14 +149,14 @@ worker_same reach.Limit true actors bench are = are
 worker_same reach.Limit false actors bench are = are
 
 host_same : (came : Reach) (actors : ActorsState) (bench : BenchState) → AreFitLanes (lanes_of (link_in bench) side.Host) 0 (not actors.is_taking) actors.host_calls
-    → AreFitLanes (lanes_of (link_in bench) side.Host) 0 (not (worker_reached actors bench came).is_taking) (worker_reached actors bench came).host_calls
+    → AreFitLanes (lanes_of (link_in bench) side.Host) 0 (not (worker_after_step actors bench came).is_taking) (worker_after_step actors bench came).host_calls
 host_same (reach.At step) actors bench are = are
 host_same (reach.Ended ended) actors bench are = are
 host_same reach.Limit actors bench are = are
 
 -- ---- a step of an actor of a core
 
-link_begun : (bench : BenchState) (caller : ℕ) (wanted : Wish) → begun_of bench caller ≡ None → HasNoneBegun bench → HasNoneBegun (link_step bench caller wanted).bench
+link_begun : (bench : BenchState) (caller : ℕ) (wanted : Wish) → begun_call_of bench caller ≡ None → HasNoneBegun bench → HasNoneBegun (link_step bench caller wanted).bench
 link_begun bench caller wanted none is =
     let refused : BenchWalk = record { bench = bench; steps = 0; reach = reach.Limit } in
     cond_both (is_in_call bench caller) (advance_walk bench 0 0 caller) (cond (is_some (begin_fault bench caller wanted)) refused (start_walk bench 0 caller wanted))
@@ -173,7 +173,7 @@ host_ready core (Some bench) is sendable reached kept begun ready =
     record {
       begun = link_begun bench 0 (first_or_take core.actors.host_calls) begun.host begun;
       calls = λ running. record {
-        host = host_left walk.reach (host_begun bench core.actors) walk.bench (host_walk core.actors bench reached kept.own begun sendable (ready running) (is_in_call bench 0) refl);
+        host = host_left walk.reach (host_at_step bench core.actors) walk.bench (host_walk core.actors bench reached kept.own begun sendable (ready running) (is_in_call bench 0) refl);
         worker = worker_same walk.reach (is_in_call bench 0) core.actors walk.bench (worker_stays core.actors bench reached kept.own begun sendable (ready running) (is_in_call bench 0) refl);
       };
     }
@@ -193,7 +193,7 @@ worker_ready core (Some bench) is sendable reached kept begun ready =
 
 -- ---- a record
 
-record_gives : (memory : List ℕ) (map : Mapping) (source : ℕ) (op : Record) → given_by (asked_by (work_of_record memory map source op)) ≡ []
+record_gives : (memory : List ℕ) (map : Mapping) (source : ℕ) (op : Record) → given_by (wishes_of_work (work_of_record memory map source op)) ≡ []
 record_gives memory map source record_kind.Halt = refl
 record_gives memory map source (record_kind.Announce a b c) = refl
 record_gives memory map source (record_kind.Bind a) = refl
@@ -204,14 +204,14 @@ record_gives memory map source (record_kind.Trace n a c) = refl
 record_gives memory map source (record_kind.Crash a) = refl
 record_gives memory map source (record_kind.Loop a b) = refl
 
-next_gives : (memory : List ℕ) (map : Mapping) (source : ℕ) (found : Result Record WorkerFault) → given_by (asked_by (work_of_next memory map source found)) ≡ []
+next_gives : (memory : List ℕ) (map : Mapping) (source : ℕ) (found : Result Record WorkerFault) → given_by (wishes_of_work (work_of_next memory map source found)) ≡ []
 next_gives memory map source (Ok op) = record_gives memory map source op
 next_gives memory map source (Err fault) = refl
 
 -- no record gives a buffer back
-work_gives : (memory : List ℕ) (map : Mapping) (linked : Bool) (worker : WorkerState) → given_by (asked_by (work_of memory map linked worker)) ≡ []
+work_gives : (memory : List ℕ) (map : Mapping) (linked : Bool) (worker : WorkerState) → given_by (wishes_of_work (work_of memory map linked worker)) ≡ []
 work_gives memory map linked worker =
-    cond_both worker.is_halted work.Halted (work_of_next memory map worker.source (next_record memory map linked worker)) (λ (w : Work). given_by (asked_by w) ≡ [])
+    cond_both worker.is_halted work.Halted (work_of_next memory map worker.source (next_record memory map linked worker)) (λ (w : Work). given_by (wishes_of_work w) ≡ [])
     (λ _. refl) (λ _. next_gives memory map worker.source (next_record memory map linked worker))
 
 -- calls more, which give nothing back, of an actor that is in no call
@@ -299,7 +299,7 @@ crashed_ready core life stops is = record {
 pub report_ready : (core : CoreState) → IsReadyCore core → IsReadyCore (after_report core)
 report_ready core is = report_left IsReadyCore true core is (λ life stops. crashed_ready core life stops is)
 
-event_ready : (event : Driven) (core : CoreState) → IsReadyCore core → IsReadyCore (reported_by event core)
+event_ready : (event : Driven) (core : CoreState) → IsReadyCore core → IsReadyCore (core_with_report event core)
 event_ready driven.Idle core is = is
 event_ready driven.Stepped core is = is
 event_ready (driven.Ended caller end) core is = is
@@ -325,7 +325,7 @@ map_ready before after (Some bench) each is = each bench is
 
 pub drive_ready : (core : CoreState) → IsReachedCore core → IsKeptCore core → IsReadyCore core → IsReadyCore (drive_step core).core
 drive_ready core reached kept is =
-    let who = acting core in
+    let who = actor_to_step core in
     cond_both (is_idle core) _ _ (λ (step : DriveStep). IsReadyCore step.core) (λ _. is)
     (λ _. actor_ready who (with_turn_after who core) (record { bench = reached.bench; calls = record { host = reached.calls.host; worker = reached.calls.worker } }) kept
     (record {

@@ -30,12 +30,12 @@ use Rattle.channel_bus.specs.Sides.{EndState, side_meaning}
 use Rattle.link_bench.specs.declared.benches.BegunCall.{BegunCall}
 use Rattle.link_bench.specs.declared.benches.Reach.TheVariants as reach
 use Rattle.core_actors.specs.Actors.{ActorsState, driver_names}
-use Rattle.link_bench.specs.BenchCrashes.{after_reclaim, after_reopen, left_by_reclaim, reclaim_leaves}
+use Rattle.link_bench.specs.BenchCrashes.{after_reclaim, after_reopen, reclaim_leaves, reclaim_leaves_at}
 use Rattle.core_laws.specs.BenchMoves.{IsReachedBench}
-use Rattle.link_bench.specs.Benches.{BenchState, BenchWalk, IsSendable, advance_steps, advance_walk, begin_fault, begun_of, bench_walk, call_steps, call_walk, is_in_call, link_in, on_rings, start_walk, with_begun, with_new_caller}
+use Rattle.link_bench.specs.Benches.{BenchState, BenchWalk, IsSendable, advance_steps, advance_walk, begin_fault, begun_call_of, bench_walk, call_steps, call_walk, is_in_call, link_in, on_rings, start_walk, with_begun, with_new_caller}
 use Rattle.crash_recover.specs.CoreBoots.{core_bench, started_core}
-use Rattle.link_bench.specs.BenchEnds.{readied_bench, renewed_unless}
-use Rattle.crash_recover.specs.CoreRecoveries.{after_recovery, readied_core, recovery_fault, unrecovered_to}
+use Rattle.link_bench.specs.BenchEnds.{bench_to_reopen, with_new_host_unless}
+use Rattle.crash_recover.specs.CoreRecoveries.{after_recovery, core_to_reopen, recovery_fault, recovery_fault_to}
 use Rattle.crash_recover.specs.Cores.{CoreState, LoadState, loaded_rings}
 use Rattle.core_actors.specs.ActorEnds.{actors_at_end, end_answer, sends_of}
 use Rattle.core_laws.specs.PendingCalls.{AreFitLanes, AreGivable, HasNoneBegun, IsNamed, IsOwnTurn, IsReadyBench, IsReadyCore, IsSendsTurn, given_after, given_by}
@@ -125,7 +125,7 @@ module _ (actors : ActorsState) (bench : BenchState) (caller : ℕ) (other : 1 <
         },
       )
 
-  advance_at : (more steps : ℕ) (found : Option BegunCall) → begun_of bench caller ≡ found → IsReachedBench bench → is_in_call bench caller ≡ true
+  advance_at : (more steps : ℕ) (found : Option BegunCall) → begun_call_of bench caller ≡ found → IsReachedBench bench → is_in_call bench caller ≡ true
       → HasNoneBegun (advance_steps bench more steps caller found).bench × IsReadyBench actors (advance_steps bench more steps caller found).bench
   advance_at more steps (Some call) is reached in_call =
       let may = reached.fit caller call (begun_at (slice_get bench.begun caller) call is) in
@@ -140,7 +140,7 @@ module _ (actors : ActorsState) (bench : BenchState) (caller : ℕ) (other : 1 <
         },
       ))
   advance_at more steps None none reached in_call =
-      let may = calling_may (link_in bench) caller (begun_or (begun_of bench caller) _ none in_call) in (
+      let may = calling_may (link_in bench) caller (begun_or (begun_call_of bench caller) _ none in_call) in (
         record { host = begun.host; worker = begun.worker },
         record {
           host = other_later caller 0 side.Host (not actors.is_taking) actors.host_calls no_host (more + 1) 0 steps bench.rings may ready.host;
@@ -150,7 +150,7 @@ module _ (actors : ActorsState) (bench : BenchState) (caller : ℕ) (other : 1 <
 
   pub advance_ready : (more steps : ℕ) → IsReachedBench bench → is_in_call bench caller ≡ true
       → HasNoneBegun (advance_walk bench more steps caller).bench × IsReadyBench actors (advance_walk bench more steps caller).bench
-  advance_ready more steps reached in_call = advance_at more steps (begun_of bench caller) refl reached in_call
+  advance_ready more steps reached in_call = advance_at more steps (begun_call_of bench caller) refl reached in_call
 
   gone : (mine : ℕ) (end : End) (is_first : Bool) (calls : List Wish) → caller ≢ mine → AreFitLanes (lanes_of (link_in bench) end) mine is_first calls
       → AreFitLanes (lanes_of (link_in (after_reclaim bench caller)) end) mine is_first calls
@@ -159,7 +159,7 @@ module _ (actors : ActorsState) (bench : BenchState) (caller : ℕ) (other : 1 <
       (gone_fit (link_in bench) (end_of (link_in bench).callers caller) caller mine end is_first calls differ are)
 
   reclaim_at : (found : Option End) (why : Option ReclaimRefusal)
-      → HasNoneBegun (left_by_reclaim bench caller found why) × IsReadyBench actors (left_by_reclaim bench caller found why)
+      → HasNoneBegun (reclaim_leaves_at bench caller found why) × IsReadyBench actors (reclaim_leaves_at bench caller found why)
   reclaim_at (Some end) None = (
     reclaim_begun bench caller begun,
     record {
@@ -254,26 +254,26 @@ rings_ready : (actors : ActorsState) (names : List (List ℕ)) (book first : ℕ
 rings_ready actors names book first None none_host none_worker = tt
 rings_ready actors names book first (Some rings) none_host none_worker = made_ready actors names book first rings none_host none_worker
 
-renewed_begun : (bench : BenchState) (why : Option ReclaimRefusal) → HasNoneBegun bench → HasNoneBegun (renewed_unless bench why)
+renewed_begun : (bench : BenchState) (why : Option ReclaimRefusal) → HasNoneBegun bench → HasNoneBegun (with_new_host_unless bench why)
 renewed_begun bench None is = let gone = reclaim_begun bench 0 is in record { host = gone.host; worker = gone.worker }
 renewed_begun bench (Some why) is = is
 
 -- a core that waits for its recovery is not up
-stopped : (state : LifeState) (life : CoreLife) → unrecovered_to (line_of state).recovery life ≡ None → is_up state ≡ false
+stopped : (state : LifeState) (life : CoreLife) → recovery_fault_to (line_of state).recovery life ≡ None → is_up state ≡ false
 stopped Offline life may = refl
 stopped Running life may = absurd (true≢false (ap is_some may))
 stopped Crashed life may = refl
 stopped Attached life may = absurd (true≢false (ap is_some may))
 stopped Detached life may = refl
 
-pub readied_ready : (core : CoreState) → recovery_fault core.life ≡ None → IsReadyCore core → IsReadyCore (readied_core core)
+pub readied_ready : (core : CoreState) → recovery_fault core.life ≡ None → IsReadyCore core → IsReadyCore (core_to_reopen core)
 readied_ready core may is = record {
-  begun = map_begun core.bench readied_bench (λ bench one. renewed_begun bench (unreclaimed_by (link_in bench) 0) one) is.begun;
+  begun = map_begun core.bench bench_to_reopen (λ bench one. renewed_begun bench (unreclaimed_by (link_in bench) 0) one) is.begun;
   calls = λ running. absurd (false≢true (sym (stopped core.life.state core.life may) ∙ running));
 }
 
 reopened_calls : (actors : ActorsState) (found : Option BenchState) → actors.host_calls ≡ [] → actors.worker_calls ≡ []
-    → IfSome (option_map (λ bench. after_reopen (readied_bench bench)) found) (IsReadyBench actors)
+    → IfSome (option_map (λ bench. after_reopen (bench_to_reopen bench)) found) (IsReadyBench actors)
 reopened_calls actors None none_host none_worker = tt
 reopened_calls actors (Some bench) none_host none_worker = record {
   host = record { sends = tt; receives = record { own = λ _. tt; other = λ _. subst (λ (calls : List Wish). AreGivable [] 0 (given_by calls)) (sym none_host) tt } };
@@ -282,7 +282,7 @@ reopened_calls actors (Some bench) none_host none_worker = record {
 
 pub recovery_ready : (core : CoreState) (given : LoadState) → IsReadyCore core → IsReadyCore (after_recovery core given)
 recovery_ready core given is = record {
-  begun = map_begun core.bench (λ bench. after_reopen (readied_bench bench))
+  begun = map_begun core.bench (λ bench. after_reopen (bench_to_reopen bench))
       (λ bench one. let renewed = renewed_begun bench (unreclaimed_by (link_in bench) 0) one in record { host = renewed.host; worker = renewed.worker }) is.begun;
   calls = λ _. reopened_calls (after_recovery core given).actors core.bench refl refl;
 }

@@ -35,10 +35,10 @@ use Rattle.lane_model.specs.declared.calls.Wish.{Wish}
 use Rattle.lane_model.specs.declared.calls.Wish.TheVariants as wish
 use Rattle.lane_model.specs.Links.{end_of, LinkState}
 use Rattle.channel_bus.specs.Sides.{EndState}
-use Rattle.link_bench.specs.Benches.{BenchState, IsSendable, link_in, taken_on}
+use Rattle.link_bench.specs.Benches.{BenchState, IsSendable, link_in, message_on}
 use Rattle.core_laws.specs.BenchMoves.{IsShortLink}
-use Rattle.core_actors.specs.ActorEnds.{channel_answer, end_answer, endpoint_answer, gives_of, is_tried_again, left_of, message_numbered, message_of, number_taken, sends_of, verdict_answer}
-use Rattle.core_actors.specs.ActorSteps.{asked_by}
+use Rattle.core_actors.specs.ActorEnds.{calls_after_end, channel_answer, end_answer, endpoint_answer, gives_of, is_tried_again, message_of, message_of_number, sends_of, taken_number, verdict_answer}
+use Rattle.core_actors.specs.ActorSteps.{wishes_of_work}
 
 -- ---- lists of calls
 
@@ -60,7 +60,7 @@ pub gives_sendable : (number : Option ℕ) → All IsSendable (gives_of number)
 gives_sendable None = none_sendable
 gives_sendable (Some number) = one_sendable (wish.Give number) tt
 
-pub left_sendable : (end : CallEnd) (calls : List Wish) → All IsSendable calls → All IsSendable (left_of end calls)
+pub left_sendable : (end : CallEnd) (calls : List Wish) → All IsSendable calls → All IsSendable (calls_after_end end calls)
 left_sendable end calls are =
     cond_both (is_tried_again end) calls (drop 1 calls) (λ (left : List Wish). All IsSendable left) (λ _. are) (λ _. All-drop IsSendable 1 calls are)
 
@@ -123,7 +123,7 @@ next_fit memory map linked worker =
 within : (most n : ℕ) → nat_lt most n ≡ false → n ≤ most
 within most n small = ltb-false most n small
 
-record_sendable : (memory : List ℕ) (map : Mapping) (source : ℕ) (op : Record) → has_large_operand op ≡ false → All IsSendable (asked_by (work_of_record memory map source op))
+record_sendable : (memory : List ℕ) (map : Mapping) (source : ℕ) (op : Record) → has_large_operand op ≡ false → All IsSendable (wishes_of_work (work_of_record memory map source op))
 record_sendable memory map source record_kind.Halt small = none_sendable
 record_sendable memory map source (record_kind.Announce a b c) small =
     let name = bytes_from memory 31 (named_place map c 32) in
@@ -146,13 +146,13 @@ record_sendable memory map source (record_kind.Trace n a c) small = none_sendabl
 record_sendable memory map source (record_kind.Crash a) small = none_sendable
 record_sendable memory map source (record_kind.Loop a b) small = none_sendable
 
-next_sendable : (memory : List ℕ) (map : Mapping) (source : ℕ) (found : Result Record WorkerFault) → IsFitRecord found → All IsSendable (asked_by (work_of_next memory map source found))
+next_sendable : (memory : List ℕ) (map : Mapping) (source : ℕ) (found : Result Record WorkerFault) → IsFitRecord found → All IsSendable (wishes_of_work (work_of_next memory map source found))
 next_sendable memory map source (Ok op) small = record_sendable memory map source op small
 next_sendable memory map source (Err fault) small = none_sendable
 
-pub work_sendable : (memory : List ℕ) (map : Mapping) (linked : Bool) (worker : WorkerState) → All IsSendable (asked_by (work_of memory map linked worker))
+pub work_sendable : (memory : List ℕ) (map : Mapping) (linked : Bool) (worker : WorkerState) → All IsSendable (wishes_of_work (work_of memory map linked worker))
 work_sendable memory map linked worker =
-    cond_both worker.is_halted work.Halted (work_of_next memory map worker.source (next_record memory map linked worker)) (λ (w : Work). All IsSendable (asked_by w))
+    cond_both worker.is_halted work.Halted (work_of_next memory map worker.source (next_record memory map linked worker)) (λ (w : Work). All IsSendable (wishes_of_work w))
     (λ _. none_sendable) (λ _. next_sendable memory map worker.source (next_record memory map linked worker) (next_fit memory map linked worker))
 
 -- ---- the drivers
@@ -224,14 +224,14 @@ end_short drivers message (ended.Refused why) short = tt
 
 -- ---- what a caller was handed
 
-taken_short : (link : LinkState EndState) (found : Option End) (number : ℕ) → IsShortLink link → length (taken_on link found number) ≤ MESSAGE_MOST
+taken_short : (link : LinkState EndState) (found : Option End) (number : ℕ) → IsShortLink link → length (message_on link found number) ≤ MESSAGE_MOST
 taken_short link (Some side.Host) number short = short.to_host.accepted number
 taken_short link (Some side.Remote) number short = short.to_remote.accepted number
 taken_short link None number short = omega arith
 
-numbered_short : (bench : BenchState) (caller : ℕ) (number : Option ℕ) → IsShortLink (link_in bench) → length (message_numbered bench caller number) ≤ MESSAGE_MOST
+numbered_short : (bench : BenchState) (caller : ℕ) (number : Option ℕ) → IsShortLink (link_in bench) → length (message_of_number bench caller number) ≤ MESSAGE_MOST
 numbered_short bench caller None short = omega arith
 numbered_short bench caller (Some number) short = taken_short (link_in bench) (end_of (link_in bench).callers caller) number short
 
 pub message_short : (bench : BenchState) (caller : ℕ) (end : CallEnd) → IsShortLink (link_in bench) → length (message_of bench caller end) ≤ MESSAGE_MOST
-message_short bench caller end short = numbered_short bench caller (number_taken end) short
+message_short bench caller end short = numbered_short bench caller (taken_number end) short

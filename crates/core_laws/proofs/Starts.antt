@@ -15,7 +15,7 @@ use Rattle.crash_recover.specs.declared.core_answers.Start.TheVariants as start
 use Rattle.crash_recover.specs.declared.core_faults.CoreFault.{CoreFault}
 use Rattle.crash_recover.specs.declared.core_faults.CoreFault.TheVariants as fault
 use Rattle.crash_recover.specs.Cores.{CoreOutcome, CoreState, refuse_or}
-use Rattle.crash_recover.specs.CoreBoots.{Found, boot_as, boot_of, first_boot, handover_as, handover_of, image_fault, loaded_in, started_core, with_load}
+use Rattle.crash_recover.specs.CoreBoots.{Found, boot_as, boot_of, first_boot, handover_as, handover_of, image_fault, load_in, started_core, with_load}
 use Rattle.core_laws.specs.FoundImages.{FindsLoadable}
 
 -- ---- an image that was found
@@ -78,7 +78,7 @@ pub boots_where : (core : CoreState) (name : List ℕ) (found : Found) → core.
     → ((boot_of core name found).core.life.state ≡ Running) ↔ FindsLoadable core found
 boots_where core name found is few =
     let life : CoreLife = record core.life { state = Running; users = 1; incarnation = core.life.incarnation + 1 } in
-    let done : CoreOutcome Start CoreFault = record { core = started_core life (with_load core name (loaded_in core found)); answer = Ok (start.Running life.incarnation) } in
+    let done : CoreOutcome Start CoreFault = record { core = started_core life (with_load core name (load_in core found)); answer = Ok (start.Running life.incarnation) } in
     let does : boot_of core name found ≡ refuse_or core (image_fault core found) done =
     booted_by core name found Offline Running is refl (unspent core.life.incarnation few)
     ∙ ap (λ (off : Bool). cond off (refuse_or core (image_fault core found) done) (record { core = started_core life core; answer = Ok (start.Attached life.incarnation) })) (ap is_offline is) in
@@ -95,7 +95,7 @@ attaches_where core name found is =
     let few_attach : (core.life.incarnation == most) ≡ false → Attaches (boot_of core name found) = λ few.
     subst Attaches
     (sym (booted_by core name found Detached Attached is refl few
-    ∙ ap (λ (off : Bool). cond off (refuse_or core (image_fault core found) (record { core = started_core life (with_load core name (loaded_in core found)); answer = Ok (start.Running life.incarnation) })) given) (ap is_offline is)))
+    ∙ ap (λ (off : Bool). cond off (refuse_or core (image_fault core found) (record { core = started_core life (with_load core name (load_in core found)); answer = Ok (start.Running life.incarnation) })) given) (ap is_offline is)))
     (λ _. λ same. true≢false (sym (eq-eqb core.life.incarnation most same) ∙ few), λ _. refl) in
     let spent_stays : (core.life.incarnation == most) ≡ true → Attaches (boot_of core name found) = λ spent.
     subst Attaches (sym (spent_boot core name found Detached Attached is refl spent))
@@ -107,7 +107,7 @@ pub hands_over_where : (core : CoreState) (name : List ℕ) (found : Found) → 
 unfolding handover_of
 hands_over_where core name found is =
     let life : CoreLife = record core.life { state = Detached } in
-    let done : CoreOutcome Start CoreFault = record { core = record (with_load core name (loaded_in core found)) { life = life }; answer = Ok start.Detached } in
+    let done : CoreOutcome Start CoreFault = record { core = record (with_load core name (load_in core found)) { life = life }; answer = Ok start.Detached } in
     let after : life_after_handover core.life ≡ record { life = life; answer = Ok tt } = ap (λ (state : LifeState). handover_to (line_of state).handover core.life) is in
     subst (λ (outcome : CoreOutcome Start CoreFault). (outcome.core.life.state ≡ Detached) ↔ FindsLoadable core found)
     (sym (ap (λ (outcome : Outcome (Unit {0})). handover_as outcome.life outcome.answer core name found) after))

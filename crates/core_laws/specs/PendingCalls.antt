@@ -19,7 +19,7 @@ use Rattle.lane_model.specs.Lanes.{has_call, holds}
 use Rattle.lane_model.specs.Links.{Lanes, lanes_of}
 use Rattle.channel_bus.specs.Sides.{EndState}
 use Rattle.core_actors.specs.Actors.{ActorsState}
-use Rattle.link_bench.specs.Benches.{BenchState, begun_of, link_in}
+use Rattle.link_bench.specs.Benches.{BenchState, begun_call_of, link_in}
 use Rattle.crash_recover.specs.Cores.{CoreState}
 
 -- the numbers of the messages whose buffers these calls give back
@@ -94,8 +94,8 @@ pub record IsReadyBench (actors : ActorsState) (bench : BenchState) : Type 0 whe
 
 -- no actor has begun a call without a step of it
 pub record HasNoneBegun (bench : BenchState) : Type 0 where
-  pub host : begun_of bench 0 ≡ None
-  pub worker : begun_of bench 1 ≡ None
+  pub host : begun_call_of bench 0 ≡ None
+  pub worker : begun_call_of bench 1 ≡ None
 
 -- a core whose actors hold, while it is up, what their calls give back
 pub record IsReadyCore (core : CoreState) : Type 0 where

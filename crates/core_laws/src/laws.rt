@@ -18,10 +18,10 @@ ghost use Rattle.link_bench.specs.declared.acts.LinkAct.{LinkAct};
 ghost use Rattle.link_bench.specs.Acts.{IsFitAct, link_act};
 ghost use Rattle.link_bench.specs.Watchers.{nobody_sees};
 ghost use Rattle.crash_recover.specs.CoreBoots.{Found, boot_of, core_bench, handover_of};
-ghost use Rattle.link_bench.specs.BenchEnds.{crashed_bench, readied_bench};
+ghost use Rattle.link_bench.specs.BenchEnds.{bench_to_reopen, crashed_bench};
 ghost use Rattle.crash_recover.specs.CoreCrashes.{report_of};
 ghost use Rattle.crash_recover.specs.CoreLeaves.{detach_of, shutdown_of};
-ghost use Rattle.crash_recover.specs.CoreRecoveries.{readied_core, recovery_fault, recovery_of, reopen_fault, reopened_core};
+ghost use Rattle.crash_recover.specs.CoreRecoveries.{core_to_reopen, recovery_fault, recovery_of, reopen_fault, reopened_core};
 ghost use Rattle.crash_recover.specs.Cores.{CoreState, new_core};
 ghost use Rattle.crash_recover.specs.CoreActs.{core_act};
 ghost use Rattle.core_actors.specs.ActorEnds.{actors_after_end};
@@ -96,13 +96,13 @@ pub fn core_reached()
     ensures new { (regions : List Region) (kinds : List Declared) (book : ℕ) → IsReachedCore (new_core regions kinds book) }
     ensures link { (names : List (List ℕ)) (book first : ℕ) (rings : RingPair) → IsReachedBench (core_bench names book first rings) }
     ensures crash { (bench : BenchState) → IsReachedBench bench → IsReachedBench (crashed_bench bench) }
-    ensures ready { (bench : BenchState) → IsReachedBench bench → IsReachedBench (readied_bench bench) }
+    ensures ready { (bench : BenchState) → IsReachedBench bench → IsReachedBench (bench_to_reopen bench) }
     ensures boot { (core : CoreState) (name : List ℕ) (found : Found) → IsReachedCore core → IsReachedCore (boot_of core name found).core }
     ensures handover { (core : CoreState) (name : List ℕ) (found : Found) → IsReachedCore core → IsReachedCore (handover_of core name found).core }
     ensures shutdown { (may_step : Bool) (core : CoreState) → IsReachedCore core → IsReachedCore (shutdown_of may_step core).core }
     ensures detach { (may_step : Bool) (core : CoreState) → IsReachedCore core → IsReachedCore (detach_of may_step core).core }
     ensures report { (may_step : Bool) (core : CoreState) → IsReachedCore core → IsReachedCore (report_of may_step core).core }
-    ensures readied { (core : CoreState) → IsReachedCore core → IsReachedCore (readied_core core) }
+    ensures readied { (core : CoreState) → IsReachedCore core → IsReachedCore (core_to_reopen core) }
     ensures reopened { (core : CoreState) → IsReachedCore core → reopen_fault core ≡ None → IsReachedCore (reopened_core core) }
     ensures recovery { (core : CoreState) (found : Found) → IsReachedCore core → IsReachedCore (recovery_of core found).core }
     ensures drive { (core : CoreState) → IsReachedCore core → IsReachedCore (drive_step core).core }
@@ -163,7 +163,7 @@ pub fn core_kept()
     ensures shutdown { (may_step : Bool) (core : CoreState) → IsKeptCore core → IsKeptCore (shutdown_of may_step core).core }
     ensures detach { (may_step : Bool) (core : CoreState) → IsKeptCore core → IsKeptCore (detach_of may_step core).core }
     ensures report { (may_step : Bool) (core : CoreState) → IsKeptCore core → IsKeptCore (report_of may_step core).core }
-    ensures readied { (core : CoreState) → IsKeptCore core → IsKeptCore (readied_core core) }
+    ensures readied { (core : CoreState) → IsKeptCore core → IsKeptCore (core_to_reopen core) }
     ensures reopened { (core : CoreState) → IsKeptCore core → IsKeptCore (with_next_life (reopened_core core)) }
     ensures recovery { (core : CoreState) (found : Found) → IsKeptCore core → IsKeptCore (recovery_of core found).core }
     ensures drive { (core : CoreState) → IsKeptCore core → IsKeptCore (drive_step core).core }
@@ -217,7 +217,7 @@ pub fn core_ready()
     ensures shutdown { (may_step : Bool) (core : CoreState) → IsReadyCore core → IsReadyCore (shutdown_of may_step core).core }
     ensures detach { (may_step : Bool) (core : CoreState) → IsReadyCore core → IsReadyCore (detach_of may_step core).core }
     ensures report { (may_step : Bool) (core : CoreState) → IsReadyCore core → IsReadyCore (report_of may_step core).core }
-    ensures readied { (core : CoreState) → recovery_fault core.life ≡ None → IsReadyCore core → IsReadyCore (readied_core core) }
+    ensures readied { (core : CoreState) → recovery_fault core.life ≡ None → IsReadyCore core → IsReadyCore (core_to_reopen core) }
     ensures recovery { (core : CoreState) (found : Found) → IsReadyCore core → IsReadyCore (recovery_of core found).core }
     ensures drive { (core : CoreState) → IsReachedCore core → IsKeptCore core → IsReadyCore core → IsReadyCore (drive_step core).core }
     ensures act { (core : CoreState) (steps : ℕ) (act : LinkAct (List ℕ)) → IsFitAct act → IsReachedCore core → IsReadyCore core

@@ -22,21 +22,21 @@ use Rattle.fw_load.specs.Tables.{entries_in, patched_in, table_of}
 use Rattle.fw_load.specs.declared.loading.Loaded.{Loaded}
 use Rattle.fw_load.specs.declared.rings.RingPair.{RingPair}
 use Rattle.fw_load.specs.declared.traces.TraceAt.{TraceAt}
-use Rattle.crash_recover.specs.CoreBoots.{loaded_at, loaded_from}
+use Rattle.crash_recover.specs.CoreBoots.{load_of, load_over}
 use Rattle.crash_recover.specs.Cores.{CoreState, IsSoundLoad, LoadState, bytes_at, core_memory, load_view}
 
 abbrev given : List Block → List ℕ → List ℕ → ℕ → Option RingPair → List TraceAt → LoadState
 given placed memory table entry rings traces = record { memory = memory; placed = placed; table = table; entry = entry; rings = rings; traces = traces }
 
-placed_is : (image : List ℕ) (regions : List Region) (found : Result (List Block) PlaceFault) (blocks : List Block) → found ≡ Ok blocks → loaded_at image regions (unwrap_or (result_ok found) []) ≡ loaded_at image regions blocks
-placed_is image regions found blocks is = ap (λ (found : Result (List Block) PlaceFault). loaded_at image regions (unwrap_or (result_ok found) [])) is
+placed_is : (image : List ℕ) (regions : List Region) (found : Result (List Block) PlaceFault) (blocks : List Block) → found ≡ Ok blocks → load_over image regions (unwrap_or (result_ok found) []) ≡ load_over image regions blocks
+placed_is image regions found blocks is = ap (λ (found : Result (List Block) PlaceFault). load_over image regions (unwrap_or (result_ok found) [])) is
 
-blocks_are : (image : List ℕ) (regions : List Region) (blocks : List Block) → placement regions (entries_in (table_of image)) ≡ Ok blocks → loaded_from image regions ≡ loaded_at image regions blocks
-unfolding loaded_from
+blocks_are : (image : List ℕ) (regions : List Region) (blocks : List Block) → placement regions (entries_in (table_of image)) ≡ Ok blocks → load_of image regions ≡ load_over image regions blocks
+unfolding load_of
 blocks_are image regions blocks is = placed_is image regions (placement regions (entries_in (table_of image))) blocks is
 
 -- what a load gives is what its image becomes
-pub load_is : (image : List ℕ) (regions : List Region) (loaded : Loaded) → IsLoaded image regions loaded → load_view loaded ≡ loaded_from image regions
+pub load_is : (image : List ℕ) (regions : List Region) (loaded : Loaded) → IsLoaded image regions loaded → load_view loaded ≡ load_of image regions
 load_is image regions loaded is =
     let blocks = loaded.placed.blocks.items in
     let memory = memory_of image regions blocks in

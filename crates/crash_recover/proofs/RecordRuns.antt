@@ -16,7 +16,7 @@ use Rattle.remote_core.specs.Workers.{WorkerState}
 use Rattle.remote_core.specs.declared.workers.Work.{Work}
 use Rattle.remote_core.specs.declared.workers.Work.TheVariants as work
 use Rattle.crash_recover.specs.Cores.{CoreState, LoadState}
-use Rattle.core_actors.specs.ActorSteps.{asked_by, driven_by_work}
+use Rattle.core_actors.specs.ActorSteps.{drive_of_work, wishes_of_work}
 use Rattle.crash_recover.specs.Drives.{DriveStep, placed_map, record_run, run_by}
 
 -- maps that place the same ranges at the same places in memory
@@ -116,9 +116,9 @@ abbrev run_of : CoreState → LoadState → Work → WorkerState → List ℕ �
 run_of core load done worker memory = record {
   core = record core {
     loaded = Some (record load { memory = memory });
-    actors = record core.actors { worker = worker; worker_calls = core.actors.worker_calls ++ asked_by done };
+    actors = record core.actors { worker = worker; worker_calls = core.actors.worker_calls ++ wishes_of_work done };
   };
-  driven = driven_by_work done;
+  driven = drive_of_work done;
 }
 
 runs_alike : (core : CoreState) (load : LoadState) (one other : Mapping) → PlacesAlike one other → run_by core load one ≡ run_by core load other

@@ -9,7 +9,7 @@ use Rattle.crash_recover.specs.declared.core_faults.CoreFault.{CoreFault}
 use Rattle.crash_recover.specs.declared.core_faults.CoreFault.TheVariants as fault
 use Rattle.link_bench.specs.Benches.{BenchState}
 use Rattle.crash_recover.specs.CoreBoots.{Found}
-use Rattle.crash_recover.specs.CoreRecoveries.{fault_with, readied_core, recovery_fault, recovery_of, reload_fault, reopen_fault, spent_fault, unrecovered_to}
+use Rattle.crash_recover.specs.CoreRecoveries.{core_to_reopen, fault_with, recovery_fault, recovery_fault_to, recovery_of, reload_fault, reopen_fault, spent_fault}
 use Rattle.crash_recover.specs.Cores.{CoreState}
 
 some_same : {A : Type 0} {x y : A} → Some x ≡ Some y → x ≡ y
@@ -32,7 +32,7 @@ not_spent : (is_spent : Bool) → spent_fault is_spent ≡ None → is_spent ≡
 not_spent true none = absurd (true≢false (ap is_some none))
 not_spent false none = refl
 
-recovers_to : (to : Option LifeState) (life : CoreLife) → unrecovered_to to life ≡ None → (life.incarnation == most) ≡ false → (recovery_to to life).answer ≡ Ok tt
+recovers_to : (to : Option LifeState) (life : CoreLife) → recovery_fault_to to life ≡ None → (life.incarnation == most) ≡ false → (recovery_to to life).answer ≡ Ok tt
 recovers_to None life may more = absurd (true≢false (ap is_some may))
 recovers_to (Some state) life may more =
     cond_both life.recovery (first_start state life.users tt life) (refusal_of life_fault.RecoveryOff life) (λ (out : Outcome (Unit {0})). out.answer ≡ Ok tt)
@@ -46,6 +46,6 @@ recovers core may opens = recovers_to (line_of core.life.state).recovery core.li
 
 -- a recovery whose link is not reopened
 pub unopened_recovery : (core : CoreState) (found : Found) (why : CoreFault) → recovery_fault core.life ≡ None → reload_fault core found ≡ None → reopen_fault core ≡ Some why
-    → recovery_of core found ≡ record { core = readied_core core; answer = Err why }
+    → recovery_of core found ≡ record { core = core_to_reopen core; answer = Err why }
 unfolding recovery_of
 unopened_recovery core found why may loads closed = rw may (rw loads (rw closed refl))

@@ -21,8 +21,8 @@ pub record HasCoreActed (acted : CoreActed) (left : CoreState) (counted : ℕ) (
   pub answer : told ≡ acted.answer
 
 -- the core with what an act leaves of its link and of its actors
-abbrev pub acted_core : CoreState → Acted ActorsState → CoreState
-acted_core core acted = record core { bench = Some acted.bench; actors = acted.watcher }
+abbrev pub core_after_act : CoreState → Acted ActorsState → CoreState
+core_after_act core acted = record core { bench = Some acted.bench; actors = acted.watcher }
 
 -- an act on the link of a core
 abbrev pub act_on_core : CoreState → BenchState → ℕ → LinkAct (List ℕ) → Acted ActorsState
@@ -33,7 +33,7 @@ abbrev pub core_act_on : CoreState → ℕ → LinkAct (List ℕ) → Option Ben
 core_act_on core steps act None = record { core = core; steps = steps; answer = None }
 core_act_on core steps act (Some bench) =
     let acted = act_on_core core bench steps act in
-    record { core = acted_core core acted; steps = acted.steps; answer = Some acted.answer }
+    record { core = core_after_act core acted; steps = acted.steps; answer = Some acted.answer }
 
 abbrev pub core_act : CoreState → ℕ → LinkAct (List ℕ) → CoreActed
 core_act core steps act = core_act_on core steps act core.bench

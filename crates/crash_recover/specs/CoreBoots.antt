@@ -49,8 +49,8 @@ core_fault_of_fetch (fetch.TooLarge bytes) = fault.Fetch (fetch.TooLarge bytes)
 core_fault_of_fetch fetch.NoMemory = fault.NoMemory
 
 -- what an image becomes, by where its table's entries are placed
-abbrev pub loaded_at : List ℕ → List Region → List Block → LoadState
-loaded_at image regions placed =
+abbrev pub load_over : List ℕ → List Region → List Block → LoadState
+load_over image regions placed =
     let table = patched_in (table_of image) placed in
     record {
       memory = memory_of image regions placed;
@@ -62,8 +62,8 @@ loaded_at image regions placed =
     }
 
 -- what an image that may be loaded becomes
-unfoldable pub loaded_from : List ℕ → List Region → LoadState
-loaded_from image regions = loaded_at image regions (unwrap_or (result_ok (placement regions (entries_in (table_of image)))) [])
+unfoldable pub load_of : List ℕ → List Region → LoadState
+load_of image regions = load_over image regions (unwrap_or (result_ok (placement regions (entries_in (table_of image)))) [])
 
 -- an end of a link without an endpoint or a channel, which may have the name service, with drivers of these names
 abbrev pub fresh_end : Bool → List (List ℕ) → EndState
@@ -90,9 +90,9 @@ image_fault core (Ok image) = option_map fault.Load (load_fault image core.regio
 image_fault core (Err why) = Some (core_fault_of_fetch why)
 
 -- what an image that was found becomes in a core
-abbrev pub loaded_in : CoreState → Found → LoadState
-loaded_in core (Ok image) = loaded_from image core.regions
-loaded_in core (Err why) = loaded_from [] core.regions
+abbrev pub load_in : CoreState → Found → LoadState
+load_in core (Ok image) = load_of image core.regions
+load_in core (Err why) = load_of [] core.regions
 
 -- the core with an image of this name loaded
 abbrev pub with_load : CoreState → List ℕ → LoadState → CoreState
@@ -120,7 +120,7 @@ needs_image core = is_offline core.life.state && not (core.life.incarnation == m
 abbrev pub first_boot : CoreLife → CoreState → List ℕ → Found → CoreOutcome Start CoreFault
 first_boot life core name found =
     if is_offline core.life.state then refuse_or core (image_fault core found) (record {
-      core = started_core life (with_load core name (loaded_in core found));
+      core = started_core life (with_load core name (load_in core found));
       answer = Ok (start.Running life.incarnation);
     })
     else record { core = started_core life core; answer = Ok (start.Attached life.incarnation) }
@@ -141,7 +141,7 @@ boot_of core name found = boot_as (life_after_boot core.life).life (life_after_b
 abbrev pub handover_as : CoreLife → Result (Unit {0}) LifeFault → CoreState → List ℕ → Found → CoreOutcome Start CoreFault
 handover_as life (Err why) core name found = record { core = core; answer = Err (fault.Life why) }
 handover_as life (Ok done) core name found = refuse_or core (image_fault core found) (record {
-  core = record (with_load core name (loaded_in core found)) { life = life };
+  core = record (with_load core name (load_in core found)) { life = life };
   answer = Ok start.Detached;
 })
 

@@ -17,7 +17,7 @@ use Rattle.link_bench.specs.declared.benches.Reach.TheVariants as reach
 use Rattle.crash_recover.specs.declared.core_callers.StepFault.{StepFault}
 use Rattle.crash_recover.specs.declared.core_callers.StepFault.TheVariants as step
 use Rattle.link_bench.specs.Benches.{BenchState, BenchWalk, advance_walk, begin_fault, link_in, step_fault, with_begun, with_new_caller}
-use Rattle.link_bench.specs.Watchers.{watched}
+use Rattle.link_bench.specs.Watchers.{watcher_after}
 use Rattle.link_bench.specs.BenchCrashes.{reclaim_answer, reclaim_leaves}
 use Rattle.link_bench.specs.BenchRings.{bench_snapshot, snapshot_at, turn_holder}
 use Rattle.crash_recover.specs.Cores.{CoreState, loaded_rings}
@@ -50,12 +50,12 @@ abbrev pub core_begin_fault : CoreState → ℕ → Wish → Option BenchFault
 core_begin_fault core caller wanted = core_fault caller (option_and_then (λ (bench : BenchState). begin_fault bench caller wanted) core.bench)
 
 -- the link on which a caller has begun this call, which follows the incarnation that the link is in
-abbrev pub begun_now : BenchState → ℕ → Wish → BenchState
-begun_now bench caller wanted = with_begun bench caller (Some (record { follows = (link_in bench).era.inc; wish = wanted }))
+abbrev pub bench_with_call : BenchState → ℕ → Wish → BenchState
+bench_with_call bench caller wanted = with_begun bench caller (Some (record { follows = (link_in bench).era.inc; wish = wanted }))
 
 -- the core then
 abbrev pub with_core_call : CoreState → ℕ → Wish → CoreState
-with_core_call core caller wanted = record core { bench = option_map (λ (bench : BenchState). begun_now bench caller wanted) core.bench }
+with_core_call core caller wanted = record core { bench = option_map (λ (bench : BenchState). bench_with_call bench caller wanted) core.bench }
 
 -- ---- a step of a call
 
@@ -76,7 +76,7 @@ pub record CoreStep : Type 0 where
 -- a step on the link of a core: where it ended the call, the drivers see the end
 abbrev pub walk_step : CoreState → ℕ → BenchWalk → CoreStep
 walk_step core caller walk = record {
-  core = record core { bench = Some walk.bench; actors = watched actors_after_end walk.bench caller walk.reach core.actors };
+  core = record core { bench = Some walk.bench; actors = watcher_after actors_after_end walk.bench caller walk.reach core.actors };
   reach = walk.reach;
 }
 
@@ -97,12 +97,12 @@ core_reclaim_answer caller (Some bench) =
     if is_own caller then Err fault.NoCaller else reclaim_answer (end_of (link_in bench).callers caller) (unreclaimed_by (link_in bench) caller)
 
 -- the link then
-abbrev pub reclaimed_now : ℕ → BenchState → BenchState
-reclaimed_now caller bench = if is_own caller then bench else reclaim_leaves bench caller (unreclaimed_by (link_in bench) caller)
+abbrev pub bench_after_reclaim : ℕ → BenchState → BenchState
+bench_after_reclaim caller bench = if is_own caller then bench else reclaim_leaves bench caller (unreclaimed_by (link_in bench) caller)
 
 -- the core then
 abbrev pub after_core_reclaim : CoreState → ℕ → CoreState
-after_core_reclaim core caller = record core { bench = option_map (reclaimed_now caller) core.bench }
+after_core_reclaim core caller = record core { bench = option_map (bench_after_reclaim caller) core.bench }
 
 -- ---- what a core shows of its link
 

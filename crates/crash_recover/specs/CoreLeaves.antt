@@ -55,8 +55,8 @@ detach_of may_step core =
     leave_as may_step core (detached_core after.life core) after.life after.answer
 
 -- the answer in short
-abbrev pub left_of : Leave → Left
-left_of (leave.Users users) = left.Users users
-left_of (leave.Last closed) = left.Last
+abbrev pub leave_in_short : Leave → Left
+leave_in_short (leave.Users users) = left.Users users
+leave_in_short (leave.Last closed) = left.Last
 -- (no step is asked for in vain where one may be taken)
-left_of leave.Limit = left.Last
+leave_in_short leave.Limit = left.Last

@@ -16,18 +16,18 @@ use Rattle.crash_recover.specs.declared.core_faults.CoreFault.TheVariants as fau
 use Rattle.core_actors.specs.Actors.{fresh_actors}
 use Rattle.link_bench.specs.Benches.{BenchState}
 use Rattle.link_bench.specs.BenchCrashes.{after_reopen}
-use Rattle.link_bench.specs.BenchEnds.{readied_bench, reopen_refusal_of}
-use Rattle.crash_recover.specs.CoreBoots.{Found, IsFoundIn, image_fault, loaded_in}
+use Rattle.link_bench.specs.BenchEnds.{bench_to_reopen, reopen_refusal_of}
+use Rattle.crash_recover.specs.CoreBoots.{Found, IsFoundIn, image_fault, load_in}
 use Rattle.crash_recover.specs.Cores.{CoreOutcome, CoreState, LoadState, loaded_rings, refuse_or}
 
 -- why a core is not recovered, whatever the image, by where a recovery leads from its state
-abbrev pub unrecovered_to : Option LifeState → CoreLife → Option LifeFault
-unrecovered_to None life = Some life_fault.NotCrashed
-unrecovered_to (Some state) life = if life.recovery then None else Some life_fault.RecoveryOff
+abbrev pub recovery_fault_to : Option LifeState → CoreLife → Option LifeFault
+recovery_fault_to None life = Some life_fault.NotCrashed
+recovery_fault_to (Some state) life = if life.recovery then None else Some life_fault.RecoveryOff
 
 -- why a core is not recovered, whatever the image: it isn't crashed, or its recovery is off
 abbrev pub recovery_fault : CoreLife → Option LifeFault
-recovery_fault life = unrecovered_to (line_of life.state).recovery life
+recovery_fault life = recovery_fault_to (line_of life.state).recovery life
 
 -- whether two rings are the same
 abbrev pub same_ring : Ring → Ring → Bool
@@ -55,7 +55,7 @@ rings_fault core given = if same_rings (loaded_rings core.loaded) given.rings th
 
 -- why an image is refused for a recovery: there is none, it may not be loaded, or it has other rings
 abbrev pub reload_fault : CoreState → Found → Option CoreFault
-reload_fault core found = option_or (image_fault core found) (rings_fault core (loaded_in core found))
+reload_fault core found = option_or (image_fault core found) (rings_fault core (load_in core found))
 
 -- no incarnation is left
 abbrev pub spent_fault : Bool → Option CoreFault
@@ -75,12 +75,12 @@ abbrev pub reopen_fault : CoreState → Option CoreFault
 reopen_fault core = fault_with core.bench (core.life.incarnation == most)
 
 -- the core when its link was to be reopened: as soon as caller 0 is reclaimed there is a new host caller
-abbrev pub readied_core : CoreState → CoreState
-readied_core core = record core { bench = option_map readied_bench core.bench }
+abbrev pub core_to_reopen : CoreState → CoreState
+core_to_reopen core = record core { bench = option_map bench_to_reopen core.bench }
 
 -- the core with its link reopened
 abbrev pub reopened_core : CoreState → CoreState
-reopened_core core = record core { bench = option_map (λ bench. after_reopen (readied_bench bench)) core.bench }
+reopened_core core = record core { bench = option_map (λ bench. after_reopen (bench_to_reopen bench)) core.bench }
 
 -- the core after a recovery with this load, where nothing refuses it
 abbrev pub after_recovery : CoreState → LoadState → CoreState
@@ -95,8 +95,8 @@ unfoldable pub recovery_of : CoreState → Found → CoreOutcome Start CoreFault
 recovery_of core found =
     refuse_or core (option_map fault.Life (recovery_fault core.life))
     (refuse_or core (reload_fault core found)
-    (refuse_or (readied_core core) (reopen_fault core) (record {
-      core = after_recovery core (loaded_in core found);
+    (refuse_or (core_to_reopen core) (reopen_fault core) (record {
+      core = after_recovery core (load_in core found);
       answer = Ok (start.Running (life_after_recovery core.life).life.incarnation);
     })))
 

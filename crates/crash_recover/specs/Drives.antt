@@ -11,7 +11,7 @@ use Rattle.core_actors.specs.declared.actors.Actor.TheVariants as actor
 use Rattle.core_actors.specs.declared.progress.Driven.{Driven}
 use Rattle.core_actors.specs.declared.progress.Driven.TheVariants as driven
 use Rattle.core_actors.specs.Actors.{ActorsState, other_actor}
-use Rattle.core_actors.specs.ActorSteps.{actors_after_record, driven_by, driven_by_work, first_or_take, has_calls, host_begun, host_is_idle, host_reached, link_step, with_next_after, worker_is_idle, worker_reached}
+use Rattle.core_actors.specs.ActorSteps.{actors_after_record, drive_of_reach, drive_of_work, first_or_take, has_calls, host_after_step, host_at_step, host_is_idle, link_step, with_next_after, worker_after_step, worker_is_idle}
 use Rattle.crash_recover.specs.Cores.{CoreState, LoadState}
 use Rattle.crash_recover.specs.CoreCrashes.{after_report}
 
@@ -25,12 +25,12 @@ pub record DriveStep : Type 0 where
 -- a step of the host actor on a core's link
 abbrev pub host_walk_step : CoreState → BenchWalk → ActorsState → DriveStep
 host_walk_step core walk actors = record {
-  core = record core { bench = Some walk.bench; actors = host_reached actors walk.bench walk.reach };
-  driven = driven_by 0 walk.reach;
+  core = record core { bench = Some walk.bench; actors = host_after_step actors walk.bench walk.reach };
+  driven = drive_of_reach 0 walk.reach;
 }
 
 abbrev pub host_step_on : CoreState → BenchState → DriveStep
-host_step_on core bench = host_walk_step core (link_step bench 0 (first_or_take core.actors.host_calls)) (host_begun bench core.actors)
+host_step_on core bench = host_walk_step core (link_step bench 0 (first_or_take core.actors.host_calls)) (host_at_step bench core.actors)
 
 -- the same of a core that may have no link, where there is no host actor
 abbrev pub host_step : CoreState → Option BenchState → DriveStep
@@ -40,8 +40,8 @@ host_step core (Some bench) = host_step_on core bench
 -- a step of the worker on a core's link
 abbrev pub worker_walk_step : CoreState → BenchWalk → DriveStep
 worker_walk_step core walk = record {
-  core = record core { bench = Some walk.bench; actors = worker_reached core.actors walk.bench walk.reach };
-  driven = driven_by 1 walk.reach;
+  core = record core { bench = Some walk.bench; actors = worker_after_step core.actors walk.bench walk.reach };
+  driven = drive_of_reach 1 walk.reach;
 }
 
 -- the map of what was placed among regions
@@ -49,12 +49,12 @@ abbrev pub placed_map : List Region → LoadState → Mapping
 placed_map regions load = record { blocks = mapped_blocks regions load.placed; memory_len = memory_len regions }
 
 -- the core, of which a step of the worker may have reported a crash
-abbrev pub reported_by : Driven → CoreState → CoreState
-reported_by driven.Idle core = core
-reported_by driven.Stepped core = core
-reported_by (driven.Ended caller end) core = core
-reported_by (driven.Worker fault) core = after_report core
-reported_by (driven.Crashed kind) core = after_report core
+abbrev pub core_with_report : Driven → CoreState → CoreState
+core_with_report driven.Idle core = core
+core_with_report driven.Stepped core = core
+core_with_report (driven.Ended caller end) core = core
+core_with_report (driven.Worker fault) core = after_report core
+core_with_report (driven.Crashed kind) core = after_report core
 
 -- the core then
 abbrev pub after_record : CoreState → LoadState → Mapping → CoreState
@@ -67,7 +67,7 @@ after_record core load map = record core {
 abbrev pub run_by : CoreState → LoadState → Mapping → DriveStep
 run_by core load map = record {
   core = after_record core load map;
-  driven = driven_by_work (work_of load.memory map (is_some core.bench) core.actors.worker);
+  driven = drive_of_work (work_of load.memory map (is_some core.bench) core.actors.worker);
 }
 
 -- a record that the worker runs of a core that is loaded
@@ -76,11 +76,11 @@ record_run core None = record { core = core; driven = driven.Idle }
 record_run core (Some load) = run_by core load (placed_map core.regions load)
 
 -- the same, with a crash reported
-abbrev pub reported : DriveStep → DriveStep
-reported step = record { core = reported_by step.driven step.core; driven = step.driven }
+abbrev pub step_with_report : DriveStep → DriveStep
+step_with_report step = record { core = core_with_report step.driven step.core; driven = step.driven }
 
 abbrev pub record_step : CoreState → DriveStep
-record_step core = reported (record_run core core.loaded)
+record_step core = step_with_report (record_run core core.loaded)
 
 -- a step of the worker on the link of a core
 abbrev pub worker_call : CoreState → Option BenchState → DriveStep
@@ -107,8 +107,8 @@ abbrev pub is_idle : CoreState → Bool
 is_idle core = host_is_idle core.bench core.actors && worker_is_idle core.bench core.actors
 
 -- the actor that makes the next step: the one whose turn it is, or the other where that is idle
-abbrev pub acting : CoreState → Actor
-acting core = if is_idle_actor core core.actors.next then other_actor core.actors.next else core.actors.next
+abbrev pub actor_to_step : CoreState → Actor
+actor_to_step core = if is_idle_actor core core.actors.next then other_actor core.actors.next else core.actors.next
 
 -- the core where the turn behind an actor's step is the other's
 abbrev pub with_turn_after : Actor → CoreState → CoreState
@@ -124,4 +124,4 @@ step_or_rest actor core =
 abbrev pub drive_step : CoreState → DriveStep
 drive_step core =
     if is_idle core then record { core = core; driven = driven.Idle }
-    else actor_step (acting core) (with_turn_after (acting core) core)
+    else actor_step (actor_to_step core) (with_turn_after (actor_to_step core) core)

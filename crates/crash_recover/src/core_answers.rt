@@ -1,7 +1,7 @@
 ghost use Rattle.std.specs.Prelude.{◌≡◌};
 ghost use Rattle.crash_recover.specs.CoreBoots.{power_of};
 ghost use Rattle.crash_recover.specs.CoreCrashes.{report_in_short};
-ghost use Rattle.crash_recover.specs.CoreLeaves.{left_of};
+ghost use Rattle.crash_recover.specs.CoreLeaves.{leave_in_short};
 
 use proc_state::{Left, Power, Report};
 use rp_base::Inc;
@@ -45,7 +45,7 @@ pub enum Leave {
 impl Leave {
     /// How many users are left, or none.
     pub(crate) fn left(self) -> Left
-        ensures { result ≡ left_of self }
+        ensures { result ≡ leave_in_short self }
     {
         match self {
             Leave::Users(users) => Left::Users(users),

@@ -11,7 +11,7 @@ ghost use Rattle.proc_state.specs.declared.answers.Power.TheVariants as power;
 ghost use Rattle.core_actors.specs.Actors.{driver_names};
 ghost use Rattle.crash_recover.specs.Cores.{IsSoundLoad, load_view, loaded_rings};
 ghost use Rattle.fw_load.specs.Loading.{load_fault};
-ghost use Rattle.crash_recover.specs.CoreBoots.{DidWith, Found, IsFoundIn, boot_of, config_of, core_bench, done, handover_of, in_short, loaded_entry, loaded_from, needs_image, power_of, started_core, with_load};
+ghost use Rattle.crash_recover.specs.CoreBoots.{DidWith, Found, IsFoundIn, boot_of, config_of, core_bench, done, handover_of, in_short, load_of, loaded_entry, needs_image, power_of, started_core, with_load};
 ghost use Rattle.crash_recover.specs.declared.core_answers.Start.TheVariants as start;
 ghost use Rattle.crash_recover.specs.declared.core_faults.CoreFault.TheVariants as fault;
 
@@ -115,7 +115,7 @@ impl Core {
         requires first { 1 ≤ life.incarnation }
         ensures loads { OnOk result (load_fault image.now self.old.regions ≡ None) }
         ensures answer { IfOk result (λ did. did ≡ start.Running life.incarnation) }
-        ensures left { OnOk result (self.new ≡ started_core life (with_load self.old name (loaded_from image.now self.old.regions))) }
+        ensures left { OnOk result (self.new ≡ started_core life (with_load self.old name (load_of image.now self.old.regions))) }
         ensures refused { IfErr result (λ why. why ≢ fault.NoMemory → option_map fault.Load (load_fault image.now self.old.regions) ≡ Some why) }
         ensures unfetched { (why : FetchFault) → result ≢ Err (fault.Fetch why) }
         ensures unchanged { OnErr result (self.new ≡ self.old) }
@@ -214,7 +214,7 @@ impl Core {
     /// What an image becomes in the memory of the core.
     pub(crate) fn load_image(&self, alloc: Global, image: &[u8]) -> Result<Loaded, CoreFault>
         ensures loads { OnOk result (load_fault image.now self.now.regions ≡ None) }
-        ensures loaded { IfOk result (λ loaded. load_view loaded ≡ loaded_from image.now self.now.regions) }
+        ensures loaded { IfOk result (λ loaded. load_view loaded ≡ load_of image.now self.now.regions) }
         ensures sound { IfOk result (IsSoundLoad self.now.regions) }
         ensures config { IfOk result (λ loaded. (inc : ℕ) → 1 ≤ inc → IfSome loaded.rings (λ rings. IsConfig (config_of rings self.now.book inc))) }
         ensures refused { IfErr result (λ why. why ≢ fault.NoMemory → option_map fault.Load (load_fault image.now self.now.regions) ≡ Some why) }

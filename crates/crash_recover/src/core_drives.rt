@@ -1,8 +1,8 @@
 ghost use Rattle.std.specs.Prelude.{◌≡◌, false, OnErr, OnOk, IfOk};
 ghost use Rattle.lane_model.specs.declared.calls.CallEnd.{CallEnd};
 ghost use Rattle.core_actors.specs.declared.actors.Actor.TheVariants as actor;
-ghost use Rattle.core_actors.specs.ActorSteps.{driven_of, host_is_idle, is_rest, worker_is_idle};
-ghost use Rattle.crash_recover.specs.Drives.{drive_step, is_idle, record_run, record_step, reported_by, step_or_rest, with_turn_after};
+ghost use Rattle.core_actors.specs.ActorSteps.{drive_of_progress, host_is_idle, is_rest, worker_is_idle};
+ghost use Rattle.crash_recover.specs.Drives.{core_with_report, drive_step, is_idle, record_run, record_step, step_or_rest, with_turn_after};
 
 use crate::cores::Core;
 use core_actors::{Actor, DriveProgress, Driven};
@@ -43,7 +43,7 @@ impl Core {
     #[inline]
     pub fn drive_on(&mut self, _alloc: Global, end: &mut CallEnd) -> Result<DriveProgress, NoMemory>
         ensures rests { IfOk result (λ progress. is_rest progress ≡ is_idle self.old) }
-        ensures driven { IfOk result (λ progress. driven_of progress end.new ≡ (drive_step self.old).driven) }
+        ensures driven { IfOk result (λ progress. drive_of_progress progress end.new ≡ (drive_step self.old).driven) }
         ensures left { OnOk result (self.new ≡ (drive_step self.old).core) }
         ensures unchanged { OnErr result (self.new ≡ self.old) }
     {
@@ -63,7 +63,7 @@ impl Core {
     #[inline(always)]
     fn host_step(&mut self, end: &mut CallEnd) -> Result<DriveProgress, NoMemory>
         ensures rests { IfOk result (λ progress. is_rest progress ≡ host_is_idle self.old.bench self.old.actors) }
-        ensures driven { IfOk result (λ progress. driven_of progress end.new ≡ (step_or_rest actor.Host self.old).driven) }
+        ensures driven { IfOk result (λ progress. drive_of_progress progress end.new ≡ (step_or_rest actor.Host self.old).driven) }
         ensures left { OnOk result (self.new ≡ (step_or_rest actor.Host self.old).core) }
         ensures unchanged { OnErr result (self.new ≡ self.old) }
     {
@@ -81,7 +81,7 @@ impl Core {
     #[inline(always)]
     fn worker_step(&mut self, end: &mut CallEnd) -> Result<DriveProgress, NoMemory>
         ensures rests { IfOk result (λ progress. is_rest progress ≡ worker_is_idle self.old.bench self.old.actors) }
-        ensures driven { IfOk result (λ progress. driven_of progress end.new ≡ (step_or_rest actor.Worker self.old).driven) }
+        ensures driven { IfOk result (λ progress. drive_of_progress progress end.new ≡ (step_or_rest actor.Worker self.old).driven) }
         ensures left { OnOk result (self.new ≡ (step_or_rest actor.Worker self.old).core) }
         ensures unchanged { OnErr result (self.new ≡ self.old) }
     {
@@ -107,7 +107,7 @@ impl Core {
     #[inline(always)]
     fn record_step(&mut self) -> Result<DriveProgress, NoMemory>
         ensures works { IfOk result (λ progress. is_rest progress ≡ false) }
-        ensures driven { IfOk result (λ progress. (end : CallEnd) → driven_of progress end ≡ (record_step (with_turn_after actor.Worker self.old)).driven) }
+        ensures driven { IfOk result (λ progress. (end : CallEnd) → drive_of_progress progress end ≡ (record_step (with_turn_after actor.Worker self.old)).driven) }
         ensures left { OnOk result (self.new ≡ (record_step (with_turn_after actor.Worker self.old)).core) }
         ensures unchanged { OnErr result (self.new ≡ self.old) }
     {
@@ -120,7 +120,7 @@ impl Core {
     #[inline(always)]
     fn run_record(&mut self) -> Result<DriveProgress, NoMemory>
         ensures works { IfOk result (λ progress. is_rest progress ≡ false) }
-        ensures driven { IfOk result (λ progress. (end : CallEnd) → driven_of progress end ≡ (record_run (with_turn_after actor.Worker self.old) self.old.loaded).driven) }
+        ensures driven { IfOk result (λ progress. (end : CallEnd) → drive_of_progress progress end ≡ (record_run (with_turn_after actor.Worker self.old) self.old.loaded).driven) }
         ensures left { OnOk result (self.new ≡ (record_run (with_turn_after actor.Worker self.old) self.old.loaded).core) }
         ensures unchanged { OnErr result (self.new ≡ self.old) }
     {
@@ -136,7 +136,7 @@ impl Core {
 
     /// Reports the crash that a step of the worker was, if it was one.
     fn report_crash(&mut self, progress: DriveProgress)
-        ensures { (end : CallEnd) → self.new ≡ reported_by (driven_of progress end) self.old }
+        ensures { (end : CallEnd) → self.new ≡ core_with_report (drive_of_progress progress end) self.old }
     {
         match progress {
             DriveProgress::Worker(_) => {

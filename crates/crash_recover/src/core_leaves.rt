@@ -3,7 +3,7 @@ ghost use Rattle.link_bench.specs.BenchHolds.{caller_out};
 ghost use Rattle.rp_base.specs.declared.kinds.LifeState.TheVariants as state;
 ghost use Rattle.proc_state.specs.Lives.{is_offline};
 ghost use Rattle.crash_recover.specs.CoreBoots.{in_short};
-ghost use Rattle.crash_recover.specs.CoreLeaves.{detach_of, detached_core, last_leave, left_of, live_inc, shutdown_of, unloaded_core};
+ghost use Rattle.crash_recover.specs.CoreLeaves.{detach_of, detached_core, last_leave, leave_in_short, live_inc, shutdown_of, unloaded_core};
 ghost use Rattle.crash_recover.specs.declared.core_answers.Leave.TheVariants as leave;
 
 use crate::core_answers::Leave;
@@ -21,7 +21,7 @@ impl Core {
     /// [`CoreFault::CallerOut`] with the least host caller other than 0 that is in a call or holds a
     /// buffer, where the last user leaves. The core is as it was then.
     pub fn shutdown(&mut self) -> Result<Left, CoreFault>
-        ensures answer { result ≡ (in_short left_of (shutdown_of true self.old)).answer }
+        ensures answer { result ≡ (in_short leave_in_short (shutdown_of true self.old)).answer }
         ensures left { self.new ≡ (shutdown_of true self.old).core }
     {
         Ok(self.shutdown_within(true)?.left())
@@ -80,7 +80,7 @@ impl Core {
     /// Errors: [`CoreFault::Life`] where the core isn't attached, then [`CoreFault::CallerOut`] as
     /// [`Core::shutdown`] answers it. The core is as it was then.
     pub fn detach(&mut self) -> Result<Left, CoreFault>
-        ensures answer { result ≡ (in_short left_of (detach_of true self.old)).answer }
+        ensures answer { result ≡ (in_short leave_in_short (detach_of true self.old)).answer }
         ensures left { self.new ≡ (detach_of true self.old).core }
     {
         Ok(self.detach_within(true)?.left())

@@ -9,10 +9,10 @@ ghost use Rattle.crash_recover.specs.declared.core_answers.Start.TheVariants as 
 ghost use Rattle.crash_recover.specs.declared.core_faults.CoreFault.TheVariants as fault;
 ghost use Rattle.core_actors.specs.Actors.{fresh_actors};
 ghost use Rattle.crash_recover.specs.Cores.{IsSoundLoad, load_view, loaded_rings};
-ghost use Rattle.crash_recover.specs.CoreBoots.{DidWith, Found, done, in_short, loaded_in};
+ghost use Rattle.crash_recover.specs.CoreBoots.{DidWith, Found, done, in_short, load_in};
 ghost use Rattle.link_bench.specs.BenchCrashes.{after_reopen};
-ghost use Rattle.link_bench.specs.BenchEnds.{readied_bench};
-ghost use Rattle.crash_recover.specs.CoreRecoveries.{IsFoundAs, asked_text, link_fault, readied_core, recovery_fault, recovery_of, reload_fault, reopen_fault, reopened_core, same_pair, same_ring, same_rings, spent_fault};
+ghost use Rattle.link_bench.specs.BenchEnds.{bench_to_reopen};
+ghost use Rattle.crash_recover.specs.CoreRecoveries.{IsFoundAs, asked_text, core_to_reopen, link_fault, recovery_fault, recovery_of, reload_fault, reopen_fault, reopened_core, same_pair, same_ring, same_rings, spent_fault};
 
 use crate::core_answers::Start;
 use crate::core_faults::CoreFault;
@@ -51,7 +51,7 @@ impl Core {
         ensures recovered { result ≢ Err fault.NoMemory
             → DidWith (λ (found : Found). recovery_fault self.old.life ≡ None → IsFoundAs (F.images store.old) (asked_text self.old.image) found)
             (λ (found : Found). in_short done (recovery_of self.old found)) self.new result }
-        ensures memory { IsErrOf result fault.NoMemory → (self.new ≡ self.old) ⊎ (self.new ≡ readied_core self.old) }
+        ensures memory { IsErrOf result fault.NoMemory → (self.new ≡ self.old) ⊎ (self.new ≡ core_to_reopen self.old) }
         ensures unasked { recovery_fault self.old.life ≢ None → store.new ≡ store.old }
         ensures kept { F.images store.new ≡ F.images store.old }
         ensures later { F.faults store.old ≤ F.faults store.new }
@@ -108,25 +108,21 @@ impl Core {
     ) -> Result<Start, CoreFault>
         ensures answer { result ≢ Err fault.NoMemory → result ≡ (recovery_of self.old (result_map_both (λ image. image.now) (λ why. why) found.entry)).answer }
         ensures left { result ≢ Err fault.NoMemory → self.new ≡ (recovery_of self.old (result_map_both (λ image. image.now) (λ why. why) found.entry)).core }
-        ensures memory { IsErrOf result fault.NoMemory → (self.new ≡ self.old) ⊎ (self.new ≡ readied_core self.old) }
+        ensures memory { IsErrOf result fault.NoMemory → (self.new ≡ self.old) ⊎ (self.new ≡ core_to_reopen self.old) }
         ensures fetched { (why : FetchFault) → result ≡ Err (fault.Fetch why) → found.entry ≡ Err why }
     {
         if let Some(fault) = self.recovery_fault() {
             return Err(CoreFault::Life(fault));
         }
-        let loaded = self.loaded_again(alloc, found)?;
+        let loaded = self.reload(alloc, found)?;
         self.reopen(alloc)?;
         Ok(self.restart(loaded))
     }
 
     /// What an image becomes that has the rings of the one before.
-    fn loaded_again(
-        &self,
-        alloc: Global,
-        found: Result<&[u8], FetchFault>,
-    ) -> Result<Loaded, CoreFault>
+    fn reload(&self, alloc: Global, found: Result<&[u8], FetchFault>) -> Result<Loaded, CoreFault>
         ensures may { OnOk result (reload_fault self.now (result_map_both (λ image. image.now) (λ why. why) found.entry) ≡ None) }
-        ensures loaded { IfOk result (λ loaded. load_view loaded ≡ loaded_in self.now (result_map_both (λ image. image.now) (λ why. why) found.entry)) }
+        ensures loaded { IfOk result (λ loaded. load_view loaded ≡ load_in self.now (result_map_both (λ image. image.now) (λ why. why) found.entry)) }
         ensures sound { IfOk result (λ loaded. IsSoundLoad self.now.regions loaded) }
         ensures refused { IfErr result (λ why. why ≢ fault.NoMemory → reload_fault self.now (result_map_both (λ image. image.now) (λ why. why) found.entry) ≡ Some why) }
         ensures fetched { (why : FetchFault) → result ≡ Err (fault.Fetch why) → found.entry ≡ Err why }
@@ -153,7 +149,7 @@ impl Core {
         ensures open { OnOk result (reopen_fault self.old ≡ None) }
         ensures left { OnOk result (self.new ≡ reopened_core self.old) }
         ensures refused { IfErr result (λ why. option_or (reopen_fault self.old) (Some fault.NoMemory) ≡ Some why) }
-        ensures ready { OnErr result (self.new ≡ readied_core self.old) }
+        ensures ready { OnErr result (self.new ≡ core_to_reopen self.old) }
         ensures unfetched { (why : FetchFault) → result ≢ Err (fault.Fetch why) }
     {
         let is_spent = self.life.incarnation() == Inc::MAX;
@@ -191,9 +187,9 @@ fn test_incarnation(is_spent: bool) -> Result<(), CoreFault>
 /// Reopens the link of a core with a new caller 0, unless no incarnation is left.
 fn reopen_bench(bench: &mut Bench, alloc: Global, is_spent: bool) -> Result<(), CoreFault>
     ensures open { OnOk result (link_fault bench.old is_spent ≡ None) }
-    ensures left { OnOk result (bench.new ≡ after_reopen (readied_bench bench.old)) }
+    ensures left { OnOk result (bench.new ≡ after_reopen (bench_to_reopen bench.old)) }
     ensures refused { IfErr result (λ why. option_or (link_fault bench.old is_spent) (Some fault.NoMemory) ≡ Some why) }
-    ensures ready { OnErr result (bench.new ≡ readied_bench bench.old) }
+    ensures ready { OnErr result (bench.new ≡ bench_to_reopen bench.old) }
     ensures unfetched { (why : FetchFault) → result ≢ Err (fault.Fetch why) }
 {
     if let Some(fault) = bench.renew_host() {

@@ -5,7 +5,7 @@ use Rattle.lane_model.specs.declared.calls.CallEnd.TheVariants as end
 use Rattle.lane_model.specs.declared.calls.Wish.{Wish}
 use Rattle.lane_model.specs.declared.calls.Wish.TheVariants as wish
 use Rattle.host_driver.specs.Drivers.{DriversState}
-use Rattle.core_actors.specs.ActorEnds.{end_answer, gives_of, left_of, number_taken, sends_of}
+use Rattle.core_actors.specs.ActorEnds.{calls_after_end, end_answer, gives_of, sends_of, taken_number}
 use Rattle.demo_laws.proofs.ActorCalls.{IsNoUnbind}
 use Rattle.demo_laws.proofs.OwnCalls.{IsEndOf, handed_by, returned_by, sent_by}
 
@@ -87,7 +87,7 @@ taking_cost (Some wanted) = 6 * one_take wanted
 
 -- the calls of the host actor once one has ended
 abbrev pub host_after : Bool → List Wish → CallEnd → DriversState → List ℕ → List Wish
-host_after taking calls ended drivers message = (cond taking calls (left_of ended calls) ++ gives_of (number_taken ended)) ++ sends_of (end_answer drivers message ended)
+host_after taking calls ended drivers message = (cond taking calls (calls_after_end ended calls) ++ gives_of (taken_number ended)) ++ sends_of (end_answer drivers message ended)
 
 pub record HostEnded (wanted : Wish) (calls : List Wish) (ended : CallEnd) (after : List Wish) : Type 0 where
   pub fits : AreHostCalls after
@@ -176,7 +176,7 @@ worker_cost None calls left = calls_cost calls
 worker_cost (Some wanted) calls left = left + 4 * one_take wanted
 
 abbrev pub worker_after : List Wish → CallEnd → List Wish
-worker_after calls ended = gives_of (number_taken ended) ++ left_of ended calls
+worker_after calls ended = gives_of (taken_number ended) ++ calls_after_end ended calls
 
 pub record WorkerEnded (wanted : Wish) (calls : List Wish) (ended : CallEnd) (after : List Wish) : Type 0 where
   pub fits : AreWorkerCalls after

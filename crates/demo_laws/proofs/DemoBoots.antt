@@ -14,7 +14,7 @@ use Rattle.image_maker.specs.Demo.{demo_commands, worker_lines}
 use Rattle.image_maker.specs.Images.{image_of}
 use Rattle.image_maker.specs.ReadBack.{table_section}
 use Rattle.image_maker.proofs.ReadRecipes.{recipe_read}
-use Rattle.crash_recover.specs.CoreBoots.{loaded_at, loaded_from}
+use Rattle.crash_recover.specs.CoreBoots.{load_of, load_over}
 use Rattle.crash_recover.specs.Cores.{LoadState}
 use Rattle.crash_recover.specs.Drives.{placed_map}
 use Rattle.demo_laws.proofs.BootBounds.{AreRoomy}
@@ -36,11 +36,11 @@ record Boots (reply : ℕ) (load : LoadState) : Type 0 where
   pub rings : IfSome load.rings AreRoomy
 
 boots_at : (reply : ℕ) → reply < 497 → length (image_of (worker_lines reply)) ≤ IMAGE_MOST → (placed : List Block) → Loads (image_of (worker_lines reply)) standard_regions
-    → placement standard_regions (entries_in (table_of (image_of (worker_lines reply)))) ≡ Ok placed → Boots reply (loaded_at (image_of (worker_lines reply)) standard_regions placed)
+    → placement standard_regions (entries_in (table_of (image_of (worker_lines reply)))) ≡ Ok placed → Boots reply (load_over (image_of (worker_lines reply)) standard_regions placed)
 boots_at reply small short placed loads is =
     let image = image_of (worker_lines reply) in
     let back = recipe_read (worker_lines reply) (loadable reply small short) in
-    let load = loaded_at image standard_regions placed in
+    let load = load_over image standard_regions placed in
     let front = memory_front reply small placed image (table_section (worker_lines reply) 768) back.segments back.section refl in
     record {
       program = demo_program load.memory (placed_map standard_regions load) reply (records_stand reply small load.memory load front);
@@ -49,7 +49,7 @@ boots_at reply small short placed loads is =
     }
 
 bootable : AreBootable IsAtRecord records_left credit_of
-unfolding loaded_from
+unfolding load_of
 bootable = record {
   loads = λ reply small short loads.
       let image = image_of (worker_lines reply) in

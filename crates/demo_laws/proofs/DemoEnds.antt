@@ -20,7 +20,7 @@ use Rattle.image_maker.specs.Demo.{core_commands, demo_commands, first_sessions,
 use Rattle.image_maker.specs.Images.{image_of}
 use Rattle.crash_recover.specs.declared.core_faults.AddFault.{AddFault}
 use Rattle.crash_recover.specs.declared.core_faults.CoreFault.{CoreFault}
-use Rattle.crash_recover.specs.CoreBoots.{Found, boot_as, boot_of, first_boot, image_fault, loaded_from, loaded_in, started_core, with_load}
+use Rattle.crash_recover.specs.CoreBoots.{Found, boot_as, boot_of, first_boot, image_fault, load_in, load_of, started_core, with_load}
 use Rattle.crash_recover.specs.CoreLeaves.{close_or, leave_as, live_inc, shutdown_of, unloaded_core}
 use Rattle.crash_recover.specs.declared.core_answers.Leave.{Leave}
 use Rattle.crash_recover.specs.declared.core_answers.Leave.TheVariants as leave
@@ -83,7 +83,7 @@ use Rattle.run_laws.proofs.RunsReached.{effect_reached}
 
 -- the images of a demo's workers, where they load, have a program of so few records, and rings with room
 pub record AreBootable (Fits : WorkerState → Type 0) (records credit : WorkerState → ℕ) : Type 0 where
-  pub loads : (reply : ℕ) → reply < 497 → length (image_of (worker_lines reply)) ≤ IMAGE_MOST → Loads (image_of (worker_lines reply)) standard_regions → let load = loaded_from (image_of (worker_lines reply)) standard_regions in
+  pub loads : (reply : ℕ) → reply < 497 → length (image_of (worker_lines reply)) ≤ IMAGE_MOST → Loads (image_of (worker_lines reply)) standard_regions → let load = load_of (image_of (worker_lines reply)) standard_regions in
       IsProgram Fits records credit load.memory (placed_map standard_regions load) × Fits (new_worker load.entry) × IfSome load.rings AreRoomy × (records (new_worker load.entry) ≤ 7999) × (credit (new_worker load.entry) ≤ 1)
 
 -- the bytes of the image of a worker of a demo
@@ -223,29 +223,29 @@ module _ (Fits : WorkerState → Type 0) (records credit : WorkerState → ℕ) 
   module _ (name image : List ℕ) (core : CoreState) (steps : ℕ) (is : IsCalm core) where
     -- a core that runs an image of a demo in this life
     started : (life : CoreLife) (reply : ℕ) → life.state ≡ Running → reply < 497 → length (image_of (worker_lines reply)) ≤ IMAGE_MOST → load_fault (image_of (worker_lines reply)) core.regions ≡ None
-        → DrivesWithin (started_core life (with_load core image (loaded_from (image_of (worker_lines reply)) core.regions))) 7999
+        → DrivesWithin (started_core life (with_load core image (load_of (image_of (worker_lines reply)) core.regions))) 7999
     started life reply running small short fits =
         let bytes = image_of (worker_lines reply) in
         let loads = bootable.loads reply small short (subst (λ (regions : List Region). Loads bytes regions) is.regions fits) in
         let back = sym is.regions in
-        boot_within Fits records credit core image (loaded_from bytes core.regions) life 7999 (ap is_up running)
-        (subst (λ (regions : List Region). IsProgram Fits records credit (loaded_from bytes regions).memory (placed_map regions (loaded_from bytes regions))) back loads.0)
-        (subst (λ (regions : List Region). Fits (new_worker (loaded_from bytes regions).entry)) back loads.1)
-        (subst (λ (regions : List Region). IfSome (loaded_from bytes regions).rings AreRoomy) back loads.2)
-        (subst (λ (regions : List Region). records (new_worker (loaded_from bytes regions).entry) ≤ 7999) back loads.3)
-        (subst (λ (regions : List Region). credit (new_worker (loaded_from bytes regions).entry) ≤ 1) back loads.4)
+        boot_within Fits records credit core image (load_of bytes core.regions) life 7999 (ap is_up running)
+        (subst (λ (regions : List Region). IsProgram Fits records credit (load_of bytes regions).memory (placed_map regions (load_of bytes regions))) back loads.0)
+        (subst (λ (regions : List Region). Fits (new_worker (load_of bytes regions).entry)) back loads.1)
+        (subst (λ (regions : List Region). IfSome (load_of bytes regions).rings AreRoomy) back loads.2)
+        (subst (λ (regions : List Region). records (new_worker (load_of bytes regions).entry) ≤ 7999) back loads.3)
+        (subst (λ (regions : List Region). credit (new_worker (load_of bytes regions).entry) ≤ 1) back loads.4)
 
     starts : (life : CoreLife) (bytes : List ℕ) → life.state ≡ Running → IsDemoImage bytes → length bytes ≤ IMAGE_MOST → load_fault bytes core.regions ≡ None
-        → IsCalm (started_core life (with_load core image (loaded_from bytes core.regions)))
+        → IsCalm (started_core life (with_load core image (load_of bytes core.regions)))
     starts life bytes running (reply, small, same) short fits = record {
       regions = is.regions;
       own = ap is_own running;
-      runs = λ _. subst (λ (b : List ℕ). DrivesWithin (started_core life (with_load core image (loaded_from b core.regions))) 7999) (sym same)
+      runs = λ _. subst (λ (b : List ℕ). DrivesWithin (started_core life (with_load core image (load_of b core.regions))) 7999) (sym same)
           (started life reply running small (subst (λ (b : List ℕ). length b ≤ IMAGE_MOST) same short) (subst (λ (b : List ℕ). load_fault b core.regions ≡ None) same fits));
     }
 
     loaded : (life : CoreLife) (found : Found) → life.state ≡ Running → IsDemoFound found
-        → IsCalm (refuse_or core (image_fault core found) (record { core = started_core life (with_load core image (loaded_in core found)); answer = Ok (start.Running life.incarnation) })).core
+        → IsCalm (refuse_or core (image_fault core found) (record { core = started_core life (with_load core image (load_in core found)); answer = Ok (start.Running life.incarnation) })).core
     loaded life (Err why) running is_demo = is
     loaded life (Ok bytes) running is_demo =
         refused IsCalm core (image_fault core (Ok bytes)) _ is (λ fits. starts life bytes running is_demo.0 is_demo.1 (none_mapped core_fault.Load (load_fault bytes core.regions) fits))

@@ -30,11 +30,11 @@ use Rattle.link_bench.specs.declared.benches.BegunCall.{BegunCall}
 use Rattle.link_bench.specs.declared.benches.Reach.TheVariants as reach
 use Rattle.core_actors.specs.Actors.{ActorsState}
 use Rattle.core_laws.specs.BenchMoves.{IsReachedBench}
-use Rattle.link_bench.specs.Benches.{BenchState, BenchWalk, RingsState, Walk, advance_walk, begin_fault, begun_of, bench_walk, call_steps, is_in_call, later_steps, link_in, on_lists, start_walk}
+use Rattle.link_bench.specs.Benches.{BenchState, BenchWalk, RingsState, Walk, advance_walk, begin_fault, begun_call_of, bench_walk, call_steps, is_in_call, later_steps, link_in, on_lists, start_walk}
 use Rattle.link_bench.proofs.Lists.{call_lists, later_lists}
 use Rattle.crash_recover.specs.Cores.{CoreState, LoadState}
-use Rattle.core_actors.specs.ActorEnds.{message_of, number_taken, worker_after_end}
-use Rattle.core_actors.specs.ActorSteps.{first_or_take, host_begun_as, host_is_idle, host_reached, is_drained, is_empty, worker_reached, begins_with_take}
+use Rattle.core_actors.specs.ActorEnds.{message_of, taken_number, worker_after_end}
+use Rattle.core_actors.specs.ActorSteps.{first_or_take, host_at_step_as, host_is_idle, host_after_step, is_drained, is_empty, worker_after_step, begins_with_take}
 use Rattle.crash_recover.specs.Drives.{host_step, placed_map}
 use Rattle.core_laws.specs.KeptCores.{AreOwnUsed}
 use Rattle.core_laws.specs.PendingCalls.{HasNoneBegun}
@@ -54,8 +54,8 @@ use Rattle.core_actors.specs.declared.progress.Driven.TheVariants as driven
 use Rattle.core_laws.specs.BenchMoves.{IsReachedCore}
 use Rattle.crash_recover.specs.CoreCrashes.{after_report, first_report, report_as, report_of}
 use Rattle.core_actors.specs.Actors.{other_actor}
-use Rattle.core_actors.specs.ActorSteps.{asked_by, driven_by_work, has_calls, worker_is_idle}
-use Rattle.crash_recover.specs.Drives.{DriveStep, acting, actor_step, drive_step, is_idle, is_idle_actor, record_run, record_step, reported, reported_by, with_turn_after, worker_call, worker_step}
+use Rattle.core_actors.specs.ActorSteps.{drive_of_work, has_calls, wishes_of_work, worker_is_idle}
+use Rattle.crash_recover.specs.Drives.{DriveStep, actor_step, actor_to_step, core_with_report, drive_step, is_idle, is_idle_actor, record_run, record_step, step_with_report, with_turn_after, worker_call, worker_step}
 use Rattle.core_laws.specs.KeptCores.{IsKeptBench, IsKeptCore}
 use Rattle.core_laws.specs.PendingCalls.{IsReadyBench, IsReadyCore}
 use Rattle.core_laws.proofs.CoreMoves.{core_driven as core_moved}
@@ -100,7 +100,7 @@ turns_call caller inc (Some (wish.Give number)) sends receives is = ap₂ (λ (a
 turns_call caller inc (Some (wish.Bind address)) sends receives is = ap₂ (λ (a b : Bool). a || b) (free_sending caller sends is.0) (own_receiving caller inc (wish.Bind address) receives is.1)
 turns_call caller inc (Some (wish.Unbind address)) sends receives is = absurd is
 
-in_call_on : (bench : BenchState) (caller : ℕ) (end : End) → begun_of bench caller ≡ None → end_of (link_in bench).callers caller ≡ Some end
+in_call_on : (bench : BenchState) (caller : ℕ) (end : End) → begun_call_of bench caller ≡ None → end_of (link_in bench).callers caller ≡ Some end
     → is_in_call bench caller ≡ is_in_call_on (lanes_of (link_in bench) end) caller
 in_call_on bench caller end none user =
     ap (λ (found : Option BegunCall). is_some found || is_calling (link_in bench) caller) none
@@ -220,7 +220,7 @@ module _ (Fits : WorkerState → Type 0) (records credit : WorkerState → ℕ) 
       (is : OnLink actors (Some bench) within) where
     abbrev HostStays : Bool → BenchWalk → Type 0
     HostStays in_call walk =
-        OnLink (host_reached (host_begun_as in_call actors) walk.bench walk.reach) (Some walk.bench) (within - 1) × (1 ≤ within) × ((host_reached (host_begun_as in_call actors) walk.bench walk.reach).worker ≡ actors.worker)
+        OnLink (host_after_step (host_at_step_as in_call actors) walk.bench walk.reach) (Some walk.bench) (within - 1) × (1 ≤ within) × ((host_after_step (host_at_step_as in_call actors) walk.bench walk.reach).worker ≡ actors.worker)
 
     host_after_later : (done : Outcome) (after : Lanes (LaneState EndState))
         → HostLeft (records actors.worker) (credit actors.worker) actors.host_calls actors.is_taking actors.worker_calls (link_in bench) within (reached_sound (link_in bench) reached.link) live is done after × (1 ≤ within)
@@ -264,7 +264,7 @@ module _ (Fits : WorkerState → Type 0) (records credit : WorkerState → ℕ) 
         (took : (message : List ℕ) (worker : WorkerState) → Fits worker → Fits (after_take message worker) × (records (after_take message worker) ≡ records worker) × (credit (after_take message worker) ≡ credit worker)) where
       abbrev WorkerStays : BenchWalk → Type 0
       WorkerStays walk =
-          OnLink (worker_reached actors walk.bench walk.reach) (Some walk.bench) (within - 1) × (1 ≤ within) × Fits (worker_reached actors walk.bench walk.reach).worker
+          OnLink (worker_after_step actors walk.bench walk.reach) (Some walk.bench) (within - 1) × (1 ≤ within) × Fits (worker_after_step actors walk.bench walk.reach).worker
 
       after_end : (message : List ℕ) (found : Option ℕ)
           → let after = worker_after_end actors.worker message found in Fits after × (records after ≡ records actors.worker) × (credit after ≡ credit actors.worker)
@@ -277,8 +277,8 @@ module _ (Fits : WorkerState → Type 0) (records credit : WorkerState → ℕ) 
       worker_after_later (outcome.At step) after left = (left.0, left.1, fits)
       worker_after_later (outcome.Ended ended) after left =
           let message = message_of (record bench { rings = with_lists bench.rings (with_lanes (link_in bench) side.Remote after) }) 1 ended in
-          let same = after_end message (number_taken ended) in (
-            subst (λ (r : ℕ). LinkWithin r (credit (worker_after_end actors.worker message (number_taken ended))) actors.host_calls actors.is_taking (worker_after actors.worker_calls ended) (with_lanes (link_in bench) side.Remote after) (within - 1)) (sym same.1)
+          let same = after_end message (taken_number ended) in (
+            subst (λ (r : ℕ). LinkWithin r (credit (worker_after_end actors.worker message (taken_number ended))) actors.host_calls actors.is_taking (worker_after actors.worker_calls ended) (with_lanes (link_in bench) side.Remote after) (within - 1)) (sym same.1)
                 (subst (λ (c : ℕ). LinkWithin (records actors.worker) c actors.host_calls actors.is_taking (worker_after actors.worker_calls ended) (with_lanes (link_in bench) side.Remote after) (within - 1)) (sym same.2) left.0),
             left.1,
             same.0,
@@ -387,7 +387,7 @@ module _ (Fits : WorkerState → Type 0) (records credit : WorkerState → ℕ) 
       loaded = Some (record load { memory = memory_after load.memory (placed_map core.regions load) (is_some core.bench) core.actors.worker });
       actors = record core.actors {
         worker = after_work load.memory (placed_map core.regions load) (is_some core.bench) core.actors.worker;
-        worker_calls = core.actors.worker_calls ++ asked_by done;
+        worker_calls = core.actors.worker_calls ++ wishes_of_work done;
       };
     }
 
@@ -444,7 +444,7 @@ module _ (Fits : WorkerState → Type 0) (records credit : WorkerState → ℕ) 
       record_by : (done : Work) → 1 ≤ records core.actors.worker
           → memory_after load.memory (placed_map core.regions load) (is_some core.bench) core.actors.worker ≡ load.memory
           → WorkGoes done core.actors.worker (after_work load.memory (placed_map core.regions load) (is_some core.bench) core.actors.worker)
-          → Came core within (reported_by (driven_by_work done) (AfterWork done))
+          → Came core within (core_with_report (drive_of_work done) (AfterWork done))
       record_by (work.Ask wanted) some same goes =
           let left = asks_on core.bench (wanted ∷ []) none kept begun reached on (refl, goes.1) (omega (arith, goes.2)) (omega (arith, goes.3)) (omega (arith, goes.4)) in
           record {
@@ -493,7 +493,7 @@ module _ (Fits : WorkerState → Type 0) (records credit : WorkerState → ℕ) 
       record_came : core.actors.worker.is_halted ≡ false → Came core within (record_step core).core
       record_came going =
           let runs = program.runs (is_some core.bench) core.actors.worker fits going in
-          subst (λ (found : Option LoadState). Came core within (reported (record_run core found)).core) (sym loaded)
+          subst (λ (found : Option LoadState). Came core within (step_with_report (record_run core found)).core) (sym loaded)
           (record_by (work_of load.memory (placed_map core.regions load) (is_some core.bench) core.actors.worker) runs.0 runs.1 runs.2)
 
     going_on : (found : Option BenchState) → has_calls found core.actors ≡ false → worker_is_idle found core.actors ≡ false → core.actors.worker.is_halted ≡ false
@@ -554,7 +554,7 @@ module _ (Fits : WorkerState → Type 0) (records credit : WorkerState → ℕ) 
   other_busy core actor.Host busy idle = sym (ap (λ (b : Bool). b && worker_is_idle core.bench core.actors) idle) ∙ busy
   other_busy core actor.Worker busy idle = and_first (host_is_idle core.bench core.actors) (worker_is_idle core.bench core.actors) busy idle
 
-  acting_busy : (core : CoreState) → is_idle core ≡ false → is_idle_actor core (acting core) ≡ false
+  acting_busy : (core : CoreState) → is_idle core ≡ false → is_idle_actor core (actor_to_step core) ≡ false
   acting_busy core busy =
       cond_both (is_idle_actor core core.actors.next) (other_actor core.actors.next) core.actors.next (λ (who : Actor). is_idle_actor core who ≡ false)
       (λ idle. other_busy core core.actors.next busy idle) (λ one. one)
@@ -567,7 +567,7 @@ module _ (Fits : WorkerState → Type 0) (records credit : WorkerState → ℕ) 
 
   pub drive_within : (core : CoreState) (within : ℕ) → IsWithin core within → core.life.state ≡ Running → is_idle core ≡ false → Drove core within (drive_step core).core
   drive_within core within is running busy =
-      let who = acting core in
+      let who = actor_to_step core in
       let turned = with_turn_after who core in
       let moved = actor_came turned within is.load is.loaded is.program is.fits running who (idle_same core who (other_actor who) ∙ acting_busy core busy) is.reached.bench is.kept is.ready.begun
       (turn_ready core.actors (other_actor who) core.bench (is.ready.calls (ap is_up running))) (turn_on core.actors (other_actor who) core.bench within is.on) in

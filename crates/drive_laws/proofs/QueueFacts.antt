@@ -4,7 +4,7 @@ use Rattle.std.proofs.lemmas.List.{append-nil}
 use Rattle.lane_model.specs.declared.calls.Wish.{Wish}
 use Rattle.lane_model.specs.declared.calls.CallEnd.{CallEnd}
 use Rattle.lane_model.specs.declared.calls.CallEnd.TheVariants as ended
-use Rattle.core_actors.specs.ActorEnds.{gives_of, is_tried_again, left_of, number_taken}
+use Rattle.core_actors.specs.ActorEnds.{calls_after_end, gives_of, is_tried_again, taken_number}
 use Rattle.drive_laws.specs.Queues.{IsQueued, IsServed, Queued, Took}
 
 -- all stay, and new ones stand behind them
@@ -41,7 +41,7 @@ without_new : (calls : List Wish) (stays : Bool) → IsServed calls (cond stays 
 without_new calls true = Queued (all_stay 1 calls)
 without_new calls false = Queued (record { sent = 1; few = omega arith; new = []; left = sym (append-nil (drop 1 calls)) })
 
-pub worker_queue : (end : CallEnd) (calls : List Wish) → IsServed calls (gives_of (number_taken end) ++ left_of end calls)
+pub worker_queue : (end : CallEnd) (calls : List Wish) → IsServed calls (gives_of (taken_number end) ++ calls_after_end end calls)
 worker_queue (ended.Took number verdict) calls = Took number refl
 worker_queue end calls = without_new calls (is_tried_again end)
 

@@ -13,7 +13,7 @@ use Rattle.core_actors.specs.declared.actors.Actor.TheVariants as actor
 use Rattle.core_actors.specs.Actors.{ActorsState}
 use Rattle.crash_recover.specs.Cores.{CoreState, LoadState}
 use Rattle.core_actors.specs.ActorSteps.{has_calls}
-use Rattle.crash_recover.specs.Drives.{placed_map, record_run, record_step, reported, with_turn_after, worker_call}
+use Rattle.crash_recover.specs.Drives.{placed_map, record_run, record_step, step_with_report, with_turn_after, worker_call}
 use Rattle.drive_laws.specs.Places.{StaysAt, GoesOn}
 use Rattle.drive_laws.specs.Steps.{step_by}
 use Rattle.drive_laws.proofs.StepFacts.{host_steps, record_actors, worker_stays}
@@ -80,7 +80,7 @@ pub runs_record : (core : CoreState) (load : LoadState) → core.loaded ≡ Some
 runs_record core load there none =
     let turned = with_turn_after actor.Worker core in
     ap (λ (b : Bool). (cond b (worker_call turned core.bench) (record_step turned)).core.actors.worker) (calls_same core core.bench ∙ none)
-    ∙ ap (λ (given : Option LoadState). (reported (record_run turned given)).core.actors.worker) there
+    ∙ ap (λ (given : Option LoadState). (step_with_report (record_run turned given)).core.actors.worker) there
     ∙ ap (λ (actors : ActorsState). actors.worker) (record_actors turned load)
 
 pub call_stays : (core : CoreState) → has_calls core.bench core.actors ≡ true → StaysAt core.actors.worker (step_by actor.Worker core).core.actors.worker

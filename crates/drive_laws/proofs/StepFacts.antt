@@ -14,9 +14,9 @@ use Rattle.core_actors.specs.Actors.{ActorsState}
 use Rattle.crash_recover.specs.CoreCrashes.{after_report, report_of}
 use Rattle.crash_recover.specs.Cores.{CoreState, LoadState}
 use Rattle.rpmsg_header.specs.Headers.{is_whole, source_of}
-use Rattle.core_actors.specs.ActorEnds.{end_answer, gives_of, is_tried_again, message_of, number_taken, sends_of, worker_after_end}
-use Rattle.core_actors.specs.ActorSteps.{asked_by, driven_by_work, first_or_take, has_calls, host_begun_as, host_reached, is_empty, link_step, worker_reached}
-use Rattle.crash_recover.specs.Drives.{after_record, host_step, placed_map, record_run, record_step, reported, reported_by, run_by, worker_call, worker_step}
+use Rattle.core_actors.specs.ActorEnds.{end_answer, gives_of, is_tried_again, message_of, sends_of, taken_number, worker_after_end}
+use Rattle.core_actors.specs.ActorSteps.{drive_of_work, first_or_take, has_calls, host_after_step, host_at_step_as, is_empty, link_step, wishes_of_work, worker_after_step}
+use Rattle.crash_recover.specs.Drives.{after_record, core_with_report, host_step, placed_map, record_run, record_step, run_by, step_with_report, worker_call, worker_step}
 use Rattle.drive_laws.specs.Places.{StaysAt}
 use Rattle.drive_laws.specs.Queues.{IsQueued, IsServed, Queued}
 use Rattle.drive_laws.proofs.QueueFacts.{more_behind, all_stay, host_queue, worker_queue}
@@ -30,13 +30,13 @@ pub record HostStep (before after : ActorsState) : Type 0 where
   pub worker_calls : after.worker_calls ≡ before.worker_calls
   pub calls : IsQueued 1 before.host_calls after.host_calls
 
-host_reach : (actors : ActorsState) (bench : BenchState) (far : Reach) → HostStep actors (host_reached actors bench far)
+host_reach : (actors : ActorsState) (bench : BenchState) (far : Reach) → HostStep actors (host_after_step actors bench far)
 host_reach actors bench (reach.At step) = record { next = refl; worker = refl; worker_calls = refl; calls = all_stay 1 actors.host_calls }
 host_reach actors bench (reach.Ended end) = record {
   next = refl;
   worker = refl;
   worker_calls = refl;
-  calls = host_queue actors.host_calls (gives_of (number_taken end)) (sends_of (end_answer actors.drivers (message_of bench 0 end) end)) actors.is_taking (is_tried_again end);
+  calls = host_queue actors.host_calls (gives_of (taken_number end)) (sends_of (end_answer actors.drivers (message_of bench 0 end) end)) actors.is_taking (is_tried_again end);
 }
 host_reach actors bench reach.Limit = record {
   next = refl;
@@ -45,7 +45,7 @@ host_reach actors bench reach.Limit = record {
   calls = record { sent = 1; few = omega arith; new = []; left = sym (append-nil (drop 1 actors.host_calls)) };
 }
 
-host_begins : (actors : ActorsState) (in_call : Bool) (bench : BenchState) (far : Reach) → HostStep actors (host_reached (host_begun_as in_call actors) bench far)
+host_begins : (actors : ActorsState) (in_call : Bool) (bench : BenchState) (far : Reach) → HostStep actors (host_after_step (host_at_step_as in_call actors) bench far)
 host_begins actors true bench far = host_reach actors bench far
 host_begins actors false bench far =
     let step = host_reach (record actors { is_taking = is_empty actors.host_calls }) bench far in
@@ -80,12 +80,12 @@ stays_at worker message (Some number) = by (is_whole message)
     by true = record { entry = refl; place = refl; turns = refl; halted = refl }
     by false = itself worker
 
-worker_reach : (actors : ActorsState) (bench : BenchState) (far : Reach) → CallStep actors (worker_reached actors bench far)
+worker_reach : (actors : ActorsState) (bench : BenchState) (far : Reach) → CallStep actors (worker_after_step actors bench far)
 worker_reach actors bench (reach.At step) =
     record { step = record { next = refl; host_calls = refl; calls = Queued (all_stay 1 actors.worker_calls) }; stays = itself actors.worker }
 worker_reach actors bench (reach.Ended end) = record {
   step = record { next = refl; host_calls = refl; calls = worker_queue end actors.worker_calls };
-  stays = stays_at actors.worker (message_of bench 1 end) (number_taken end);
+  stays = stays_at actors.worker (message_of bench 1 end) (taken_number end);
 }
 worker_reach actors bench reach.Limit = record {
   step = record { next = refl; host_calls = refl; calls = Queued (record { sent = 1; few = omega arith; new = []; left = sym (append-nil (drop 1 actors.worker_calls)) }) };
@@ -108,7 +108,7 @@ report_keeps core Attached None = refl
 report_keeps core Attached (Some bench) = refl
 report_keeps core Detached found = refl
 
-pub reported_keeps : (step : Driven) (core : CoreState) → (reported_by step core).actors ≡ core.actors
+pub reported_keeps : (step : Driven) (core : CoreState) → (core_with_report step core).actors ≡ core.actors
 reported_keeps driven.Idle core = refl
 reported_keeps driven.Stepped core = refl
 reported_keeps (driven.Ended caller end) core = refl
@@ -117,18 +117,18 @@ reported_keeps (driven.Crashed kind) core = report_keeps core core.life.state co
 
 -- the actors after a record, whatever was reported
 pub record_actors : (core : CoreState) (load : LoadState) → let map = placed_map core.regions load in
-    (reported (run_by core load map)).core.actors ≡ (after_record core load map).actors
+    (step_with_report (run_by core load map)).core.actors ≡ (after_record core load map).actors
 record_actors core load =
     let map = placed_map core.regions load in
-    reported_keeps (driven_by_work (work_of load.memory map (is_some core.bench) core.actors.worker)) (after_record core load map)
+    reported_keeps (drive_of_work (work_of load.memory map (is_some core.bench) core.actors.worker)) (after_record core load map)
 
-record_steps : (core : CoreState) (given : Option LoadState) → WorkerStep core.actors (reported (record_run core given)).core.actors
+record_steps : (core : CoreState) (given : Option LoadState) → WorkerStep core.actors (step_with_report (record_run core given)).core.actors
 record_steps core None = record { next = refl; host_calls = refl; calls = Queued (all_stay 1 core.actors.worker_calls) }
 record_steps core (Some load) =
     subst (λ (left : ActorsState). WorkerStep core.actors left) (sym (record_actors core load)) record {
       next = refl;
       host_calls = refl;
-      calls = Queued (more_behind 1 core.actors.worker_calls (asked_by (work_of load.memory (placed_map core.regions load) (is_some core.bench) core.actors.worker)));
+      calls = Queued (more_behind 1 core.actors.worker_calls (wishes_of_work (work_of load.memory (placed_map core.regions load) (is_some core.bench) core.actors.worker)));
     }
 
 pub worker_steps : (core : CoreState) → WorkerStep core.actors (worker_step core).core.actors

@@ -20,8 +20,8 @@ use Rattle.core_actors.specs.declared.progress.Driven.TheVariants as driven
 use Rattle.core_actors.specs.Actors.{ActorsState, other_actor}
 use Rattle.crash_recover.specs.Cores.{CoreState, LoadState}
 use Rattle.core_actors.specs.ActorEnds.{actors_after_end, actors_at_end, end_answer, message_of, sends_of}
-use Rattle.core_actors.specs.ActorSteps.{begun_step, driven_by, driven_by_work, first_or_take, has_calls, host_is_idle, is_empty, link_step, worker_is_idle}
-use Rattle.crash_recover.specs.Drives.{DriveStep, acting, drive_step, host_step, is_idle, is_idle_actor, placed_map, record_run, record_step, with_turn_after, worker_call, worker_step}
+use Rattle.core_actors.specs.ActorSteps.{begun_step, drive_of_reach, drive_of_work, first_or_take, has_calls, host_is_idle, is_empty, link_step, worker_is_idle}
+use Rattle.crash_recover.specs.Drives.{DriveStep, actor_to_step, drive_step, host_step, is_idle, is_idle_actor, placed_map, record_run, record_step, with_turn_after, worker_call, worker_step}
 use Rattle.drive_laws.specs.Queues.{IsQueued}
 use Rattle.drive_laws.specs.Steps.{step_by, after_steps}
 use Rattle.drive_laws.proofs.QueueFacts.{all_stay, more_behind, queues_on}
@@ -37,9 +37,9 @@ busy_one : (core : CoreState) (one : Actor) → is_idle_actor core one ≡ false
 busy_one core actor.Host busy = ap (λ b. b && worker_is_idle core.bench core.actors) busy
 busy_one core actor.Worker busy = ap (λ b. host_is_idle core.bench core.actors && b) busy ∙ and_false (host_is_idle core.bench core.actors)
 
-step_is : (core : CoreState) (one : Actor) → is_idle core ≡ false → acting core ≡ one → drive_step core ≡ step_by one core
+step_is : (core : CoreState) (one : Actor) → is_idle core ≡ false → actor_to_step core ≡ one → drive_step core ≡ step_by one core
 step_is core one busy acts =
-    ap (λ (b : Bool). cond b (record { core = core; driven = driven.Idle }) (step_by (acting core) core)) busy ∙ ap (λ (who : Actor). step_by who core) acts
+    ap (λ (b : Bool). cond b (record { core = core; driven = driven.Idle }) (step_by (actor_to_step core) core)) busy ∙ ap (λ (who : Actor). step_by who core) acts
 
 pub own_turn : (core : CoreState) → is_idle_actor core core.actors.next ≡ false → drive_step core ≡ step_by core.actors.next core
 own_turn core busy =
@@ -54,7 +54,7 @@ passed_turn core idle busy =
 pub both_rest : (core : CoreState) → is_idle_actor core actor.Host ≡ true → is_idle_actor core actor.Worker ≡ true → drive_step core ≡ record { core = core; driven = driven.Idle }
 both_rest core host worker =
     let idle : is_idle core ≡ true = ap (λ b. b && worker_is_idle core.bench core.actors) host ∙ worker in
-    ap (λ (b : Bool). cond b (record { core = core; driven = driven.Idle }) (step_by (acting core) core)) idle
+    ap (λ (b : Bool). cond b (record { core = core; driven = driven.Idle }) (step_by (actor_to_step core) core)) idle
 
 pub turn_behind : (core : CoreState) (one : Actor) → (step_by one core).core.actors.next ≡ other_actor one
 turn_behind core actor.Host = (host_steps (with_turn_after actor.Host core) core.bench).next
@@ -111,12 +111,12 @@ IsSome (driven.Ended caller end) = Unit {0}
 IsSome (driven.Worker fault) = Unit {0}
 IsSome (driven.Crashed kind) = Unit {0}
 
-walk_is : (caller : ℕ) (far : Reach) → IsSome (driven_by caller far)
+walk_is : (caller : ℕ) (far : Reach) → IsSome (drive_of_reach caller far)
 walk_is caller (reach.At step) = tt
 walk_is caller (reach.Ended end) = tt
 walk_is caller reach.Limit = tt
 
-work_is : (done : Work) → IsSome (driven_by_work done)
+work_is : (done : Work) → IsSome (drive_of_work done)
 work_is work.Nothing = tt
 work_is (work.Ask wanted) = tt
 work_is work.Halted = tt
@@ -239,9 +239,9 @@ step_queued core actor.Worker =
 drive_queued : (core : CoreState) → IsQueued 1 core.actors.host_calls (drive_step core).core.actors.host_calls
 drive_queued core = by (is_idle core)
   where
-    by : (idle : Bool) → IsQueued 1 core.actors.host_calls (cond idle (record { core = core; driven = driven.Idle }) (step_by (acting core) core)).core.actors.host_calls
+    by : (idle : Bool) → IsQueued 1 core.actors.host_calls (cond idle (record { core = core; driven = driven.Idle }) (step_by (actor_to_step core) core)).core.actors.host_calls
     by true = all_stay 1 core.actors.host_calls
-    by false = step_queued core (acting core)
+    by false = step_queued core (actor_to_step core)
 
 pub steps_queued : (core : CoreState) (count : ℕ) → IsQueued count core.actors.host_calls (after_steps count core).actors.host_calls
 steps_queued core zero = all_stay 0 core.actors.host_calls

@@ -39,10 +39,10 @@ use Rattle.lane_model.specs.Links.{LinkState, end_of}
 use Rattle.channel_bus.specs.Sides.{EndState}
 use Rattle.link_bench.specs.declared.benches.Reach.{Reach}
 use Rattle.link_bench.specs.declared.benches.Reach.TheVariants as reach
-use Rattle.link_bench.specs.Benches.{BenchState, is_in_call, link_in, taken_on}
+use Rattle.link_bench.specs.Benches.{BenchState, is_in_call, link_in, message_on}
 use Rattle.core_actors.specs.Actors.{ActorsState}
-use Rattle.core_actors.specs.ActorEnds.{actors_after_end, actors_at_end, channel_answer, driven_on, end_answer, endpoint_answer, gives_of, host_ended, is_tried_again, left_of, message_numbered, message_of, number_taken, sends_of, verdict_answer}
-use Rattle.core_actors.specs.ActorSteps.{actors_after_record, asked_by, first_or_take, host_begun, host_begun_as, host_reached, worker_reached}
+use Rattle.core_actors.specs.ActorEnds.{actors_after_drivers, actors_after_end, actors_at_end, calls_after_end, channel_answer, end_answer, endpoint_answer, gives_of, host_after_call, is_tried_again, message_of, message_of_number, sends_of, taken_number, verdict_answer}
+use Rattle.core_actors.specs.ActorSteps.{actors_after_record, first_or_take, host_after_step, host_at_step, host_at_step_as, wishes_of_work, worker_after_step}
 use Rattle.field_laws.specs.Fields.{AreBytes, IsFieldEnd, IsFieldLink, IsFieldWish}
 use Rattle.field_laws.specs.FieldBenches.{IsFieldReach}
 use Rattle.field_laws.specs.FieldCores.{AreFieldCalls}
@@ -132,21 +132,21 @@ sends_fields (Some message) are = one_fields (wish.Send message) are
 
 -- ---- what a caller was handed
 
-pub taken_bytes_on : (link : LinkState EndState) (found : Option End) (number : ℕ) → IsFieldLink link → AreBytes (taken_on link found number)
+pub taken_bytes_on : (link : LinkState EndState) (found : Option End) (number : ℕ) → IsFieldLink link → AreBytes (message_on link found number)
 taken_bytes_on link (Some side.Host) number is = is.to_host.accepted number
 taken_bytes_on link (Some side.Remote) number is = is.to_remote.accepted number
 taken_bytes_on link None number is = no_bytes
 
-numbered_bytes : (bench : BenchState) (caller : ℕ) (number : Option ℕ) → IsFieldLink (link_in bench) → AreBytes (message_numbered bench caller number)
+numbered_bytes : (bench : BenchState) (caller : ℕ) (number : Option ℕ) → IsFieldLink (link_in bench) → AreBytes (message_of_number bench caller number)
 numbered_bytes bench caller None is = no_bytes
 numbered_bytes bench caller (Some number) is = taken_bytes_on (link_in bench) (end_of (link_in bench).callers caller) number is
 
 message_are : (bench : BenchState) (caller : ℕ) (ended : CallEnd) → IsFieldLink (link_in bench) → AreBytes (message_of bench caller ended)
-message_are bench caller ended is = numbered_bytes bench caller (number_taken ended) is
+message_are bench caller ended is = numbered_bytes bench caller (taken_number ended) is
 
 -- ---- ends of calls
 
-driven_fields : (actors : ActorsState) (message : List ℕ) (ended : CallEnd) → AreBytes message → AreFieldCalls actors → AreFieldCalls (driven_on actors message ended)
+driven_fields : (actors : ActorsState) (message : List ℕ) (ended : CallEnd) → AreBytes message → AreFieldCalls actors → AreFieldCalls (actors_after_drivers actors message ended)
 driven_fields actors message ended are calls = record {
   host = All-append IsFieldWish actors.host_calls (sends_of (end_answer actors.drivers message ended)) calls.host
       (sends_fields (end_answer actors.drivers message ended) (end_bytes actors.drivers message ended are));
@@ -154,7 +154,7 @@ driven_fields actors message ended are calls = record {
 }
 
 -- the number of a message that was handed over
-taken_small : (ended : CallEnd) → IsFieldEnd ended → IfSome (number_taken ended) (λ number. number < 2 ^ 64)
+taken_small : (ended : CallEnd) → IsFieldEnd ended → IfSome (taken_number ended) (λ number. number < 2 ^ 64)
 taken_small (end.Took number judged) is = is.0
 taken_small (end.Sent number) is = tt
 taken_small (end.Gave number) is = tt
@@ -171,35 +171,35 @@ gives_fields : (number : Option ℕ) → IfSome number (λ number. number < 2 ^ 
 gives_fields None is = none_fields
 gives_fields (Some number) is = one_fields (wish.Give number) is
 
-left_fields : (ended : CallEnd) (calls : List Wish) → AreFieldWishes calls → AreFieldWishes (left_of ended calls)
+left_fields : (ended : CallEnd) (calls : List Wish) → AreFieldWishes calls → AreFieldWishes (calls_after_end ended calls)
 left_fields ended calls are = cond_both (is_tried_again ended) calls (drop 1 calls) AreFieldWishes (λ _. are) (λ _. All-drop IsFieldWish 1 calls are)
 
-host_end_fields : (actors : ActorsState) (ended : CallEnd) → IsFieldEnd ended → AreFieldCalls actors → AreFieldCalls (host_ended actors ended)
+host_end_fields : (actors : ActorsState) (ended : CallEnd) → IsFieldEnd ended → AreFieldCalls actors → AreFieldCalls (host_after_call actors ended)
 host_end_fields actors ended is calls = record {
-  host = All-append IsFieldWish (cond actors.is_taking actors.host_calls (left_of ended actors.host_calls)) (gives_of (number_taken ended))
-      (cond_both actors.is_taking actors.host_calls (left_of ended actors.host_calls) AreFieldWishes (λ _. calls.host) (λ _. left_fields ended actors.host_calls calls.host))
-      (gives_fields (number_taken ended) (taken_small ended is));
+  host = All-append IsFieldWish (cond actors.is_taking actors.host_calls (calls_after_end ended actors.host_calls)) (gives_of (taken_number ended))
+      (cond_both actors.is_taking actors.host_calls (calls_after_end ended actors.host_calls) AreFieldWishes (λ _. calls.host) (λ _. left_fields ended actors.host_calls calls.host))
+      (gives_fields (taken_number ended) (taken_small ended is));
   worker = calls.worker;
 }
 
-pub host_fields : (actors : ActorsState) (bench : BenchState) (came : Reach) → IsFieldLink (link_in bench) → IsFieldReach came → AreFieldCalls actors → AreFieldCalls (host_reached actors bench came)
+pub host_fields : (actors : ActorsState) (bench : BenchState) (came : Reach) → IsFieldLink (link_in bench) → IsFieldReach came → AreFieldCalls actors → AreFieldCalls (host_after_step actors bench came)
 host_fields actors bench (reach.At step) link is calls = calls
 host_fields actors bench (reach.Ended ended) link is calls =
-    driven_fields (host_ended actors ended) (message_of bench 0 ended) ended (message_are bench 0 ended link) (host_end_fields actors ended is calls)
+    driven_fields (host_after_call actors ended) (message_of bench 0 ended) ended (message_are bench 0 ended link) (host_end_fields actors ended is calls)
 host_fields actors bench reach.Limit link is calls = record { host = All-drop IsFieldWish 1 actors.host_calls calls.host; worker = calls.worker }
 
-begun_as_fields : (in_call : Bool) (actors : ActorsState) → AreFieldCalls actors → AreFieldCalls (host_begun_as in_call actors)
+begun_as_fields : (in_call : Bool) (actors : ActorsState) → AreFieldCalls actors → AreFieldCalls (host_at_step_as in_call actors)
 begun_as_fields true actors calls = calls
 begun_as_fields false actors calls = record { host = calls.host; worker = calls.worker }
 
-pub host_begun_fields : (bench : BenchState) (actors : ActorsState) → AreFieldCalls actors → AreFieldCalls (host_begun bench actors)
+pub host_begun_fields : (bench : BenchState) (actors : ActorsState) → AreFieldCalls actors → AreFieldCalls (host_at_step bench actors)
 host_begun_fields bench actors calls = begun_as_fields (is_in_call bench 0) actors calls
 
-pub worker_fields : (actors : ActorsState) (bench : BenchState) (came : Reach) → IsFieldReach came → AreFieldCalls actors → AreFieldCalls (worker_reached actors bench came)
+pub worker_fields : (actors : ActorsState) (bench : BenchState) (came : Reach) → IsFieldReach came → AreFieldCalls actors → AreFieldCalls (worker_after_step actors bench came)
 worker_fields actors bench (reach.At step) is calls = calls
 worker_fields actors bench (reach.Ended ended) is calls = record {
   host = calls.host;
-  worker = All-append IsFieldWish (gives_of (number_taken ended)) (left_of ended actors.worker_calls) (gives_fields (number_taken ended) (taken_small ended is))
+  worker = All-append IsFieldWish (gives_of (taken_number ended)) (calls_after_end ended actors.worker_calls) (gives_fields (taken_number ended) (taken_small ended is))
       (left_fields ended actors.worker_calls calls.worker);
 }
 worker_fields actors bench reach.Limit is calls = record { host = calls.host; worker = All-drop IsFieldWish 1 actors.worker_calls calls.worker }
@@ -272,7 +272,7 @@ announced_bytes name address flags are =
     both_bytes ((name ++ 0 ∷ []) ++ little_bytes 4 address) (little_bytes 4 flags)
     (both_bytes (name ++ 0 ∷ []) (little_bytes 4 address) (both_bytes name (0 ∷ []) are (more_bytes 0 [] (omega arith) no_bytes)) (number_bytes 4 address)) (number_bytes 4 flags)
 
-asked_fields : (memory : List ℕ) (map : Mapping) (source : ℕ) (op : Record) → AreBytes memory → IsFieldRecord op → AreFieldWishes (asked_by (work_of_record memory map source op))
+asked_fields : (memory : List ℕ) (map : Mapping) (source : ℕ) (op : Record) → AreBytes memory → IsFieldRecord op → AreFieldWishes (wishes_of_work (work_of_record memory map source op))
 asked_fields memory map source code.Halt are is = none_fields
 asked_fields memory map source (code.Announce a b c) are is =
     let name = bytes_from memory 31 (named_place map c 32) in
@@ -286,19 +286,19 @@ asked_fields memory map source (code.Trace n a c) are is = none_fields
 asked_fields memory map source (code.Crash a) are is = none_fields
 asked_fields memory map source (code.Loop a b) are is = none_fields
 
-work_next_fields : (memory : List ℕ) (map : Mapping) (source : ℕ) (found : Result Record WorkerFault) → AreBytes memory → AreFieldRecords found → AreFieldWishes (asked_by (work_of_next memory map source found))
+work_next_fields : (memory : List ℕ) (map : Mapping) (source : ℕ) (found : Result Record WorkerFault) → AreBytes memory → AreFieldRecords found → AreFieldWishes (wishes_of_work (work_of_next memory map source found))
 work_next_fields memory map source (Ok op) are is = asked_fields memory map source op are is
 work_next_fields memory map source (Err why) are is = none_fields
 
-work_fields : (memory : List ℕ) (map : Mapping) (linked : Bool) (worker : WorkerState) → AreBytes memory → AreFieldWishes (asked_by (work_of memory map linked worker))
+work_fields : (memory : List ℕ) (map : Mapping) (linked : Bool) (worker : WorkerState) → AreBytes memory → AreFieldWishes (wishes_of_work (work_of memory map linked worker))
 work_fields memory map linked worker are =
-    cond_both worker.is_halted work.Halted (work_of_next memory map worker.source (next_record memory map linked worker)) (λ (w : Work). AreFieldWishes (asked_by w))
+    cond_both worker.is_halted work.Halted (work_of_next memory map worker.source (next_record memory map linked worker)) (λ (w : Work). AreFieldWishes (wishes_of_work w))
     (λ _. none_fields) (λ _. work_next_fields memory map worker.source (next_record memory map linked worker) are (next_fields memory map linked worker are))
 
 pub ran_fields : (actors : ActorsState) (memory : List ℕ) (map : Mapping) (linked : Bool) → AreBytes memory → AreFieldCalls actors → AreFieldCalls (actors_after_record actors memory map linked)
 ran_fields actors memory map linked are calls = record {
   host = calls.host;
-  worker = All-append IsFieldWish actors.worker_calls (asked_by (work_of memory map linked actors.worker)) calls.worker (work_fields memory map linked actors.worker are);
+  worker = All-append IsFieldWish actors.worker_calls (wishes_of_work (work_of memory map linked actors.worker)) calls.worker (work_fields memory map linked actors.worker are);
 }
 
 written_place : (memory bytes : List ℕ) (place : Result ℕ WorkerFault) → AreBytes memory → AreBytes bytes → AreBytes (written_from memory bytes place)

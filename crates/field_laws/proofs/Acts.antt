@@ -37,11 +37,11 @@ use Rattle.link_bench.specs.declared.benches.BenchFault.TheVariants as fault
 use Rattle.link_bench.specs.declared.benches.Reach.{Reach}
 use Rattle.link_bench.specs.declared.benches.Reach.TheVariants as reach
 use Rattle.link_bench.specs.declared.turns.TurnEnd.{TurnEnd}
-use Rattle.link_bench.specs.Acts.{Acted, IsFitAct, call_act, caller_act, first_refusal, free_act, link_act, made_call, misfit, own_caller, own_in, pump_act, pump_refusal, reclaimed, side_refusal, step_act, unless_own, unless_refused, wish_of}
+use Rattle.link_bench.specs.Acts.{Acted, IsFitAct, answer_of_reclaim, call_act, caller_act, first_refusal, free_act, link_act, made_call, misfit, own_caller, own_in, pump_act, pump_refusal, side_refusal, step_act, unless_own, unless_refused, wish_of}
 use Rattle.link_bench.specs.BenchCrashes.{reclaim_answer}
 use Rattle.link_bench.specs.Benches.{BenchState, IsSendable, advance_fault, begin_fault, call_walk, caller_fault, calling_fault, is_in_call, link_in, ready_fault, step_fault, used_fault, wish_fault}
-use Rattle.link_bench.specs.Turns.{Pumped, TurnCall, Turns, ended_by, give_turn, is_whole, one_turn, pump_turns, reach_number, take_turn, tested_call, then_more, turn_call, turn_message}
-use Rattle.link_bench.specs.Watchers.{Seeing, watched}
+use Rattle.link_bench.specs.Turns.{Pumped, TurnCall, Turns, give_turn, is_whole, one_turn, pump_turns, reach_number, take_turn, tested_call, then_more, turn_call, turn_end_of, turn_message}
+use Rattle.link_bench.specs.Watchers.{Seeing, watcher_after}
 use Rattle.link_bench.proofs.Begun.{begin_may}
 use Rattle.core_laws.specs.BenchMoves.{IsReachedBench}
 use Rattle.core_laws.proofs.BenchMoves.{advanced, begun_reached, called, enlisted, reclaim_tried}
@@ -236,7 +236,7 @@ refusal_fields link caller sound is =
     (λ (found : Option ReclaimRefusal). IfSome found IsFieldRefusal) (λ _. is.inc)
     (λ _. busy_fields (option_and_then (λ end. needed_holder (lanes_of link end).incoming caller) (end_of link.callers caller)) (needed_at link (end_of link.callers caller) caller sound is))
 
-came_at : (caller : ℕ) (found : Option End) (why : Option ReclaimRefusal) → caller < 2 ^ 64 → IfSome why IsFieldRefusal → IsFieldActed (reclaimed caller (reclaim_answer found why))
+came_at : (caller : ℕ) (found : Option End) (why : Option ReclaimRefusal) → caller < 2 ^ 64 → IfSome why IsFieldRefusal → IsFieldActed (answer_of_reclaim caller (reclaim_answer found why))
 came_at caller None why small is = (small, tt)
 came_at caller (Some end) None small is = (small, tt)
 came_at caller (Some end) (Some (refusal.StillOpen era)) small is = (small, is)
@@ -365,7 +365,7 @@ module _ {W : Type 0} (sees : Seeing W) where
       tested_holds bench steps caller wanted (begin_fault bench caller wanted) refl is small fit
       (or_fault (ready_fault bench caller) (wish_fault bench caller wanted) (ready_at (end_of (link_in bench).callers caller) (is_in_call bench caller)) (wish_fault_fields bench caller wanted fields))
 
-  ended_fields : (number : Result ℕ TurnEnd) → IsFieldNumber number → IsFieldTurnEnd (ended_by number)
+  ended_fields : (number : Result ℕ TurnEnd) → IsFieldNumber number → IsFieldTurnEnd (turn_end_of number)
   ended_fields (Ok number) is = tt
   ended_fields (Err ended) is = is
 
@@ -384,7 +384,7 @@ module _ {W : Type 0} (sees : Seeing W) where
   take_holds receiver bench watcher steps is small =
       let taken = turn_call bench steps receiver wish.Take in
       let left = turn_holds bench steps receiver wish.Take is small (tt, tt) tt in
-      let seer = watched sees taken.bench receiver (call_walk bench steps receiver wish.Take).reach watcher in
+      let seer = watcher_after sees taken.bench receiver (call_walk bench steps receiver wish.Take).reach watcher in
       then_holds watcher taken taken.number (give_turn seer receiver taken.bench taken.steps) left.bench left.number
       (λ number fields. give_holds seer receiver taken.bench taken.steps number left.bench small fields)
 

@@ -33,9 +33,9 @@ use Rattle.lane_laws.proofs.LinkRuns.{move_sound}
 use Rattle.channel_bus.specs.Sides.{EndState, side_meaning}
 use Rattle.link_bench.specs.declared.benches.BegunCall.{BegunCall}
 use Rattle.link_bench.specs.declared.benches.Reach.TheVariants as reach
-use Rattle.link_bench.specs.BenchCrashes.{after_close, after_reclaim, after_reopen, left_by_reclaim, reclaim_leaves}
-use Rattle.link_bench.specs.BenchEnds.{crashed_bench, is_first, is_remote, readied_bench, renewed_unless, with_fresh_caller, without_one, without_other, without_others, without_remote}
-use Rattle.link_bench.specs.Benches.{BenchState, BenchWalk, IsSendable, Walk, RingsState, advance_steps, advance_walk, begin_fault, begin_walk, begun_of, bench_walk, call_steps, call_walk, is_in_call, later_steps, link_in, lists_of, new_bench_of, on_lists, on_rings, start_walk, walk_lists, walk_on, with_begun, with_new_caller}
+use Rattle.link_bench.specs.BenchCrashes.{after_close, after_reclaim, after_reopen, reclaim_leaves, reclaim_leaves_at}
+use Rattle.link_bench.specs.BenchEnds.{bench_to_reopen, crashed_bench, is_first, is_remote, with_fresh_caller, with_new_host_unless, without_one, without_other, without_others, without_remote}
+use Rattle.link_bench.specs.Benches.{BenchState, BenchWalk, IsSendable, Walk, RingsState, advance_steps, advance_walk, begin_fault, begin_walk, begun_call_of, bench_walk, call_steps, call_walk, is_in_call, later_steps, link_in, lists_of, new_bench_of, on_lists, on_rings, start_walk, walk_lists, walk_on, with_begun, with_new_caller}
 use Rattle.link_bench.proofs.Begun.{begin_may}
 use Rattle.link_bench.proofs.KeptWalks.{next_may}
 use Rattle.link_bench.proofs.Lists.{call_lists, close_lists, later_lists, reclaim_lists}
@@ -118,14 +118,14 @@ pub record HoldsBenchWalk (walk : BenchWalk) : Type 0 where
 cleared : (begun : List (Option BegunCall)) (caller : ℕ) → All IsFieldBegun begun → All IsFieldBegun (slice_set begun caller None)
 cleared begun caller all = All-set IsFieldBegun begun caller None tt all
 
-begun_wish : (bench : BenchState) (caller : ℕ) (call : BegunCall) → IsFieldBench bench → begun_of bench caller ≡ Some call → IsFieldWish call.wish
+begun_wish : (bench : BenchState) (caller : ℕ) (call : BegunCall) → IsFieldBench bench → begun_call_of bench caller ≡ Some call → IsFieldWish call.wish
 begun_wish bench caller call is found = item_at IsFieldBegun bench.begun caller (Some call) (begun_at (slice_get bench.begun caller) call found) is.begun
 
 -- the link of a bench that is reached
 holds_link : (bench : BenchState) → IsReachedBench bench → IsFieldBench bench → HoldsLink (link_in bench)
 holds_link bench reached is = record { sound = reached_sound (link_in bench) reached.link; fields = is.link }
 
-advance_at : (bench : BenchState) (more steps caller : ℕ) (found : Option BegunCall) → begun_of bench caller ≡ found → is_in_call bench caller ≡ true → IsReachedBench bench → IsFieldBench bench
+advance_at : (bench : BenchState) (more steps caller : ℕ) (found : Option BegunCall) → begun_call_of bench caller ≡ found → is_in_call bench caller ≡ true → IsReachedBench bench → IsFieldBench bench
     → HoldsBenchWalk (advance_steps bench more steps caller found)
 advance_at bench more steps caller (Some call) found in_call reached is =
     let may = reached.fit caller call (begun_at (slice_get bench.begun caller) call found) in
@@ -135,12 +135,12 @@ advance_at bench more steps caller (Some call) found in_call reached is =
     (λ _. record { bench = is; reach = tt })
     (λ _. record { bench = record { link = left.link.fields; begun = cleared bench.begun caller is.begun }; reach = left.reach })
 advance_at bench more steps caller None none in_call reached is =
-    let may = calling_may (link_in bench) caller (begun_or (begun_of bench caller) (is_calling (link_in bench) caller) none in_call) in
+    let may = calling_may (link_in bench) caller (begun_or (begun_call_of bench caller) (is_calling (link_in bench) caller) none in_call) in
     let left = later_on (more + 1) 0 steps bench.rings caller (omega arith) may (holds_link bench reached is) in
     record { bench = record { link = left.link.fields; begun = is.begun }; reach = left.reach }
 
 pub advance_fields : (bench : BenchState) (more steps caller : ℕ) → is_in_call bench caller ≡ true → IsReachedBench bench → IsFieldBench bench → HoldsBenchWalk (advance_walk bench more steps caller)
-advance_fields bench more steps caller in_call reached is = advance_at bench more steps caller (begun_of bench caller) refl in_call reached is
+advance_fields bench more steps caller in_call reached is = advance_at bench more steps caller (begun_call_of bench caller) refl in_call reached is
 
 called_to : (bench : BenchState) (more steps caller : ℕ) (wanted : Wish) → begin_fault bench caller wanted ≡ None → IsSendable wanted → IsFieldWish wanted → IsReachedBench bench → IsFieldBench bench
     → HoldsBenchWalk (begin_walk bench more steps caller wanted)
@@ -204,7 +204,7 @@ gone_fields link (Some side.Remote) caller is = record {
 pub reclaim_fields : (bench : BenchState) (caller : ℕ) → IsFieldBench bench → IsFieldBench (after_reclaim bench caller)
 reclaim_fields bench caller is = record { link = subst IsFieldLink (sym (reclaim_lists bench caller)) (gone_fields (link_in bench) (end_of (link_in bench).callers caller) caller is.link); begun = cleared bench.begun caller is.begun }
 
-reclaimed_at : (bench : BenchState) (caller : ℕ) (end : Option End) (why : Option ReclaimRefusal) → IsFieldBench bench → IsFieldBench (left_by_reclaim bench caller end why)
+reclaimed_at : (bench : BenchState) (caller : ℕ) (end : Option End) (why : Option ReclaimRefusal) → IsFieldBench bench → IsFieldBench (reclaim_leaves_at bench caller end why)
 reclaimed_at bench caller (Some end) None is = reclaim_fields bench caller is
 reclaimed_at bench caller (Some end) (Some why) is = is
 reclaimed_at bench caller None why is = is
@@ -291,9 +291,9 @@ crash_fields bench is =
     let shut = close_fields bench is in
     others_fields _ (without_one (after_close bench) _) 0 64 (one_fields (after_close bench) _ shut)
 
-renewed_fields : (bench : BenchState) (why : Option ReclaimRefusal) → IsFieldBench bench → IsFieldBench (renewed_unless bench why)
+renewed_fields : (bench : BenchState) (why : Option ReclaimRefusal) → IsFieldBench bench → IsFieldBench (with_new_host_unless bench why)
 renewed_fields bench None is = fresh_caller (after_reclaim bench 0) side.Host (reclaim_fields bench 0 is)
 renewed_fields bench (Some why) is = is
 
-pub ready_fields : (bench : BenchState) → IsFieldBench bench → IsFieldBench (readied_bench bench)
+pub ready_fields : (bench : BenchState) → IsFieldBench bench → IsFieldBench (bench_to_reopen bench)
 ready_fields bench is = renewed_fields bench (unreclaimed_by (link_in bench) 0) is

@@ -40,17 +40,17 @@ use Rattle.lane_model.specs.Recoveries.{unopened_by, unreclaimed_by}
 use Rattle.lane_model.specs.Soundness.{AreHandedOnce, AreUsers, IsSoundTurn, SoundLink}
 use Rattle.channel_bus.specs.Sides.{EndState}
 use Rattle.link_bench.specs.BenchCrashes.{after_reopen}
-use Rattle.link_bench.specs.BenchEnds.{crashed_bench, readied_bench, renewed_unless, reopen_refusal_of, unopened_unless, with_new_host}
+use Rattle.link_bench.specs.BenchEnds.{bench_to_reopen, crashed_bench, reopen_refusal_by, reopen_refusal_of, with_new_host, with_new_host_unless}
 use Rattle.link_bench.specs.BenchHolds.{caller_out, is_out}
 use Rattle.link_bench.specs.Benches.{BenchState, link_in, new_bench_of, with_new_caller}
 use Rattle.core_actors.specs.Actors.{driver_names, fresh_actors}
 use Rattle.crash_recover.specs.declared.core_answers.Crash.{Crash}
 use Rattle.crash_recover.specs.declared.core_faults.CoreFault.{CoreFault}
 use Rattle.crash_recover.specs.declared.core_faults.CoreFault.TheVariants as fault
-use Rattle.crash_recover.specs.CoreBoots.{Found, boot_as, boot_of, config_of, core_bench, core_fault_of_fetch, first_boot, fresh_end, handover_as, handover_of, image_fault, loaded_in, started_core, with_load}
+use Rattle.crash_recover.specs.CoreBoots.{Found, boot_as, boot_of, config_of, core_bench, core_fault_of_fetch, first_boot, fresh_end, handover_as, handover_of, image_fault, load_in, started_core, with_load}
 use Rattle.crash_recover.specs.CoreCrashes.{crashed_core, first_report, report_as, report_of}
 use Rattle.crash_recover.specs.CoreLeaves.{close_or, detach_of, detached_core, leave_as, live_inc, shutdown_of, unloaded_core}
-use Rattle.crash_recover.specs.CoreRecoveries.{fault_with, readied_core, recovery_fault, recovery_of, reload_fault, reopen_fault, rings_fault, spent_fault, unrecovered_to}
+use Rattle.crash_recover.specs.CoreRecoveries.{core_to_reopen, fault_with, recovery_fault, recovery_fault_to, recovery_of, reload_fault, reopen_fault, rings_fault, spent_fault}
 use Rattle.crash_recover.specs.Cores.{CoreOutcome, CoreState, loaded_rings, new_core, refuse_or}
 use Rattle.core_laws.specs.BenchMoves.{IsReachedBench, IsReachedCore}
 use Rattle.core_laws.proofs.CoreMoves.{readied}
@@ -166,7 +166,7 @@ handed_off Attached life done is off = absurd (cc)
 handed_off Detached life done is off = absurd (cc)
 
 -- a core that is recovered isn't offline
-recovered_off : (state : LifeState) (life : CoreLife) → life.state ≡ state → unrecovered_to (line_of state).recovery life ≡ None → is_offline (recovery_to (line_of state).recovery life).life.state ≡ true → ⊥
+recovered_off : (state : LifeState) (life : CoreLife) → life.state ≡ state → recovery_fault_to (line_of state).recovery life ≡ None → is_offline (recovery_to (line_of state).recovery life).life.state ≡ true → ⊥
 recovered_off Offline life is none off = true≢false (ap is_some none)
 recovered_off Running life is none off = true≢false (ap is_some none)
 recovered_off Attached life is none off = true≢false (ap is_some none)
@@ -327,7 +327,7 @@ first_at life core name found living up called are sound is =
     cond_both (is_offline core.life.state) _ _ (HoldsOut IsFieldStart)
     (λ _. refused IsFieldStart core (image_fault core found) _ is (image_fields core found are)
     (λ clear. record {
-      core = started_fields life (with_load core name (loaded_in core found)) living up is.book called (load_fields core found are) (load_placed core found sound clear);
+      core = started_fields life (with_load core name (load_in core found)) living up is.book called (load_fields core found are) (load_placed core found sound clear);
       answer = omega (arith, few);
     }))
     (λ _. record { core = started_fields life core living up is.book is.image is.loaded is.placed; answer = omega (arith, few) })
@@ -374,11 +374,11 @@ handover_fields core name found called are sound is =
 
 -- ---- recoveries
 
-refused_reopen : (bench : BenchState) (why : Option ReclaimRefusal) → unreclaimed_by (link_in bench) 0 ≡ why → IfSome why IsFieldRefusal → IsReachedBench (readied_bench bench) → IsFieldBench (readied_bench bench)
-    → IfSome (unopened_unless bench why) IsFieldReopen
+refused_reopen : (bench : BenchState) (why : Option ReclaimRefusal) → unreclaimed_by (link_in bench) 0 ≡ why → IfSome why IsFieldRefusal → IsReachedBench (bench_to_reopen bench) → IsFieldBench (bench_to_reopen bench)
+    → IfSome (reopen_refusal_by bench why) IsFieldReopen
 refused_reopen bench None is fields reached ready =
-    let came = subst (λ (w : Option ReclaimRefusal). IsReachedBench (renewed_unless bench w)) is reached in
-    let now = subst (λ (w : Option ReclaimRefusal). IsFieldBench (renewed_unless bench w)) is ready in
+    let came = subst (λ (w : Option ReclaimRefusal). IsReachedBench (with_new_host_unless bench w)) is reached in
+    let now = subst (λ (w : Option ReclaimRefusal). IsFieldBench (with_new_host_unless bench w)) is ready in
     unopened_fields (link_in (with_new_host bench)) (reached_sound (link_in (with_new_host bench)) came.link) now.link
 refused_reopen bench (Some (refusal.StillOpen era)) is fields reached ready = fields
 refused_reopen bench (Some (refusal.Busy held)) is fields reached ready = fields
@@ -402,17 +402,17 @@ with_fields (Some bench) is_spent reached is =
 
 reload_fields : (core : CoreState) (found : Found) → IfOk found AreBytes → IfSome (reload_fault core found) IsFieldCoreFault
 reload_fields core found are =
-    or_has IsFieldCoreFault (image_fault core found) (rings_fault core (loaded_in core found)) (image_fields core found are)
+    or_has IsFieldCoreFault (image_fault core found) (rings_fault core (load_in core found)) (image_fields core found are)
     (cond_both _ None (Some fault.RingsChanged) (λ (why : Option CoreFault). IfSome why IsFieldCoreFault) (λ _. tt) (λ _. tt))
 
 map_fields : (found : Option BenchState) (f : BenchState → BenchState) → ((bench : BenchState) → IsFieldBench bench → IsFieldBench (f bench)) → IfSome found IsFieldBench → IfSome (option_map f found) IsFieldBench
 map_fields None f each is = is
 map_fields (Some bench) f each is = each bench is
 
-readied_fields : (core : CoreState) → IsFieldCore core → IsFieldCore (readied_core core)
-readied_fields core is = record { book = is.book; life = is.life; image = is.image; loaded = is.loaded; placed = is.placed; rest = is.rest; bench = map_fields core.bench readied_bench ready_fields is.bench; calls = is.calls }
+readied_fields : (core : CoreState) → IsFieldCore core → IsFieldCore (core_to_reopen core)
+readied_fields core is = record { book = is.book; life = is.life; image = is.image; loaded = is.loaded; placed = is.placed; rest = is.rest; bench = map_fields core.bench bench_to_reopen ready_fields is.bench; calls = is.calls }
 
-clear_at : (bench : BenchState) (why : Option ReclaimRefusal) → unopened_unless bench why ≡ None → unopened_by (link_in (renewed_unless bench why)) ≡ None
+clear_at : (bench : BenchState) (why : Option ReclaimRefusal) → reopen_refusal_by bench why ≡ None → unopened_by (link_in (with_new_host_unless bench why)) ≡ None
 clear_at bench None clear = clear
 clear_at bench (Some why) clear = absurd (true≢false (ap is_some clear))
 
@@ -424,10 +424,10 @@ image_none : (first later : Option CoreFault) → option_or first later ≡ None
 image_none None later none = refl
 image_none (Some why) later none = absurd (true≢false (ap is_some none))
 
-found_reopened : (found : Option BenchState) (is_spent : Bool) → fault_with found is_spent ≡ None → IfSome found IsFieldBench → IfSome (option_map (λ bench. after_reopen (readied_bench bench)) found) IsFieldBench
+found_reopened : (found : Option BenchState) (is_spent : Bool) → fault_with found is_spent ≡ None → IfSome found IsFieldBench → IfSome (option_map (λ bench. after_reopen (bench_to_reopen bench)) found) IsFieldBench
 found_reopened None is_spent none is = is
 found_reopened (Some bench) is_spent none is =
-    reopen_fields (readied_bench bench) (clear_at bench (unreclaimed_by (link_in bench) 0) (first_none (reopen_refusal_of bench) (spent_fault is_spent) none)) (ready_fields bench is)
+    reopen_fields (bench_to_reopen bench) (clear_at bench (unreclaimed_by (link_in bench) 0) (first_none (reopen_refusal_of bench) (spent_fault is_spent) none)) (ready_fields bench is)
 
 pub recovery_fields : (core : CoreState) (found : Found) → IfOk found AreBytes → SoundRegions core.regions → IsReachedCore core → IsFieldCore core → HoldsOut IsFieldStart (recovery_of core found)
 unfolding recovery_of
@@ -436,8 +436,8 @@ recovery_fields core found are sound reached is =
     let few = after.life.incarnation in
     refused IsFieldStart core (option_map fault.Life (recovery_fault core.life)) _ is (life_fault_fields (recovery_fault core.life)) (λ may.
     refused IsFieldStart core (reload_fault core found) _ is (reload_fields core found are) (λ reloads.
-    let clear = image_none (image_fault core found) (rings_fault core (loaded_in core found)) reloads in
-    refused IsFieldStart (readied_core core) (reopen_fault core) _ (readied_fields core is) (with_fields core.bench (core.life.incarnation == most) reached.bench is.bench) (λ opens.
+    let clear = image_none (image_fault core found) (rings_fault core (load_in core found)) reloads in
+    refused IsFieldStart (core_to_reopen core) (reopen_fault core) _ (readied_fields core is) (with_fields core.bench (core.life.incarnation == most) reached.bench is.bench) (λ opens.
     record {
       core = record {
         book = is.book;

@@ -20,10 +20,10 @@ use Rattle.core_actors.specs.declared.progress.Driven.{Driven}
 use Rattle.core_actors.specs.declared.progress.Driven.TheVariants as driven
 use Rattle.core_actors.specs.Actors.{ActorsState}
 use Rattle.core_actors.specs.ActorEnds.{actors_after_end}
-use Rattle.core_actors.specs.ActorSteps.{driven_by, driven_by_work, first_or_take, has_calls, host_begun, link_step}
-use Rattle.crash_recover.specs.CoreActs.{act_on_core, acted_core}
+use Rattle.core_actors.specs.ActorSteps.{drive_of_reach, drive_of_work, first_or_take, has_calls, host_at_step, link_step}
+use Rattle.crash_recover.specs.CoreActs.{act_on_core, core_after_act}
 use Rattle.crash_recover.specs.Cores.{CoreState, LoadState}
-use Rattle.crash_recover.specs.Drives.{DriveStep, acting, actor_step, drive_step, host_step, is_idle, placed_map, record_run, record_step, reported_by, with_turn_after, worker_call, worker_step}
+use Rattle.crash_recover.specs.Drives.{DriveStep, actor_step, actor_to_step, core_with_report, drive_step, host_step, is_idle, placed_map, record_run, record_step, with_turn_after, worker_call, worker_step}
 use Rattle.core_laws.specs.BenchMoves.{IsReachedBench, IsReachedCore}
 use Rattle.core_laws.proofs.CoreMoves.{first_sendable}
 use Rattle.core_laws.proofs.KeptActs.{AreKeptSteps, act_kept}
@@ -56,7 +56,7 @@ link_fields bench caller wanted reached is sendable wishes =
     (λ _. cond_both (is_some (begin_fault bench caller wanted)) none (start_walk bench 0 caller wanted) HoldsBenchWalk (λ _. record { bench = is; reach = tt })
     (λ ready. start_fields bench 0 caller wanted (no_fault (begin_fault bench caller wanted) ready) sendable wishes reached is))
 
-by_reach : (caller : ℕ) (came : Reach) → caller < 2 ^ 64 → IsFieldReach came → IsFieldDriven (driven_by caller came)
+by_reach : (caller : ℕ) (came : Reach) → caller < 2 ^ 64 → IsFieldReach came → IsFieldDriven (drive_of_reach caller came)
 by_reach caller (reach.At step) small is = tt
 by_reach caller (reach.Ended ended) small is = (small, is)
 by_reach caller reach.Limit small is = tt
@@ -75,7 +75,7 @@ host_at core (Some bench) reached here is fields =
         placed = is.placed;
         rest = is.rest;
         bench = left.bench;
-        calls = host_fields (host_begun bench core.actors) walk.bench walk.reach left.bench.link left.reach (host_begun_fields bench core.actors is.calls);
+        calls = host_fields (host_at_step bench core.actors) walk.bench walk.reach left.bench.link left.reach (host_begun_fields bench core.actors is.calls);
       };
       driven = by_reach 0 walk.reach (omega arith) left.reach;
     }
@@ -92,7 +92,7 @@ worker_at core (Some bench) reached here is fields =
 
 -- ---- records
 
-by_work : (done : Work) → IsFieldDriven (driven_by_work done)
+by_work : (done : Work) → IsFieldDriven (drive_of_work done)
 by_work work.Nothing = tt
 by_work (work.Ask wanted) = tt
 by_work work.Halted = tt
@@ -117,7 +117,7 @@ run_fields core (Some load) same is here placed =
       driven = by_work (work_of load.memory map (is_some core.bench) core.actors.worker);
     }
 
-reported_fields : (event : Driven) (core : CoreState) → IsFieldCore core → IsFieldCore (reported_by event core)
+reported_fields : (event : Driven) (core : CoreState) → IsFieldCore core → IsFieldCore (core_with_report event core)
 reported_fields driven.Idle core is = is
 reported_fields driven.Stepped core is = is
 reported_fields (driven.Ended caller ended) core is = is
@@ -142,7 +142,7 @@ actor_fields actor.Worker core reached is = worker_step_fields core reached is
 pub drive_fields : (core : CoreState) → IsReachedCore core → IsFieldCore core → HoldsDrive (drive_step core)
 drive_fields core reached is =
     cond_both (is_idle core) _ _ HoldsDrive (λ _. record { core = is; driven = tt })
-    (λ _. actor_fields (acting core) (with_turn_after (acting core) core)
+    (λ _. actor_fields (actor_to_step core) (with_turn_after (actor_to_step core) core)
     (record { bench = reached.bench; calls = record { host = reached.calls.host; worker = reached.calls.worker } })
     (record { book = is.book; life = is.life; image = is.image; loaded = is.loaded; placed = is.placed; rest = is.rest; bench = is.bench; calls = record { host = is.calls.host; worker = is.calls.worker } }))
 
@@ -176,7 +176,7 @@ both_steps = record {
 
 -- what an act leaves of a core, the link that it leaves, and what comes of it
 pub record HoldsActed (core : CoreState) (acted : Acted ActorsState) : Type 0 where
-  pub left : IsFieldCore (acted_core core acted)
+  pub left : IsFieldCore (core_after_act core acted)
   pub bench : IsFieldBench acted.bench
   pub answer : IsFieldActed acted.answer
 

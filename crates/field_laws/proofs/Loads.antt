@@ -17,7 +17,7 @@ use Rattle.memory_pool.specs.Regions.{memory_len}
 use Rattle.addr_translate.specs.Bytes.{with_bytes}
 use Rattle.fw_load.specs.Memory.{memory_at, segment_bytes, with_at, with_segments, with_table}
 use Rattle.fw_load.specs.Tables.{bytes_in, entries_in, fixes_of, patched_in, table_of, table_section}
-use Rattle.crash_recover.specs.CoreBoots.{Found, loaded_at, loaded_from, loaded_in}
+use Rattle.crash_recover.specs.CoreBoots.{Found, load_in, load_of, load_over}
 use Rattle.crash_recover.specs.Cores.{CoreState}
 use Rattle.field_laws.specs.Fields.{AreBytes}
 use Rattle.field_laws.specs.FieldCores.{IsFieldLoad}
@@ -72,7 +72,7 @@ section_are : (image : List ℕ) (section : Option Section) → AreBytes image �
 section_are image None are = tt
 section_are image (Some section) are = taken_bytes section.size (drop section.offset image) (dropped_bytes section.offset image are)
 
-loaded_are : (image : List ℕ) (regions : List Region) (placed : List Block) → AreBytes image → IsFieldLoad (loaded_at image regions placed)
+loaded_are : (image : List ℕ) (regions : List Region) (placed : List Block) → AreBytes image → IsFieldLoad (load_over image regions placed)
 loaded_are image regions placed are =
     let table = patched_are (table_of image) placed (section_are image (table_section image) are) in
     record {
@@ -81,11 +81,11 @@ loaded_are image regions placed are =
       table = table;
     }
 
-from_are : (image : List ℕ) (regions : List Region) → AreBytes image → IsFieldLoad (loaded_from image regions)
-unfolding loaded_from
+from_are : (image : List ℕ) (regions : List Region) → AreBytes image → IsFieldLoad (load_of image regions)
+unfolding load_of
 from_are image regions are = loaded_are image regions (unwrap_or (result_ok (placement regions (entries_in (table_of image)))) []) are
 
 -- what a load gives of an image that was found, or wasn't
-pub load_fields : (core : CoreState) (found : Found) → IfOk found AreBytes → IsFieldLoad (loaded_in core found)
+pub load_fields : (core : CoreState) (found : Found) → IfOk found AreBytes → IsFieldLoad (load_in core found)
 load_fields core (Ok image) are = from_are image core.regions are
 load_fields core (Err why) are = from_are [] core.regions no_bytes

@@ -34,7 +34,7 @@ use Rattle.remote_core.specs.Records.{next_record}
 use Rattle.remote_core.specs.Workers.{WorkerState}
 use Rattle.remote_core.specs.Works.{memory_after, memory_after_next, memory_after_record}
 use Rattle.crash_recover.specs.declared.core_faults.CoreFault.TheVariants as fault
-use Rattle.crash_recover.specs.CoreBoots.{Found, image_fault, loaded_at, loaded_from, loaded_in}
+use Rattle.crash_recover.specs.CoreBoots.{Found, image_fault, load_in, load_of, load_over}
 use Rattle.crash_recover.specs.Cores.{CoreState}
 use Rattle.crash_recover.proofs.PlacedCounts.{loads_few}
 use Rattle.core_laws.proofs.Outcomes.{none_mapped}
@@ -96,22 +96,22 @@ table_longer : (at : ℕ → ℕ → Option ℕ) (section : Option Section) (tab
 table_longer at None table memory least is = is
 table_longer at (Some section) table memory least is = at_longer (at section.address (length table)) table memory least is
 
-loaded_room : (image : List ℕ) (regions : List Region) (placed : List Block) → memory_len regions ≤ length (loaded_at image regions placed).memory
+loaded_room : (image : List ℕ) (regions : List Region) (placed : List Block) → memory_len regions ≤ length (load_over image regions placed).memory
 loaded_room image regions placed =
     let zeros = length-replicate {A = ℕ} (memory_len regions) 0 in
     table_longer (memory_at regions placed) (table_section image) (patched_in (table_of image) placed) _ (memory_len regions)
     (segments_longer (memory_at regions placed) (segments_of image) (replicate (memory_len regions) 0) (memory_len regions) (omega (arith, zeros)))
 
-from_room : (image : List ℕ) (regions : List Region) → memory_len regions ≤ length (loaded_from image regions).memory
-unfolding loaded_from
+from_room : (image : List ℕ) (regions : List Region) → memory_len regions ≤ length (load_of image regions).memory
+unfolding load_of
 from_room image regions = loaded_room image regions (unwrap_or (result_ok (placement regions (entries_in (table_of image)))) [])
 
 -- where the entries of a table are placed
 placed_in : Result (List Block) PlaceFault → List Block
 placed_in found = unwrap_or (result_ok found) []
 
-image_placed : (image : List ℕ) (regions : List Region) → SoundRegions regions → load_fault image regions ≡ None → IsFieldPlaced regions (loaded_from image regions)
-unfolding loaded_from placed_in
+image_placed : (image : List ℕ) (regions : List Region) → SoundRegions regions → load_fault image regions ≡ None → IsFieldPlaced regions (load_of image regions)
+unfolding load_of placed_in
 image_placed image regions sound loads =
     let fits = parts_fit image regions loads in
     let placed = placed_in (placement regions (entries_in (table_of image))) in
@@ -124,7 +124,7 @@ image_placed image regions sound loads =
     }
 
 -- what is loaded of an image that nothing refuses
-pub load_placed : (core : CoreState) (found : Found) → SoundRegions core.regions → image_fault core found ≡ None → IsFieldPlaced core.regions (loaded_in core found)
+pub load_placed : (core : CoreState) (found : Found) → SoundRegions core.regions → image_fault core found ≡ None → IsFieldPlaced core.regions (load_in core found)
 load_placed core (Ok image) sound none = image_placed image core.regions sound (none_mapped fault.Load (load_fault image core.regions) none)
 load_placed core (Err why) sound none = absurd (true≢false (ap is_some none))
 

@@ -13,7 +13,7 @@ use Rattle.link_bench.specs.declared.benches.BegunCall.{BegunCall}
 use Rattle.link_bench.specs.declared.benches.BenchFault.{BenchFault}
 use Rattle.link_bench.specs.declared.benches.BenchFault.TheVariants as fault
 use Rattle.channel_bus.specs.Sides.{EndState}
-use Rattle.link_bench.specs.Benches.{BenchState, AreFitCalls, OthersMay, IsSendable, begin_fault, begun_of, caller_fault, calling_fault, link_in, ready_fault, wish_fault}
+use Rattle.link_bench.specs.Benches.{BenchState, AreFitCalls, OthersMay, IsSendable, begin_fault, begun_call_of, caller_fault, calling_fault, link_in, ready_fault, wish_fault}
 
 -- what is in one is in the other
 pub some_same : {A : Type 0} {x y : A} → Some x ≡ Some y → x ≡ y
@@ -77,7 +77,7 @@ same_fault bench caller (wish.Unbind address) = refl
 pub begin_may : (bench : BenchState) (caller : ℕ) (wanted : Wish) → IsSendable wanted → begin_fault bench caller wanted ≡ None → MayStep (link_in bench) caller (Some wanted)
 begin_may bench caller wanted sendable none =
     let both = neither_fault (ready_fault bench caller) (wish_fault bench caller wanted) none in
-    record { may = may_at (link_in bench) caller (end_of (link_in bench).callers caller) (is_some (begun_of bench caller)) wanted sendable both.0 (same_fault bench caller wanted ∙ both.1) }
+    record { may = may_at (link_in bench) caller (end_of (link_in bench).callers caller) (is_some (begun_call_of bench caller)) wanted sendable both.0 (same_fault bench caller wanted ∙ both.1) }
 
 -- who may begin a call has begun none
 pub none_begun : (found : Option End) (begun under_way : Bool) → caller_fault found (begun || under_way) ≡ None → begun ≡ false

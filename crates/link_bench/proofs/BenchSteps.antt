@@ -8,7 +8,7 @@ use Rattle.channel_bus.specs.Sides.{EndState}
 use Rattle.link_bench.specs.declared.benches.BegunCall.{BegunCall}
 use Rattle.link_bench.specs.declared.benches.Progress.TheVariants as progress
 use Rattle.link_bench.specs.declared.benches.Reach.TheVariants as reach
-use Rattle.link_bench.specs.Benches.{BenchState, RingsState, Walk, advance_steps, advance_walk, begun_of, on_rings, reach_of, step_on}
+use Rattle.link_bench.specs.Benches.{BenchState, RingsState, Walk, advance_steps, advance_walk, begun_call_of, on_rings, reach_of, step_on}
 use Rattle.link_bench.proofs.Walks.{call_done, later_after, later_done, later_none}
 
 -- a step behind which no other follows is done, or it ends the call
@@ -30,4 +30,4 @@ step_of bench caller None limit =
 
 -- the first step of a run finds a step left
 pub step_left : (bench : BenchState) (caller : ℕ) (end : CallEnd) → reach_of progress.Limit end ≡ (advance_walk bench 0 0 caller).reach → ⊥
-step_left bench caller end is = step_of bench caller (begun_of bench caller) (sym is)
+step_left bench caller end is = step_of bench caller (begun_call_of bench caller) (sym is)

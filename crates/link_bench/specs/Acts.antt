@@ -24,7 +24,7 @@ use Rattle.link_bench.specs.declared.bench_crashes.Reclaim.{Reclaim}
 use Rattle.link_bench.specs.Benches.{BenchState, BenchWalk, advance_walk, calling_fault, call_walk, is_in_call, link_in, ready_fault, step_fault, used_fault, with_begun, with_new_caller}
 use Rattle.link_bench.specs.BenchCrashes.{reclaim_answer, reclaim_leaves}
 use Rattle.link_bench.specs.Turns.{Pumped, pump_turns}
-use Rattle.link_bench.specs.Watchers.{Seeing, watched}
+use Rattle.link_bench.specs.Watchers.{Seeing, watcher_after}
 
 -- what a call wishes, with the bytes that it names in place of what code has of them
 abbrev pub bare_wish : {P : Type 0} → (P → List ℕ) → CallWish P → CallWish (List ℕ)
@@ -80,10 +80,10 @@ unless_refused bench watcher steps None acted = acted
 unless_refused bench watcher steps (Some told) acted = answers bench watcher steps told
 
 -- a call came so far, and the watcher sees its end
-abbrev pub walked : {W : Type 0} → Seeing W → W → ℕ → BenchWalk → Acted W
-walked sees watcher caller walk = record {
+abbrev pub walk_act : {W : Type 0} → Seeing W → W → ℕ → BenchWalk → Acted W
+walk_act sees watcher caller walk = record {
   bench = walk.bench;
-  watcher = watched sees walk.bench caller walk.reach watcher;
+  watcher = watcher_after sees walk.bench caller walk.reach watcher;
   steps = walk.steps;
   answer = answer.Reached caller walk.reach;
 }
@@ -106,7 +106,7 @@ misfit bench caller other = None
 
 -- a call is made whole, or is begun, and follows the incarnation that the link is in
 abbrev pub made_call : {W : Type 0} → Seeing W → BenchState → W → ℕ → ℕ → How → Wish → Acted W
-made_call sees bench watcher steps caller how.Whole wanted = walked sees watcher caller (call_walk bench steps caller wanted)
+made_call sees bench watcher steps caller how.Whole wanted = walk_act sees watcher caller (call_walk bench steps caller wanted)
 made_call sees bench watcher steps caller how.Begun wanted =
     answers (with_begun bench caller (Some (record { follows = (link_in bench).era.inc; wish = wanted }))) watcher steps (answer.Begun caller)
 
@@ -119,11 +119,11 @@ call_act sees bench watcher steps caller made wanted =
 -- one step of the call that a caller is in, and so many more
 unfoldable pub step_act : {W : Type 0} → Seeing W → BenchState → W → ℕ → ℕ → ℕ → Acted W
 step_act sees bench watcher steps caller more =
-    unless_refused bench watcher steps (option_map (answer.Refused caller) (step_fault bench caller)) (walked sees watcher caller (advance_walk bench more steps caller))
+    unless_refused bench watcher steps (option_map (answer.Refused caller) (step_fault bench caller)) (walk_act sees watcher caller (advance_walk bench more steps caller))
 
 -- what so many turns do
-abbrev pub pumped : {W : Type 0} → Pumped W → Acted W
-pumped turns = record { bench = turns.turns.bench; watcher = turns.turns.watcher; steps = turns.turns.steps; answer = answer.Pumped turns.done turns.turns.ended }
+abbrev pub turns_act : {W : Type 0} → Pumped W → Acted W
+turns_act turns = record { bench = turns.turns.bench; watcher = turns.turns.watcher; steps = turns.turns.steps; answer = answer.Pumped turns.done turns.turns.ended }
 
 -- the first of two refusals
 abbrev pub first_refusal : Option ActAnswer → Option ActAnswer → Option ActAnswer
@@ -148,18 +148,18 @@ pump_refusal bench sender receiver =
 -- so many turns of two callers
 unfoldable pub pump_act : {W : Type 0} → Seeing W → BenchState → W → ℕ → ℕ → ℕ → ℕ → Acted W
 pump_act sees bench watcher steps sender receiver count =
-    unless_refused bench watcher steps (pump_refusal bench sender receiver) (pumped (pump_turns sees count 0 sender receiver bench watcher steps))
+    unless_refused bench watcher steps (pump_refusal bench sender receiver) (turns_act (pump_turns sees count 0 sender receiver bench watcher steps))
 
 -- how a reclaim ended
-abbrev pub reclaimed : ℕ → Result Reclaim BenchFault → ActAnswer
-reclaimed caller (Ok came) = answer.Reclaimed caller came
-reclaimed caller (Err why) = answer.Refused caller why
+abbrev pub answer_of_reclaim : ℕ → Result Reclaim BenchFault → ActAnswer
+answer_of_reclaim caller (Ok came) = answer.Reclaimed caller came
+answer_of_reclaim caller (Err why) = answer.Refused caller why
 
 -- a reclaim of a caller
 abbrev pub reclaim_act : {W : Type 0} → BenchState → W → ℕ → ℕ → Acted W
 reclaim_act bench watcher steps caller =
     let why = unreclaimed_by (link_in bench) caller in
-    answers (reclaim_leaves bench caller why) watcher steps (reclaimed caller (reclaim_answer (end_of (link_in bench).callers caller) why))
+    answers (reclaim_leaves bench caller why) watcher steps (answer_of_reclaim caller (reclaim_answer (end_of (link_in bench).callers caller) why))
 
 -- a new caller at an end, under the least free number
 abbrev pub caller_act : {W : Type 0} → BenchState → W → ℕ → End → Option ℕ → Acted W

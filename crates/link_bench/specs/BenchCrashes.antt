@@ -35,11 +35,11 @@ reclaim_answer None why = Err fault.NoCaller
 reclaim_answer (Some end) why = Ok (reclaim_end why)
 
 -- the bench after a reclaim of a caller on this end, or on none, which something refuses or nothing
-abbrev pub left_by_reclaim : BenchState → ℕ → Option End → Option ReclaimRefusal → BenchState
-left_by_reclaim bench caller (Some end) None = after_reclaim bench caller
-left_by_reclaim bench caller (Some end) (Some why) = bench
-left_by_reclaim bench caller None why = bench
+abbrev pub reclaim_leaves_at : BenchState → ℕ → Option End → Option ReclaimRefusal → BenchState
+reclaim_leaves_at bench caller (Some end) None = after_reclaim bench caller
+reclaim_leaves_at bench caller (Some end) (Some why) = bench
+reclaim_leaves_at bench caller None why = bench
 
 -- the bench after a reclaim
 abbrev pub reclaim_leaves : BenchState → ℕ → Option ReclaimRefusal → BenchState
-reclaim_leaves bench caller why = left_by_reclaim bench caller (end_of (link_in bench).callers caller) why
+reclaim_leaves bench caller why = reclaim_leaves_at bench caller (end_of (link_in bench).callers caller) why

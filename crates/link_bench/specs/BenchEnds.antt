@@ -66,18 +66,18 @@ abbrev pub with_new_host : BenchState → BenchState
 with_new_host bench = with_fresh_caller (after_reclaim bench 0) side.Host
 
 -- the same, unless something refuses the reclaim of caller 0
-abbrev pub renewed_unless : BenchState → Option ReclaimRefusal → BenchState
-renewed_unless bench None = with_new_host bench
-renewed_unless bench (Some why) = bench
+abbrev pub with_new_host_unless : BenchState → Option ReclaimRefusal → BenchState
+with_new_host_unless bench None = with_new_host bench
+with_new_host_unless bench (Some why) = bench
 
 -- the bench that a reopening finds
-abbrev pub readied_bench : BenchState → BenchState
-readied_bench bench = renewed_unless bench (unreclaimed_by (link_in bench) 0)
+abbrev pub bench_to_reopen : BenchState → BenchState
+bench_to_reopen bench = with_new_host_unless bench (unreclaimed_by (link_in bench) 0)
 
 -- why a bench is not reopened: caller 0 is not reclaimed, or the link behind it is not reopened
-abbrev pub unopened_unless : BenchState → Option ReclaimRefusal → Option ReopenFault
-unopened_unless bench None = unopened_by (link_in (with_new_host bench))
-unopened_unless bench (Some why) = Some (unready_for why)
+abbrev pub reopen_refusal_by : BenchState → Option ReclaimRefusal → Option ReopenFault
+reopen_refusal_by bench None = unopened_by (link_in (with_new_host bench))
+reopen_refusal_by bench (Some why) = Some (unready_for why)
 
 abbrev pub reopen_refusal_of : BenchState → Option ReopenFault
-reopen_refusal_of bench = unopened_unless bench (unreclaimed_by (link_in bench) 0)
+reopen_refusal_of bench = reopen_refusal_by bench (unreclaimed_by (link_in bench) 0)

@@ -67,20 +67,20 @@ abbrev pub link_in : BenchState → LinkState EndState
 link_in bench = lists_of bench.rings
 
 -- nothing is begun
-abbrev pub no_begun : List (Option BegunCall)
-no_begun = replicate 64 None
+abbrev pub no_begun_calls : List (Option BegunCall)
+no_begun_calls = replicate 64 None
 
 -- a bench over a new link
 abbrev pub new_bench_of : LinkConfig → EndState → EndState → BenchState
-new_bench_of config host remote = record { rings = opened_ring_link config host remote; begun = no_begun }
+new_bench_of config host remote = record { rings = opened_ring_link config host remote; begun = no_begun_calls }
 
 -- the call that a caller has begun and of which no step is done
-abbrev pub begun_of : BenchState → ℕ → Option BegunCall
-begun_of bench caller = option_and_then (λ found. found) (slice_get bench.begun caller)
+abbrev pub begun_call_of : BenchState → ℕ → Option BegunCall
+begun_call_of bench caller = option_and_then (λ found. found) (slice_get bench.begun caller)
 
 -- a caller is in a call from its beginning on
 abbrev pub is_in_call : BenchState → ℕ → Bool
-is_in_call bench caller = is_some (begun_of bench caller) || is_calling (link_in bench) caller
+is_in_call bench caller = is_some (begun_call_of bench caller) || is_calling (link_in bench) caller
 
 -- a step of a call on a link of some form. What it does to the call, the lists alone say
 abbrev pub step_on : {L : Type 0} → FormMeaning L EndState → LaneLink L → ℕ → ℕ → Option Wish → Stepped (LaneLink L)
@@ -146,7 +146,7 @@ advance_steps bench more steps caller None = bench_walk bench (later_steps on_ri
 
 -- so many steps of the call that a caller is in
 abbrev pub advance_walk : BenchState → ℕ → ℕ → ℕ → BenchWalk
-advance_walk bench more steps caller = advance_steps bench more steps caller (begun_of bench caller)
+advance_walk bench more steps caller = advance_steps bench more steps caller (begun_call_of bench caller)
 
 -- a call of a caller that is in none, with at most so many steps behind its first; it follows the incarnation that the link is in
 abbrev pub begin_walk : BenchState → ℕ → ℕ → ℕ → Wish → BenchWalk
@@ -225,7 +225,7 @@ IsSendable (wish.Bind address) = Unit {0}
 IsSendable (wish.Unbind address) = Unit {0}
 
 -- the message of a number on the lane that an end takes from, or no byte
-abbrev pub taken_on : LinkState EndState → Option End → ℕ → List ℕ
-taken_on link (Some side.Host) number = message_at link.to_host.lane.accepted number
-taken_on link (Some side.Remote) number = message_at link.to_remote.lane.accepted number
-taken_on link None number = []
+abbrev pub message_on : LinkState EndState → Option End → ℕ → List ℕ
+message_on link (Some side.Host) number = message_at link.to_host.lane.accepted number
+message_on link (Some side.Remote) number = message_at link.to_remote.lane.accepted number
+message_on link None number = []

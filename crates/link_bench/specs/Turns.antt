@@ -11,7 +11,7 @@ use Rattle.link_bench.specs.declared.benches.Reach.TheVariants as reach
 use Rattle.link_bench.specs.declared.turns.TurnEnd.{TurnEnd}
 use Rattle.link_bench.specs.declared.turns.TurnEnd.TheVariants as turn_end
 use Rattle.link_bench.specs.Benches.{BenchState, call_walk, begin_fault}
-use Rattle.link_bench.specs.Watchers.{Seeing, watched}
+use Rattle.link_bench.specs.Watchers.{Seeing, watcher_after}
 
 -- what a call of a turn leaves: the bench, the steps of the run until then, and the number of its message, or how the turn ends with it
 pub record TurnCall : Type 0 where
@@ -51,22 +51,22 @@ then_more watcher call (Ok number) more = more number
 then_more watcher call (Err ended) more = record { bench = call.bench; watcher = watcher; steps = call.steps; ended = ended }
 
 -- how a turn ended whose last call has a number or doesn't
-abbrev pub ended_by : Result ℕ TurnEnd → TurnEnd
-ended_by (Ok number) = turn_end.Whole
-ended_by (Err ended) = ended
+abbrev pub turn_end_of : Result ℕ TurnEnd → TurnEnd
+turn_end_of (Ok number) = turn_end.Whole
+turn_end_of (Err ended) = ended
 
 -- the give of the message of this number ends the turn
 abbrev pub give_turn : {W : Type 0} → W → ℕ → BenchState → ℕ → ℕ → Turns W
 give_turn watcher receiver bench steps number =
     let given = turn_call bench steps receiver (wish.Give number) in
-    record { bench = given.bench; watcher = watcher; steps = given.steps; ended = ended_by given.number }
+    record { bench = given.bench; watcher = watcher; steps = given.steps; ended = turn_end_of given.number }
 
 -- the take, of which the watcher sees the end, and the give of what it took
 unfoldable pub take_turn : {W : Type 0} → Seeing W → ℕ → BenchState → W → ℕ → Turns W
 take_turn sees receiver bench watcher steps =
     let taken = turn_call bench steps receiver wish.Take in
     then_more watcher taken taken.number
-    (give_turn (watched sees taken.bench receiver (call_walk bench steps receiver wish.Take).reach watcher) receiver taken.bench taken.steps)
+    (give_turn (watcher_after sees taken.bench receiver (call_walk bench steps receiver wish.Take).reach watcher) receiver taken.bench taken.steps)
 
 -- the message of a turn: its number in four bytes, from address 0 to 1024
 abbrev pub turn_message : ℕ → List ℕ

@@ -10,10 +10,10 @@ abbrev pub Seeing : Type 0 → Type 0
 Seeing W = BenchState → ℕ → CallEnd → W → W
 
 -- a watcher, by how far a call came
-abbrev pub watched : {W : Type 0} → Seeing W → BenchState → ℕ → Reach → W → W
-watched sees bench caller (reach.At step) watcher = watcher
-watched sees bench caller (reach.Ended end) watcher = sees bench caller end watcher
-watched sees bench caller reach.Limit watcher = watcher
+abbrev pub watcher_after : {W : Type 0} → Seeing W → BenchState → ℕ → Reach → W → W
+watcher_after sees bench caller (reach.At step) watcher = watcher
+watcher_after sees bench caller (reach.Ended end) watcher = sees bench caller end watcher
+watcher_after sees bench caller reach.Limit watcher = watcher
 
 -- nobody sees anything
 abbrev pub nobody_sees : Seeing (Unit {0})

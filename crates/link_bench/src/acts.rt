@@ -1,7 +1,7 @@
 ghost use Rattle.std.specs.Prelude.{◌≡◌, ◌<◌, ◌≤◌, ◌+◌, ◌++◌, IfOk, None, length};
 ghost use Rattle.rp_base.specs.declared.limits.TheConstants.{MESSAGE_MOST, STEPS_MOST};
 ghost use Rattle.link_bench.specs.Benches.{IsSendable, call_walk, reach_of, ready_fault};
-ghost use Rattle.link_bench.specs.Acts.{HasActed, IsFitAct, IsFitWish, bare_act, bare_wish, call_act, free_act, link_act, made_call, misfit, own_caller, own_in, pump_act, pump_refusal, side_refusal, step_act, walked, wish_of};
+ghost use Rattle.link_bench.specs.Acts.{HasActed, IsFitAct, IsFitWish, bare_act, bare_wish, call_act, free_act, link_act, made_call, misfit, own_caller, own_in, pump_act, pump_refusal, side_refusal, step_act, walk_act, wish_of};
 
 use crate::bench_crashes::Reclaim;
 use crate::benches::{Bench, BenchFault, Progress, Reach};
@@ -240,7 +240,7 @@ impl Bench {
                 self.reach(watcher, caller, progress, end, *steps)
             }
             How::Begun => {
-                self.put_begun(caller, wish_of(wish));
+                self.put_call(caller, wish_of(wish));
                 Ok(ActAnswer::Begun(caller))
             }
         }
@@ -312,7 +312,7 @@ impl Bench {
         end: CallEnd,
         steps: u64,
     ) -> Result<ActAnswer, NoMemory>
-        ensures { IfOk result (λ answer. HasActed (walked W.sees (W.state watcher.old) caller (record { bench = self.now; steps = steps; reach = reach_of progress end })) self.now (W.state watcher.new) steps answer) }
+        ensures { IfOk result (λ answer. HasActed (walk_act W.sees (W.state watcher.old) caller (record { bench = self.now; steps = steps; reach = reach_of progress end })) self.now (W.state watcher.new) steps answer) }
     {
         let reach = match progress {
             Progress::At(step) => Reach::At(step),

@@ -1,7 +1,7 @@
 ghost use Rattle.std.specs.Prelude.{◌≡◌, None, IfNone};
 ghost use Rattle.lane_model.specs.Recoveries.{unopened_by};
 ghost use Rattle.link_bench.specs.Benches.{link_in};
-ghost use Rattle.link_bench.specs.BenchEnds.{reopen_refusal_of, readied_bench, crashed_bench, without_other, without_remote, without_remotes};
+ghost use Rattle.link_bench.specs.BenchEnds.{reopen_refusal_of, bench_to_reopen, crashed_bench, without_other, without_remote, without_remotes};
 
 use crate::benches::Bench;
 use lane_model::{ReclaimRefusal, ReopenFault};
@@ -57,7 +57,7 @@ impl Bench {
     /// reopened then, if something refuses it.
     pub fn renew_host(&mut self) -> Option<ReopenFault>
         ensures refused { result ≡ reopen_refusal_of self.old }
-        ensures left { self.new ≡ readied_bench self.old }
+        ensures left { self.new ≡ bench_to_reopen self.old }
         ensures open { IfNone result (unopened_by (link_in self.new) ≡ None) }
     {
         match self.link.reclaim_refusal(0) {

@@ -5,7 +5,7 @@ ghost use Rattle.lane_model.specs.Links.{end_of, free_number};
 ghost use Rattle.channel_bus.specs.Sides.{side_meaning};
 ghost use Rattle.lane_model.specs.Desks.{IsFreshDesk};
 ghost use Rattle.lane_model.specs.Conditions.{IsConfig, is_holding};
-ghost use Rattle.link_bench.specs.Benches.{IsSendable, advance_walk, begin_fault, call_walk, counts_of, is_in_call, link_in, new_bench_of, no_begun, reach_of, ready_fault, start_walk, taken_on, with_begun, with_new_caller};
+ghost use Rattle.link_bench.specs.Benches.{IsSendable, advance_walk, begin_fault, call_walk, counts_of, is_in_call, link_in, message_on, new_bench_of, no_begun_calls, reach_of, ready_fault, start_walk, with_begun, with_new_caller};
 
 use crate::steps::{BenchLink, call_steps, later_steps};
 use crate::whole_steps::{whole_send, whole_steps};
@@ -93,7 +93,7 @@ impl Bench {
     {
         Ok(Bench {
             link: ring_link(alloc, config, host, remote)?,
-            begun: nothing_begun(alloc)?,
+            begun: no_begun_calls(alloc)?,
         })
     }
 
@@ -179,12 +179,12 @@ impl Bench {
         if let Some(fault) = self.begin_fault(caller, &wished) {
             return Err(fault);
         }
-        self.put_begun(caller, wished);
+        self.put_call(caller, wished);
         Ok(())
     }
 
     /// Begins a call of a caller that may begin it.
-    pub fn put_begun(&mut self, caller: CallerNo, wished: Wish)
+    pub fn put_call(&mut self, caller: CallerNo, wished: Wish)
         requires caller { caller < 64 }
         requires ready { begin_fault self.old caller wished ≡ None }
         ensures { self.new ≡ with_begun self.old caller (Some (record { follows = (link_in self.old).era.inc; wish = wished })) }
@@ -298,7 +298,7 @@ impl Bench {
 
     /// The message of a number on the lane that a caller takes from, or no byte where there is none.
     pub fn taken_message(&self, caller: CallerNo, number: u64) -> &[u8]
-        ensures message { result.now ≡ taken_on (link_in self.now) (end_of (link_in self.now).callers caller) number }
+        ensures message { result.now ≡ message_on (link_in self.now) (end_of (link_in self.now).callers caller) number }
         ensures short { length result.now ≤ MESSAGE_MOST }
     {
         let message = match self.end_of(caller) {
@@ -326,8 +326,8 @@ impl Bench {
 }
 
 /// No call for each number of a caller.
-fn nothing_begun(alloc: Global) -> Result<Vec<Option<BegunCall>>, NoMemory>
-    ensures { IfOk result (λ begun. begun.items ≡ no_begun) }
+fn no_begun_calls(alloc: Global) -> Result<Vec<Option<BegunCall>>, NoMemory>
+    ensures { IfOk result (λ begun. begun.items ≡ no_begun_calls) }
 {
     let mut begun = Vec::with_capacity(alloc, CALLERS_MOST)?;
     for _ in 0..CALLERS_MOST {

@@ -5,7 +5,7 @@ ghost use Rattle.byteorder.specs.Endian.{little_bytes};
 ghost use Rattle.rpmsg_header.specs.Headers.{header_bytes};
 ghost use Rattle.link_bench.specs.Benches.{call_walk, reach_of};
 ghost use Rattle.link_bench.specs.declared.benches.Reach.TheVariants as reach;
-ghost use Rattle.link_bench.specs.Turns.{ended_by, is_whole, number_of, one_turn, pump_turns, reach_number, take_turn, turn_call};
+ghost use Rattle.link_bench.specs.Turns.{is_whole, number_of, one_turn, pump_turns, reach_number, take_turn, turn_call, turn_end_of};
 
 use crate::benches::{Bench, BenchFault, Progress, Reach};
 use crate::watchers::Watcher;
@@ -128,7 +128,7 @@ impl Bench {
         requires steps { steps.old ≤ STEPS_MOST }
         ensures bench { self.new ≡ (turn_call self.old steps.old receiver (wish.Give number)).bench }
         ensures steps { steps.new ≡ (turn_call self.old steps.old receiver (wish.Give number)).steps }
-        ensures ended { ended.new ≡ ended_by (turn_call self.old steps.old receiver (wish.Give number)).number }
+        ensures ended { ended.new ≡ turn_end_of (turn_call self.old steps.old receiver (wish.Give number)).number }
         ensures within { steps.new ≤ STEPS_MOST }
     {
         let given = self.turn_call(receiver, &Wish::Give(number), steps, ended);

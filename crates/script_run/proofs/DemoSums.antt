@@ -21,7 +21,7 @@ use Rattle.command_run.specs.declared.stops.Stop.{Stop}
 use Rattle.command_run.specs.Stores.{answer_for, held, later_told}
 use Rattle.command_run.specs.Logs.{HasRunEffect, LogState}
 use Rattle.command_run.specs.Runs.{ObjectsState, Run, RunState, asked_name, effect_of, new_run, run_from, run_of, run_on}
-use Rattle.script_run.specs.Demos.{accepted_from, accepted_sum, bare_effect, counted_output, demo_output, drive_accepted, none_accepted, said_output}
+use Rattle.script_run.specs.Demos.{accepted_from, accepted_sum, bare_effect, commands_output, counted_output, demo_output, drive_accepted, none_accepted}
 use Rattle.script_run.specs.DemoRuns.{IsCounted, IsDemoCount}
 use Rattle.command_run.proofs.RunSteps.{run_first, run_none}
 use Rattle.command_run.proofs.Shelves.{held_run}
@@ -151,7 +151,7 @@ module _ (commands : List Command) (objects after_objects : ObjectsState) (befor
 pub demo_is : (sessions : ℕ) (commands : List Command) → script_of (demo_text sessions) ≡ Ok commands
     → demo_output sessions ≡ counted_output sessions (accepted_from new_run commands) (run_of (held []) commands).ending
 unfolding demo_output
-demo_is sessions commands says = ap (said_output sessions) says
+demo_is sessions commands says = ap (commands_output sessions) says
 
 -- what code counted of it, by the commands that its script says
 pub counted : (sessions : ℕ) (commands : List Command) (result : Result Accepted DemoFault) → script_of (demo_text sessions) ≡ Ok commands → IsCounted commands result → IsDemoCount sessions result

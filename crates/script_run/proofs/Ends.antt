@@ -31,7 +31,7 @@ use Rattle.command_run.specs.Stores.{IsHeld, IsTold, Told, held}
 use Rattle.command_run.specs.Runs.{new_run, run_of}
 use Rattle.script_run.specs.Outputs.{Form, other, run, check, demo, storm, audit, Output, audit_output, storm_output, fails_in, too_long_output, usage_output, run_output, script_output, stop_output, transcript_output, report_output, store_fault_output}
 use Rattle.script_run.specs.Reports.{check_report, fetched_report}
-use Rattle.script_run.specs.Demos.{accepted_from, counted_output, demo_output, said_output}
+use Rattle.script_run.specs.Demos.{accepted_from, commands_output, counted_output, demo_output}
 use Rattle.script_run.specs.Told.{RunWrites}
 use Rattle.command_run.proofs.Handed.{front_of_none}
 use Rattle.command_run.proofs.Shelves.{any_held, any_told, held_failed, held_run}
@@ -420,7 +420,7 @@ counted_well : (sessions : ℕ) (accepted : Accepted) (stop : Option Stop) → i
 counted_well sessions accepted None = refl
 counted_well sessions accepted (Some why) = stop_well (Some why)
 
-said_demo_well : (sessions : ℕ) (said : Result (List Command) Refusal) → is_store_fault (said_output sessions said).status ≡ false
+said_demo_well : (sessions : ℕ) (said : Result (List Command) Refusal) → is_store_fault (commands_output sessions said).status ≡ false
 said_demo_well sessions (Ok commands) = counted_well sessions (accepted_from new_run commands) (run_of (held []) commands).ending
 said_demo_well sessions (Err refusal) = refl
 

@@ -56,10 +56,10 @@ counted_output sessions accepted None =
 counted_output sessions accepted (Some why) = stop_output (Some why)
 
 -- the output of a demo by what its script says
-abbrev pub said_output : ℕ → Result (List Command) Refusal → Output
-said_output sessions (Ok commands) = counted_output sessions (accepted_from new_run commands) (run_of (held []) commands).ending
-said_output sessions (Err refusal) = script_output (held []) (Err refusal)
+abbrev pub commands_output : ℕ → Result (List Command) Refusal → Output
+commands_output sessions (Ok commands) = counted_output sessions (accepted_from new_run commands) (run_of (held []) commands).ending
+commands_output sessions (Err refusal) = script_output (held []) (Err refusal)
 
 -- the output of a demo of so many sessions
 unfoldable pub demo_output : ℕ → Output
-demo_output sessions = said_output sessions (script_of (demo_text sessions))
+demo_output sessions = commands_output sessions (script_of (demo_text sessions))

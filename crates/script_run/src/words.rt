@@ -46,7 +46,7 @@ pub(crate) fn read_words<'a>(alloc: Global, words: &'a [&'a str]) -> Result<Aske
         return Ok(Asked::Other);
     };
     let args = matches.get_strs("ARGS").unwrap_or(&[]);
-    Ok(asked_by(job, args))
+    Ok(ask_by(job, args))
 }
 
 /// Whether some word begins with `-`.
@@ -79,20 +79,20 @@ fn matches_of<'a>(alloc: Global, words: &'a [&'a str]) -> Result<ArgMatches<'a>,
 }
 
 /// What this job with these arguments asks for.
-fn asked_by<'a>(job: &'a str, args: &[&'a str]) -> Asked<'a>
+fn ask_by<'a>(job: &'a str, args: &[&'a str]) -> Asked<'a>
     ensures form { asked_form result ≡ form_of (job.now ∷ map (λ word. word.now) args.now) }
     ensures in_form { IsInForm result }
 {
     match args {
-        [] => asked_alone(job),
-        [argument] => asked_with(job, argument),
-        [hosts, remotes, count, num] => asked_with_four(job, hosts, remotes, count, num),
+        [] => ask_alone(job),
+        [argument] => ask_with(job, argument),
+        [hosts, remotes, count, num] => ask_with_four(job, hosts, remotes, count, num),
         _ => Asked::Other,
     }
 }
 
 /// What a job without an argument asks for.
-fn asked_alone<'a>(job: &str) -> Asked<'a>
+fn ask_alone<'a>(job: &str) -> Asked<'a>
     ensures form { asked_form result ≡ word_form job.now }
     ensures in_form { IsInForm result }
 {
@@ -106,7 +106,7 @@ fn asked_alone<'a>(job: &str) -> Asked<'a>
 }
 
 /// What a job with one argument asks for.
-fn asked_with<'a>(job: &str, argument: &'a str) -> Asked<'a>
+fn ask_with<'a>(job: &str, argument: &'a str) -> Asked<'a>
     ensures form { asked_form result ≡ argument_form job.now argument.now }
     ensures in_form { IsInForm result }
 {
@@ -120,7 +120,7 @@ fn asked_with<'a>(job: &str, argument: &'a str) -> Asked<'a>
 }
 
 /// What a job with four arguments asks for.
-fn asked_with_four<'a>(job: &str, hosts: &str, remotes: &str, count: &str, num: &str) -> Asked<'a>
+fn ask_with_four<'a>(job: &str, hosts: &str, remotes: &str, count: &str, num: &str) -> Asked<'a>
     ensures form { asked_form result ≡ numbers_form job.now hosts.now remotes.now count.now num.now }
     ensures in_form { IsInForm result }
 {

@@ -6,15 +6,15 @@ use Rattle.core_laws.specs.BenchMoves.{IsReachedBench, IsReachedCore}
 use Rattle.crash_recover.proofs.Loads.{pair_config}
 use Rattle.core_actors.specs.Actors.{driver_names}
 use Rattle.crash_recover.specs.CoreActs.{act_on_core, core_act_on}
-use Rattle.crash_recover.specs.CoreBoots.{Found, boot_as, boot_of, core_bench, first_boot, fresh_end, handover_as, handover_of, image_fault, loaded_from, loaded_in, started_core}
+use Rattle.crash_recover.specs.CoreBoots.{Found, boot_as, boot_of, core_bench, first_boot, fresh_end, handover_as, handover_of, image_fault, load_in, load_of, started_core}
 use Rattle.crash_recover.specs.CoreCrashes.{crashed_core, report_of}
 use Rattle.crash_recover.specs.CoreLeaves.{close_or, detach_of, detached_core, leave_as, live_inc, shutdown_of, unloaded_core}
-use Rattle.crash_recover.specs.CoreRecoveries.{readied_core, recovery_fault, recovery_of, reload_fault, reopen_fault}
+use Rattle.crash_recover.specs.CoreRecoveries.{core_to_reopen, recovery_fault, recovery_of, reload_fault, reopen_fault}
 use Rattle.crash_recover.specs.CoreRings.{core_ring}
 use Rattle.crash_recover.specs.Cores.{CoreOutcome, CoreState, LoadState, add_fault, driver_add_fault, loaded_rings, new_core}
 use Rattle.core_actors.specs.ActorEnds.{actors_after_end}
 use Rattle.core_actors.specs.ActorSteps.{has_calls}
-use Rattle.crash_recover.specs.Drives.{DriveStep, acting, actor_step, drive_step, host_step, is_idle, record_run, record_step, reported_by, with_turn_after, worker_call}
+use Rattle.crash_recover.specs.Drives.{DriveStep, actor_step, actor_to_step, core_with_report, drive_step, host_step, is_idle, record_run, record_step, with_turn_after, worker_call}
 use Rattle.core_actors.specs.declared.actors.Actor.{Actor}
 use Rattle.core_actors.specs.declared.actors.Actor.TheVariants as actor
 use Rattle.crash_recover.specs.declared.core_answers.Start.{Start}
@@ -35,7 +35,7 @@ use Rattle.lane_laws.proofs.RingLinks.{opened_lane_sound, reopen_kept}
 use Rattle.lane_laws.specs.SoundRingLinks.{HasSoundRings}
 use Rattle.link_bench.specs.Acts.{IsFitAct}
 use Rattle.link_bench.specs.BenchCrashes.{after_reopen}
-use Rattle.link_bench.specs.BenchEnds.{crashed_bench, readied_bench}
+use Rattle.link_bench.specs.BenchEnds.{bench_to_reopen, crashed_bench}
 use Rattle.link_bench.specs.Benches.{BenchState}
 use Rattle.link_bench.specs.declared.acts.LinkAct.{LinkAct}
 use Rattle.load_laws.proofs.LoadParts.{parts_fit, placed_is_sound, table_good}
@@ -139,8 +139,8 @@ patched_sound image regions placed sound loads is (Some table) has =
 placed_in : Result (List Block) PlaceFault → List Block
 placed_in found = unwrap_or (result_ok found) []
 
-image_sound : (image : List ℕ) (regions : List Region) → SoundRegions regions → load_fault image regions ≡ None → IfSome (loaded_from image regions).rings IsSoundPair
-unfolding loaded_from placed_in
+image_sound : (image : List ℕ) (regions : List Region) → SoundRegions regions → load_fault image regions ≡ None → IfSome (load_of image regions).rings IsSoundPair
+unfolding load_of placed_in
 image_sound image regions sound loads =
     let fits = parts_fit image regions loads in
     let placed = placed_in (placement regions (entries_in (table_of image))) in
@@ -148,7 +148,7 @@ image_sound image regions sound loads =
     (patched_sound image regions placed sound loads (fits.placed ∙ ap Ok (sym (ap placed_in fits.placed))) (table_of image) refl)
 
 -- what is loaded of an image that nothing refuses
-loaded_sound : (core : CoreState) (found : Found) → SoundRegions core.regions → image_fault core found ≡ None → IfSome (loaded_in core found).rings IsSoundPair
+loaded_sound : (core : CoreState) (found : Found) → SoundRegions core.regions → image_fault core found ≡ None → IfSome (load_in core found).rings IsSoundPair
 loaded_sound core (Ok image) sound none = image_sound image core.regions sound (none_mapped fault.Load (load_fault image core.regions) none)
 loaded_sound core (Err why) sound none = absurd (true≢false (ap is_some none))
 
@@ -194,13 +194,13 @@ crashed_rung : (found : Option BenchState) → IfSome found IsRung → IfSome (o
 crashed_rung None is = tt
 crashed_rung (Some bench) is = rung_if (Some bench) (crash_deeds bench) (Some (crashed_bench bench)) (crash_lands bench) is
 
-ready_rung : (found : Option BenchState) → IfSome found IsRung → IfSome (option_map readied_bench found) IsRung
+ready_rung : (found : Option BenchState) → IfSome found IsRung → IfSome (option_map bench_to_reopen found) IsRung
 ready_rung None is = tt
-ready_rung (Some bench) is = rung_if (Some bench) (ready_deeds bench) (Some (readied_bench bench)) (ready_lands bench) is
+ready_rung (Some bench) is = rung_if (Some bench) (ready_deeds bench) (Some (bench_to_reopen bench)) (ready_lands bench) is
 
-again_rung : (found : Option BenchState) → IfSome found IsRung → IfSome (option_map (λ (bench : BenchState). after_reopen (readied_bench bench)) found) IsRung
+again_rung : (found : Option BenchState) → IfSome found IsRung → IfSome (option_map (λ (bench : BenchState). after_reopen (bench_to_reopen bench)) found) IsRung
 again_rung None is = tt
-again_rung (Some bench) is = reopen_kept side_meaning (readied_bench bench).rings (ready_rung (Some bench) is)
+again_rung (Some bench) is = reopen_kept side_meaning (bench_to_reopen bench).rings (ready_rung (Some bench) is)
 
 module _ (core : CoreState) (is : IsRungCore core) where
   crashed_core_rung : (life : CoreLife) → IsRungCore (crashed_core life core)
@@ -218,7 +218,7 @@ module _ (core : CoreState) (is : IsRungCore core) where
   first_rung : (life : CoreLife) (name : List ℕ) (found : Found) → IsRungCore (first_boot life core name found).core
   first_rung life name found =
       cond_both (is_offline core.life.state) _ _ (λ (out : CoreOutcome Start CoreFault). IsRungCore out.core)
-      (λ _. refused IsRungCore core (image_fault core found) _ is (λ none. started_rung life (Some name) (Some (loaded_in core found)) (loaded_sound core found is.load.regions none)))
+      (λ _. refused IsRungCore core (image_fault core found) _ is (λ none. started_rung life (Some name) (Some (load_in core found)) (loaded_sound core found is.load.regions none)))
       (λ _. started_rung life core.image core.loaded is.load.rings)
 
   booted_as : (life : CoreLife) (answer : Result Power LifeFault) (name : List ℕ) (found : Found) → IsRungCore (boot_as life answer core name found).core
@@ -266,7 +266,7 @@ module _ (core : CoreState) (is : IsRungCore core) where
   recovery_rung found =
       refused IsRungCore core (option_map fault.Life (recovery_fault core.life)) _ is (λ _.
       refused IsRungCore core (reload_fault core found) _ is (λ loads.
-      refused IsRungCore (readied_core core) (reopen_fault core) _ (record { load = record { book = is.load.book; regions = is.load.regions; rings = is.load.rings }; bench = ready_rung core.bench is.bench })
+      refused IsRungCore (core_to_reopen core) (reopen_fault core) _ (record { load = record { book = is.load.book; regions = is.load.regions; rings = is.load.rings }; bench = ready_rung core.bench is.bench })
       (λ _. record {
         load = record { book = is.load.book; regions = is.load.regions; rings = loaded_sound core found is.load.regions (first_none (image_fault core found) _ loads).0 };
         bench = again_rung core.bench is.bench;
@@ -289,7 +289,7 @@ run_load core (Some load) same is = record { book = is.book; regions = is.region
 report_load : (core : CoreState) → IsFitLoad core → IsFitLoad (report_of true core).core
 report_load core is = report_left IsFitLoad true core is (λ life stops. record { book = is.book; regions = is.regions; rings = is.rings })
 
-reported_load : (came : Driven) (core : CoreState) → IsFitLoad core → IsFitLoad (reported_by came core)
+reported_load : (came : Driven) (core : CoreState) → IsFitLoad core → IsFitLoad (core_with_report came core)
 reported_load driven.Idle core is = is
 reported_load driven.Stepped core is = is
 reported_load (driven.Ended caller end) core is = is
@@ -305,7 +305,7 @@ actor_load actor.Worker core is =
 drive_rung : (core : CoreState) → IsReachedCore core → IsRungCore core → IsRungCore (drive_step core).core
 drive_rung core reached is = record {
   load = cond_both (is_idle core) _ _ (λ (step : DriveStep). IsFitLoad step.core) (λ _. is.load)
-      (λ _. actor_load (acting core) (with_turn_after (acting core) core) (record { book = is.load.book; regions = is.load.regions; rings = is.load.rings }));
+      (λ _. actor_load (actor_to_step core) (with_turn_after (actor_to_step core) core) (record { book = is.load.book; regions = is.load.regions; rings = is.load.rings }));
   bench = rung_if core.bench (drive_deeds core) (drive_step core).core.bench (drive_lands core reached) is.bench;
 }
 

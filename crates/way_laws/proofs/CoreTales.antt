@@ -26,7 +26,7 @@ use Rattle.journal.specs.declared.events.Event.TheVariants as event
 use Rattle.link_bench.specs.declared.acts.LinkAct.{LinkAct}
 use Rattle.link_bench.specs.Acts.{IsFitAct}
 use Rattle.link_bench.specs.BenchCrashes.{after_reopen}
-use Rattle.link_bench.specs.BenchEnds.{readied_bench}
+use Rattle.link_bench.specs.BenchEnds.{bench_to_reopen}
 use Rattle.link_bench.specs.Benches.{BenchState, link_in}
 use Rattle.crash_recover.specs.declared.core_answers.Leave.{Leave}
 use Rattle.crash_recover.specs.declared.core_answers.Start.{Start}
@@ -37,9 +37,9 @@ use Rattle.crash_recover.specs.declared.core_faults.AddFault.{AddFault}
 use Rattle.crash_recover.specs.CoreRings.{core_ring}
 use Rattle.crash_recover.specs.CoreCrashes.{report_of}
 use Rattle.crash_recover.specs.CoreActs.{core_act_on}
-use Rattle.crash_recover.specs.CoreBoots.{Found, boot_as, boot_of, config_of, core_bench, first_boot, fresh_end, handover_as, handover_of, image_fault, loaded_in, started_core, with_load}
+use Rattle.crash_recover.specs.CoreBoots.{Found, boot_as, boot_of, config_of, core_bench, first_boot, fresh_end, handover_as, handover_of, image_fault, load_in, started_core, with_load}
 use Rattle.crash_recover.specs.CoreLeaves.{close_or, detach_of, detached_core, leave_as, live_inc, shutdown_of, unloaded_core}
-use Rattle.crash_recover.specs.CoreRecoveries.{after_recovery, readied_core, recovery_fault, recovery_of, reload_fault, reopen_fault}
+use Rattle.crash_recover.specs.CoreRecoveries.{after_recovery, core_to_reopen, recovery_fault, recovery_of, reload_fault, reopen_fault}
 use Rattle.crash_recover.specs.Cores.{CoreOutcome, CoreState, LoadState, add_fault, driver_add_fault, loaded_rings, refuse_or}
 use Rattle.core_actors.specs.Actors.{driver_names}
 use Rattle.core_actors.specs.ActorEnds.{actors_after_end}
@@ -128,9 +128,9 @@ module _ (end : End) (core : CoreState) (account : Option Account) (is : TaleIf 
 
   first_booted : (life : CoreLife) (name : List ℕ) (found : Found) → Booted (first_boot life core name found)
   first_booted life name found =
-      let done : CoreOutcome Start CoreFault = record { core = started_core life (with_load core name (loaded_in core found)); answer = Ok (start.Running life.incarnation) } in
+      let done : CoreOutcome Start CoreFault = record { core = started_core life (with_load core name (load_in core found)); answer = Ok (start.Running life.incarnation) } in
       cond_both (is_offline core.life.state) (refuse_or core (image_fault core found) done) (record { core = started_core life core; answer = Ok (start.Attached life.incarnation) }) Booted
-      (λ _. unless_booted (image_fault core found) done (begun_if end _ (rings_begun (driver_names core.actors) core.book life.incarnation (loaded_in core found).rings)))
+      (λ _. unless_booted (image_fault core found) done (begun_if end _ (rings_begun (driver_names core.actors) core.book life.incarnation (load_in core found).rings)))
       (λ _. begun_if end _ (rings_begun (driver_names core.actors) core.book life.incarnation (loaded_rings core.loaded)))
 
   booted_as : (life : CoreLife) (answer : Result Power LifeFault) (name : List ℕ) (found : Found) → Booted (boot_as life answer core name found)
@@ -175,14 +175,14 @@ module _ (end : End) (core : CoreState) (account : Option Account) (is : TaleIf 
 
   -- ---- a recovery
 
-  ready_lands_if : (found : Option BenchState) → LandsIf found (ready_if found) (option_map readied_bench found)
+  ready_lands_if : (found : Option BenchState) → LandsIf found (ready_if found) (option_map bench_to_reopen found)
   ready_lands_if None = tt
   ready_lands_if (Some bench) = ready_lands bench
 
-  again_begun : (found : Option BenchState) → IfSome (option_map (λ (bench : BenchState). after_reopen (readied_bench bench)) found) IsBegun
+  again_begun : (found : Option BenchState) → IfSome (option_map (λ (bench : BenchState). after_reopen (bench_to_reopen bench)) found) IsBegun
   again_begun None = tt
   again_begun (Some bench) = record {
-    opened = reopened side_meaning side_laws (link_in (readied_bench bench));
+    opened = reopened side_meaning side_laws (link_in (bench_to_reopen bench));
     live = refl;
   }
 
@@ -201,9 +201,9 @@ module _ (end : End) (core : CoreState) (account : Option Account) (is : TaleIf 
   recovery_tale found =
       unless_life (recovery_fault core.life) _ _
       (unless_fault core account (reload_fault core found) _ _ is
-      (unless_fault (readied_core core) (deed_account end core.bench (ready_if core.bench) account) (reopen_fault core) _ _
-      (deeds_if end core.bench account (ready_if core.bench) (option_map readied_bench core.bench) is (ready_lands_if core.bench))
-      (begun_if end (after_recovery core (loaded_in core found)).bench (again_begun core.bench))))
+      (unless_fault (core_to_reopen core) (deed_account end core.bench (ready_if core.bench) account) (reopen_fault core) _ _
+      (deeds_if end core.bench account (ready_if core.bench) (option_map bench_to_reopen core.bench) is (ready_lands_if core.bench))
+      (begun_if end (after_recovery core (load_in core found)).bench (again_begun core.bench))))
 
 -- ---- drives
 

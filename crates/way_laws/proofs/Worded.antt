@@ -31,9 +31,9 @@ use Rattle.link_bench.specs.declared.benches.BenchFault.{BenchFault}
 use Rattle.link_bench.specs.declared.benches.BenchFault.TheVariants as fault
 use Rattle.link_bench.specs.declared.benches.Reach.{Reach}
 use Rattle.link_bench.specs.declared.benches.Reach.TheVariants as reach
-use Rattle.link_bench.specs.Acts.{Acted, answers, call_act, caller_act, first_refusal, free_act, link_act, made_call, misfit, own_in, pump_act, pump_refusal, pumped, reclaim_act, reclaimed, side_refusal, step_act, unless_own, unless_refused, walked, wish_of}
+use Rattle.link_bench.specs.Acts.{Acted, answer_of_reclaim, answers, call_act, caller_act, first_refusal, free_act, link_act, made_call, misfit, own_in, pump_act, pump_refusal, reclaim_act, side_refusal, step_act, turns_act, unless_own, unless_refused, walk_act, wish_of}
 use Rattle.link_bench.specs.BenchCrashes.{reclaim_answer}
-use Rattle.link_bench.specs.Benches.{BenchState, BenchWalk, advance_steps, advance_walk, begun_of, call_walk, calling_fault, is_in_call, link_in, ready_fault, step_fault, taken_on, used_fault}
+use Rattle.link_bench.specs.Benches.{BenchState, BenchWalk, advance_steps, advance_walk, begun_call_of, call_walk, calling_fault, is_in_call, link_in, message_on, ready_fault, step_fault, used_fault}
 use Rattle.link_bench.specs.Turns.{pump_turns}
 use Rattle.link_bench.specs.Watchers.{Seeing}
 use Rattle.command_run.specs.CallEvents.{end_event, took_event}
@@ -52,7 +52,7 @@ module _ (name : List ℕ) (link : LinkState EndState) (caller number : ℕ) (ju
   abbrev AtEnd : End → Option End → Type 0
   AtEnd end found =
       step_takes found end (record { state = link; outcome = outcome.Ended (ended.Took number judged) }) ≡ handing ∷ []
-      → took_event name caller number (taken_on link found number) judged ≡ took_event name caller handing.sent.number handing.sent.message handing.verdict
+      → took_event name caller number (message_on link found number) judged ≡ took_event name caller handing.sent.number handing.sent.message handing.verdict
 
   at_end : (end : End) → AtEnd end (Some end)
   at_end side.Host told = took_line name caller number judged (slice_get link.to_host.lane.accepted number) handing told
@@ -125,14 +125,14 @@ module _ {W : Type 0} (sees : Seeing W) (bench : BenchState) (watcher : W) (step
   unless_fault caller None deeds acted rest = rest
   unless_fault caller (Some why) deeds acted rest = no_reach (answers bench watcher steps (answer.Refused caller why)) no_deeds tt
 
-  walk_tells : (caller : ℕ) (walk : BenchWalk) (moves : List Move) → Tells (walked sees watcher caller walk) (walk_deeds caller walk moves)
+  walk_tells : (caller : ℕ) (walk : BenchWalk) (moves : List Move) → Tells (walk_act sees watcher caller walk) (walk_deeds caller walk moves)
   walk_tells caller walk moves other came is end = ap (answer_takes (link_in walk.bench) end) is
 
   made_tells : (caller : ℕ) (made : How) (wanted : Wish) → Tells (made_call sees bench watcher steps caller made wanted) (made_deeds bench steps caller made wanted)
   made_tells caller how.Whole wanted = walk_tells caller (call_walk bench steps caller wanted) (call_moves ((call_walk bench steps caller wanted).steps - steps) caller (link_in bench).era.inc wanted)
   made_tells caller how.Begun wanted = no_reach (made_call sees bench watcher steps caller how.Begun wanted) no_deeds tt
 
-  advance_tells : (caller more : ℕ) (found : Option BegunCall) → Tells (walked sees watcher caller (advance_steps bench more steps caller found)) (advance_deeds bench more steps caller found)
+  advance_tells : (caller more : ℕ) (found : Option BegunCall) → Tells (walk_act sees watcher caller (advance_steps bench more steps caller found)) (advance_deeds bench more steps caller found)
   advance_tells caller more None = walk_tells caller (advance_steps bench more steps caller None) (later_moves ((advance_steps bench more steps caller None).steps - steps) caller)
   advance_tells caller more (Some begun) =
       walk_tells caller (advance_steps bench more steps caller (Some begun)) (call_moves ((advance_steps bench more steps caller (Some begun)).steps - steps) caller begun.follows begun.wish)
@@ -147,20 +147,20 @@ module _ {W : Type 0} (sees : Seeing W) (bench : BenchState) (watcher : W) (step
   step_tells : (caller more : ℕ) → Tells (step_act sees bench watcher steps caller more) (free_deeds sees bench watcher steps (act.Step caller more))
   unfolding step_act
   step_tells caller more =
-      unless_fault caller (step_fault bench caller) (advance_deeds bench more steps caller (begun_of bench caller)) (walked sees watcher caller (advance_walk bench more steps caller))
-      (advance_tells caller more (begun_of bench caller))
+      unless_fault caller (step_fault bench caller) (advance_deeds bench more steps caller (begun_call_of bench caller)) (walk_act sees watcher caller (advance_walk bench more steps caller))
+      (advance_tells caller more (begun_call_of bench caller))
 
   pump_tells : (sender receiver count : ℕ) → Tells (pump_act sees bench watcher steps sender receiver count) (free_deeds sees bench watcher steps (act.Pump sender receiver count))
   unfolding pump_act
   pump_tells sender receiver count =
-      unless_tells (pump_refusal bench sender receiver) (pump_deeds sees count 0 sender receiver bench watcher steps) (pumped (pump_turns sees count 0 sender receiver bench watcher steps)) (pump_none bench sender receiver)
-      (no_reach (pumped (pump_turns sees count 0 sender receiver bench watcher steps)) (pump_deeds sees count 0 sender receiver bench watcher steps) tt)
+      unless_tells (pump_refusal bench sender receiver) (pump_deeds sees count 0 sender receiver bench watcher steps) (turns_act (pump_turns sees count 0 sender receiver bench watcher steps)) (pump_none bench sender receiver)
+      (no_reach (turns_act (pump_turns sees count 0 sender receiver bench watcher steps)) (pump_deeds sees count 0 sender receiver bench watcher steps) tt)
 
   caller_tells : (end : End) (found : Option ℕ) → Tells (caller_act bench watcher steps end found) (caller_deeds end found)
   caller_tells end None = no_reach (caller_act bench watcher steps end None) no_deeds tt
   caller_tells end (Some number) = no_reach (caller_act bench watcher steps end (Some number)) (caller_deeds end (Some number)) tt
 
-  reclaim_none : (caller : ℕ) (came : Result Reclaim BenchFault) → IsNoReach (reclaimed caller came)
+  reclaim_none : (caller : ℕ) (came : Result Reclaim BenchFault) → IsNoReach (answer_of_reclaim caller came)
   reclaim_none caller (Ok came) = tt
   reclaim_none caller (Err why) = tt
 

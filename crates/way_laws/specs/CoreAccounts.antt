@@ -9,7 +9,7 @@ use Rattle.link_bench.specs.declared.acts.LinkAct.{LinkAct}
 use Rattle.link_bench.specs.Benches.{BenchState, link_in}
 use Rattle.crash_recover.specs.declared.core_answers.Start.{Start}
 use Rattle.crash_recover.specs.declared.core_faults.CoreFault.{CoreFault}
-use Rattle.crash_recover.specs.CoreBoots.{Found, boot_of, loaded_in}
+use Rattle.crash_recover.specs.CoreBoots.{Found, boot_of, load_in}
 use Rattle.crash_recover.specs.CoreCrashes.{report_of}
 use Rattle.crash_recover.specs.CoreLeaves.{detach_of, shutdown_of}
 use Rattle.crash_recover.specs.CoreRecoveries.{after_recovery, recovery_fault, reload_fault, reopen_fault}
@@ -33,7 +33,7 @@ use Rattle.command_run.specs.Stores.{Answer, Told}
 use Rattle.act_laws.specs.Accounts.{Account, new_account, with_deeds}
 use Rattle.act_laws.specs.CoreDeeds.{drive_deeds, ready_deeds, reported_deeds}
 use Rattle.act_laws.specs.Deeds.{Deeds, act_deeds, no_deeds}
-use Rattle.way_laws.specs.Notes.{Noting, noted_from}
+use Rattle.way_laws.specs.Notes.{Noting, notes_from}
 use Rattle.way_laws.specs.RunAccounts.{is_place}
 
 -- deeds on the link that a core has, if it has one
@@ -69,7 +69,7 @@ ready_if (Some bench) = ready_deeds bench
 abbrev pub recovery_account : End → CoreState → Found → Option Account → Option Account
 recovery_account end on found account =
     unless_some (recovery_fault on.life) account (unless_some (reload_fault on found) account
-    (unless_some (reopen_fault on) (deed_account end on.bench (ready_if on.bench) account) (begun_account (after_recovery on (loaded_in on found)).bench)))
+    (unless_some (reopen_fault on) (deed_account end on.bench (ready_if on.bench) account) (begun_account (after_recovery on (load_in on found)).bench)))
 
 -- behind so many steps of the actors, fewer where they come to rest or the run has no step left
 unfoldable pub drive_account : End → ℕ → List ℕ → CoreState → ℕ → Option Account → Option Account
@@ -134,4 +134,4 @@ core_accounting end place answer before asked after account = next_core_account 
 
 -- the account of the link of the core at a place of a run, at one of its ends
 abbrev pub core_account_of : End → ℕ → Told → List Command → Option Account
-core_account_of end place told commands = noted_from (core_accounting end place) told new_run commands None
+core_account_of end place told commands = notes_from (core_accounting end place) told new_run commands None

@@ -10,20 +10,20 @@ abbrev pub Noting : Type 0 → Type 0
 Noting A = Answer → RunState → Command → RunState → A → A
 
 -- the run stops with a command, or the later ones go on
-abbrev pub noted_on : {A : Type 0} → Option Stop → A → A → A
-noted_on (Some why) noted later = noted
-noted_on None noted later = later
+abbrev pub notes_on : {A : Type 0} → Option Stop → A → A → A
+notes_on (Some why) noted later = noted
+notes_on None noted later = later
 
 -- a command and the later ones, where the store answers; else the run ends before the command
-abbrev pub noted_told : {A : Type 0} → Noting A → RunState → Command → Option Answer → A → (RunState → A → A) → A
-noted_told note run command None noted later = noted
-noted_told note run command (Some answer) noted later =
+abbrev pub notes_of_command : {A : Type 0} → Noting A → RunState → Command → Option Answer → A → (RunState → A → A) → A
+notes_of_command note run command None noted later = noted
+notes_of_command note run command (Some answer) noted later =
     let effect = effect_of answer run command in
     let now = note answer run command effect.run noted in
-    noted_on effect.ending now (later effect.run now)
+    notes_on effect.ending now (later effect.run now)
 
 -- what is noted of the commands that a run does, from a state of it on, over what the store tells
-unfoldable pub noted_from : {A : Type 0} → Noting A → Told → RunState → List Command → A → A
-noted_from note told run [] noted = noted
-noted_from note told run (first ∷ more) noted =
-    noted_told note run first (told_answer (told 0) (asked_name run.objects first)) noted (λ next now. noted_from note (later_told told) next more now)
+unfoldable pub notes_from : {A : Type 0} → Noting A → Told → RunState → List Command → A → A
+notes_from note told run [] noted = noted
+notes_from note told run (first ∷ more) noted =
+    notes_of_command note run first (told_answer (told 0) (asked_name run.objects first)) noted (λ next now. notes_from note (later_told told) next more now)

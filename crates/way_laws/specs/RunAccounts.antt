@@ -21,7 +21,7 @@ use Rattle.command_run.specs.Runs.{RunState, new_run, place_of}
 use Rattle.command_run.specs.Stores.{Told}
 use Rattle.act_laws.specs.Accounts.{Account, new_account, with_deeds}
 use Rattle.act_laws.specs.Deeds.{Deeds, act_deeds, no_deeds, one_move}
-use Rattle.way_laws.specs.Notes.{Noting, noted_from}
+use Rattle.way_laws.specs.Notes.{Noting, notes_from}
 
 -- `close X`: a step of the run, where it has one left
 abbrev pub close_deeds : BenchState → ℕ → Deeds
@@ -71,4 +71,4 @@ accounting end place answer before asked after account = next_account end place 
 
 -- the account of the link at a place of a run, at one of its ends
 abbrev pub account_of : End → ℕ → Told → List Command → Option Account
-account_of end place told commands = noted_from (accounting end place) told new_run commands None
+account_of end place told commands = notes_from (accounting end place) told new_run commands None

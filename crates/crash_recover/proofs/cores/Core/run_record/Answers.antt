@@ -5,7 +5,7 @@ use Rattle.remote_core.specs.Works.{memory_after, work_of}
 use Rattle.core_actors.specs.declared.actors.Actor.TheVariants as actor
 use Rattle.core_actors.specs.Actors.{ActorsState, actors_view}
 use Rattle.crash_recover.specs.Cores.{CoreState, IsSoundLoad, LoadState, load_view}
-use Rattle.core_actors.specs.ActorSteps.{actors_after_record, driven_by_work, with_next_after}
+use Rattle.core_actors.specs.ActorSteps.{actors_after_record, drive_of_work, with_next_after}
 use Rattle.crash_recover.specs.Drives.{DriveStep, with_turn_after}
 use Rattle.crash_recover.specs.contracts.cores.Core.{the_view}
 use Rattle.crash_recover.proofs.CoreLoads.{place_is}
@@ -20,7 +20,7 @@ returns-clause-driven c =
     let sound = subst (λ found. IfSome found (IsSoundLoad inside.regions)) c.in-Some.is c.self.invariant.loaded in
     let ran = record_ran core (load_view loaded) loaded.map (λ da len some. place_is inside.regions loaded da len c.as_slice.ensures.sound sound some) (ap (option_map load_view) c.in-Some.is) in
     rw (← c.self.view_is) (λ end. c.in_ok-progress.ensures.driven end
-    ∙ ap (λ (linked : Bool). driven_by_work (work_of loaded.memory loaded.map linked inside.actors.worker)) c.is_some-linked.ensures
+    ∙ ap (λ (linked : Bool). drive_of_work (work_of loaded.memory loaded.map linked inside.actors.worker)) c.is_some-linked.ensures
     ∙ ap (λ (step : DriveStep). step.driven) ran)
 
 pub returns-clause-left : goal.returns-clause-left
