@@ -51,7 +51,8 @@ impl Model for Core {
 
 impl Core {
     /// A core with these regions and drivers that was never booted. Each lane of its link is to
-    /// accept `book` messages in one incarnation. Of two drivers of one name the first counts.
+    /// accept `book` messages in one incarnation, 1 to 262,144. Of two drivers of one name the first
+    /// counts.
     ///
     /// Errors: only for want of memory.
     pub fn new(
