@@ -16,6 +16,7 @@ mod reclaims;
 mod reopens;
 mod sends;
 mod slots;
+mod steps;
 mod takes;
 mod threads;
 mod turns;
