@@ -8,7 +8,9 @@ use Rattle.link_words.specs.Calls.{SeatState}
 use Rattle.link_words.specs.declared.rule.Event.TheVariants.{Step}
 use Rattle.link_words.specs.declared.rule.Made.TheVariants as made
 use Rattle.split_ring.specs.Receives.{IsGive}
+use Rattle.lane_model.specs.declared.calls.Wish.{Wish}
 use Rattle.link_words.specs.Passes.{HasNumber}
+use Rattle.link_words.specs.Steps.{IsFit}
 use Rattle.split_ring.specs.Seats.{pass_in}
 use Rattle.split_ring.proofs.CallEnds.{held_still}
 use Rattle.split_ring.proofs.links.SharedLink.try_give.Goals as goal
@@ -53,8 +55,9 @@ returns-in-Err-clause-walk g c =
 pub enter-requires-clause-fit : goal.enter-requires-clause-fit
 enter-requires-clause-fit g c =
     let table = c.args.self.now.table.shared.table_id in let z = c.args.self.now.sizes in let who = c.args.caller.now.id in let n = who.number in let q = c.requires.caller in let a = c.args.caller.now.seat.me in
-    subst (λ (s : SeatState). HasNumber (pass_in s).hands c.number-number.result) (sym (alone_same n a (caller_alone table z who c.args.caller.now.seat.table_id a q)))
-    (subst (λ (k : ℕ). HasNumber (pass_in a).hands k) (sym c.number-number.ensures) c.requires.held.numbered)
+    subst (λ (w : Wish). IsFit w (pass_in (seat_of n a)).hands) (sym c.give.ensures)
+    (subst (λ (s : SeatState). HasNumber (pass_in s).hands c.number-number.result) (sym (alone_same n a (caller_alone table z who c.args.caller.now.seat.table_id a q)))
+    (subst (λ (k : ℕ). HasNumber (pass_in a).hands k) (sym c.number-number.ensures) c.requires.held.numbered))
 
 pub returns-in-Err-clause-held : goal.returns-in-Err-clause-held
 returns-in-Err-clause-held g c =
