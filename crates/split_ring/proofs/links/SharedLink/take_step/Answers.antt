@@ -1,4 +1,4 @@
-use Rattle.std.proofs.Common.{subst, ◌≡◌}
+use Rattle.std.proofs.Common.{◌≡◌, sym, subst}
 use Rattle.lane_model.specs.declared.calls.Answer.TheVariants as answer
 use Rattle.lane_model.specs.declared.calls.Progress.TheVariants as progress
 use Rattle.lane_model.specs.declared.stages.TakeStage.{TakeStage}
