@@ -165,7 +165,7 @@ module _ {B : Type 0} {kc : Coded B} {kz : DeskTables} (cd : Coded (PlacedDesk k
         users = ap (λ (us : List (Option End)). slice_set us n None) known.users;
         inc = known.inc;
         unused = λ i none not. none_with m (slice_set m.callers n None) i (known.unused i (sym (end_else m.callers n i None (λ same. not (0, ap some same))) ∙ none) (λ (was : HasNumber v.reclaims i). not (suc was.0, was.1)));
-        ended = λ j a has. ended_with m (slice_set m.callers n None) a (ended_more m o.pass v.ended (ended_rested m p o.pass e (known.closed shut) r.sound rests (r.histories.own id o.place o.pass (v, at, o.here))) known.ended j a has);
+        ended = λ j a has. ended_with m (slice_set m.callers n None) a (ended_more m o.pass v.ended_passes (ended_rested m p o.pass e (known.closed shut) r.sound rests (r.histories.own id o.place o.pass (v, at, o.here))) known.ended j a has);
         closed = known.closed;
         out = λ j l q there away. ⊎_elim (λ (b : (j ≡ id) × (u ≡ there.0)). absurd (away (b.0 ∙ sym x.0)))
             (λ (b : (j ≢ id) × (get_elem? st.views j ≡ some there.0)). known.out j l q (there.0, b.1, there.2) b.0) (at_set st.views id j u there.0 there.1);
@@ -209,7 +209,7 @@ module _ {B : Type 0} {kc : Coded B} {kz : DeskTables} (cd : Coded (PlacedDesk k
         users = ap (λ (ps : List Pass). callers_without ps v.users) only ∙ ap (λ (us : List (Option End)). slice_set us n None) known.users;
         inc = known.inc;
         unused = λ i none not. none_with m (slice_set m.callers n None) i (known.unused i (sym (end_else m.callers n i None (λ same. not (stands_left (numbers_of w.passes) v.reclaims i (subst (λ (ps : List Pass). HasNumber (numbers_of ps) i) (sym only) (0, ap some same))))) ∙ none) (λ (was : HasNumber v.reclaims i). not (stands_right (numbers_of w.passes) v.reclaims i was)));
-        ended = λ j a has. ended_with m (slice_set m.callers n None) a (ended_more m q v.ended (ended_rested m p q e (known.closed shut) r.sound rests (r.histories.own other 0 q mine)) known.ended j a (ap (λ (ps : List Pass). get_elem? (ps ++ v.ended) j) (sym only) ∙ has));
+        ended = λ j a has. ended_with m (slice_set m.callers n None) a (ended_more m q v.ended_passes (ended_rested m p q e (known.closed shut) r.sound rests (r.histories.own other 0 q mine)) known.ended j a (ap (λ (ps : List Pass). get_elem? (ps ++ v.ended_passes) j) (sym only) ∙ has));
         closed = known.closed;
         out = λ j l a here away. known.out j l a (before j l a here).0 (λ same. away (same ∙ sym b.0));
         copy = λ c same _. absurd (none_some c same);
@@ -266,7 +266,7 @@ module _ {B : Type 0} {kc : Coded B} {kz : DeskTables} (cd : Coded (PlacedDesk k
         tt,
         subst (λ (ws : List ℕ). WordsRule cd desk z (record { words = ws; homes = st.homes; views = set st.views id (after_end_at me.0 o c) })) (sym (ap (set st.words 0) same ∙ set-get_or st.words 0 0)) (ends st m p r id me.0 o e at manages shut call bare),
         (
-          (λ k. (record me.0 { copy = c; reclaims = number k ∷ me.0.reclaims; ended = kept k ++ me.0.ended; passes = without_pass (place k) me.0.passes; users = slice_set me.0.users (number k) None }, me.1)),
+          (λ k. (record me.0 { copy = c; reclaims = number k ∷ me.0.reclaims; ended_passes = kept k ++ me.0.ended_passes; passes = without_pass (place k) me.0.passes; users = slice_set me.0.users (number k) None }, me.1)),
           record {
             state = m;
             sound = state_in r;

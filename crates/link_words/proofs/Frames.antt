@@ -99,7 +99,7 @@ module _ (views : List View) (id : ℕ) (v u : View) (o : Mover v) (w : Pass) (a
   pub manager_set : {B : Type 0} {kc : Coded B} {kz : DeskTables} (cd : Coded (PlacedDesk kc kz)) (m m' : LaneLink (RingState (PlacedDesk kc kz))) → w.number ≡ o.pass.number → m'.callers ≡ m.callers → u.users ≡ v.users → u.out ≡ v.out → (v.inc ≡ m.era.inc → u.inc ≡ m'.era.inc) → ((i : ℕ) (y : View) → i ≢ id → get_elem? views i ≡ some y → Manages y → m'.era.inc ≡ m.era.inc)
       → ((n : ℕ) → end_of m.callers n ≡ None → ((HasNumber v.reclaims n → ⊥) → NoneOf m n) → (HasNumber u.reclaims n → ⊥) → NoneOf m' n) → ((n : ℕ) → end_of m.callers n ≡ None → ((Q : Type 0) → (Q → NoneOf m n) → Q → NoneOf m' n))
       → ((v.is_closed ≡ true → m.era.is_live ≡ false) → u.is_closed ≡ true → m'.era.is_live ≡ false) → ((i : ℕ) (y : View) → i ≢ id → get_elem? views i ≡ some y → Manages y → m.era.is_live ≡ false → m'.era.is_live ≡ false) → ((k : LinkCopy) → u.copy ≡ Some k → u.out ≡ [] → k ≡ copied cd m')
-      → (((k : ℕ) (p : Pass) → get_elem? v.ended k ≡ some p → HasEnded m p) → (k : ℕ) (p : Pass) → get_elem? u.ended k ≡ some p → HasEnded m' p) → ((i : ℕ) (y : View) → i ≢ id → get_elem? views i ≡ some y → Manages y → (p : Pass) → HasEnded m p → HasEnded m' p)
+      → (((k : ℕ) (p : Pass) → get_elem? v.ended_passes k ≡ some p → HasEnded m p) → (k : ℕ) (p : Pass) → get_elem? u.ended_passes k ≡ some p → HasEnded m' p) → ((i : ℕ) (y : View) → i ≢ id → get_elem? views i ≡ some y → Manages y → (p : Pass) → HasEnded m p → HasEnded m' p)
       → ManagerKnows cd m views → ManagerKnows cd m' (set views id u)
   manager_set cd m m' same callers users out inc others_inc fresh others_fresh shut others copies ends others_end old i y ey manages =
       ⊎_elim
@@ -129,7 +129,7 @@ module _ (views : List View) (id : ℕ) (v u : View) (o : Mover v) (w : Pass) (a
       (at_set views id i u y ey)
 
   -- the same, where the view changes in a pass alone
-  pub manager_stays : {B : Type 0} {kc : Coded B} {kz : DeskTables} (cd : Coded (PlacedDesk kc kz)) (m : LaneLink (RingState (PlacedDesk kc kz))) → w.number ≡ o.pass.number → u.users ≡ v.users → u.out ≡ v.out → u.inc ≡ v.inc → u.reclaims ≡ v.reclaims → u.is_closed ≡ v.is_closed → u.copy ≡ v.copy → u.ended ≡ v.ended
+  pub manager_stays : {B : Type 0} {kc : Coded B} {kz : DeskTables} (cd : Coded (PlacedDesk kc kz)) (m : LaneLink (RingState (PlacedDesk kc kz))) → w.number ≡ o.pass.number → u.users ≡ v.users → u.out ≡ v.out → u.inc ≡ v.inc → u.reclaims ≡ v.reclaims → u.is_closed ≡ v.is_closed → u.copy ≡ v.copy → u.ended_passes ≡ v.ended_passes
       → ManagerKnows cd m views → ManagerKnows cd m (set views id u)
   manager_stays cd m same users out inc reclaims closed copy ended old i y ey manages =
       ⊎_elim

@@ -37,6 +37,7 @@ pub mod Entries
 pub mod TakeEnds
 pub mod Parts
 pub mod Placed
+pub mod Orderly
 pub mod Tells
 pub mod Apart
 pub mod Told

@@ -159,7 +159,7 @@ module _ {B : Type 0} (kc : Coded B) (kz : DeskTables) (cd : Coded (PlacedDesk k
       let a = right_at kc kz host.end (meaning.fresh host.desk) in let b = right_at kc kz remote.end (meaning.fresh remote.desk) in
       let passes = passes_at (f z.book a b) me.0.passes o.place o.pass o.here
       ∙ (λ i. with_pass_at (f (sym sized i).book (record (sym x_is i) { code = kc.code (meaning.fresh host.desk) }) (record (sym y_is i) { code = kc.code (meaning.fresh remote.desk) })) (here i) me.0.passes) in
-      λ i. (record me.0 { passes = passes i; inc = me.0.inc + 1; reclaims = []; ended = []; is_closed = false; copy = k }, me.1)
+      λ i. (record me.0 { passes = passes i; inc = me.0.inc + 1; reclaims = []; ended_passes = []; is_closed = false; copy = k }, me.1)
 
   pub opens_told : (inc new : ℕ) → me.0.sizes ≡ z → me.0.sizes.desks ≡ kz → MayOpen inc me → new ≡ (inc + 1) * 2 + 1
       → Allows (PlacedRule cd (placed_meaning kc kz meaning) z) n id me 16 (λ _. new) (λ _ me'. OpensEra kc meaning me me' × IsOpeningOf cd (placed_meaning kc kz meaning) me me')

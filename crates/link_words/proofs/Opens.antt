@@ -145,7 +145,7 @@ opened_hands desk m q bare has side.Remote user = ap (hands_of q.number) (sym ba
 
 -- the manager's view after the opening
 abbrev pub opened_by : (v : View) → Mover v → ℕ → DeskRight → DeskRight → Option LinkCopy → View
-opened_by v o book host remote k = record (with_pass v o (with_call o.pass (Gathers (opened_sides book host) (opened_sides book remote))) k) { is_closed = false; inc = v.inc + 1; reclaims = []; ended = [] }
+opened_by v o book host remote k = record (with_pass v o (with_call o.pass (Gathers (opened_sides book host) (opened_sides book remote))) k) { is_closed = false; inc = v.inc + 1; reclaims = []; ended_passes = [] }
 
 -- the manager has the four turns, where it has all side states
 all_turns : {B : Type 0} {kc : Coded B} {kz : DeskTables} (m : LaneLink (RingState (PlacedDesk kc kz))) (x u : SenderSide) (y v : ReceiverSide) → HasGathered (turns_of m.to_host) (both_sides x y) → HasGathered (turns_of m.to_remote) (both_sides u v) → AreManagers m

@@ -1,6 +1,6 @@
 -- Each step of a send and of a take as its seat is told it, on the words of the table.
 use Rattle.link_words.specs.declared.codes.DeskTables.{DeskTables}
-use Rattle.link_words.specs.PlacedDesks.{PlacedDesk, IsRightTo, right_to, table_at, no_right, placed_meaning}
+use Rattle.link_words.specs.PlacedDesks.{PlacedDesk, IsRightTo, right_to, table_at, no_right, placed_meaning, placed_coded}
 use Rattle.link_words.specs.declared.codes.DeskRight.{DeskRight}
 use Rattle.rp_base.specs.declared.limits.TheConstants.{CAPACITY_MOST}
 use Rattle.ring_core.specs.declared.states.Hand.{Hand}
@@ -56,6 +56,8 @@ use Rattle.link_words.proofs.Buffers.{pulls_own}
 use Rattle.link_words.proofs.Entries.{pulls_entry, forward_entry, sizes_known}
 use Rattle.link_words.proofs.Exact.{StepBy, call_is, own_is, in_hand_is, becomes, step_told, ReadsAt, read_there, WritesAt, written_there}
 use Rattle.link_words.proofs.Looks.{sends_look, sends_entry}
+use Rattle.link_words.proofs.Orderly.{orders}
+use Rattle.link_words.specs.Orderly.{IsOrderly}
 use Rattle.link_words.proofs.Publishes.{publishes}
 use Rattle.link_words.proofs.SendEnds.{leaves}
 use Rattle.link_words.proofs.Sends.{sends_era}
@@ -393,15 +395,15 @@ module _ {B : Type 0} (kc : Coded B) (kz : DeskTables) (cd : Coded (PlacedDesk k
       (binds cd (placed_meaning kc kz meaning) z (work.Unbind address) (λ p handed. record p { desk = desk_after meaning p.desk handed (work.Unbind address) }) (λ p handed. desk_says meaning p.desk handed (work.Unbind address)) s.follows s.caller refl (λ u era. refl) n id me s.mover e s.side s.buffer s.message s.call)
       (bind_told (work.Unbind address) s)
 
--- the rule of the sizes that a seat knows is that of the table's: at a load, at a store, and at a first step
+-- the rule of the sizes that a seat knows is that of the table's: at a load, at a store, and at a first step. The view after is in order
 module _ {B : Type 0} (coded : Coded B) (meaning : DeskMeaning B) (key : LinkSizes) (n id : ℕ) (me : SeatState) (place : ℕ) where
+  pub by_first : (f : ℕ → ℕ) (T : ℕ → SeatState → Type 0) → me.0.sizes ≡ key → Allows (LinkRule coded meaning me.0.sizes) n id me place f T → Allows (LinkRule coded meaning key) n id me place f (λ y me'. T y me' × IsOrderly me'.0)
+  by_first f T same allows = subst (λ (z : LinkSizes). Allows (LinkRule coded meaning z) n id me place f (λ y me'. T y me' × IsOrderly me'.0)) same (orders (placed_coded coded me.0.sizes.desks) (placed_meaning coded me.0.sizes.desks meaning) me.0.sizes n id me place f T allows)
+
   pub by_load : (X : ℕ → SeatState → Type 0) → me.0.sizes ≡ key → Allows (LinkRule coded meaning me.0.sizes) n id me place (λ y. y) (λ y me'. X y me' × GoesOn coded meaning me (HasWord place y) me')
-      → Allows (LinkRule coded meaning key) n id me place (λ y. y) (λ y me'. X y me' × GoesOn coded meaning me (HasWord place y) me')
-  by_load X same allows = subst (λ (z : LinkSizes). Allows (LinkRule coded meaning z) n id me place (λ y. y) (λ y me'. X y me' × GoesOn coded meaning me (HasWord place y) me')) same allows
+      → Allows (LinkRule coded meaning key) n id me place (λ y. y) (λ y me'. X y me' × GoesOn coded meaning me (HasWord place y) me' × IsOrderly me'.0)
+  by_load X same allows = weaken (LinkRule coded meaning key) n id me place (λ y. y) (λ y me'. (X y me' × GoesOn coded meaning me (HasWord place y) me') × IsOrderly me'.0) (λ y me'. X y me' × GoesOn coded meaning me (HasWord place y) me' × IsOrderly me'.0) (λ y me' t. (t.0.0, t.0.1, t.1)) (by_first (λ y. y) (λ y me'. X y me' × GoesOn coded meaning me (HasWord place y) me') same allows)
 
   pub by_store : (new : ℕ) (X : SeatState → Type 0) → me.0.sizes ≡ key → Allows (LinkRule coded meaning me.0.sizes) n id me place (λ _. new) (λ _ me'. X me' × GoesOn coded meaning me (StoresWord place new) me')
-      → Allows (LinkRule coded meaning key) n id me place (λ _. new) (λ _ me'. X me' × GoesOn coded meaning me (StoresWord place new) me')
-  by_store new X same allows = subst (λ (z : LinkSizes). Allows (LinkRule coded meaning z) n id me place (λ _. new) (λ _ me'. X me' × GoesOn coded meaning me (StoresWord place new) me')) same allows
-
-  pub by_first : (f : ℕ → ℕ) (T : ℕ → SeatState → Type 0) → me.0.sizes ≡ key → Allows (LinkRule coded meaning me.0.sizes) n id me place f T → Allows (LinkRule coded meaning key) n id me place f T
-  by_first f T same allows = subst (λ (z : LinkSizes). Allows (LinkRule coded meaning z) n id me place f T) same allows
+      → Allows (LinkRule coded meaning key) n id me place (λ _. new) (λ _ me'. X me' × GoesOn coded meaning me (StoresWord place new) me' × IsOrderly me'.0)
+  by_store new X same allows = weaken (LinkRule coded meaning key) n id me place (λ _. new) (λ _ me'. (X me' × GoesOn coded meaning me (StoresWord place new) me') × IsOrderly me'.0) (λ _ me'. X me' × GoesOn coded meaning me (StoresWord place new) me' × IsOrderly me'.0) (λ y me' t. (t.0.0, t.0.1, t.1)) (by_first (λ _. new) (λ _ me'. X me' × GoesOn coded meaning me (StoresWord place new) me') same allows)

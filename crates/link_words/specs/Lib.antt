@@ -15,6 +15,7 @@ pub mod Parts
 pub mod Rule
 pub mod Fresh
 pub mod Calls
+pub mod Orderly
 pub mod Steps
 pub mod Seats
 pub mod Reclaims

@@ -153,7 +153,7 @@ pub record Knows {D : Type 0} (coded : Coded D) (m : LaneLink (RingState D)) (vi
   pub users : v.users ≡ m.callers
   pub inc : v.inc ≡ m.era.inc
   pub unused : (n : ℕ) → end_of m.callers n ≡ None → (HasNumber v.reclaims n → ⊥) → NoneOf m n
-  pub ended : (k : ℕ) (p : Pass) → get_elem? v.ended k ≡ some p → HasEnded m p
+  pub ended : (k : ℕ) (p : Pass) → get_elem? v.ended_passes k ≡ some p → HasEnded m p
   pub closed : v.is_closed ≡ true → m.era.is_live ≡ false
   pub out : (j l : ℕ) (p : Pass) → PassAt views j l p → j ≢ i → HasNumber v.out p.number
   pub copy : (k : LinkCopy) → v.copy ≡ Some k → v.out ≡ [] → k ≡ copied coded m

@@ -54,7 +54,7 @@ spent_view = record {
   users = [];
   inc = 0;
   reclaims = [];
-  ended = [];
+  ended_passes = [];
   is_closed = false;
   copy = None;
   sizes = record { to_host = record { entries = 0; capacity = 0; own = 0 }; to_remote = record { entries = 0; capacity = 0; own = 0 }; book = 0; first = 0; desks = no_tables };
@@ -127,7 +127,7 @@ without_pass (suc k) (p ∷ ps) = p ∷ without_pass k ps
 
 -- the number of a carried caller is free, and its pass is kept
 abbrev pub after_end_at : (v : View) → Mover v → Option_of LinkCopy → View
-after_end_at v o k = record v { copy = k; reclaims = o.pass.number ∷ v.reclaims; ended = o.pass ∷ v.ended; passes = without_pass o.place v.passes; users = slice_set v.users o.pass.number None }
+after_end_at v o k = record v { copy = k; reclaims = o.pass.number ∷ v.reclaims; ended_passes = o.pass ∷ v.ended_passes; passes = without_pass o.place v.passes; users = slice_set v.users o.pass.number None }
 
 -- the number of the caller of another seat is free, and the seat is spent
 abbrev pub callers_without : List Pass → List (Option_of End) → List (Option_of End)
@@ -136,7 +136,7 @@ callers_without (p ∷ ps) users = slice_set users p.number None
 
 -- the manager's view when the caller of another seat has ended: its pass is kept
 abbrev pub after_end_with : View → View → View
-after_end_with v w = record v { copy = None; reclaims = numbers_of w.passes ++ v.reclaims; ended = w.passes ++ v.ended; users = callers_without w.passes v.users }
+after_end_with v w = record v { copy = None; reclaims = numbers_of w.passes ++ v.reclaims; ended_passes = w.passes ++ v.ended_passes; users = callers_without w.passes v.users }
 
 -- where the pass of this number stands
 abbrev pub place_of_number : ℕ → List Pass → ℕ
@@ -151,7 +151,7 @@ only_pass (suc k) (p ∷ ps) = only_pass k ps
 
 -- the manager's view when the caller of this number, which it carries, has ended
 abbrev pub after_end_of : ℕ → View → Option_of LinkCopy → View
-after_end_of n v k = record v { copy = k; reclaims = n ∷ v.reclaims; ended = only_pass (place_of_number n v.passes) v.passes ++ v.ended; passes = without_pass (place_of_number n v.passes) v.passes; users = slice_set v.users n None }
+after_end_of n v k = record v { copy = k; reclaims = n ∷ v.reclaims; ended_passes = only_pass (place_of_number n v.passes) v.passes ++ v.ended_passes; passes = without_pass (place_of_number n v.passes) v.passes; users = slice_set v.users n None }
 
 -- those that were out have come back
 abbrev pub after_settle : View → Option_of LinkCopy → View

@@ -198,7 +198,7 @@ books_by g = record { accepted = sent_by g.sender; takers = taken_by g.receiver;
 pub record AreBooksOf (v : View) (books : End → LaneBooks) : Type 0 where
   pub own : (k : ℕ) (q : Pass) → get_elem? v.passes k ≡ some q → HasHistory v.inc books q.number q.first q.own
   pub unused : (n : ℕ) → end_of v.users n ≡ None → (HasNumber v.reclaims n → ⊥) → (e : End) → (entries_by n 0 (books e).accepted ≡ []) × (takes_by n 0 (books e).takers ≡ [])
-  pub ended : (k : ℕ) (p : Pass) → get_elem? v.ended k ≡ some p → HasHistory v.inc books p.number p.first p.own
+  pub ended : (k : ℕ) (p : Pass) → get_elem? v.ended_passes k ≡ some p → HasHistory v.inc books p.number p.first p.own
   pub back : (e : End) → (books e).returned ≤ length (books e).takers
 
 -- the manager, which has all side states, loads the era: where it is closed, a reopening begins, and the books are told
@@ -234,7 +234,7 @@ opened_view v k host remote copy = record v {
   passes = with_pass_at (λ p. with_call p (Gathers (opened_sides v.sizes.book host) (opened_sides v.sizes.book remote))) k v.passes;
   inc = v.inc + 1;
   reclaims = [];
-  ended = [];
+  ended_passes = [];
   is_closed = false;
   copy = copy;
 }

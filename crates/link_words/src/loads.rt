@@ -1,5 +1,6 @@
 //! Loads of indexes, of ring entries and of the era.
 ghost use Rattle.std.specs.Prelude.{◌≡◌, ◌≤◌, ◌<◌};
+ghost use Rattle.link_words.specs.Orderly.{IsOrderly};
 ghost use Rattle.link_words.specs.Steps.{GoesOn, HasWord, index_number, MayLoadIndex, LoadsIndex, MayLoadEntry, LoadsEntry, MayLoadEra, LoadsEra};
 ghost use Rattle.link_words.specs.Words.{words_in, entry_number, IsSized};
 ghost use Rattle.link_words.specs.Layouts.{place_in};
@@ -50,6 +51,7 @@ pub fn load_index<D: Desk>(
     ensures same { (seat.new.table_id ≡ seat.old.table_id) × (seat.new.id ≡ seat.old.id) }
     ensures told { LoadsIndex index seat.old.me result seat.new.me }
     ensures step { GoesOn D.row.coded D.meaning seat.old.me (HasWord (place_in (index_number index lane)) result) seat.new.me }
+    ensures order { IsOrderly seat.new.me.0 }
 {
     match index {
         IndexUse::Room => table.load::<TellsSendLooks<D>>(seat, return_place(lane)),
@@ -74,6 +76,7 @@ pub fn load_entry<D: Desk>(
     ensures same { (seat.new.table_id ≡ seat.old.table_id) × (seat.new.id ≡ seat.old.id) }
     ensures told { LoadsEntry ring seat.old.me result seat.new.me }
     ensures step { GoesOn D.row.coded D.meaning seat.old.me (HasWord (place_in (entry_number sizes.now lane ring count)) result) seat.new.me }
+    ensures order { IsOrderly seat.new.me.0 }
 {
     let word = entry_place(sizes, lane, ring, count);
     match ring {
@@ -90,6 +93,7 @@ pub fn load_era<D: Desk>(table: &LinkTable<D>, seat: &mut LinkSeat, era: EraUse)
     ensures same { (seat.new.table_id ≡ seat.old.table_id) × (seat.new.id ≡ seat.old.id) }
     ensures told { LoadsEra D.row.coded D.meaning era seat.old.me result seat.new.me }
     ensures step { GoesOn D.row.coded D.meaning seat.old.me (HasWord 16 result) seat.new.me }
+    ensures order { IsOrderly seat.new.me.0 }
 {
     match era {
         EraUse::Send => table.load::<TellsSendLoadsEra<D>>(seat, ERA_PLACE),

@@ -11,10 +11,11 @@ pub struct EnlistsHost<D> {
 
 impl<D: Desk> Play<Slot, View> for EnlistsHost<D> {
     ghost use Rattle.rp_base.specs.declared.kinds.End.TheVariants as side;
+    ghost use Rattle.link_words.specs.Orderly.{IsOrderly};
     ghost use Rattle.link_words.specs.Seats.{EnlistsCaller};
     ghost use Rattle.link_words.specs.Steps.{MakesCaller};
 
-    ghost then = { λ st m r m'. EnlistsCaller side.Host m m' × MakesCaller D.row.coded D.meaning side.Host m m' };
+    ghost then = { λ st m r m'. (EnlistsCaller side.Host m m' × MakesCaller D.row.coded D.meaning side.Host m m') × IsOrderly m'.0 };
 }
 
 /// A caller of the remote is made, which the manager carries.
@@ -24,10 +25,11 @@ pub struct EnlistsRemote<D> {
 
 impl<D: Desk> Play<Slot, View> for EnlistsRemote<D> {
     ghost use Rattle.rp_base.specs.declared.kinds.End.TheVariants as side;
+    ghost use Rattle.link_words.specs.Orderly.{IsOrderly};
     ghost use Rattle.link_words.specs.Seats.{EnlistsCaller};
     ghost use Rattle.link_words.specs.Steps.{MakesCaller};
 
-    ghost then = { λ st m r m'. EnlistsCaller side.Remote m m' × MakesCaller D.row.coded D.meaning side.Remote m m' };
+    ghost then = { λ st m r m'. (EnlistsCaller side.Remote m m' × MakesCaller D.row.coded D.meaning side.Remote m m') × IsOrderly m'.0 };
 }
 
 /// The caller that the step names ends.
@@ -36,28 +38,31 @@ pub struct TellsEndsCaller<D> {
 }
 
 impl<D: Desk> Play<Slot, View> for TellsEndsCaller<D> {
+    ghost use Rattle.link_words.specs.Orderly.{IsOrderly};
     ghost use Rattle.link_words.specs.Seats.{EndsCaller, named_by};
     ghost use Rattle.link_words.specs.Steps.{FreesCaller};
 
-    ghost then = { λ st m r m'. EndsCaller (named_by st.said) m m' × FreesCaller D.row.coded D.meaning (named_by st.said) m m' };
+    ghost then = { λ st m r m'. (EndsCaller (named_by st.said) m m' × FreesCaller D.row.coded D.meaning (named_by st.said) m m') × IsOrderly m'.0 };
 }
 
 /// The manager loads the era.
 pub struct TellsLearnsEra;
 
 impl Play<Slot, View> for TellsLearnsEra {
+    ghost use Rattle.link_words.specs.Orderly.{IsOrderly};
     ghost use Rattle.link_words.specs.Seats.{LearnsEra, FindsEraOfCopy};
 
-    ghost then = { λ st m r m'. LearnsEra m r m' × FindsEraOfCopy m r };
+    ghost then = { λ st m r m'. (LearnsEra m r m' × FindsEraOfCopy m r) × IsOrderly m'.0 };
 }
 
 /// All callers that were out have come back.
 pub struct TellsSettles;
 
 impl Play<Slot, View> for TellsSettles {
+    ghost use Rattle.link_words.specs.Orderly.{IsOrderly};
     ghost use Rattle.link_words.specs.Seats.{Settles};
 
-    ghost then = { λ st m r m'. Settles m m' };
+    ghost then = { λ st m r m'. Settles m m' × IsOrderly m'.0 };
 }
 
 /// One attempt to close the era.
@@ -67,10 +72,11 @@ pub struct TellsClosesEra<D> {
 
 impl<D: Desk> Play<Slot, View> for TellsClosesEra<D> {
     ghost use Rattle.std.specs.Prelude.{◌≡◌, ℕ, ◌*◌};
+    ghost use Rattle.link_words.specs.Orderly.{IsOrderly};
     ghost use Rattle.link_words.specs.Seats.{ClosesEra, named_by};
     ghost use Rattle.link_words.specs.Steps.{ClosesLink};
 
-    ghost then = { λ st m r m'. (inc : ℕ) → st.second ≡ inc * 2 → ClosesEra (named_by st.said) inc m r m' × ClosesLink D.row.coded D.meaning inc r m m' };
+    ghost then = { λ st m r m'. ((inc : ℕ) → st.second ≡ inc * 2 → ClosesEra (named_by st.said) inc m r m' × ClosesLink D.row.coded D.meaning inc r m m') × IsOrderly m'.0 };
 }
 
 /// The last pass goes to a new seat.

@@ -10,9 +10,10 @@ pub struct TellsTakesTurn<D> {
 }
 
 impl<D: Desk> Play<Slot, View> for TellsTakesTurn<D> {
+    ghost use Rattle.link_words.specs.Orderly.{IsOrderly};
     ghost use Rattle.link_words.specs.Steps.{TakesTurnAs};
 
-    ghost then = { λ st m r m'. TakesTurnAs D.row.coded D.meaning st.word st.said m r m' };
+    ghost then = { λ st m r m'. TakesTurnAs D.row.coded D.meaning st.word st.said m r m' × IsOrderly m'.0 };
 }
 
 /// The last step of a send.
@@ -21,9 +22,10 @@ pub struct TellsLeavesSender<D> {
 }
 
 impl<D: Desk> Play<Slot, View> for TellsLeavesSender<D> {
+    ghost use Rattle.link_words.specs.Orderly.{IsOrderly};
     ghost use Rattle.link_words.specs.Steps.{GoesOn, StoresWord, LeavesSender};
 
-    ghost then = { λ st m r m'. LeavesSender m m' × GoesOn D.row.coded D.meaning m (StoresWord st.word r) m' };
+    ghost then = { λ st m r m'. LeavesSender m m' × GoesOn D.row.coded D.meaning m (StoresWord st.word r) m' × IsOrderly m'.0 };
 }
 
 /// The last step of a call that has the receiver's turn.
@@ -32,9 +34,10 @@ pub struct TellsLeavesReceiver<D> {
 }
 
 impl<D: Desk> Play<Slot, View> for TellsLeavesReceiver<D> {
+    ghost use Rattle.link_words.specs.Orderly.{IsOrderly};
     ghost use Rattle.link_words.specs.Steps.{GoesOn, StoresWord, LeavesReceiver};
 
-    ghost then = { λ st m r m'. LeavesReceiver m m' × GoesOn D.row.coded D.meaning m (StoresWord st.word r) m' };
+    ghost then = { λ st m r m'. LeavesReceiver m m' × GoesOn D.row.coded D.meaning m (StoresWord st.word r) m' × IsOrderly m'.0 };
 }
 
 /// Step 2 of a send.
@@ -43,9 +46,10 @@ pub struct TellsSendLoadsEra<D> {
 }
 
 impl<D: Desk> Play<Slot, View> for TellsSendLoadsEra<D> {
+    ghost use Rattle.link_words.specs.Orderly.{IsOrderly};
     ghost use Rattle.link_words.specs.Steps.{GoesOn, HasWord, SendLoadsEra};
 
-    ghost then = { λ st m r m'. SendLoadsEra m r m' × GoesOn D.row.coded D.meaning m (HasWord st.word r) m' };
+    ghost then = { λ st m r m'. SendLoadsEra m r m' × GoesOn D.row.coded D.meaning m (HasWord st.word r) m' × IsOrderly m'.0 };
 }
 
 /// Step 3 of a send.
@@ -54,9 +58,10 @@ pub struct TellsSendLooks<D> {
 }
 
 impl<D: Desk> Play<Slot, View> for TellsSendLooks<D> {
+    ghost use Rattle.link_words.specs.Orderly.{IsOrderly};
     ghost use Rattle.link_words.specs.Steps.{GoesOn, HasWord, SendLooks};
 
-    ghost then = { λ st m r m'. SendLooks m r m' × GoesOn D.row.coded D.meaning m (HasWord st.word r) m' };
+    ghost then = { λ st m r m'. SendLooks m r m' × GoesOn D.row.coded D.meaning m (HasWord st.word r) m' × IsOrderly m'.0 };
 }
 
 /// Step 4 of a send, from the sender's own list.
@@ -65,9 +70,10 @@ pub struct TellsSendTakesOwn<D> {
 }
 
 impl<D: Desk> Play<Slot, View> for TellsSendTakesOwn<D> {
+    ghost use Rattle.link_words.specs.Orderly.{IsOrderly};
     ghost use Rattle.link_words.specs.Steps.{GoesOn, HasWord, SendTakesBuffer, accepted_by};
 
-    ghost then = { λ st m r m'. SendTakesBuffer (accepted_by m) m m' × GoesOn D.row.coded D.meaning m (HasWord st.word r) m' };
+    ghost then = { λ st m r m'. SendTakesBuffer (accepted_by m) m m' × GoesOn D.row.coded D.meaning m (HasWord st.word r) m' × IsOrderly m'.0 };
 }
 
 /// Step 4 of a send, from the return ring.
@@ -77,9 +83,10 @@ pub struct TellsSendLoadsEntry<D> {
 
 impl<D: Desk> Play<Slot, View> for TellsSendLoadsEntry<D> {
     ghost use Rattle.std.specs.Prelude.{◌%◌};
+    ghost use Rattle.link_words.specs.Orderly.{IsOrderly};
     ghost use Rattle.link_words.specs.Steps.{GoesOn, HasWord, SendTakesBuffer};
 
-    ghost then = { λ st m r m'. SendTakesBuffer (r % 4294967296) m m' × GoesOn D.row.coded D.meaning m (HasWord st.word r) m' };
+    ghost then = { λ st m r m'. SendTakesBuffer (r % 4294967296) m m' × GoesOn D.row.coded D.meaning m (HasWord st.word r) m' × IsOrderly m'.0 };
 }
 
 /// Step 5 of a send.
@@ -88,9 +95,10 @@ pub struct TellsSendStoresEntry<D> {
 }
 
 impl<D: Desk> Play<Slot, View> for TellsSendStoresEntry<D> {
+    ghost use Rattle.link_words.specs.Orderly.{IsOrderly};
     ghost use Rattle.link_words.specs.Steps.{GoesOn, StoresWord, SendStoresEntry};
 
-    ghost then = { λ st m r m'. SendStoresEntry m m' × GoesOn D.row.coded D.meaning m (StoresWord st.word r) m' };
+    ghost then = { λ st m r m'. SendStoresEntry m m' × GoesOn D.row.coded D.meaning m (StoresWord st.word r) m' × IsOrderly m'.0 };
 }
 
 /// Step 6 of a send.
@@ -99,9 +107,10 @@ pub struct TellsSendPublishes<D> {
 }
 
 impl<D: Desk> Play<Slot, View> for TellsSendPublishes<D> {
+    ghost use Rattle.link_words.specs.Orderly.{IsOrderly};
     ghost use Rattle.link_words.specs.Steps.{GoesOn, StoresWord, SendPublishes};
 
-    ghost then = { λ st m r m'. SendPublishes m m' × GoesOn D.row.coded D.meaning m (StoresWord st.word r) m' };
+    ghost then = { λ st m r m'. SendPublishes m m' × GoesOn D.row.coded D.meaning m (StoresWord st.word r) m' × IsOrderly m'.0 };
 }
 
 /// Step 2 of a take.
@@ -110,9 +119,10 @@ pub struct TellsTakeLoadsEra<D> {
 }
 
 impl<D: Desk> Play<Slot, View> for TellsTakeLoadsEra<D> {
+    ghost use Rattle.link_words.specs.Orderly.{IsOrderly};
     ghost use Rattle.link_words.specs.Steps.{GoesOn, HasWord, TakeLoadsEra};
 
-    ghost then = { λ st m r m'. TakeLoadsEra m r m' × GoesOn D.row.coded D.meaning m (HasWord st.word r) m' };
+    ghost then = { λ st m r m'. TakeLoadsEra m r m' × GoesOn D.row.coded D.meaning m (HasWord st.word r) m' × IsOrderly m'.0 };
 }
 
 /// Step 3 of a take.
@@ -121,9 +131,10 @@ pub struct TellsTakeLooks<D> {
 }
 
 impl<D: Desk> Play<Slot, View> for TellsTakeLooks<D> {
+    ghost use Rattle.link_words.specs.Orderly.{IsOrderly};
     ghost use Rattle.link_words.specs.Steps.{GoesOn, HasWord, TakeLooks};
 
-    ghost then = { λ st m r m'. TakeLooks m r m' × GoesOn D.row.coded D.meaning m (HasWord st.word r) m' };
+    ghost then = { λ st m r m'. TakeLooks m r m' × GoesOn D.row.coded D.meaning m (HasWord st.word r) m' × IsOrderly m'.0 };
 }
 
 /// Step 4 of a take.
@@ -133,9 +144,10 @@ pub struct TellsTakeLoadsEntry<D> {
 
 impl<D: Desk> Play<Slot, View> for TellsTakeLoadsEntry<D> {
     ghost use Rattle.std.specs.Prelude.{◌%◌};
+    ghost use Rattle.link_words.specs.Orderly.{IsOrderly};
     ghost use Rattle.link_words.specs.Steps.{GoesOn, HasWord, TakeTakesBuffer};
 
-    ghost then = { λ st m r m'. TakeTakesBuffer (r % 4294967296) m m' × GoesOn D.row.coded D.meaning m (HasWord st.word r) m' };
+    ghost then = { λ st m r m'. TakeTakesBuffer (r % 4294967296) m m' × GoesOn D.row.coded D.meaning m (HasWord st.word r) m' × IsOrderly m'.0 };
 }
 
 /// Step 5 of a take.
@@ -144,9 +156,10 @@ pub struct TellsTakeHands<D> {
 }
 
 impl<D: Desk> Play<Slot, View> for TellsTakeHands<D> {
+    ghost use Rattle.link_words.specs.Orderly.{IsOrderly};
     ghost use Rattle.link_words.specs.Steps.{GoesOn, HasWord, TakeHands};
 
-    ghost then = { λ st m r m'. TakeHands D.row.coded D.meaning m.0.sizes.desks m r m' × GoesOn D.row.coded D.meaning m (HasWord st.word r) m' };
+    ghost then = { λ st m r m'. TakeHands D.row.coded D.meaning m.0.sizes.desks m r m' × GoesOn D.row.coded D.meaning m (HasWord st.word r) m' × IsOrderly m'.0 };
 }
 
 /// Step 2 of a give.
@@ -155,9 +168,10 @@ pub struct TellsGiveStoresEntry<D> {
 }
 
 impl<D: Desk> Play<Slot, View> for TellsGiveStoresEntry<D> {
+    ghost use Rattle.link_words.specs.Orderly.{IsOrderly};
     ghost use Rattle.link_words.specs.Steps.{GoesOn, StoresWord, GiveStoresEntry};
 
-    ghost then = { λ st m r m'. GiveStoresEntry m m' × GoesOn D.row.coded D.meaning m (StoresWord st.word r) m' };
+    ghost then = { λ st m r m'. GiveStoresEntry m m' × GoesOn D.row.coded D.meaning m (StoresWord st.word r) m' × IsOrderly m'.0 };
 }
 
 /// Step 3 of a give.
@@ -166,9 +180,10 @@ pub struct TellsGivePublishes<D> {
 }
 
 impl<D: Desk> Play<Slot, View> for TellsGivePublishes<D> {
+    ghost use Rattle.link_words.specs.Orderly.{IsOrderly};
     ghost use Rattle.link_words.specs.Steps.{GoesOn, StoresWord, GivePublishes};
 
-    ghost then = { λ st m r m'. GivePublishes m m' × GoesOn D.row.coded D.meaning m (StoresWord st.word r) m' };
+    ghost then = { λ st m r m'. GivePublishes m m' × GoesOn D.row.coded D.meaning m (StoresWord st.word r) m' × IsOrderly m'.0 };
 }
 
 /// Step 2 of a binding or an unbinding.
@@ -177,7 +192,8 @@ pub struct TellsBindLoadsEra<D> {
 }
 
 impl<D: Desk> Play<Slot, View> for TellsBindLoadsEra<D> {
+    ghost use Rattle.link_words.specs.Orderly.{IsOrderly};
     ghost use Rattle.link_words.specs.Steps.{GoesOn, HasWord, BindLoadsEra};
 
-    ghost then = { λ st m r m'. BindLoadsEra D.row.coded D.meaning m.0.sizes.desks m r m' × GoesOn D.row.coded D.meaning m (HasWord st.word r) m' };
+    ghost then = { λ st m r m'. BindLoadsEra D.row.coded D.meaning m.0.sizes.desks m r m' × GoesOn D.row.coded D.meaning m (HasWord st.word r) m' × IsOrderly m'.0 };
 }

@@ -3,6 +3,7 @@ ghost use Rattle.std.specs.Prelude.{◌≡◌, ◌≤◌, ◌<◌};
 ghost use Rattle.lane_model.specs.declared.recoveries.LaneTurn.TheVariants as lane_turn;
 ghost use Rattle.link_words.specs.Calls.{place_of, number_at, call_at};
 ghost use Rattle.link_words.specs.Deeds.{Nothing, ManagerTakes};
+ghost use Rattle.link_words.specs.Orderly.{IsOrderly};
 ghost use Rattle.link_words.specs.Passes.{place_of_number};
 ghost use Rattle.link_words.specs.Reclaims.{DoesAt, MayFindClosed, FindsClosed, MayClaim, ClaimsTurn, MayLeaveEnded, LeavesEnded, ending_of};
 ghost use Rattle.link_words.specs.Steps.{HasWord, StoresWord, turn_number};
@@ -27,10 +28,11 @@ pub struct TellsFindsClosed<D> {
 impl<D: Desk> Play<Slot, View> for TellsFindsClosed<D> {
     ghost use Rattle.link_words.specs.Calls.{place_of};
     ghost use Rattle.link_words.specs.Deeds.{Nothing};
+    ghost use Rattle.link_words.specs.Orderly.{IsOrderly};
     ghost use Rattle.link_words.specs.Reclaims.{DoesAt, FindsClosed};
     ghost use Rattle.link_words.specs.Steps.{HasWord};
 
-    ghost then = { λ st m r m'. FindsClosed m r m' × DoesAt D.row.coded D.meaning (place_of m) m (HasWord st.word r) Nothing m' };
+    ghost then = { λ st m r m'. (FindsClosed m r m' × DoesAt D.row.coded D.meaning (place_of m) m (HasWord st.word r) Nothing m') × IsOrderly m'.0 };
 }
 
 /// An attempt to take a receiver's turn for the manager. It is for the proofs alone.
@@ -42,11 +44,12 @@ impl<D: Desk> Play<Slot, View> for TellsClaims<D> {
     ghost use Rattle.std.specs.Prelude.{◌≡◌};
     ghost use Rattle.rp_base.specs.declared.kinds.End.{End};
     ghost use Rattle.link_words.specs.Layouts.{place_in};
+    ghost use Rattle.link_words.specs.Orderly.{IsOrderly};
     ghost use Rattle.link_words.specs.Reclaims.{ClaimsAs};
     ghost use Rattle.link_words.specs.Seats.{named_by};
     ghost use Rattle.link_words.specs.Words.{receiver_word};
 
-    ghost then = { λ st m r m'. (end : End) → st.word ≡ place_in (receiver_word end) → ClaimsAs D.row.coded D.meaning end (named_by st.said) st.word m r m' };
+    ghost then = { λ st m r m'. ((end : End) → st.word ≡ place_in (receiver_word end) → ClaimsAs D.row.coded D.meaning end (named_by st.said) st.word m r m') × IsOrderly m'.0 };
 }
 
 /// A turn is left in a reclaim. It is for the proofs alone.
@@ -55,9 +58,10 @@ pub struct TellsLeavesEnded<D> {
 }
 
 impl<D: Desk> Play<Slot, View> for TellsLeavesEnded<D> {
+    ghost use Rattle.link_words.specs.Orderly.{IsOrderly};
     ghost use Rattle.link_words.specs.Reclaims.{LeavesAs};
 
-    ghost then = { λ st m r m'. LeavesAs D.row.coded D.meaning st.word m r m' };
+    ghost then = { λ st m r m'. LeavesAs D.row.coded D.meaning st.word m r m' × IsOrderly m'.0 };
 }
 
 /// The word of a turn of the lane to an end.
@@ -78,6 +82,7 @@ pub fn find_closed<D: Desk>(table: &LinkTable<D>, seat: &mut LinkSeat) -> u64
     ensures same { (seat.new.table_id ≡ seat.old.table_id) × (seat.new.id ≡ seat.old.id) }
     ensures told { FindsClosed seat.old.me result seat.new.me }
     ensures step { DoesAt D.row.coded D.meaning (place_of seat.old.me) seat.old.me (HasWord 16 result) Nothing seat.new.me }
+    ensures order { IsOrderly seat.new.me.0 }
 {
     table.load::<TellsFindsClosed<D>>(seat, ERA_PLACE)
 }
@@ -96,6 +101,7 @@ pub fn claim_turn<D: Desk>(
     ensures told { ClaimsTurn end caller seat.old.me result seat.new.me }
     ensures holder { result ≤ 65 }
     ensures step { DoesAt D.row.coded D.meaning (place_of_number caller seat.old.me.0.passes) seat.old.me (HasWord (place_in (receiver_word end)) result) (ManagerTakes lane_turn.Receiver end) seat.new.me }
+    ensures order { IsOrderly seat.new.me.0 }
 {
     let word = receiver_place(end);
     let said = Slot::Caller(caller);
@@ -111,6 +117,7 @@ pub fn leave_ended<D: Desk>(table: &LinkTable<D>, seat: &mut LinkSeat, lane: End
     ensures told { LeavesEnded seat.old.me seat.new.me }
     ensures step { DoesAt D.row.coded D.meaning (place_of seat.old.me) seat.old.me (StoresWord (place_in (turn_number turn lane)) 0)
         (ending_of (call_at (place_of seat.old.me) seat.old.me.0.passes) (number_at (place_of seat.old.me) seat.old.me.0.passes)) seat.new.me }
+    ensures order { IsOrderly seat.new.me.0 }
 {
     table.store::<TellsLeavesEnded<D>>(seat, turn_place(lane, turn), 0);
 }

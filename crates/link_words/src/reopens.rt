@@ -2,6 +2,7 @@
 ghost use Rattle.std.specs.Prelude.{◌≡◌, ◌≤◌, ◌<◌, ◌+◌, ℕ};
 ghost use Rattle.link_words.specs.Deeds.{ManagerTakes, ManagerLeaves, Nothing};
 ghost use Rattle.link_words.specs.Layouts.{place_in};
+ghost use Rattle.link_words.specs.Orderly.{IsOrderly};
 ghost use Rattle.link_words.specs.Looks.{SeesWord};
 ghost use Rattle.link_words.specs.Reopens.{ManagerDoes, ManagerTakesTurn, ManagerLeavesTurn, MayGather, MayLeaveTurn, MayBegin, BeginsReopening, KeepsCopy, MayReset, ResetsWord, MayOpen, OpensEra, OpensLink};
 ghost use Rattle.link_words.specs.Steps.{HasWord, StoresWord, turn_number};
@@ -51,6 +52,7 @@ pub fn take_for_manager<D: Desk>(
     ensures same { (manager.new.table_id ≡ manager.old.table_id) × (manager.new.id ≡ manager.old.id) }
     ensures told { ManagerTakesTurn turn lane manager.old.me result manager.new.me }
     ensures step { ManagerDoes D.row.coded D.meaning manager.old.me (HasWord (place_in (turn_number turn lane)) result) (ManagerTakes turn lane) manager.new.me }
+    ensures order { IsOrderly manager.new.me.0 }
 {
     let word = turn_place(lane, turn);
     table.compare_exchange::<TellsTakesForManager<D>>(manager, word, 0, 65)
@@ -68,6 +70,7 @@ pub fn leave_for_manager<D: Desk>(
     ensures same { (manager.new.table_id ≡ manager.old.table_id) × (manager.new.id ≡ manager.old.id) }
     ensures told { ManagerLeavesTurn turn lane manager.old.me manager.new.me }
     ensures step { ManagerDoes D.row.coded D.meaning manager.old.me (StoresWord (place_in (turn_number turn lane)) 0) (ManagerLeaves turn lane) manager.new.me }
+    ensures order { IsOrderly manager.new.me.0 }
 {
     let word = turn_place(lane, turn);
     table.store::<TellsLeavesForManager<D>>(manager, word, 0);
@@ -81,6 +84,7 @@ pub fn look_for_manager<D: Desk>(table: &LinkTable<D>, manager: &mut LinkSeat, p
     ensures same { (manager.new.table_id ≡ manager.old.table_id) × (manager.new.id ≡ manager.old.id) }
     ensures told { manager.new.me ≡ manager.old.me }
     ensures step { ManagerDoes D.row.coded D.meaning manager.old.me (SeesWord manager.old.me.0.sizes place result) Nothing manager.new.me }
+    ensures order { IsOrderly manager.new.me.0 }
 {
     table.load::<TellsLooksForManager<D>>(manager, place)
 }
@@ -93,6 +97,7 @@ pub fn begin_reopening<D: Desk>(table: &LinkTable<D>, manager: &mut LinkSeat) ->
     ensures same { (manager.new.table_id ≡ manager.old.table_id) × (manager.new.id ≡ manager.old.id) }
     ensures told { BeginsReopening manager.old.me result manager.new.me }
     ensures copy { KeepsCopy manager.old.me manager.new.me }
+    ensures order { IsOrderly manager.new.me.0 }
 {
     table.load::<TellsBeginsReopening>(manager, ERA_PLACE)
 }
@@ -105,6 +110,7 @@ pub fn reset_index<D: Desk>(table: &LinkTable<D>, manager: &mut LinkSeat, number
     ensures same { (manager.new.table_id ≡ manager.old.table_id) × (manager.new.id ≡ manager.old.id) }
     ensures told { ResetsWord manager.old.me manager.new.me }
     ensures copy { KeepsCopy manager.old.me manager.new.me }
+    ensures order { IsOrderly manager.new.me.0 }
 {
     let word = reset_place(number);
     table.store::<TellsResetsWord>(manager, word, new);
@@ -117,6 +123,7 @@ pub fn open_era<D: Desk>(table: &LinkTable<D>, manager: &mut LinkSeat, inc: Inc)
     ensures same { (manager.new.table_id ≡ manager.old.table_id) × (manager.new.id ≡ manager.old.id) }
     ensures told { OpensEra D.row.coded D.meaning manager.old.me manager.new.me }
     ensures step { OpensLink D.row.coded D.meaning manager.old.me manager.new.me }
+    ensures order { IsOrderly manager.new.me.0 }
 {
     let new = (inc as u64 + 1) * 2 + 1;
     table.store::<TellsOpensEra<D>>(manager, ERA_PLACE, new);

@@ -143,7 +143,7 @@ pub struct View {
     /// In the manager's view: the numbers that were freed in this incarnation.
     pub reclaims: LinkedList<CallerNo>,
     /// In the manager's view: the passes that were reclaimed in this incarnation, the latest first.
-    pub ended: LinkedList<Pass>,
+    pub ended_passes: LinkedList<Pass>,
     /// In the manager's view: it has found this incarnation closed.
     pub is_closed: bool,
     /// The manager's copy of the state.

@@ -6,6 +6,7 @@ ghost use Rattle.rp_base.specs.declared.kinds.End.{End};
 ghost use Rattle.lane_model.specs.Links.{free_number};
 ghost use Rattle.link_words.specs.declared.rule.Pass.{Pass};
 ghost use Rattle.link_words.specs.declared.rule.Call.TheVariants.{Rests};
+ghost use Rattle.link_words.specs.Orderly.{IsOrderly};
 ghost use Rattle.link_words.specs.Passes.{HasNumber, numbers_of, Manages, Mover, without_last, only_last, with_passes_from, after_end_with, place_of_number, without_new, only_new};
 ghost use Rattle.link_words.specs.Seats.{Settles, EnlistsCaller, EndsCaller, LearnsEra, FindsEraOfCopy, ClosesEra};
 ghost use Rattle.link_words.specs.Steps.{MakesCaller, FreesCaller, ClosesLink};
@@ -27,6 +28,7 @@ pub fn split<D: Desk>(table: &LinkTable<D>, manager: &mut LinkSeat, end: End) ->
     ensures manager { (manager.new.table_id ≡ manager.old.table_id) × (manager.new.id ≡ manager.old.id) × (manager.new.me ≡ (without_new end manager.old.me.0 manager.new.me.0.copy, manager.old.me.1)) }
     ensures caller { (result.table_id ≡ manager.old.table_id) × (result.me ≡ (only_new end manager.old.me.0, [])) }
     ensures step { MakesCaller D.row.coded D.meaning end manager.old.me manager.new.me }
+    ensures order { IsOrderly manager.new.me.0 }
 {
     enlist_carried(table, manager, end);
     let_go(table, manager)
@@ -49,6 +51,7 @@ pub fn enlist_carried<D: Desk>(table: &LinkTable<D>, manager: &mut LinkSeat, end
     ensures same { (manager.new.table_id ≡ manager.old.table_id) × (manager.new.id ≡ manager.old.id) }
     ensures told { EnlistsCaller end manager.old.me manager.new.me }
     ensures step { MakesCaller D.row.coded D.meaning end manager.old.me manager.new.me }
+    ensures order { IsOrderly manager.new.me.0 }
 {
     match end {
         End::Host => table.load::<EnlistsHost<D>>(manager, 0),
@@ -83,6 +86,7 @@ pub fn end_carried<D: Desk>(table: &LinkTable<D>, manager: &mut LinkSeat, caller
     ensures same { (manager.new.table_id ≡ manager.old.table_id) × (manager.new.id ≡ manager.old.id) }
     ensures told { EndsCaller caller manager.old.me manager.new.me }
     ensures step { FreesCaller D.row.coded D.meaning caller manager.old.me manager.new.me }
+    ensures order { IsOrderly manager.new.me.0 }
 {
     table.compare_exchange_with::<TellsEndsCaller<D>>(manager, 0, 0, 0, &Slot::Caller(caller));
 }
@@ -94,6 +98,7 @@ pub fn learn_era<D: Desk>(table: &LinkTable<D>, manager: &mut LinkSeat) -> u64
     ensures same { (manager.new.table_id ≡ manager.old.table_id) × (manager.new.id ≡ manager.old.id) }
     ensures told { LearnsEra manager.old.me result manager.new.me }
     ensures known { FindsEraOfCopy manager.old.me result }
+    ensures order { IsOrderly manager.new.me.0 }
 {
     table.load::<TellsLearnsEra>(manager, ERA_PLACE)
 }
@@ -105,6 +110,7 @@ pub fn settle<D: Desk>(table: &LinkTable<D>, manager: &mut LinkSeat)
     requires back { (n : ℕ) → HasNumber manager.old.me.0.out n → HasNumber (numbers_of manager.old.me.0.passes) n }
     ensures same { (manager.new.table_id ≡ manager.old.table_id) × (manager.new.id ≡ manager.old.id) }
     ensures told { Settles manager.old.me manager.new.me }
+    ensures order { IsOrderly manager.new.me.0 }
 {
     table.load::<TellsSettles>(manager, 0);
 }
@@ -122,6 +128,7 @@ pub fn close_era<D: Desk>(
     ensures same { (seat.new.table_id ≡ seat.old.table_id) × (seat.new.id ≡ seat.old.id) }
     ensures told { ClosesEra closer inc seat.old.me result seat.new.me }
     ensures step { ClosesLink D.row.coded D.meaning inc result seat.old.me seat.new.me }
+    ensures order { IsOrderly seat.new.me.0 }
 {
     let live = inc as u64 * 2 + 1;
     let closed = inc as u64 * 2;

@@ -1,6 +1,7 @@
 //! Stores of ring entries and of indexes.
 ghost use Rattle.std.specs.Prelude.{◌≡◌, ◌≤◌, ◌+◌, ◌*◌, ◌%◌};
 ghost use Rattle.link_words.specs.Layouts.{place_in};
+ghost use Rattle.link_words.specs.Orderly.{IsOrderly};
 ghost use Rattle.link_words.specs.Steps.{GoesOn, StoresWord, ring_index, MayStoreEntry, StoresEntry, MayPublish, PublishesIndex};
 ghost use Rattle.link_words.specs.Words.{words_in, entry_number, IsSized};
 
@@ -30,6 +31,7 @@ pub fn store_entry<D: Desk>(
     ensures same { (seat.new.table_id ≡ seat.old.table_id) × (seat.new.id ≡ seat.old.id) }
     ensures told { StoresEntry ring seat.old.me seat.new.me }
     ensures step { GoesOn D.row.coded D.meaning seat.old.me (StoresWord (place_in (entry_number sizes.now lane ring count)) (entry.id + entry.len * 4294967296)) seat.new.me }
+    ensures order { IsOrderly seat.new.me.0 }
 {
     let word = entry_place(sizes, lane, ring, count);
     let new = entry.id as u64 + entry.len as u64 * 4_294_967_296;
@@ -54,6 +56,7 @@ pub fn publish_index<D: Desk>(
     ensures same { (seat.new.table_id ≡ seat.old.table_id) × (seat.new.id ≡ seat.old.id) }
     ensures told { PublishesIndex ring seat.old.me seat.new.me }
     ensures step { GoesOn D.row.coded D.meaning seat.old.me (StoresWord (place_in (ring_index ring lane)) (count % 65536)) seat.new.me }
+    ensures order { IsOrderly seat.new.me.0 }
 {
     match ring {
         Ring::Forward => {

@@ -2,6 +2,7 @@
 ghost use Rattle.std.specs.Prelude.{◌≡◌, ◌≤◌, ◌<◌};
 ghost use Rattle.lane_model.specs.declared.recoveries.LaneTurn.TheVariants as lane_turn;
 ghost use Rattle.link_words.specs.Calls.{RestsAt};
+ghost use Rattle.link_words.specs.Orderly.{IsOrderly};
 ghost use Rattle.link_words.specs.Steps.{GoesOn, Begins, HasWord, StoresWord, turn_number, IsFit, turn_word_for, TakesTurn, EndsAt, LeavesTurn};
 ghost use Rattle.link_words.specs.Layouts.{place_in};
 ghost use Rattle.link_words.specs.Words.{words_in};
@@ -22,6 +23,7 @@ pub fn take_turn<D: Desk>(table: &LinkTable<D>, seat: &mut LinkSeat, start: Call
     ensures told { TakesTurn start.end start.caller start.follows start.wish seat.old.me result seat.new.me }
     ensures holder { result ≤ 65 }
     ensures step { Begins D.row.coded D.meaning seat.old.me (HasWord (place_in (turn_word_for start.end start.wish)) result) start.caller start.follows start.wish seat.new.me }
+    ensures order { IsOrderly seat.new.me.0 }
 {
     let word = start.wish.place(start.end);
     let new = start.caller as u64 + 1;
@@ -36,6 +38,7 @@ pub fn leave_turn<D: Desk>(table: &LinkTable<D>, seat: &mut LinkSeat, lane: End,
     ensures same { (seat.new.table_id ≡ seat.old.table_id) × (seat.new.id ≡ seat.old.id) }
     ensures told { LeavesTurn turn seat.old.me seat.new.me }
     ensures step { GoesOn D.row.coded D.meaning seat.old.me (StoresWord (place_in (turn_number turn lane)) 0) seat.new.me }
+    ensures order { IsOrderly seat.new.me.0 }
 {
     match turn {
         LaneTurn::Sender => table.store::<TellsLeavesSender<D>>(seat, sender_place(lane), 0),

@@ -27,7 +27,7 @@ use Rattle.link_words.specs.Words.{era_word}
 use Rattle.split_ring.specs.declared.binds.DeskAsk.{DeskAsk}
 use Rattle.split_ring.specs.declared.binds.DeskAsk.TheVariants as asks
 use Rattle.split_ring.specs.declared.callers.CallerId.{CallerId}
-use Rattle.split_ring.specs.Binds.{desk_wish, desk_work, desk_result, asked_call, DeskAnswers, IsDeskCall}
+use Rattle.split_ring.specs.Binds.{desk_wish, desk_work, desk_result, asked_call, DeskAnswers, IsDeskCall, desk_answer}
 use Rattle.split_ring.specs.Seats.{pass_in, IsAt}
 use Rattle.split_ring.specs.Sends.{live_era}
 use Rattle.split_ring.specs.Turns.{HasBegun, HasReceiver, IsLeaving, receive_call, receive_slots}
@@ -35,6 +35,8 @@ use Rattle.split_ring.specs.Walks.{same_hands, IsRingStep, HasDone}
 use Rattle.split_ring.proofs.Eras.{live_is, dead_is}
 use Rattle.split_ring.proofs.Seats.{Moves, after_step, stepped_once, done_then}
 use Rattle.split_ring.proofs.TakeSteps.{alone, side_is, work_at}
+use Rattle.split_ring.specs.Calls.{call_end, desk_said}
+use Rattle.lane_model.specs.Receives.{desk_end}
 
 -- what a caller asks of the desk needs no buffer, and its turn is the receiver's
 pub asks_fit : (asked : DeskAsk) (hands : List ℕ) → IsFit (desk_wish asked) hands
@@ -48,6 +50,19 @@ asks_begun who (asks.Unbind address) me begun = begun
 pub binds_at : (me : SeatState) (who : CallerId) (asked : DeskAsk) (x : ReceiverSide) → IsAt me (receive_call who (desk_work asked) x 0 []) (receive_slots who x) → BindsAt me
 binds_at me who (asks.Bind address) x at = (who.end, address, inl (work_at me who (desk_work (asks.Bind address)) x 0 [] (receive_slots who x) at (alone me who (desk_work (asks.Bind address)) x 0 [] at)))
 binds_at me who (asks.Unbind address) x at = (who.end, address, inr (work_at me who (desk_work (asks.Unbind address)) x 0 [] (receive_slots who x) at (alone me who (desk_work (asks.Unbind address)) x 0 [] at)))
+
+-- the end of a call is what the desk says
+pub desk_ends : {D : Type 0} (meaning : DeskMeaning D) (desk : D) (handed : ℕ) (asked : DeskAsk) → desk_says meaning desk handed (desk_work asked) ≡ call_end (desk_said asked (desk_result (Ok (desk_answer meaning desk handed asked))))
+desk_ends meaning desk handed (asks.Bind address) = by_bind (meaning.bind_answer desk address handed)
+  where
+    by_bind : (answer : Result Endpoint BindFault) → desk_end end.Bound answer ≡ call_end (desk_said (asks.Bind address) (desk_result (Ok answer)))
+    by_bind (Ok endpoint) = refl
+    by_bind (Err fault) = refl
+desk_ends meaning desk handed (asks.Unbind address) = by_unbind (meaning.unbind_answer desk address)
+  where
+    by_unbind : (answer : Result Endpoint BindFault) → desk_end end.Unbound answer ≡ call_end (desk_said (asks.Unbind address) (desk_result (Ok answer)))
+    by_unbind (Ok endpoint) = refl
+    by_unbind (Err fault) = refl
 
 module _ {D : Type 0} (coded : Coded D) (meaning : DeskMeaning D) where
   -- the pass behind the load of the era, where the desk changes and where it doesn't
@@ -95,13 +110,13 @@ module _ {D : Type 0} (coded : Coded D) (meaning : DeskMeaning D) where
 
   pub asks_dead : (me me' : SeatState) (who : CallerId) (asked : DeskAsk) (tables : DeskTables) (n : ℕ) (x : ReceiverSide) (found : Era) → IsAt me (receive_call who (desk_work asked) x 0 []) (receive_slots who x)
       → BindLoadsEra coded meaning tables me n me' → IsRingStep coded meaning me me' → ((era : Era) → n ≡ era_word era → era.inc < 4294967296 → found ≡ era) → is_live_in found who.follows ≡ false
-      → IsLeaving lane_turn.Receiver who.end me' × (found ≢ live_era who.follows) × HasDone coded meaning (Step (made.Era found) ∷ []) same_hands me me'
+      → IsLeaving lane_turn.Receiver who.end (end.Dead found) me' × (found ≢ live_era who.follows) × HasDone coded meaning (Step (made.Era found) ∷ []) same_hands me me'
   asks_dead me me' who asked tables n x found at told step reads dead =
       let zero = alone me who (desk_work asked) x 0 [] at in
       let same : found ≡ told.0 = reads told.0 told.1 told.2 in let here : is_live_in told.0 who.follows ≡ false = ap (λ (e : Era). is_live_in e who.follows) (sym same) ∙ dead in
       let all = after_step coded meaning (λ p. noted (made.Era told.0) (with_binding coded meaning told.0 told.3 p)) me.1 (receive_slots who x) me me' (place_of me) (dead_call who x told.0) (Step (made.Era told.0) ∷ []) same_hands at.one zero told.5 at.out
       (moved_to told.0 told.3 (pass_in me) (dead_call who x told.0) (bound_as who asked x told.0 told.3 (pass_in me) false at.in_call here)) (stepped_once coded meaning (made.Era told.0) me me' step) in
-      ((who.number, end.Dead told.0, x, 0, [], all.0), dead_is found who.follows dead, subst (λ (e : Era). HasDone coded meaning (Step (made.Era e) ∷ []) same_hands me me') (sym same) all.1)
+      (subst (λ (e : Era). IsLeaving lane_turn.Receiver who.end (end.Dead e) me') (sym same) (who.number, x, 0, [], all.0), dead_is found who.follows dead, subst (λ (e : Era). HasDone coded meaning (Step (made.Era e) ∷ []) same_hands me me') (sym same) all.1)
 
   -- with its first and its last step
   pub asks_whole : (tables : DeskTables) (who : CallerId) (asked : DeskAsk) (answer : Result (Result Endpoint BindFault) Era) (a b d e : SeatState) → HasDone coded meaning (Step (made.Turn 0) ∷ []) same_hands a b

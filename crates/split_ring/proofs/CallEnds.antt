@@ -32,7 +32,7 @@ use Rattle.link_words.specs.Passes.{HasNumber}
 use Rattle.link_words.specs.Steps.{hands_but, IsFit}
 use Rattle.link_words.specs.Words.{other}
 use Rattle.split_ring.specs.Binds.{desk_result, DeskAnswers, IsOfDesk, IsDeskWalk}
-use Rattle.split_ring.specs.Calls.{ask_of, desk_said, hands_in, hands_with, IsInPhase, IsPath, IsWalkFor, IsShort, IsOwnAsk, StandsAt, Advances}
+use Rattle.split_ring.specs.Calls.{ask_of, desk_said, hands_in, hands_with, IsInPhase, IsPath, IsWalkFor, IsShort, IsOwnAsk, StandsAt, Advances, call_end}
 use Rattle.split_ring.specs.Callers.{IsAdvanced}
 use Rattle.split_ring.specs.Receives.{IsHeldBy, IsGiveAt}
 use Rattle.split_ring.specs.Seats.{IsAt, IsSeatOf, pass_in}
@@ -54,9 +54,10 @@ use Rattle.split_ring.specs.declared.takes.TakeFault.TheVariants as take_fault
 use Rattle.split_ring.proofs.CallSteps.{and_then, counted}
 use Rattle.split_ring.proofs.GiveSteps.{given_now}
 use Rattle.split_ring.proofs.Seats.{done_then, still}
+use Rattle.lane_model.specs.declared.calls.CallEnd.TheVariants as end
 
 -- the other end of the other one
-own_end : (e : End) → other (other e) ≡ e
+pub own_end : (e : End) → other (other e) ≡ e
 own_end side.Host = refl
 own_end side.Remote = refl
 
@@ -87,7 +88,7 @@ module _ {D : Type 0} (coded : Coded D) (meaning : DeskMeaning D) (z : LinkSizes
     );
   }
 
-  pub give_done : (held : HeldBuffer) (returned : ℕ) (me me' : SeatState) → IsHeldBy who held me → IsLeaving lane_turn.Receiver who.end me'
+  pub give_done : (held : HeldBuffer) (returned : ℕ) (me me' : SeatState) → IsHeldBy who held me → IsLeaving lane_turn.Receiver who.end (end.Gave held.number) me'
       → (inc : ℕ) × (((pass_in me).hands ≡ []) ⊎ (latest (pass_in me).own ≡ inc)) × HasDone coded meaning (Count who.end inc (Gave (returned + 1)) ∷ []) (λ hands. hands_but hands held.number) me me'
       → Advances coded meaning z who (phase.Gives give_stage.Entry held returned) (progress.At 3) (phase.LeavesReceiver (answer.Gave held.number)) me me'
   give_done held returned me me' holds leaves given = let e : Event = Count who.end given.0 (Gave (returned + 1)) in record {
@@ -123,7 +124,7 @@ module _ {D : Type 0} (coded : Coded D) (meaning : DeskMeaning D) (z : LinkSizes
   desk_hands asked (Err (desk_fault.Bind found)) = refl
 
   -- by what it read of the era
-  desk_by : (asked : DeskAsk) (r : Result Endpoint DeskFault) (era : Era) (me me' : SeatState) → IsLeaving lane_turn.Receiver who.end me' → HasDone coded meaning (Step (made.Era era) ∷ []) same_hands me me'
+  desk_by : (asked : DeskAsk) (r : Result Endpoint DeskFault) (era : Era) (me me' : SeatState) → IsLeaving lane_turn.Receiver who.end (call_end (desk_said asked r)) me' → HasDone coded meaning (Step (made.Era era) ∷ []) same_hands me me'
       → IsDeskWalk who r (Step made.Left ∷ Step (made.Era era) ∷ Step (made.Turn 0) ∷ [])
       → ((start : SeatState) → HasDone coded meaning (Step (made.Turn 0) ∷ []) same_hands start me → IsOfDesk coded meaning z.desks who asked r [] start me')
       → Advances coded meaning z who (phase.Asks asked) (progress.At 2) (phase.LeavesReceiver (desk_said asked r)) me me'
@@ -145,7 +146,7 @@ module _ {D : Type 0} (coded : Coded D) (meaning : DeskMeaning D) (z : LinkSizes
     );
   }
 
-  pub desk_done : (asked : DeskAsk) (r : Result (Result Endpoint BindFault) Era) (me me' : SeatState) → IsLeaving lane_turn.Receiver who.end me'
+  pub desk_done : (asked : DeskAsk) (r : Result (Result Endpoint BindFault) Era) (me me' : SeatState) → IsLeaving lane_turn.Receiver who.end (call_end (desk_said asked (desk_result r))) me'
       → IfOk r (λ said. DeskAnswers coded meaning z.desks who asked said me me' × HasDone coded meaning (Step (made.Era (live_era who.follows)) ∷ []) same_hands me me')
       → IfErr r (λ era. (era ≢ live_era who.follows) × HasDone coded meaning (Step (made.Era era) ∷ []) same_hands me me')
       → Advances coded meaning z who (phase.Asks asked) (progress.At 2) (phase.LeavesReceiver (desk_said asked (desk_result r))) me me'

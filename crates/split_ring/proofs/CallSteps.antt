@@ -1,12 +1,13 @@
 -- One step of a send or a take that is taken step by step.
 use Rattle.std.proofs.Common.{◌≡◌, ◌≢◌, inl, inr, ℕ, List, [], ◌∷◌, refl, sym, ap, subst}
-use Rattle.std.specs.Prelude.{Ok, Err}
+use Rattle.std.specs.Prelude.{Ok, Err, None}
 use base.Stored.{Coded}
 use Rattle.rp_base.specs.declared.kinds.Era.{Era}
 use Rattle.lane_model.specs.declared.calls.Answer.TheVariants as answer
 use Rattle.lane_model.specs.declared.calls.Ask.{Ask}
 use Rattle.lane_model.specs.declared.calls.Ask.TheVariants as ask
 use Rattle.lane_model.specs.declared.calls.CallEnd.{CallEnd}
+use Rattle.lane_model.specs.declared.calls.CallEnd.TheVariants as end
 use Rattle.lane_model.specs.declared.calls.Progress.{Progress}
 use Rattle.lane_model.specs.declared.calls.Progress.TheVariants as progress
 use Rattle.lane_model.specs.declared.recoveries.LaneTurn.TheVariants as lane_turn
@@ -33,12 +34,14 @@ use Rattle.split_ring.specs.declared.sends.SendFault.TheVariants as fault
 use Rattle.split_ring.specs.declared.takes.Taken.{Taken}
 use Rattle.split_ring.specs.declared.takes.TakeCall.{TakeCall}
 use Rattle.split_ring.specs.declared.takes.TakeFault.TheVariants as take_fault
-use Rattle.split_ring.specs.Calls.{count_steps, send_answer, hands_with, IsWalkFor, Advances}
+use Rattle.split_ring.specs.Calls.{count_steps, call_end, send_answer, hands_with, IsWalkFor, Advances}
 use Rattle.split_ring.specs.Receives.{IsTakeAt, HasBufferOut, message_look, IsHandedTo}
 use Rattle.split_ring.specs.Sends.{live_era, room_look, IsSendAt, IsFilledAt, HasNoRoom}
 use Rattle.split_ring.specs.Turns.{IsLeaving}
 use Rattle.split_ring.specs.Walks.{same_hands, one_more, HasDone}
 use Rattle.split_ring.proofs.Seats.{done_then}
+use Rattle.split_ring.specs.Focus.{seat_of, StepsAlone}
+use Rattle.link_words.specs.Deeds.{Steps}
 
 module _ {D : Type 0} (coded : Coded D) (meaning : DeskMeaning D) (z : LinkSizes) where
   -- one step more
@@ -64,7 +67,7 @@ module _ {D : Type 0} (coded : Coded D) (meaning : DeskMeaning D) (z : LinkSizes
     );
   }
 
-  pub send_dead : (c : SendCall) (m : List ℕ) (era : Era) (me me' : SeatState) → (era ≢ live_era c.who.follows) × IsLeaving lane_turn.Sender (other c.who.end) me' × HasDone coded meaning (Step (made.Era era) ∷ []) same_hands me me'
+  pub send_dead : (c : SendCall) (m : List ℕ) (era : Era) (me me' : SeatState) → (era ≢ live_era c.who.follows) × IsLeaving lane_turn.Sender (other c.who.end) (end.Dead era) me' × HasDone coded meaning (Step (made.Era era) ∷ []) same_hands me me'
       → Advances coded meaning z c.who (phase.Sends stage.Turn c m) (progress.At 2) (phase.LeavesSender (answer.Dead era)) me me'
   send_dead c m era me me' dead = let e : Event = Step (made.Era era) in record {
     events = e ∷ [];
@@ -104,6 +107,12 @@ module _ {D : Type 0} (coded : Coded D) (meaning : DeskMeaning D) (z : LinkSizes
   none_walk c (fault.NoBuffer accepted back) returned ended steps start me' none is = (Err (fault.NoBuffer accepted back), refl, ((λ i. Step made.Left ∷ room_look c.who (sym none.0 i) (sym none.1 i) ∷ is i), none.3))
   none_walk c (fault.BookFull accepted) returned ended steps start me' none is = (Err (fault.BookFull accepted), refl, (returned, (λ i. Step made.Left ∷ room_look c.who (sym none.0 i) returned ∷ is i), none.2, none.3))
 
+  none_end : (c : SendCall) (found : SendFault) (returned : ℕ) (ended : CallEnd) → HasNoRoom z c returned found ended → ended ≡ call_end (send_answer (Err found))
+  none_end c (fault.Busy holder) returned ended none = absurd none
+  none_end c (fault.Dead era) returned ended none = absurd none
+  none_end c (fault.NoBuffer accepted back) returned ended none = none.2
+  none_end c (fault.BookFull accepted) returned ended none = none.1
+
   none_hands : (found : SendFault) → hands_with (send_answer (Err found)) ≡ same_hands
   none_hands (fault.Busy holder) = refl
   none_hands (fault.Dead era) = refl
@@ -111,14 +120,14 @@ module _ {D : Type 0} (coded : Coded D) (meaning : DeskMeaning D) (z : LinkSizes
   none_hands (fault.BookFull accepted) = refl
 
   pub send_none : (c : SendCall) (m : List ℕ) (found : SendFault) (me me' : SeatState)
-      → (returned : ℕ) × (ended : CallEnd) × HasNoRoom z c returned found ended × IsLeaving lane_turn.Sender (other c.who.end) me' × HasDone coded meaning (room_look c.who c.accepted returned ∷ []) same_hands me me'
+      → (returned : ℕ) × (ended : CallEnd) × HasNoRoom z c returned found ended × IsLeaving lane_turn.Sender (other c.who.end) ended me' × HasDone coded meaning (room_look c.who c.accepted returned ∷ []) same_hands me me'
       → Advances coded meaning z c.who (phase.Sends stage.Era c m) (progress.At 3) (phase.LeavesSender (send_answer (Err found))) me me'
   send_none c m found me me' none = let e : Event = room_look c.who c.accepted none.0 in record {
     events = e ∷ [];
     hands = same_hands;
     one = refl;
     done = none.4;
-    stands = none.3;
+    stands = subst (λ (x : CallEnd). IsLeaving lane_turn.Sender (other c.who.end) x me') (none_end c found none.0 none.1 none.2) none.3;
     comes = λ asked start h. (
       record {
         steps = e ∷ h.steps;
@@ -160,7 +169,7 @@ module _ {D : Type 0} (coded : Coded D) (meaning : DeskMeaning D) (z : LinkSizes
   }
 
   -- at its sixth
-  pub send_sent : (c : SendCall) (m : List ℕ) (me me' : SeatState) → IsLeaving lane_turn.Sender (other c.who.end) me' → HasDone coded meaning (Publish (other c.who.end) c.who.follows c.accepted c.message.value ∷ []) same_hands me me'
+  pub send_sent : (c : SendCall) (m : List ℕ) (me me' : SeatState) → IsLeaving lane_turn.Sender (other c.who.end) (end.Sent c.accepted) me' → HasDone coded meaning (Publish (other c.who.end) c.who.follows c.accepted c.message.value ∷ []) same_hands me me'
       → Advances coded meaning z c.who (phase.Sends stage.Entry c m) (progress.At 6) (phase.LeavesSender (answer.Sent c.accepted)) me me'
   send_sent c m me me' leaves done = let e : Event = Publish (other c.who.end) c.who.follows c.accepted c.message.value in record {
     events = e ∷ [];
@@ -194,7 +203,7 @@ module _ {D : Type 0} (coded : Coded D) (meaning : DeskMeaning D) (z : LinkSizes
     );
   }
 
-  pub take_dead : (c : TakeCall) (b : ℕ) (era : Era) (me me' : SeatState) → (era ≢ live_era c.who.follows) × IsLeaving lane_turn.Receiver c.who.end me' × HasDone coded meaning (Step (made.Era era) ∷ []) same_hands me me'
+  pub take_dead : (c : TakeCall) (b : ℕ) (era : Era) (me me' : SeatState) → (era ≢ live_era c.who.follows) × IsLeaving lane_turn.Receiver c.who.end (end.Dead era) me' × HasDone coded meaning (Step (made.Era era) ∷ []) same_hands me me'
       → Advances coded meaning z c.who (phase.Takes take_stage.Turn c b) (progress.At 2) (phase.LeavesReceiver (answer.Dead era)) me me'
   take_dead c b era me me' dead = let e : Event = Step (made.Era era) in record {
     events = e ∷ [];
@@ -228,7 +237,7 @@ module _ {D : Type 0} (coded : Coded D) (meaning : DeskMeaning D) (z : LinkSizes
     );
   }
 
-  pub take_empty : (c : TakeCall) (b accepted : ℕ) (me me' : SeatState) → (accepted ≡ c.handed) × IsLeaving lane_turn.Receiver c.who.end me' × HasDone coded meaning (message_look c.who accepted accepted ∷ []) same_hands me me'
+  pub take_empty : (c : TakeCall) (b accepted : ℕ) (me me' : SeatState) → (accepted ≡ c.handed) × IsLeaving lane_turn.Receiver c.who.end (end.Empty accepted) me' × HasDone coded meaning (message_look c.who accepted accepted ∷ []) same_hands me me'
       → Advances coded meaning z c.who (phase.Takes take_stage.Era c b) (progress.At 3) (phase.LeavesReceiver (answer.Empty accepted)) me me'
   take_empty c b accepted me me' none = let e : Event = message_look c.who accepted accepted in record {
     events = e ∷ [];
@@ -262,7 +271,7 @@ module _ {D : Type 0} (coded : Coded D) (meaning : DeskMeaning D) (z : LinkSizes
   }
 
   -- at its fifth
-  pub take_late : (c : TakeCall) (b : ℕ) (era : Era) (me me' : SeatState) → IsLeaving lane_turn.Receiver c.who.end me' → (era ≢ live_era c.who.follows) × HasDone coded meaning (Step (made.Era era) ∷ []) same_hands me me'
+  pub take_late : (c : TakeCall) (b : ℕ) (era : Era) (me me' : SeatState) → IsLeaving lane_turn.Receiver c.who.end (end.Dead era) me' → (era ≢ live_era c.who.follows) × HasDone coded meaning (Step (made.Era era) ∷ []) same_hands me me'
       → Advances coded meaning z c.who (phase.Takes take_stage.Buffer c b) (progress.At 5) (phase.LeavesReceiver (answer.Dead era)) me me'
   take_late c b era me me' leaves dead = let e : Event = Step (made.Era era) in record {
     events = e ∷ [];
@@ -281,7 +290,7 @@ module _ {D : Type 0} (coded : Coded D) (meaning : DeskMeaning D) (z : LinkSizes
     );
   }
 
-  pub take_handed : (c : TakeCall) (b : ℕ) (taken : Taken) (me me' : SeatState) → IsLeaving lane_turn.Receiver c.who.end me'
+  pub take_handed : (c : TakeCall) (b : ℕ) (taken : Taken) (me me' : SeatState) → IsLeaving lane_turn.Receiver c.who.end (end.Took c.handed taken.verdict) me'
       → (message : List ℕ) × IsHandedTo meaning c.who c.handed message taken × HasDone coded meaning (Step (made.Era (live_era c.who.follows)) ∷ Take c.who.end c.who.follows c.handed message ∷ []) (one_more c.handed) me me'
       → Advances coded meaning z c.who (phase.Takes take_stage.Buffer c b) (progress.At 5) (phase.LeavesReceiver (answer.Took taken.held taken.verdict)) me me'
   take_handed c b taken me me' leaves took =
@@ -291,7 +300,7 @@ module _ {D : Type 0} (coded : Coded D) (meaning : DeskMeaning D) (z : LinkSizes
         hands = one_more taken.held.number;
         one = refl;
         done = done;
-        stands = leaves;
+        stands = subst (λ (k : ℕ). IsLeaving lane_turn.Receiver c.who.end (end.Took k taken.verdict) me') (sym took.1.numbered) leaves;
         comes = λ asked start h. (
           record {
             steps = e ∷ t ∷ h.steps;
@@ -304,12 +313,15 @@ module _ {D : Type 0} (coded : Coded D) (meaning : DeskMeaning D) (z : LinkSizes
       }
 
   -- the same, by the caller and by the stage
-  pub send_by : (who : CallerId) (st known : SendStage) (c : SendCall) (m : List ℕ) (said : Progress) (after : Phase) (me me' : SeatState) → st ≡ known → c.who ≡ who → Advances coded meaning z c.who (phase.Sends known c m) said after me me'
-      → Advances coded meaning z who (phase.Sends st c m) said after me me'
+  pub send_by : (who : CallerId) (st known : SendStage) (c : SendCall) (m : List ℕ) (said : Progress) (after : Phase) (me me' : SeatState) → st ≡ known → c.who ≡ who → Advances coded meaning z c.who (phase.Sends known c m) said after (seat_of c.who.number me) (seat_of c.who.number me')
+      → Advances coded meaning z who (phase.Sends st c m) said after (seat_of who.number me) (seat_of who.number me')
   send_by who st known c m said after me me' is same step =
-      subst (λ (x : SendStage). Advances coded meaning z who (phase.Sends x c m) said after me me') (sym is) (subst (λ (w : CallerId). Advances coded meaning z w (phase.Sends known c m) said after me me') same step)
+      subst (λ (x : SendStage). Advances coded meaning z who (phase.Sends x c m) said after (seat_of who.number me) (seat_of who.number me')) (sym is) (subst (λ (w : CallerId). Advances coded meaning z w (phase.Sends known c m) said after (seat_of w.number me) (seat_of w.number me')) same step)
 
-  pub take_by : (who : CallerId) (st known : TakeStage) (c : TakeCall) (b : ℕ) (said : Progress) (after : Phase) (me me' : SeatState) → st ≡ known → c.who ≡ who → Advances coded meaning z c.who (phase.Takes known c b) said after me me'
-      → Advances coded meaning z who (phase.Takes st c b) said after me me'
+  pub take_by : (who : CallerId) (st known : TakeStage) (c : TakeCall) (b : ℕ) (said : Progress) (after : Phase) (me me' : SeatState) → st ≡ known → c.who ≡ who → Advances coded meaning z c.who (phase.Takes known c b) said after (seat_of c.who.number me) (seat_of c.who.number me')
+      → Advances coded meaning z who (phase.Takes st c b) said after (seat_of who.number me) (seat_of who.number me')
   take_by who st known c b said after me me' is same step =
-      subst (λ (x : TakeStage). Advances coded meaning z who (phase.Takes x c b) said after me me') (sym is) (subst (λ (w : CallerId). Advances coded meaning z w (phase.Takes known c b) said after me me') same step)
+      subst (λ (x : TakeStage). Advances coded meaning z who (phase.Takes x c b) said after (seat_of who.number me) (seat_of who.number me')) (sym is) (subst (λ (w : CallerId). Advances coded meaning z w (phase.Takes known c b) said after (seat_of w.number me) (seat_of w.number me')) same step)
+
+  pub steps_by : (who w : CallerId) (me me' : SeatState) → w ≡ who → StepsAlone coded meaning w.number (Steps w.number 0 None) me me' → StepsAlone coded meaning who.number (Steps who.number 0 None) me me'
+  steps_by who w me me' same steps = subst (λ (x : CallerId). StepsAlone coded meaning x.number (Steps x.number 0 None) me me') same steps

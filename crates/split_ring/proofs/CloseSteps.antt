@@ -50,6 +50,7 @@ use Rattle.split_ring.specs.Receives.{IsHeldBy}
 use Rattle.split_ring.specs.Seats.{IsAt, IsSeatOf, pass_in, first_pass}
 use Rattle.split_ring.specs.Turns.{IsLeaving, HasReceiver}
 use Rattle.split_ring.proofs.Seats.{number_place}
+use Rattle.lane_model.specs.declared.calls.CallEnd.{CallEnd}
 
 -- the one pass has noted a step, and nothing else of it has changed
 pub record IsNoted (made : Made) (me me' : SeatState) : Type 0 where
@@ -117,9 +118,9 @@ module _ (me me' : SeatState) (n : IsLike me me') where
   own_noted who (ask.Bind address) has = has
   own_noted who (ask.Unbind address) has = has
 
-  leaving_noted : (t : LaneTurn) (lane : End) → IsLeaving t lane me → IsLeaving t lane me'
-  leaving_noted lane_turn.Sender lane has = (has.0, has.1, has.2, has.3, at_noted _ _ has.4)
-  leaving_noted lane_turn.Receiver lane has = (has.0, has.1, has.2, has.3, has.4, at_noted _ _ has.5)
+  leaving_noted : (t : LaneTurn) (lane : End) (ended : CallEnd) → IsLeaving t lane ended me → IsLeaving t lane ended me'
+  leaving_noted lane_turn.Sender lane ended has = (has.0, has.1, has.2, at_noted _ _ has.3)
+  leaving_noted lane_turn.Receiver lane ended has = (has.0, has.1, has.2, has.3, at_noted _ _ has.4)
 
   pub phase_noted : (z : LinkSizes) (who : CallerId) (p : Phase) → IsInPhase z who p me → IsInPhase z who p me'
   phase_noted z who (phase.Asked asked) has = (at_noted _ _ has.0, own_noted who asked has.1)
@@ -127,8 +128,8 @@ module _ (me me' : SeatState) (n : IsLike me me') where
   phase_noted z who (phase.Takes s c buffer) has = (take_noted z c buffer s has.0, has.1)
   phase_noted z who (phase.Gives s held returned) has = give_noted who held returned s has
   phase_noted z who (phase.Asks asked) has = has_noted who _ has
-  phase_noted z who (phase.LeavesSender answer) has = leaving_noted lane_turn.Sender _ has
-  phase_noted z who (phase.LeavesReceiver answer) has = leaving_noted lane_turn.Receiver _ has
+  phase_noted z who (phase.LeavesSender answer) has = leaving_noted lane_turn.Sender _ _ has
+  phase_noted z who (phase.LeavesReceiver answer) has = leaving_noted lane_turn.Receiver _ _ has
   phase_noted z who phase.Ended has = has
 
 -- a caller whose seat has noted a step is where it was

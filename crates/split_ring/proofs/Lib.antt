@@ -1,5 +1,8 @@
 pub mod Apart
 pub mod Seats
+pub mod Focusing
+pub mod AloneSteps
+pub mod Phases
 pub mod TurnSteps
 pub mod Eras
 pub mod SendSteps

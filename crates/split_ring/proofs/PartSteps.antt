@@ -47,6 +47,7 @@ use Rattle.split_ring.specs.Reclaims.{StandsIn, HasRead, IsNow, IsEndFault, IsAn
 use Rattle.split_ring.specs.Seats.{pass_in}
 use Rattle.split_ring.proofs.CloseSteps.{IsLike, at_noted, held_noted, phase_noted}
 use Rattle.split_ring.proofs.EndSteps.{none_behind, pass_is, one_is, seat_now}
+use Rattle.split_ring.proofs.Focusing.{order_same}
 
 pub true-false : true ≡ false → ⊥
 true-false e = absurd (cc)
@@ -196,6 +197,7 @@ manager_read table sizes users id id' era me me' same read m = record {
   knows = ap (λ (s : SeatState). s.0.users) read ∙ m.knows;
   told = ap (λ (s : SeatState). s.0.sizes) read ∙ m.told;
   empty = ap (λ (s : SeatState). s.1) read ∙ m.empty;
+  order = order_same me.0 me'.0 (ap (λ (s : SeatState). s.0.passes) read) m.order;
 }
 
 -- a list that is not empty has a first item
@@ -296,8 +298,8 @@ phase_one z who (phase.Takes take_stage.Buffer c b) me has = has.0.1.at.one
 phase_one z who (phase.Gives give_stage.Turn held returned) me has = has.0.3.one
 phase_one z who (phase.Gives give_stage.Entry held returned) me has = has.0.at.one
 phase_one z who (phase.Asks asked) me has = has.3.one
-phase_one z who (phase.LeavesSender said) me has = has.4.one
-phase_one z who (phase.LeavesReceiver said) me has = has.5.one
+phase_one z who (phase.LeavesSender said) me has = has.3.one
+phase_one z who (phase.LeavesReceiver said) me has = has.4.one
 phase_one z who phase.Ended me has = absurd has
 
 stands_of : (z : LinkSizes) (who : CallerId) (p : Phase) (me : SeatState) → IsInPhase z who p me → StandsIn z who p me

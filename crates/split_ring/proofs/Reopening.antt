@@ -46,6 +46,8 @@ use Rattle.split_ring.specs.Openings.{opened_entries, opened_words, IsOpenable}
 use Rattle.split_ring.specs.Reopens.{all_slots, HasNone, HasAll, next_view, unopened_from, IsReopening}
 use Rattle.split_ring.proofs.Apart.{lane_entries, entries_length}
 use Rattle.split_ring.proofs.Gathering.{manager_at, calls_next, same_place, call_again}
+use Rattle.link_words.specs.Orderly.{IsOrderly}
+use Rattle.split_ring.proofs.Focusing.{order_rested}
 
 true-false : true ≡ false → ⊥
 true-false e = absurd (cc)
@@ -98,14 +100,15 @@ none_view me v me1 at passes none = ap (λ (s : SeatState). s.0) none.is ∙ (λ
     same = subst (λ (ps : List Pass). with_pass_at (λ q. with_call q (Gathers no_sides no_sides)) (place_of_number 64 ps) ps ≡ ps) passes (same_passes me (Gathers no_sides no_sides) at)
 
 -- it is the manager again
-pub manager_again : (table : TableId) (sizes : LinkSizes) (users : List (Option End)) (seat : TableId) (v : View) (me : SeatState) → IsSeatOf table sizes seat me → HasNone v me → v.users ≡ users → IsManager table sizes users seat me
-manager_again table sizes users seat v me at none known = let own = manager_at v (Gathers no_sides no_sides) [] me none in record {
+pub manager_again : (table : TableId) (sizes : LinkSizes) (users : List (Option End)) (seat : TableId) (v : View) (me : SeatState) → IsSeatOf table sizes seat me → HasNone v me → v.users ≡ users → IsOrderly v → IsManager table sizes users seat me
+manager_again table sizes users seat v me at none known order = let own = manager_at v (Gathers no_sides no_sides) [] me none in record {
   at_table = at.at_table;
   manages = (own.mover.place, own.mover.pass, own.mover.here, own.number);
   rests = own;
   knows = ap (λ (s : SeatState). s.0.users) none.is ∙ known;
   told = at.told;
   empty = ap (λ (s : SeatState). s.1) none.is;
+  order = order_rested v me.0 (place_of_number 64 v.passes) (Gathers no_sides no_sides) (λ slot. refl) (ap (λ (s : SeatState). s.0.passes) none.is) order;
 }
 
 -- the manager's call, by its place

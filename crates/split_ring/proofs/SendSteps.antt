@@ -129,13 +129,13 @@ module _ {D : Type 0} (coded : Coded D) (meaning : DeskMeaning D) where
 
   pub send_dead : (me me' : SeatState) (c : SendCall) (n : ℕ) (found : Era) → IsSendAt c stage.Turn me → SendLoadsEra me n me' → IsRingStep coded meaning me me'
       → ((era : Era) → n ≡ era_word era → era.inc < 4294967296 → found ≡ era) → is_live_in found c.who.follows ≡ false
-      → (found ≢ live_era c.who.follows) × IsLeaving lane_turn.Sender (other c.who.end) me' × HasDone coded meaning (Step (made.Era found) ∷ []) same_hands me me'
+      → (found ≢ live_era c.who.follows) × IsLeaving lane_turn.Sender (other c.who.end) (end.Dead found) me' × HasDone coded meaning (Step (made.Era found) ∷ []) same_hands me me'
   unfolding sending
   send_dead me me' c n found at told step reads dead =
       let same : found ≡ told.0 = reads told.0 told.1 told.2 in let here : is_live_in told.0 c.who.follows ≡ false = ap (λ (x : Era). is_live_in x c.who.follows) (sym same) ∙ dead in
       let all = turned (made.Era told.0) (λ x caller s. after_send_era told.0 caller s) me me' c stage.Turn (turn.Leaving c.who.number (end.Dead told.0)) at.0 told.3
       (ap (λ (b : Bool). cond b (turn.Taken c.who.number (sending c stage.Era)) (turn.Leaving c.who.number (end.Dead told.0))) here) step in
-      (dead_is found c.who.follows dead, (c.who.number, end.Dead told.0, c.side.value, c.buffer, all.0), subst (λ (x : Era). HasDone coded meaning (Step (made.Era x) ∷ []) same_hands me me') (sym same) all.1)
+      (dead_is found c.who.follows dead, subst (λ (x : Era). IsLeaving lane_turn.Sender (other c.who.end) (end.Dead x) me') (sym same) (c.who.number, c.side.value, c.buffer, all.0), subst (λ (x : Era). HasDone coded meaning (Step (made.Era x) ∷ []) same_hands me me') (sym same) all.1)
 
   -- step 3
   room_pass : (c : SendCall) (returned capacity book : ℕ) (t : Turn Sending) (p : Pass) → IsCounted c → p.call ≡ send_call c stage.Era → look_turn c.accepted returned capacity book c.who.number (sending c stage.Era) ≡ t
@@ -182,7 +182,7 @@ module _ {D : Type 0} (coded : Coded D) (meaning : DeskMeaning D) where
   pub finds_none : (z : LinkSizes) (me me' : SeatState) (c : SendCall) (n free returned : ℕ) → me.0.sizes ≡ z → IsSendAt c stage.Era me → SendLooks me n me' → IsRingStep coded meaning me me'
       → ((returned : ℕ) → n ≡ return_count (sizes_at z (other c.who.end)) returned % 65536 → AreNear (sizes_at z (other c.who.end)).capacity c.accepted returned → free + c.accepted ≡ returned + (sizes_at z (other c.who.end)).capacity)
       → free ≡ 0 → returned ≡ c.accepted - (sizes_at z (other c.who.end)).capacity
-      → (back : ℕ) × (ended : CallEnd) × HasNoRoom z c back (fault.NoBuffer c.accepted returned) ended × IsLeaving lane_turn.Sender (other c.who.end) me'
+      → (back : ℕ) × (ended : CallEnd) × HasNoRoom z c back (fault.NoBuffer c.accepted returned) ended × IsLeaving lane_turn.Sender (other c.who.end) ended me'
       × HasDone coded meaning (room_look c.who c.accepted back ∷ []) same_hands me me'
   unfolding sending
   finds_none z me me' c n free returned sized at told step counts none is =
@@ -190,12 +190,12 @@ module _ {D : Type 0} (coded : Coded D) (meaning : DeskMeaning D) where
       let full : c.accepted ≡ told.0 + capacity = omega (arith, count, none) in let back : returned ≡ told.0 = omega (arith, full, is) in
       let all = looks z me me' c n (turn.Leaving c.who.number (end.NoBuffer c.accepted told.0)) sized at.0 at.1 told step
       (ap (λ (b : Bool). cond b (turn.Leaving c.who.number (end.NoBuffer c.accepted told.0)) (cond (eqb c.accepted z.book) (turn.Leaving c.who.number (end.BookFull c.accepted)) (turn.Taken c.who.number (sending c stage.Look)))) (eq-eqb c.accepted (told.0 + capacity) full)) in
-      (told.0, end.NoBuffer c.accepted told.0, (refl, back, ap (end.NoBuffer c.accepted) (sym back), full ∙ ap (λ (k : ℕ). k + capacity) (sym back)), (c.who.number, end.NoBuffer c.accepted told.0, c.side.value, c.buffer, all.0), all.1)
+      (told.0, end.NoBuffer c.accepted told.0, (refl, back, ap (end.NoBuffer c.accepted) (sym back), full ∙ ap (λ (k : ℕ). k + capacity) (sym back)), (c.who.number, c.side.value, c.buffer, all.0), all.1)
 
   pub finds_full : (z : LinkSizes) (me me' : SeatState) (c : SendCall) (n free : ℕ) → me.0.sizes ≡ z → IsSendAt c stage.Era me → SendLooks me n me' → IsRingStep coded meaning me me'
       → ((returned : ℕ) → n ≡ return_count (sizes_at z (other c.who.end)) returned % 65536 → AreNear (sizes_at z (other c.who.end)).capacity c.accepted returned → free + c.accepted ≡ returned + (sizes_at z (other c.who.end)).capacity)
       → free ≢ 0 → c.accepted ≡ z.book
-      → (back : ℕ) × (ended : CallEnd) × HasNoRoom z c back (fault.BookFull c.accepted) ended × IsLeaving lane_turn.Sender (other c.who.end) me'
+      → (back : ℕ) × (ended : CallEnd) × HasNoRoom z c back (fault.BookFull c.accepted) ended × IsLeaving lane_turn.Sender (other c.who.end) ended me'
       × HasDone coded meaning (room_look c.who c.accepted back ∷ []) same_hands me me'
   unfolding sending
   finds_full z me me' c n free sized at told step counts some book =
@@ -203,7 +203,7 @@ module _ {D : Type 0} (coded : Coded D) (meaning : DeskMeaning D) where
       let room : c.accepted ≢ told.0 + capacity = λ same. some (omega (arith, count, same)) in
       let all = looks z me me' c n (turn.Leaving c.who.number (end.BookFull c.accepted)) sized at.0 at.1 told step
       ((λ i. cond (ne_eqb c.accepted (told.0 + capacity) room i) (turn.Leaving c.who.number (end.NoBuffer c.accepted told.0)) (cond (eq-eqb c.accepted z.book book i) (turn.Leaving c.who.number (end.BookFull c.accepted)) (turn.Taken c.who.number (sending c stage.Look))))) in
-      (told.0, end.BookFull c.accepted, (refl, refl, room, book), (c.who.number, end.BookFull c.accepted, c.side.value, c.buffer, all.0), all.1)
+      (told.0, end.BookFull c.accepted, (refl, refl, room, book), (c.who.number, c.side.value, c.buffer, all.0), all.1)
 
   -- step 4
   pub takes_free : (z : LinkSizes) (me me' : SeatState) (c : SendCall) (id : ℕ) → me.0.sizes ≡ z → IsSendAt c stage.Look me → SendTakesBuffer id me me' → IsRingStep coded meaning me me'

@@ -22,6 +22,7 @@ use Rattle.split_ring.specs.Walks.{same_hands, HasStepped, HasDone}
 use Rattle.split_ring.specs.Seats.{pass_in}
 use Rattle.link_words.specs.Histories.{seen}
 use Rattle.split_ring.proofs.Seats.{done_then}
+use Rattle.lane_model.specs.declared.calls.CallEnd.TheVariants as end
 
 module _ {D : Type 0} (coded : Coded D) (meaning : DeskMeaning D) where
   -- the same, by the caller and the message
@@ -31,10 +32,10 @@ module _ {D : Type 0} (coded : Coded D) (meaning : DeskMeaning D) where
       subst (λ (m : List ℕ). HasSettled coded meaning z who m answer me me') said (subst (λ (w : CallerId). HasSettled coded meaning z w c.message.value answer me me') same settled)
 
   pub settled_dead : (z : LinkSizes) (c : SendCall) (era : Era) (a b d : SeatState) → HasDone coded meaning [] same_hands a b
-      → (era ≢ live_era c.who.follows) × IsLeaving lane_turn.Sender (other c.who.end) d × HasDone coded meaning (Step (made.Era era) ∷ []) same_hands b d
+      → (era ≢ live_era c.who.follows) × IsLeaving lane_turn.Sender (other c.who.end) (end.Dead era) d × HasDone coded meaning (Step (made.Era era) ∷ []) same_hands b d
       → HasSettled coded meaning z c.who c.message.value (Err (fault.Dead era)) a d
   settled_dead z c era a b d begun dead = record {
-    leaves = dead.1;
+    leaves = (end.Dead era, dead.1);
     steps = Step (made.Era era) ∷ [];
     is = (refl, dead.0);
     done = done_then coded meaning (Step (made.Era era) ∷ []) [] same_hands same_hands a b d begun dead.2;
@@ -48,39 +49,39 @@ module _ {D : Type 0} (coded : Coded D) (meaning : DeskMeaning D) where
       done_then coded meaning (room_look c.who c.accepted returned ∷ []) (Step (made.Era (live_era c.who.follows)) ∷ []) same_hands same_hands a d e
       (done_then coded meaning (Step (made.Era (live_era c.who.follows)) ∷ []) [] same_hands same_hands a b d begun live) room
 
-  pub settled_none : (z : LinkSizes) (c : SendCall) (found : SendFault) (returned : ℕ) (ended : CallEnd) (a e : SeatState) → HasNoRoom z c returned found ended → IsLeaving lane_turn.Sender (other c.who.end) e
+  pub settled_none : (z : LinkSizes) (c : SendCall) (found : SendFault) (returned : ℕ) (ended : CallEnd) (a e : SeatState) → HasNoRoom z c returned found ended → IsLeaving lane_turn.Sender (other c.who.end) ended e
       → HasDone coded meaning (room_look c.who c.accepted returned ∷ Step (made.Era (live_era c.who.follows)) ∷ []) same_hands a e
       → HasSettled coded meaning z c.who c.message.value (Err found) a e
   settled_none z c (fault.Busy holder) returned ended a e none leaves done = absurd none
   settled_none z c (fault.Dead era) returned ended a e none leaves done = absurd none
   settled_none z c (fault.NoBuffer accepted back) returned ended a e none leaves done = record {
-    leaves = leaves;
+    leaves = (ended, leaves);
     steps = room_look c.who c.accepted returned ∷ Step (made.Era (live_era c.who.follows)) ∷ [];
     is = ((λ i. Step made.Left ∷ room_look c.who (sym none.0 i) (sym none.1 i) ∷ Step (made.Era (live_era c.who.follows)) ∷ Step (made.Turn 0) ∷ []), none.3);
     done = done;
   }
   settled_none z c (fault.BookFull accepted) returned ended a e none leaves done = record {
-    leaves = leaves;
+    leaves = (ended, leaves);
     steps = room_look c.who c.accepted returned ∷ Step (made.Era (live_era c.who.follows)) ∷ [];
     is = (returned, (λ i. Step made.Left ∷ room_look c.who (sym none.0 i) returned ∷ Step (made.Era (live_era c.who.follows)) ∷ Step (made.Turn 0) ∷ []), none.2, none.3);
     done = done;
   }
 
   pub settled_unmet : (z : LinkSizes) (c : SendCall) (found : SendFault) (a b d e : SeatState) → HasDone coded meaning [] same_hands a b → HasDone coded meaning (Step (made.Era (live_era c.who.follows)) ∷ []) same_hands b d
-      → (returned : ℕ) × (ended : CallEnd) × HasNoRoom z c returned found ended × IsLeaving lane_turn.Sender (other c.who.end) e × HasDone coded meaning (room_look c.who c.accepted returned ∷ []) same_hands d e
+      → (returned : ℕ) × (ended : CallEnd) × HasNoRoom z c returned found ended × IsLeaving lane_turn.Sender (other c.who.end) ended e × HasDone coded meaning (room_look c.who c.accepted returned ∷ []) same_hands d e
       → HasSettled coded meaning z c.who c.message.value (Err found) a e
   settled_unmet z c found a b d e begun live none = settled_none z c found none.0 none.1 a e none.2 none.3 (looked c none.0 a b d e begun live none.4)
 
   pub settled_sent : (z : LinkSizes) (c : SendCall) (buffer : ℕ) (a b d e f h k : SeatState) → HasDone coded meaning [] same_hands a b → HasDone coded meaning (Step (made.Era (live_era c.who.follows)) ∷ []) same_hands b d
       → (returned : ℕ) × HasDone coded meaning (room_look c.who c.accepted returned ∷ []) same_hands d e → HasDone coded meaning (Step (made.Buffer buffer) ∷ []) same_hands e f
-      → HasDone coded meaning (Step made.Entry ∷ []) same_hands f h → IsLeaving lane_turn.Sender (other c.who.end) k
+      → HasDone coded meaning (Step made.Entry ∷ []) same_hands f h → IsLeaving lane_turn.Sender (other c.who.end) (end.Sent c.accepted) k
       → HasDone coded meaning (Publish (other c.who.end) c.who.follows c.accepted c.message.value ∷ []) same_hands h k
       → HasSettled coded meaning z c.who c.message.value (Ok c.accepted) a k
   settled_sent z c buffer a b d e f h k begun live room out entry leaves published =
       let look = looked c room.0 a b d e begun live room.1 in
       let upto : List Event = room_look c.who c.accepted room.0 ∷ Step (made.Era (live_era c.who.follows)) ∷ [] in
       record {
-        leaves = leaves;
+        leaves = (end.Sent c.accepted, leaves);
         steps = Publish (other c.who.end) c.who.follows c.accepted c.message.value ∷ Step made.Entry ∷ Step (made.Buffer buffer) ∷ upto;
         is = (room.0, buffer, refl);
         done = done_then coded meaning (Publish (other c.who.end) c.who.follows c.accepted c.message.value ∷ []) (Step made.Entry ∷ Step (made.Buffer buffer) ∷ upto) same_hands same_hands a h k

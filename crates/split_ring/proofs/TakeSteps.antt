@@ -123,12 +123,12 @@ module _ {D : Type 0} (coded : Coded D) (meaning : DeskMeaning D) where
 
   pub take_dead : (me me' : SeatState) (c : TakeCall) (n : ℕ) (found : Era) → IsTakeAt c (work.Take take_stage.Turn) me → TakeLoadsEra me n me' → IsRingStep coded meaning me me'
       → ((era : Era) → n ≡ era_word era → era.inc < 4294967296 → found ≡ era) → is_live_in found c.who.follows ≡ false
-      → (found ≢ live_era c.who.follows) × IsLeaving lane_turn.Receiver c.who.end me' × HasDone coded meaning (Step (made.Era found) ∷ []) same_hands me me'
+      → (found ≢ live_era c.who.follows) × IsLeaving lane_turn.Receiver c.who.end (end.Dead found) me' × HasDone coded meaning (Step (made.Era found) ∷ []) same_hands me me'
   take_dead me me' c n found at told step reads dead =
       let same : found ≡ told.0 = reads told.0 told.1 told.2 in let here : is_live_in told.0 c.who.follows ≡ false = ap (λ (e : Era). is_live_in e c.who.follows) (sym same) ∙ dead in
       let all = turned (made.Era told.0) (λ x caller r. after_take_era told.0 caller r) me me' c.who (work.Take take_stage.Turn) at.side (turn.Leaving c.who.number (end.Dead told.0)) at.at told.3
       (ap (λ (b : Bool). cond b (turn.Taken c.who.number (receiving c.who (work.Take take_stage.Era))) (turn.Leaving c.who.number (end.Dead told.0))) here) step in
-      (dead_is found c.who.follows dead, (c.who.number, end.Dead told.0, at.side, 0, [], all.0), subst (λ (e : Era). HasDone coded meaning (Step (made.Era e) ∷ []) same_hands me me') (sym same) all.1)
+      (dead_is found c.who.follows dead, subst (λ (e : Era). IsLeaving lane_turn.Receiver c.who.end (end.Dead e) me') (sym same) (c.who.number, at.side, 0, [], all.0), subst (λ (e : Era). HasDone coded meaning (Step (made.Era e) ∷ []) same_hands me me') (sym same) all.1)
 
   -- step 3
   waiting_pass : (c : TakeCall) (x : ReceiverSide) (accepted : ℕ) (t : Turn Receiving) (p : Pass) → x.handed ≡ c.handed → p.call ≡ receive_call c.who (work.Take take_stage.Era) x 0 [] → take_look_turn x.handed accepted c.who.number (receiving c.who (work.Take take_stage.Era)) ≡ t
@@ -173,13 +173,13 @@ module _ {D : Type 0} (coded : Coded D) (meaning : DeskMeaning D) where
 
   pub finds_empty : (z : LinkSizes) (me me' : SeatState) (c : TakeCall) (n waiting : ℕ) → me.0.sizes ≡ z → IsOpenable z → IsTakeAt c (work.Take take_stage.Era) me → TakeLooks me n me' → IsRingStep coded meaning me me'
       → ((accepted : ℕ) → n ≡ accepted % 65536 → c.handed ≤ accepted → accepted ≤ c.handed + 256 → waiting + c.handed ≡ accepted) → waiting ≡ 0
-      → IsLeaving lane_turn.Receiver c.who.end me' × HasDone coded meaning (message_look c.who c.handed c.handed ∷ []) same_hands me me'
+      → IsLeaving lane_turn.Receiver c.who.end (end.Empty c.handed) me' × HasDone coded meaning (message_look c.who c.handed c.handed ∷ []) same_hands me me'
   finds_empty z me me' c n waiting sized opens at told step counts none =
       let count = found_count z me me' c n waiting sized opens at told counts in let handed = at.handed in
       let all_handed : at.side.handed ≡ told.0 = omega (arith, count, none, handed) in let found : told.0 ≡ c.handed = sym all_handed ∙ handed in
       let all = looks me me' c n (turn.Leaving c.who.number (end.Empty told.0)) at told step
       (ap (λ (b : Bool). cond b (turn.Leaving c.who.number (end.Empty told.0)) (turn.Taken c.who.number (receiving c.who (work.Take take_stage.Look)))) (eq-eqb at.side.handed told.0 all_handed)) in
-      ((c.who.number, end.Empty told.0, at.side, 0, [], all.0), subst (λ (k : ℕ). HasDone coded meaning (message_look c.who c.handed k ∷ []) same_hands me me') found all.1)
+      (subst (λ (k : ℕ). IsLeaving lane_turn.Receiver c.who.end (end.Empty k) me') found (c.who.number, at.side, 0, [], all.0), subst (λ (k : ℕ). HasDone coded meaning (message_look c.who c.handed k ∷ []) same_hands me me') found all.1)
 
   -- step 4
   pub entry_at : (me : SeatState) (c : TakeCall) → (at : IsTakeAt c (work.Take take_stage.Look) me) → WorkAt me c.who.end (work.Take take_stage.Look) × (handed_by me ≡ c.handed)
@@ -273,11 +273,11 @@ module _ {D : Type 0} (coded : Coded D) (meaning : DeskMeaning D) where
 
   pub hands_dead : (z : LinkSizes) (me me' : SeatState) (c : TakeCall) (n b : ℕ) (m : List ℕ) (found : Era) → HasBufferOut z c (work.Take take_stage.Buffer) b m me → TakeHands coded meaning me.0.sizes.desks me n me' → IsRingStep coded meaning me me'
       → ((era : Era) → n ≡ era_word era → era.inc < 4294967296 → found ≡ era) → is_live_in found c.who.follows ≡ false
-      → IsLeaving lane_turn.Receiver c.who.end me' × (found ≢ live_era c.who.follows) × HasDone coded meaning (Step (made.Era found) ∷ []) same_hands me me'
+      → IsLeaving lane_turn.Receiver c.who.end (end.Dead found) me' × (found ≢ live_era c.who.follows) × HasDone coded meaning (Step (made.Era found) ∷ []) same_hands me me'
   hands_dead z me me' c n b m found out told step reads dead =
       let x = out.side in let at = out.at in let zero = alone_out z me c.who (work.Take take_stage.Buffer) x b m at in
       let same : found ≡ told.0 = reads told.0 told.1 told.2 in let here : is_live_in told.0 c.who.follows ≡ false = ap (λ (e : Era). is_live_in e c.who.follows) (sym same) ∙ dead in
       let all = after_step coded meaning (λ p. noted (made.Era told.0) (with_handing coded meaning told.0 told.5 p)) (rest me.1) (receive_slots c.who x) me me' (place_of me)
       (Receives c.who.end (turn.Leaving c.who.number (end.Dead told.0)) x b m) (Step (made.Era told.0) ∷ []) same_hands at.one zero told.7 (ap rest at.out) (dead_pass c x b m told.0 told.5 (pass_in me) at.in_call here)
       (stepped_once coded meaning (made.Era told.0) me me' step) in
-      ((c.who.number, end.Dead told.0, x, b, m, all.0), dead_is found c.who.follows dead, subst (λ (e : Era). HasDone coded meaning (Step (made.Era e) ∷ []) same_hands me me') (sym same) all.1)
+      (subst (λ (e : Era). IsLeaving lane_turn.Receiver c.who.end (end.Dead e) me') (sym same) (c.who.number, x, b, m, all.0), dead_is found c.who.follows dead, subst (λ (e : Era). HasDone coded meaning (Step (made.Era e) ∷ []) same_hands me me') (sym same) all.1)

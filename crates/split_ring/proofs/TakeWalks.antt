@@ -23,6 +23,7 @@ use Rattle.split_ring.specs.Turns.{IsLeaving}
 use Rattle.split_ring.specs.Walks.{same_hands, one_more, HasStepped, HasDone}
 use Rattle.link_words.specs.Histories.{seen}
 use Rattle.split_ring.proofs.Seats.{done_then}
+use Rattle.lane_model.specs.declared.calls.CallEnd.TheVariants as end
 
 module _ {D : Type 0} (coded : Coded D) (meaning : DeskMeaning D) where
   -- the same, by the caller
@@ -30,10 +31,10 @@ module _ {D : Type 0} (coded : Coded D) (meaning : DeskMeaning D) where
   settled_as c who answer me me' same settled = subst (λ (w : CallerId). HasSettledTake coded meaning w answer me me') same settled
 
   pub dead_early : (c : TakeCall) (era : Era) (a b d : SeatState) → HasDone coded meaning [] same_hands a b
-      → (era ≢ live_era c.who.follows) × IsLeaving lane_turn.Receiver c.who.end d × HasDone coded meaning (Step (made.Era era) ∷ []) same_hands b d
+      → (era ≢ live_era c.who.follows) × IsLeaving lane_turn.Receiver c.who.end (end.Dead era) d × HasDone coded meaning (Step (made.Era era) ∷ []) same_hands b d
       → HasSettledTake coded meaning c.who (Err (fault.Dead era)) a d
   dead_early c era a b d begun dead = record {
-    leaves = dead.1;
+    leaves = (end.Dead era, dead.1);
     steps = Step (made.Era era) ∷ [];
     is = (inl refl, dead.0);
     done = done_then coded meaning (Step (made.Era era) ∷ []) [] same_hands same_hands a b d begun dead.2;
@@ -48,10 +49,10 @@ module _ {D : Type 0} (coded : Coded D) (meaning : DeskMeaning D) where
       (done_then coded meaning (Step (made.Era (live_era c.who.follows)) ∷ []) [] same_hands same_hands a b d begun live) look
 
   pub empty : (c : TakeCall) (accepted : ℕ) (a b d e : SeatState) → HasDone coded meaning [] same_hands a b → HasDone coded meaning (Step (made.Era (live_era c.who.follows)) ∷ []) same_hands b d
-      → (accepted ≡ c.handed) × IsLeaving lane_turn.Receiver c.who.end e × HasDone coded meaning (message_look c.who accepted accepted ∷ []) same_hands d e
+      → (accepted ≡ c.handed) × IsLeaving lane_turn.Receiver c.who.end (end.Empty accepted) e × HasDone coded meaning (message_look c.who accepted accepted ∷ []) same_hands d e
       → HasSettledTake coded meaning c.who (Err (fault.Empty accepted)) a e
   empty c accepted a b d e begun live none = record {
-    leaves = none.1;
+    leaves = (end.Empty accepted, none.1);
     steps = message_look c.who accepted accepted ∷ Step (made.Era (live_era c.who.follows)) ∷ [];
     is = refl;
     done = looked c accepted accepted a b d e begun live none.2;
@@ -66,11 +67,11 @@ module _ {D : Type 0} (coded : Coded D) (meaning : DeskMeaning D) where
 
   pub dead_late : (c : TakeCall) (buffer : ℕ) (era : Era) (a b d e f h : SeatState) → HasDone coded meaning [] same_hands a b → HasDone coded meaning (Step (made.Era (live_era c.who.follows)) ∷ []) same_hands b d
       → (accepted : ℕ) × HasDone coded meaning (message_look c.who c.handed accepted ∷ []) same_hands d e → HasDone coded meaning (Step (made.Buffer buffer) ∷ []) same_hands e f
-      → IsLeaving lane_turn.Receiver c.who.end h → (era ≢ live_era c.who.follows) × HasDone coded meaning (Step (made.Era era) ∷ []) same_hands f h
+      → IsLeaving lane_turn.Receiver c.who.end (end.Dead era) h → (era ≢ live_era c.who.follows) × HasDone coded meaning (Step (made.Era era) ∷ []) same_hands f h
       → HasSettledTake coded meaning c.who (Err (fault.Dead era)) a h
   dead_late c buffer era a b d e f h begun live look out leaves dead =
       let upto : List Event = Step (made.Buffer buffer) ∷ message_look c.who c.handed look.0 ∷ Step (made.Era (live_era c.who.follows)) ∷ [] in record {
-        leaves = leaves;
+        leaves = (end.Dead era, leaves);
         steps = Step (made.Era era) ∷ upto;
         is = (inr (buffer, c.handed, look.0, refl), dead.0);
         done = done_then coded meaning (Step (made.Era era) ∷ []) upto same_hands same_hands a f h (filled c buffer look.0 a b d e f begun live look.1 out) dead.1;
@@ -78,13 +79,13 @@ module _ {D : Type 0} (coded : Coded D) (meaning : DeskMeaning D) where
 
   pub handed : (c : TakeCall) (buffer : ℕ) (taken : Taken) (a b d e f h : SeatState) → HasDone coded meaning [] same_hands a b → HasDone coded meaning (Step (made.Era (live_era c.who.follows)) ∷ []) same_hands b d
       → (accepted : ℕ) × HasDone coded meaning (message_look c.who c.handed accepted ∷ []) same_hands d e → HasDone coded meaning (Step (made.Buffer buffer) ∷ []) same_hands e f
-      → IsLeaving lane_turn.Receiver c.who.end h → (message : List ℕ) × IsHandedTo meaning c.who c.handed message taken
+      → IsLeaving lane_turn.Receiver c.who.end (end.Took c.handed taken.verdict) h → (message : List ℕ) × IsHandedTo meaning c.who c.handed message taken
       × HasDone coded meaning (Step (made.Era (live_era c.who.follows)) ∷ Take c.who.end c.who.follows c.handed message ∷ []) (one_more c.handed) f h
       → HasSettledTake coded meaning c.who (Ok taken) a h
   handed c buffer taken a b d e f h begun live look out leaves took =
       let upto : List Event = Step (made.Buffer buffer) ∷ message_look c.who c.handed look.0 ∷ Step (made.Era (live_era c.who.follows)) ∷ [] in
       let last : List Event = Step (made.Era (live_era c.who.follows)) ∷ Take c.who.end c.who.follows c.handed took.0 ∷ [] in record {
-        leaves = leaves;
+        leaves = (end.Took c.handed taken.verdict, leaves);
         steps = last ++ upto;
         is = (c.handed, took.0, buffer, look.0, took.1, refl);
         done = subst (λ (k : ℕ). HasDone coded meaning (last ++ upto) (one_more k) a h) (sym took.1.numbered)

@@ -23,7 +23,7 @@ use Rattle.link_words.specs.Steps.{EndsAt, LeavesTurn, TakesTurn, TakesReceiver,
 use Rattle.link_words.specs.Words.{other, sender_slot, receiver_slot}
 use Rattle.split_ring.specs.declared.callers.CallerId.{CallerId}
 use Rattle.split_ring.specs.Seats.{pass_in, IsAt}
-use Rattle.split_ring.specs.Turns.{HasBegun, HasReceiver, IsLeaving, end_with, receive_call}
+use Rattle.split_ring.specs.Turns.{HasBegun, HasReceiver, MayLeave, end_with, receive_call}
 use Rattle.split_ring.specs.Walks.{same_hands, IsRingStep, HasDone}
 use Rattle.split_ring.proofs.Seats.{after_step, stepped_once, first_place, mover_of, number_place, side_sends, side_receives}
 
@@ -31,8 +31,8 @@ use Rattle.split_ring.proofs.Seats.{after_step, stepped_once, first_place, mover
 pub last_one : (me : SeatState) (call : Call) (k : ℕ) (y : Slot) → IsAt me call ((k, y) ∷ []) → me.1 ≡ (k, y) ∷ rest me.1
 last_one me call k y at = at.out ∙ sym (ap (λ (l : List (ℕ × Slot)). (k, y) ∷ rest l) at.out)
 
-pub ends_at : (t : LaneTurn) (lane : End) (me : SeatState) → IsLeaving t lane me → EndsAt t me lane
-ends_at lane_turn.Sender lane me (caller, ended, x, buffer, at) = record {
+pub ends_at : (t : LaneTurn) (lane : End) (me : SeatState) → MayLeave t lane me → EndsAt t me lane
+ends_at lane_turn.Sender lane me (ended, (caller, x, buffer, at)) = record {
   mover = mover_of me at.one;
   here = sym (first_place me (Sends lane (turn.Leaving caller ended) x buffer) ((sender_slot lane, Sender x) ∷ []) at (side_sends lane (turn.Leaving caller ended) x buffer (Sender x)));
   caller = caller;
@@ -42,7 +42,7 @@ ends_at lane_turn.Sender lane me (caller, ended, x, buffer, at) = record {
   call = at.in_call;
   slots = last_one me (Sends lane (turn.Leaving caller ended) x buffer) (sender_slot lane) (Sender x) at;
 }
-ends_at lane_turn.Receiver lane me (caller, ended, x, buffer, message, at) = record {
+ends_at lane_turn.Receiver lane me (ended, (caller, x, buffer, message, at)) = record {
   mover = mover_of me at.one;
   here = sym (first_place me (Receives lane (turn.Leaving caller ended) x buffer message) ((receiver_slot lane, Receiver x) ∷ []) at (side_receives lane (turn.Leaving caller ended) x buffer message (Receiver x)));
   caller = caller;
@@ -59,13 +59,13 @@ abbrev pub rests_at : (me : SeatState) (who : CallerId) → IsAt me (Rests who.e
 rests_at me who at number = record { mover = mover_of me at.one; here = sym (number_place me who.number at.one number); number = number; call = at.in_call }
 
 module _ {D : Type 0} (coded : Coded D) (meaning : DeskMeaning D) where
-  pub leaves : (t : LaneTurn) (lane : End) (me me' : SeatState) → IsLeaving t lane me → LeavesTurn t me me' → IsRingStep coded meaning me me'
+  pub leaves : (t : LaneTurn) (lane : End) (me me' : SeatState) → MayLeave t lane me → LeavesTurn t me me' → IsRingStep coded meaning me me'
       → IsAt me' (Rests (end_with t lane)) [] × HasDone coded meaning (Step made.Left ∷ []) same_hands me me'
-  leaves lane_turn.Sender lane me me' (caller, ended, x, buffer, at) told step =
+  leaves lane_turn.Sender lane me me' (ended, (caller, x, buffer, at)) told step =
       after_step coded meaning (λ p. noted made.Left (with_call p (send_or p.call (λ e t x b. Rests (other e)) p.call))) (rest me.1) [] me me' (place_of me) (Rests (other lane)) (Step made.Left ∷ []) same_hands at.one
       (first_place me (Sends lane (turn.Leaving caller ended) x buffer) ((sender_slot lane, Sender x) ∷ []) at (side_sends lane (turn.Leaving caller ended) x buffer (Sender x)))
       told (ap rest at.out) (record { in_call = ap (λ (c : Call). send_or c (λ e t x b. Rests (other e)) c) at.in_call; own = refl; number = refl; first = refl; in_hand = refl }) (stepped_once coded meaning made.Left me me' step)
-  leaves lane_turn.Receiver lane me me' (caller, ended, x, buffer, message, at) told step =
+  leaves lane_turn.Receiver lane me me' (ended, (caller, x, buffer, message, at)) told step =
       after_step coded meaning (λ p. noted made.Left (with_call p (receive_or p.call (λ e t x b m. Rests e) p.call))) (rest me.1) [] me me' (place_of me) (Rests lane) (Step made.Left ∷ []) same_hands at.one
       (first_place me (Receives lane (turn.Leaving caller ended) x buffer message) ((receiver_slot lane, Receiver x) ∷ []) at (side_receives lane (turn.Leaving caller ended) x buffer message (Receiver x)))
       told (ap rest at.out) (record { in_call = ap (λ (c : Call). receive_or c (λ e t x b m. Rests e) c) at.in_call; own = refl; number = refl; first = refl; in_hand = refl }) (stepped_once coded meaning made.Left me me' step)

@@ -7,6 +7,8 @@ use Rattle.lane_model.specs.declared.calls.Answer.{Answer}
 use Rattle.lane_model.specs.declared.calls.Answer.TheVariants as answer
 use Rattle.lane_model.specs.declared.calls.Ask.{Ask}
 use Rattle.lane_model.specs.declared.calls.Ask.TheVariants as ask
+use Rattle.lane_model.specs.declared.calls.CallEnd.{CallEnd}
+use Rattle.lane_model.specs.declared.calls.CallEnd.TheVariants as end
 use Rattle.lane_model.specs.declared.calls.Progress.{Progress}
 use Rattle.lane_model.specs.declared.calls.Progress.TheVariants as progress
 use Rattle.lane_model.specs.declared.calls.Wish.{Wish}
@@ -19,6 +21,7 @@ use Rattle.lane_model.specs.declared.stages.SendStage.TheVariants as stage
 use Rattle.lane_model.specs.declared.stages.TakeStage.{TakeStage}
 use Rattle.lane_model.specs.declared.stages.TakeStage.TheVariants as take_stage
 use Rattle.lane_model.specs.declared.stages.Work.TheVariants as work
+use Rattle.lane_model.specs.Answers.{wish_of}
 use Rattle.lane_model.specs.Desks.{DeskMeaning}
 use Rattle.lane_model.specs.HeldBuffers.{HeldBuffer}
 use Rattle.link_words.specs.declared.rule.Call.TheVariants.{Rests}
@@ -29,6 +32,7 @@ use Rattle.link_words.specs.declared.rule.Made.TheVariants as made
 use Rattle.link_words.specs.declared.rule.Slot.{Slot}
 use Rattle.link_words.specs.declared.rule.Slot.TheVariants.{Buffer}
 use Rattle.link_words.specs.Calls.{SeatState}
+use Rattle.link_words.specs.Deeds.{Deed, Steps}
 use Rattle.link_words.specs.Histories.{latest}
 use Rattle.link_words.specs.Steps.{hands_but}
 use Rattle.link_words.specs.Words.{other}
@@ -81,6 +85,21 @@ desk_said asked (Ok endpoint) = endpoint_answer asked endpoint
 desk_said asked (Err (desk_fault.Busy holder)) = answer.Busy holder
 desk_said asked (Err (desk_fault.Dead era)) = answer.Dead era
 desk_said asked (Err (desk_fault.Bind fault)) = answer.Refused fault
+
+-- the end of a call with this answer
+abbrev pub call_end : Answer → CallEnd
+call_end (answer.Sent number) = end.Sent number
+call_end (answer.Took held verdict) = end.Took held.number verdict
+call_end (answer.Gave number) = end.Gave number
+call_end (answer.Bound endpoint) = end.Bound endpoint
+call_end (answer.Unbound endpoint) = end.Unbound endpoint
+call_end (answer.Busy holder) = end.Busy holder
+call_end (answer.GiveBusy holder held) = end.Busy holder
+call_end (answer.Dead era) = end.Dead era
+call_end (answer.NoBuffer accepted returned) = end.NoBuffer accepted returned
+call_end (answer.BookFull accepted) = end.BookFull accepted
+call_end (answer.Empty accepted) = end.Empty accepted
+call_end (answer.Refused fault) = end.Refused fault
 
 -- what a caller asks that asks this of the desk
 abbrev pub ask_of : DeskAsk → Ask
@@ -135,8 +154,8 @@ IsInPhase z who (phase.Sends stage c message) me = SendStands z c stage me × (c
 IsInPhase z who (phase.Takes stage c buffer) me = TakeStands z c buffer stage me × (c.who ≡ who)
 IsInPhase z who (phase.Gives stage held returned) me = GiveStands who held returned stage me
 IsInPhase z who (phase.Asks asked) me = HasReceiver who (desk_work asked) me
-IsInPhase z who (phase.LeavesSender answer) me = IsLeaving lane_turn.Sender (other who.end) me
-IsInPhase z who (phase.LeavesReceiver answer) me = IsLeaving lane_turn.Receiver who.end me
+IsInPhase z who (phase.LeavesSender answer) me = IsLeaving lane_turn.Sender (other who.end) (call_end answer) me
+IsInPhase z who (phase.LeavesReceiver answer) me = IsLeaving lane_turn.Receiver who.end (call_end answer) me
 IsInPhase z who phase.Ended me = ⊥
 
 -- where it stands behind a step that says this
@@ -148,6 +167,11 @@ StandsAt z who (progress.Done said) phase me = IsAt me (Rests who.end) []
 abbrev pub asked_in : Phase → Option Ask
 asked_in (phase.Asked asked) = Some asked
 asked_in other = None
+
+-- the deed that the next step of a call in this phase is
+abbrev pub deed_of : CallerId → Phase → Deed
+deed_of who (phase.Asked asked) = Steps who.number who.follows (Some (wish_of asked))
+deed_of who other = Steps who.number 0 None
 
 -- the steps that a send has done when that of this stage is the last, the newest first
 abbrev pub IsSendPath : SendCall → SendStage → List Event → Type 0

@@ -1,6 +1,7 @@
 pub mod Openings
 pub mod Links
 pub mod Seats
+pub mod Focus
 pub mod Turns
 pub mod Walks
 pub mod Sends

@@ -10,6 +10,7 @@ use Rattle.link_words.specs.declared.rule.LinkSizes.{LinkSizes}
 use Rattle.link_words.specs.Calls.{SeatState}
 use Rattle.link_words.specs.DeskSeats.{home_view}
 use Rattle.link_words.specs.declared.rule.Call.TheVariants.{Gathers}
+use Rattle.link_words.specs.Orderly.{IsOrderly}
 use Rattle.link_words.specs.Passes.{Manages}
 use Rattle.link_words.specs.Reopens.{ManagerAt}
 use Rattle.link_words.specs.Sides.{no_sides}
@@ -32,7 +33,7 @@ pub record HasDeskSeat {D : Type 0} (code : Gv) (table seat : TableId) (me : Me 
   pub some : 0 < table.words
   pub home : me ≡ (home_view code, [])
 
--- the manager's seat is one of this link, it has no turn and knows who is in use
+-- the manager's seat is one of this link, it has no turn, knows who is in use, and its passes are in order
 pub record IsManager (table : TableId) (sizes : LinkSizes) (users : List (Option End)) (seat : TableId) (me : SeatState) : Type 0 where
   pub at_table : seat ≡ table
   pub manages : Manages me.0
@@ -40,3 +41,4 @@ pub record IsManager (table : TableId) (sizes : LinkSizes) (users : List (Option
   pub knows : me.0.users ≡ users
   pub told : me.0.sizes ≡ sizes
   pub empty : me.1 ≡ []
+  pub order : IsOrderly me.0

@@ -3,7 +3,10 @@ use Rattle.std.specs.Prelude.{◌≡◌, ◌≢◌, ◌⊎◌, ◌+◌, ◌<◌,
 use base.Stored.{Coded}
 use Rattle.rp_base.specs.declared.kinds.End.{End}
 use Rattle.rp_base.specs.declared.kinds.End.TheVariants as side
+use Rattle.rp_base.specs.declared.kinds.Era.{Era}
 use Rattle.rp_base.specs.declared.limits.TheConstants.{BOOK_MOST}
+use Rattle.lane_model.specs.declared.calls.CallEnd.{CallEnd}
+use Rattle.lane_model.specs.declared.calls.CallEnd.TheVariants as ends
 use Rattle.lane_model.specs.declared.recoveries.LaneTurn.TheVariants as lane_turn
 use Rattle.lane_model.specs.declared.stages.Work.{Work}
 use Rattle.lane_model.specs.Desks.{DeskMeaning}
@@ -22,7 +25,7 @@ use Rattle.link_words.specs.Steps.{hands_but}
 use Rattle.link_words.specs.Words.{buffer_slot}
 use Rattle.split_ring.specs.Seats.{IsAt, pass_in}
 use Rattle.split_ring.specs.Sends.{live_era}
-use Rattle.split_ring.specs.Turns.{IsLeaving, receive_call, receive_slots}
+use Rattle.split_ring.specs.Turns.{MayLeave, receive_call, receive_slots}
 use Rattle.split_ring.specs.Walks.{HasDone, one_more}
 use Rattle.split_ring.specs.declared.callers.CallerId.{CallerId}
 use Rattle.split_ring.specs.declared.takes.Taken.{Taken}
@@ -58,6 +61,11 @@ pub record IsHandedTo {D : Type 0} (meaning : DeskMeaning D) (who : CallerId) (n
   pub said : taken.held.message ≡ message
   pub desk : D
   pub judged : taken.verdict ≡ meaning.verdict desk number message
+
+-- the end of a take at its second look at the era, behind which the message of this number is handed over or not
+abbrev pub handing_end : ℕ → Result Taken Era → CallEnd
+handing_end number (Ok taken) = ends.Took number taken.verdict
+handing_end number (Err era) = ends.Dead era
 
 -- the look for a message of a caller's take: how many were handed over, and how many are accepted
 abbrev pub message_look : CallerId → ℕ → ℕ → Event
@@ -97,7 +105,7 @@ pub record IsTake {D : Type 0} (coded : Coded D) (meaning : DeskMeaning D) (who 
 
 -- a take whose end is settled, behind its first step: the answer is that of the walk which these steps and the last one make
 pub record HasSettledTake {D : Type 0} (coded : Coded D) (meaning : DeskMeaning D) (who : CallerId) (answer : Result Taken TakeFault) (me me' : SeatState) : Type 0 where
-  pub leaves : IsLeaving lane_turn.Receiver who.end me'
+  pub leaves : MayLeave lane_turn.Receiver who.end me'
   pub steps : List Event
   pub is : IsTakeWalk meaning who answer (Step made.Left ∷ (steps ++ Step (made.Turn 0) ∷ []))
   pub done : HasDone coded meaning steps (hands_after answer) me me'

@@ -57,7 +57,7 @@ pub record AreTold (books : Books) (told : End → LaneBooks) : Type 0 where
 
 -- the view in the next incarnation
 abbrev pub next_view : View → View
-next_view v = record v { inc = v.inc + 1; reclaims = []; ended = []; is_closed = false }
+next_view v = record v { inc = v.inc + 1; reclaims = []; ended_passes = []; is_closed = false }
 
 -- a reopening from this view has this answer, and leaves this view but for the copy. Each refusal tells what it read: the era, which the manager did not
 -- know closed; the turn that was another's, or the manager's by another's seat, while the manager had those before it, and a caller is in use; what is held by the side states, by a caller in use; or that it is the last

@@ -22,7 +22,7 @@ use Rattle.link_words.specs.Words.{other, sizes_at, sender_slot, buffer_slot}
 use Rattle.link_words.specs.Calls.{SeatState}
 use Rattle.link_words.specs.Histories.{LaneCounts}
 use Rattle.split_ring.specs.Seats.{IsAt}
-use Rattle.split_ring.specs.Turns.{IsLeaving}
+use Rattle.split_ring.specs.Turns.{MayLeave}
 use Rattle.split_ring.specs.Walks.{HasDone, same_hands}
 use Rattle.split_ring.specs.declared.callers.CallerId.{CallerId}
 use Rattle.split_ring.specs.declared.sends.SendCall.{SendCall}
@@ -101,7 +101,7 @@ pub record IsSend {D : Type 0} (coded : Coded D) (meaning : DeskMeaning D) (z : 
 
 -- a send whose end is settled, behind its first step: the answer is that of the walk which these steps and the last one make
 pub record HasSettled {D : Type 0} (coded : Coded D) (meaning : DeskMeaning D) (z : LinkSizes) (who : CallerId) (message : List ℕ) (answer : Result ℕ SendFault) (me me' : SeatState) : Type 0 where
-  pub leaves : IsLeaving lane_turn.Sender (other who.end) me'
+  pub leaves : MayLeave lane_turn.Sender (other who.end) me'
   pub steps : List Event
   pub is : IsSendWalk z who message answer (Step made.Left ∷ (steps ++ Step (made.Turn 0) ∷ []))
   pub done : HasDone coded meaning steps same_hands me me'

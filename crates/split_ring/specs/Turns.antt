@@ -47,12 +47,16 @@ HasBegun who (wish.Give number) me = HasReceiver who (first_work (wish.Give numb
 HasBegun who (wish.Bind address) me = HasReceiver who (first_work (wish.Bind address)) me
 HasBegun who (wish.Unbind address) me = HasReceiver who (first_work (wish.Unbind address)) me
 
--- the end of a call with this turn of this lane is settled, and its side state is out
-abbrev pub IsLeaving : LaneTurn → End → SeatState → Type 0
-IsLeaving lane_turn.Sender lane me = (caller : ℕ) × (ended : CallEnd) × (x : SenderSide) × (buffer : ℕ)
+-- the end of a call with this turn of this lane is settled, which is this one, and its side state is out
+abbrev pub IsLeaving : LaneTurn → End → CallEnd → SeatState → Type 0
+IsLeaving lane_turn.Sender lane ended me = (caller : ℕ) × (x : SenderSide) × (buffer : ℕ)
     × IsAt me (Sends lane (turn.Leaving caller ended) x buffer) ((sender_slot lane, Sender x) ∷ [])
-IsLeaving lane_turn.Receiver lane me = (caller : ℕ) × (ended : CallEnd) × (x : ReceiverSide) × (buffer : ℕ) × (message : List ℕ)
+IsLeaving lane_turn.Receiver lane ended me = (caller : ℕ) × (x : ReceiverSide) × (buffer : ℕ) × (message : List ℕ)
     × IsAt me (Receives lane (turn.Leaving caller ended) x buffer message) ((receiver_slot lane, Receiver x) ∷ [])
+
+-- the same, whatever the end is
+abbrev pub MayLeave : LaneTurn → End → SeatState → Type 0
+MayLeave t lane me = (ended : CallEnd) × IsLeaving t lane ended me
 
 -- the end of who has this turn of this lane
 abbrev pub end_with : LaneTurn → End → End

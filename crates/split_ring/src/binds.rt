@@ -1,14 +1,16 @@
 //! A binding and an unbinding: the step at which the desk changes, and the whole walk.
-ghost use Rattle.std.specs.Prelude.{◌≡◌, ◌≢◌, ◌<◌, ◌∷◌, [], IfOk, IfErr};
+ghost use Rattle.std.specs.Prelude.{◌≡◌, ◌≢◌, ◌<◌, ◌∷◌, [], IfOk, IfErr, None};
 ghost use Rattle.lane_model.specs.declared.recoveries.LaneTurn.TheVariants as lane_turn;
 ghost use Rattle.link_words.specs.declared.rule.Event.TheVariants.{Step};
 ghost use Rattle.link_words.specs.declared.rule.Made.TheVariants as made;
 ghost use Rattle.link_words.specs.declared.rule.ReceiverSide.{ReceiverSide};
 ghost use Rattle.link_words.specs.declared.rule.Slot.TheVariants.{Receiver};
+ghost use Rattle.link_words.specs.Deeds.{Steps};
 ghost use Rattle.link_words.specs.PlacedDesks.{table_at};
 ghost use Rattle.split_ring.specs.Binds.{desk_wish, desk_work, desk_answer, desk_result, asked_side, DeskAnswers};
+ghost use Rattle.split_ring.specs.Calls.{call_end, desk_said};
 ghost use Rattle.split_ring.specs.Callers.{IsCallerOf, IsAfterCall, MakesBind, MakesUnbind, MakesDeskCall};
-ghost use Rattle.split_ring.specs.Seats.{IsSeatOf};
+ghost use Rattle.split_ring.specs.Focus.{IsOrderlySeat, StepsAlone, seat_of};
 ghost use Rattle.split_ring.specs.Sends.{live_era};
 ghost use Rattle.split_ring.specs.Turns.{HasReceiver, IsLeaving};
 ghost use Rattle.split_ring.specs.Walks.{HasDone, same_hands};
@@ -18,7 +20,7 @@ use crate::links::SharedLink;
 use crate::takes::receiver_slot;
 use crate::turns::{era_of, is_live_in};
 use lane_model::{Desk, LaneTurn};
-use link_words::{DeskTable, EraUse, Intent, LinkSeat, ReceiverState, Slot, load_era};
+use link_words::{DeskTable, EraUse, Intent, LinkSeat, ReceiverState, Slot};
 use rp_base::{BindFault, CallerNo, End, Endpoint, Era};
 
 /// Why a binding or an unbinding ended otherwise.
@@ -121,7 +123,7 @@ impl<D: Desk> SharedLink<D> {
             return Err(DeskFault::Busy(holder));
         }
         let answer = self.ask_desk(&mut caller.seat, who, asked);
-        self.leave(&mut caller.seat, who.end, LaneTurn::Receiver);
+        self.leave(&mut caller.seat, who.number, who.end, LaneTurn::Receiver);
         desk_result(answer)
     }
 
@@ -134,18 +136,18 @@ impl<D: Desk> SharedLink<D> {
         who: CallerId,
         asked: DeskAsk,
     ) -> Result<Result<Endpoint, BindFault>, Era>
-        requires seat { IsSeatOf self.now.table.shared.table_id self.now.sizes seat.old.table_id seat.old.me }
-        requires turn { HasReceiver who (desk_work asked) seat.old.me }
-        ensures seat { IsSeatOf self.now.table.shared.table_id self.now.sizes seat.new.table_id seat.new.me }
-        ensures left { IsLeaving lane_turn.Receiver who.end seat.new.me }
-        ensures answered { IfOk result (λ answer. DeskAnswers D.row.coded D.meaning self.now.sizes.desks who asked answer seat.old.me seat.new.me
-            × HasDone D.row.coded D.meaning (Step (made.Era (live_era who.follows)) ∷ []) same_hands seat.old.me seat.new.me) }
-        ensures dead { IfErr result (λ era. (era ≢ live_era who.follows) × HasDone D.row.coded D.meaning (Step (made.Era era) ∷ []) same_hands seat.old.me seat.new.me) }
+        requires seat { IsOrderlySeat self.now.table.shared.table_id self.now.sizes seat.old.table_id seat.old.me }
+        requires turn { HasReceiver who (desk_work asked) (seat_of who.number seat.old.me) }
+        ensures seat { IsOrderlySeat self.now.table.shared.table_id self.now.sizes seat.new.table_id seat.new.me }
+        ensures left { IsLeaving lane_turn.Receiver who.end (call_end (desk_said asked (desk_result result))) (seat_of who.number seat.new.me) }
+        ensures answered { IfOk result (λ answer. DeskAnswers D.row.coded D.meaning self.now.sizes.desks who asked answer (seat_of who.number seat.old.me) (seat_of who.number seat.new.me)
+            × HasDone D.row.coded D.meaning (Step (made.Era (live_era who.follows)) ∷ []) same_hands (seat_of who.number seat.old.me) (seat_of who.number seat.new.me)) }
+        ensures dead { IfErr result (λ era. (era ≢ live_era who.follows) × HasDone D.row.coded D.meaning (Step (made.Era era) ∷ []) same_hands (seat_of who.number seat.old.me) (seat_of who.number seat.new.me)) }
+        ensures alone { StepsAlone D.row.coded D.meaning who.number (Steps who.number 0 None) seat.old.me seat.new.me }
     {
-        let table = &self.table.shared;
-        let era = era_of(load_era(table, seat, EraUse::Bind));
+        let era = era_of(self.load_era(seat, who.number, EraUse::Bind));
         if is_live_in(era, who.follows) {
-            let side = seat.slot_mut(table, receiver_slot(who.end));
+            let side = seat.slot_mut(&self.table.shared, receiver_slot(who.end));
             Ok(self.change_desk(side, asked))
         } else {
             Err(era)

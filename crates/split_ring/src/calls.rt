@@ -5,9 +5,10 @@ ghost use Rattle.link_words.specs.declared.rule.Event.TheVariants.{Step};
 ghost use Rattle.link_words.specs.declared.rule.Made.TheVariants as made;
 ghost use Rattle.link_words.specs.Calls.{SeatState};
 ghost use Rattle.split_ring.specs.declared.calls.Phase.TheVariants as phase;
-ghost use Rattle.split_ring.specs.Calls.{send_answer, desk_said, hands_in, IsInPhase, IsOwnAsk, IsShort, IsPath, Advances};
+ghost use Rattle.split_ring.specs.Calls.{deed_of, send_answer, desk_said, hands_in, IsInPhase, IsOwnAsk, IsShort, IsPath, Advances};
 ghost use Rattle.split_ring.specs.Callers.{IsAdvanced, MayAdvance, StepNotBelow, TakesStep};
-ghost use Rattle.split_ring.specs.Seats.{IsSeatOf, pass_in};
+ghost use Rattle.split_ring.specs.Focus.{IsOrderlySeat, StaysAlone, StepsAlone, seat_of};
+ghost use Rattle.split_ring.specs.Seats.{pass_in};
 ghost use Rattle.split_ring.specs.Turns.{HasBegun};
 ghost use Rattle.split_ring.specs.Walks.{HasDone, same_hands};
 
@@ -129,11 +130,12 @@ impl<D: Desk> SharedLink<D> {
 
     /// The next step of the call of a seat in this phase.
     fn step_on(&self, seat: &mut LinkSeat, who: CallerId, phase: Phase) -> (Phase, Progress)
-        requires seat { IsSeatOf self.now.table.shared.table_id self.now.sizes seat.old.table_id seat.old.me }
-        requires number { ((pass_in seat.old.me).number ≡ who.number) × (who.number < 64) }
-        requires stands { IsInPhase self.now.sizes who phase seat.old.me }
-        ensures seat { IsSeatOf self.now.table.shared.table_id self.now.sizes seat.new.table_id seat.new.me }
-        ensures step { Advances D.row.coded D.meaning self.now.sizes who phase result.1 result.0 seat.old.me seat.new.me }
+        requires seat { IsOrderlySeat self.now.table.shared.table_id self.now.sizes seat.old.table_id seat.old.me }
+        requires number { ((pass_in (seat_of who.number seat.old.me)).number ≡ who.number) × (who.number < 64) }
+        requires stands { IsInPhase self.now.sizes who phase (seat_of who.number seat.old.me) }
+        ensures seat { IsOrderlySeat self.now.table.shared.table_id self.now.sizes seat.new.table_id seat.new.me }
+        ensures step { Advances D.row.coded D.meaning self.now.sizes who phase result.1 result.0 (seat_of who.number seat.old.me) (seat_of who.number seat.new.me) }
+        ensures alone { StepsAlone D.row.coded D.meaning who.number (deed_of who phase) seat.old.me seat.new.me }
     {
         match phase {
             Phase::Asked(ask) => self.first_step(seat, who, ask),
@@ -142,11 +144,11 @@ impl<D: Desk> SharedLink<D> {
             Phase::Gives(stage, held, returned) => self.give_step(seat, who, stage, held, returned),
             Phase::Asks(asked) => self.desk_step(seat, who, asked),
             Phase::LeavesSender(answer) => {
-                self.leave(seat, other(who.end), LaneTurn::Sender);
+                self.leave(seat, who.number, other(who.end), LaneTurn::Sender);
                 (Phase::Ended, Progress::Done(answer))
             }
             Phase::LeavesReceiver(answer) => {
-                self.leave(seat, who.end, LaneTurn::Receiver);
+                self.leave(seat, who.number, who.end, LaneTurn::Receiver);
                 (Phase::Ended, Progress::Done(answer))
             }
             Phase::Ended => unreachable!(),
@@ -155,11 +157,12 @@ impl<D: Desk> SharedLink<D> {
 
     /// The first step of a call.
     fn first_step(&self, seat: &mut LinkSeat, who: CallerId, ask: Ask) -> (Phase, Progress)
-        requires seat { IsSeatOf self.now.table.shared.table_id self.now.sizes seat.old.table_id seat.old.me }
-        requires number { ((pass_in seat.old.me).number ≡ who.number) × (who.number < 64) }
-        requires stands { IsInPhase self.now.sizes who (phase.Asked ask) seat.old.me }
-        ensures seat { IsSeatOf self.now.table.shared.table_id self.now.sizes seat.new.table_id seat.new.me }
-        ensures step { Advances D.row.coded D.meaning self.now.sizes who (phase.Asked ask) result.1 result.0 seat.old.me seat.new.me }
+        requires seat { IsOrderlySeat self.now.table.shared.table_id self.now.sizes seat.old.table_id seat.old.me }
+        requires number { ((pass_in (seat_of who.number seat.old.me)).number ≡ who.number) × (who.number < 64) }
+        requires stands { IsInPhase self.now.sizes who (phase.Asked ask) (seat_of who.number seat.old.me) }
+        ensures seat { IsOrderlySeat self.now.table.shared.table_id self.now.sizes seat.new.table_id seat.new.me }
+        ensures step { Advances D.row.coded D.meaning self.now.sizes who (phase.Asked ask) result.1 result.0 (seat_of who.number seat.old.me) (seat_of who.number seat.new.me) }
+        ensures alone { StepsAlone D.row.coded D.meaning who.number (deed_of who (phase.Asked ask)) seat.old.me seat.new.me }
     {
         match self.enter(seat, who, wish_of(&ask)) {
             Ok(()) => (self.begun_call(seat, who, ask), Progress::At(1)),
@@ -169,14 +172,15 @@ impl<D: Desk> SharedLink<D> {
 
     /// The phase of a call that has its turn.
     fn begun_call(&self, seat: &mut LinkSeat, who: CallerId, ask: Ask) -> Phase
-        requires seat { IsSeatOf self.now.table.shared.table_id self.now.sizes seat.old.table_id seat.old.me }
-        requires turn { HasBegun who (wish_of ask) seat.old.me }
-        requires own { IsOwnAsk who ask seat.old.me }
-        ensures seat { IsSeatOf self.now.table.shared.table_id self.now.sizes seat.new.table_id seat.new.me }
-        ensures stands { IsInPhase self.now.sizes who result seat.new.me }
-        ensures still { HasDone D.row.coded D.meaning [] same_hands seat.old.me seat.new.me }
+        requires seat { IsOrderlySeat self.now.table.shared.table_id self.now.sizes seat.old.table_id seat.old.me }
+        requires turn { HasBegun who (wish_of ask) (seat_of who.number seat.old.me) }
+        requires own { IsOwnAsk who ask (seat_of who.number seat.old.me) }
+        ensures seat { IsOrderlySeat self.now.table.shared.table_id self.now.sizes seat.new.table_id seat.new.me }
+        ensures stands { IsInPhase self.now.sizes who result (seat_of who.number seat.new.me) }
+        ensures still { HasDone D.row.coded D.meaning [] same_hands (seat_of who.number seat.old.me) (seat_of who.number seat.new.me) }
         ensures hands { hands_in result ≡ same_hands }
-        ensures path { (start : SeatState) → IsPath D.row.coded D.meaning self.now.sizes who ask result (Step (made.Turn 0) ∷ []) start seat.new.me }
+        ensures path { (start : SeatState) → IsPath D.row.coded D.meaning self.now.sizes who ask result (Step (made.Turn 0) ∷ []) start (seat_of who.number seat.new.me) }
+        ensures stays { StaysAlone who.number seat.old.me seat.new.me }
     {
         match ask {
             Ask::Send(message) => {
@@ -199,10 +203,11 @@ impl<D: Desk> SharedLink<D> {
         call: SendCall,
         message: Message,
     ) -> (Phase, Progress)
-        requires seat { IsSeatOf self.now.table.shared.table_id self.now.sizes seat.old.table_id seat.old.me }
-        requires stands { IsInPhase self.now.sizes who (phase.Sends stage call message) seat.old.me }
-        ensures seat { IsSeatOf self.now.table.shared.table_id self.now.sizes seat.new.table_id seat.new.me }
-        ensures step { Advances D.row.coded D.meaning self.now.sizes who (phase.Sends stage call message) result.1 result.0 seat.old.me seat.new.me }
+        requires seat { IsOrderlySeat self.now.table.shared.table_id self.now.sizes seat.old.table_id seat.old.me }
+        requires stands { IsInPhase self.now.sizes who (phase.Sends stage call message) (seat_of who.number seat.old.me) }
+        ensures seat { IsOrderlySeat self.now.table.shared.table_id self.now.sizes seat.new.table_id seat.new.me }
+        ensures step { Advances D.row.coded D.meaning self.now.sizes who (phase.Sends stage call message) result.1 result.0 (seat_of who.number seat.old.me) (seat_of who.number seat.new.me) }
+        ensures alone { StepsAlone D.row.coded D.meaning who.number (deed_of who (phase.Sends stage call message)) seat.old.me seat.new.me }
     {
         let mut call = call;
         match stage {
@@ -250,10 +255,11 @@ impl<D: Desk> SharedLink<D> {
         call: TakeCall,
         buffer: u32,
     ) -> (Phase, Progress)
-        requires seat { IsSeatOf self.now.table.shared.table_id self.now.sizes seat.old.table_id seat.old.me }
-        requires stands { IsInPhase self.now.sizes who (phase.Takes stage call buffer) seat.old.me }
-        ensures seat { IsSeatOf self.now.table.shared.table_id self.now.sizes seat.new.table_id seat.new.me }
-        ensures step { Advances D.row.coded D.meaning self.now.sizes who (phase.Takes stage call buffer) result.1 result.0 seat.old.me seat.new.me }
+        requires seat { IsOrderlySeat self.now.table.shared.table_id self.now.sizes seat.old.table_id seat.old.me }
+        requires stands { IsInPhase self.now.sizes who (phase.Takes stage call buffer) (seat_of who.number seat.old.me) }
+        ensures seat { IsOrderlySeat self.now.table.shared.table_id self.now.sizes seat.new.table_id seat.new.me }
+        ensures step { Advances D.row.coded D.meaning self.now.sizes who (phase.Takes stage call buffer) result.1 result.0 (seat_of who.number seat.old.me) (seat_of who.number seat.new.me) }
+        ensures alone { StepsAlone D.row.coded D.meaning who.number (deed_of who (phase.Takes stage call buffer)) seat.old.me seat.new.me }
     {
         match stage {
             TakeStage::Turn => match self.find_take_era(seat, &call) {
@@ -293,10 +299,11 @@ impl<D: Desk> SharedLink<D> {
         held: Held,
         returned: u64,
     ) -> (Phase, Progress)
-        requires seat { IsSeatOf self.now.table.shared.table_id self.now.sizes seat.old.table_id seat.old.me }
-        requires stands { IsInPhase self.now.sizes who (phase.Gives stage held returned) seat.old.me }
-        ensures seat { IsSeatOf self.now.table.shared.table_id self.now.sizes seat.new.table_id seat.new.me }
-        ensures step { Advances D.row.coded D.meaning self.now.sizes who (phase.Gives stage held returned) result.1 result.0 seat.old.me seat.new.me }
+        requires seat { IsOrderlySeat self.now.table.shared.table_id self.now.sizes seat.old.table_id seat.old.me }
+        requires stands { IsInPhase self.now.sizes who (phase.Gives stage held returned) (seat_of who.number seat.old.me) }
+        ensures seat { IsOrderlySeat self.now.table.shared.table_id self.now.sizes seat.new.table_id seat.new.me }
+        ensures step { Advances D.row.coded D.meaning self.now.sizes who (phase.Gives stage held returned) result.1 result.0 (seat_of who.number seat.old.me) (seat_of who.number seat.new.me) }
+        ensures alone { StepsAlone D.row.coded D.meaning who.number (deed_of who (phase.Gives stage held returned)) seat.old.me seat.new.me }
     {
         let number = held.number();
         match stage {
@@ -313,10 +320,11 @@ impl<D: Desk> SharedLink<D> {
 
     /// The second step of a binding or an unbinding.
     fn desk_step(&self, seat: &mut LinkSeat, who: CallerId, asked: DeskAsk) -> (Phase, Progress)
-        requires seat { IsSeatOf self.now.table.shared.table_id self.now.sizes seat.old.table_id seat.old.me }
-        requires stands { IsInPhase self.now.sizes who (phase.Asks asked) seat.old.me }
-        ensures seat { IsSeatOf self.now.table.shared.table_id self.now.sizes seat.new.table_id seat.new.me }
-        ensures step { Advances D.row.coded D.meaning self.now.sizes who (phase.Asks asked) result.1 result.0 seat.old.me seat.new.me }
+        requires seat { IsOrderlySeat self.now.table.shared.table_id self.now.sizes seat.old.table_id seat.old.me }
+        requires stands { IsInPhase self.now.sizes who (phase.Asks asked) (seat_of who.number seat.old.me) }
+        ensures seat { IsOrderlySeat self.now.table.shared.table_id self.now.sizes seat.new.table_id seat.new.me }
+        ensures step { Advances D.row.coded D.meaning self.now.sizes who (phase.Asks asked) result.1 result.0 (seat_of who.number seat.old.me) (seat_of who.number seat.new.me) }
+        ensures alone { StepsAlone D.row.coded D.meaning who.number (deed_of who (phase.Asks asked)) seat.old.me seat.new.me }
     {
         let answer = desk_result(self.ask_desk(seat, who, asked));
         (

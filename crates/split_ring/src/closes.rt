@@ -10,6 +10,7 @@ ghost use Rattle.link_words.specs.Passes.{Mover};
 ghost use Rattle.split_ring.specs.Callers.{own_of, IsManagerOf, IsStateOf, IsUserOf, IsWhereItWas, MakesClose, ManagerCloses};
 ghost use Rattle.split_ring.specs.Closes.{IsCloseAnswer, HasClosed};
 ghost use Rattle.split_ring.specs.Seats.{IsSeatOf};
+ghost use Rattle.link_words.specs.Orderly.{IsOrderly};
 
 use crate::callers::{Caller, Manager};
 use crate::links::SharedLink;
@@ -52,6 +53,7 @@ impl<D: Desk> SharedLink<D> {
         requires pass { Mover seat.old.me.0 }
         ensures same { (seat.new.table_id ≡ seat.old.table_id) × (seat.new.id ≡ seat.old.id) }
         ensures closed { HasClosed D.row.coded D.meaning closer inc result seat.old.me seat.new.me }
+        ensures order { IsOrderly seat.new.me.0 }
     {
         let found = era_of(close_era(&self.table.shared, seat, closer, inc));
         if is_live_in(found, inc) {

@@ -1,16 +1,19 @@
 //! A give: a function for each step, and the whole walk.
-ghost use Rattle.std.specs.Prelude.{◌≡◌, ◌⊎◌, ◌+◌, ◌≤◌, ℕ, ◌∷◌, [], IfErr};
+ghost use Rattle.std.specs.Prelude.{◌≡◌, ◌⊎◌, ◌+◌, ◌≤◌, ℕ, ◌∷◌, [], IfErr, None};
+ghost use Rattle.lane_model.specs.declared.calls.CallEnd.TheVariants as call_end;
 ghost use Rattle.lane_model.specs.declared.recoveries.LaneTurn.TheVariants as lane_turn;
 ghost use Rattle.lane_model.specs.declared.stages.GiveStage.TheVariants as give_stage;
 ghost use Rattle.lane_model.specs.declared.stages.Work.TheVariants as work;
 ghost use Rattle.link_words.specs.declared.rule.Counted.TheVariants.{Gave};
 ghost use Rattle.link_words.specs.declared.rule.Event.TheVariants.{Step, Count};
 ghost use Rattle.link_words.specs.declared.rule.Made.TheVariants as made;
+ghost use Rattle.link_words.specs.Deeds.{Steps};
 ghost use Rattle.link_words.specs.Histories.{latest};
 ghost use Rattle.link_words.specs.Steps.{hands_but};
 ghost use Rattle.split_ring.specs.Callers.{Holds, IsCallerOf, IsAfterCall, MakesGive, GiveAbove};
 ghost use Rattle.split_ring.specs.Receives.{IsGiveAt};
-ghost use Rattle.split_ring.specs.Seats.{pass_in, IsSeatOf};
+ghost use Rattle.split_ring.specs.Focus.{IsOrderlySeat, StepsAlone, seat_of};
+ghost use Rattle.split_ring.specs.Seats.{pass_in};
 ghost use Rattle.split_ring.specs.Turns.{HasReceiver, IsLeaving};
 ghost use Rattle.split_ring.specs.Walks.{HasDone, same_hands};
 
@@ -19,7 +22,7 @@ use crate::links::SharedLink;
 use crate::slots::{give_back_in, returned_in};
 use crate::takes::receiver_slot;
 use lane_model::{Desk, Held, LaneTurn};
-use link_words::{Intent, LinkSeat, Ring, publish_index, store_entry};
+use link_words::{Intent, LinkSeat, Ring};
 use rp_base::CallerNo;
 use vring_layout::UsedWord;
 
@@ -50,25 +53,25 @@ impl<D: Desk> SharedLink<D> {
         }
         let returned = self.store_given(&mut caller.seat, who, number);
         self.publish_given(&mut caller.seat, who, number, returned);
-        self.leave(&mut caller.seat, who.end, LaneTurn::Receiver);
+        self.leave(&mut caller.seat, who.number, who.end, LaneTurn::Receiver);
         Ok(number)
     }
 
     /// Step 2 of a give: the return entry names the buffer. The answer is how many buffers are back.
     pub(crate) fn store_given(&self, seat: &mut LinkSeat, who: CallerId, number: u64) -> u64
-        requires seat { IsSeatOf self.now.table.shared.table_id self.now.sizes seat.old.table_id seat.old.me }
-        requires turn { HasReceiver who (work.Give number give_stage.Turn) seat.old.me }
-        ensures seat { IsSeatOf self.now.table.shared.table_id self.now.sizes seat.new.table_id seat.new.me }
-        ensures stored { IsGiveAt who result (work.Give number give_stage.Entry) seat.new.me }
-        ensures done { HasDone D.row.coded D.meaning (Step made.Entry ∷ []) same_hands seat.old.me seat.new.me }
+        requires seat { IsOrderlySeat self.now.table.shared.table_id self.now.sizes seat.old.table_id seat.old.me }
+        requires turn { HasReceiver who (work.Give number give_stage.Turn) (seat_of who.number seat.old.me) }
+        ensures seat { IsOrderlySeat self.now.table.shared.table_id self.now.sizes seat.new.table_id seat.new.me }
+        ensures stored { IsGiveAt who result (work.Give number give_stage.Entry) (seat_of who.number seat.new.me) }
+        ensures done { HasDone D.row.coded D.meaning (Step made.Entry ∷ []) same_hands (seat_of who.number seat.old.me) (seat_of who.number seat.new.me) }
+        ensures alone { StepsAlone D.row.coded D.meaning who.number (Steps who.number 0 None) seat.old.me seat.new.me }
     {
-        let table = &self.table.shared;
         let lane = who.end;
         let slot = receiver_slot(lane);
-        let (returned, buffer) = returned_in(seat.slot_mut(table, slot), number);
+        let (returned, buffer) = returned_in(seat.slot_mut(&self.table.shared, slot), number);
         let entry = UsedWord { id: buffer, len: 0 };
         let count = self.return_count(lane, returned);
-        store_entry(table, &self.sizes, seat, lane, Ring::Return, count, entry);
+        self.store_entry(seat, who.number, lane, Ring::Return, count, entry);
         returned
     }
 
@@ -80,16 +83,19 @@ impl<D: Desk> SharedLink<D> {
         number: u64,
         returned: u64,
     )
-        requires seat { IsSeatOf self.now.table.shared.table_id self.now.sizes seat.old.table_id seat.old.me }
-        requires call { IsGiveAt who returned (work.Give number give_stage.Entry) seat.old.me }
-        ensures seat { IsSeatOf self.now.table.shared.table_id self.now.sizes seat.new.table_id seat.new.me }
-        ensures given { IsLeaving lane_turn.Receiver who.end seat.new.me }
-        ensures done { (inc : ℕ) × (((pass_in seat.old.me).hands ≡ []) ⊎ (latest (pass_in seat.old.me).own ≡ inc)) × HasDone D.row.coded D.meaning (Count who.end inc (Gave (returned + 1)) ∷ []) (λ hands. hands_but hands number) seat.old.me seat.new.me }
+        requires seat { IsOrderlySeat self.now.table.shared.table_id self.now.sizes seat.old.table_id seat.old.me }
+        requires call { IsGiveAt who returned (work.Give number give_stage.Entry) (seat_of who.number seat.old.me) }
+        ensures seat { IsOrderlySeat self.now.table.shared.table_id self.now.sizes seat.new.table_id seat.new.me }
+        ensures given { IsLeaving lane_turn.Receiver who.end (call_end.Gave number) (seat_of who.number seat.new.me) }
+        ensures done { (inc : ℕ) × (((pass_in (seat_of who.number seat.old.me)).hands ≡ []) ⊎ (latest (pass_in (seat_of who.number seat.old.me)).own ≡ inc)) × HasDone D.row.coded D.meaning (Count who.end inc (Gave (returned + 1)) ∷ []) (λ hands. hands_but hands number) (seat_of who.number seat.old.me) (seat_of who.number seat.new.me) }
+        ensures alone { StepsAlone D.row.coded D.meaning who.number (Steps who.number 0 None) seat.old.me seat.new.me }
     {
-        let table = &self.table.shared;
         let lane = who.end;
         let count = self.return_count(lane, returned) + 1;
-        publish_index(table, seat, lane, Ring::Return, count);
-        give_back_in(seat.slot_mut(table, receiver_slot(lane)), number);
+        self.publish_index(seat, who.number, lane, Ring::Return, count);
+        give_back_in(
+            seat.slot_mut(&self.table.shared, receiver_slot(lane)),
+            number,
+        );
     }
 }

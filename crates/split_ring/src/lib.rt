@@ -17,6 +17,7 @@ mod reopens;
 mod sends;
 mod slots;
 mod snapshots;
+mod steps;
 mod takes;
 mod threads;
 mod turns;

@@ -1,7 +1,8 @@
 //! A send: a function for each step, and the whole walk.
-ghost use Rattle.std.specs.Prelude.{◌≡◌, ◌≢◌, ◌+◌, ◌≤◌, ◌%◌, ◌<◌, ℕ, ◌∷◌, [], IfOk, IfErr, length};
+ghost use Rattle.std.specs.Prelude.{◌≡◌, ◌≢◌, ◌+◌, ◌≤◌, ◌%◌, ◌<◌, ℕ, ◌∷◌, [], IfOk, IfErr, None, length};
 ghost use Rattle.rp_base.specs.declared.limits.TheConstants.{BOOK_MOST};
 ghost use Rattle.lane_model.specs.declared.calls.CallEnd.{CallEnd};
+ghost use Rattle.lane_model.specs.declared.calls.CallEnd.TheVariants as call_end;
 ghost use Rattle.lane_model.specs.declared.recoveries.LaneTurn.TheVariants as lane_turn;
 ghost use Rattle.lane_model.specs.declared.stages.SendStage.TheVariants as stage;
 ghost use Rattle.ring_core.specs.Rings.{return_count, entry_length};
@@ -9,10 +10,11 @@ ghost use Rattle.link_words.specs.declared.rule.Event.TheVariants.{Step, Publish
 ghost use Rattle.link_words.specs.declared.rule.Made.TheVariants as made;
 ghost use Rattle.link_words.specs.declared.rule.Slot.{Slot};
 ghost use Rattle.link_words.specs.declared.rule.Slot.TheVariants.{Buffer};
+ghost use Rattle.link_words.specs.Deeds.{Steps};
 ghost use Rattle.link_words.specs.Parts.{AreNear};
 ghost use Rattle.link_words.specs.Words.{other, sender_slot};
 ghost use Rattle.split_ring.specs.Callers.{IsCallerOf, IsAfterCall, MakesSend, SendNotBelow};
-ghost use Rattle.split_ring.specs.Seats.{IsSeatOf};
+ghost use Rattle.split_ring.specs.Focus.{IsAlone, IsOrderlySeat, StaysAlone, StepsAlone, seat_of};
 ghost use Rattle.split_ring.specs.Sends.{live_era, room_look, IsSendAt, IsFilledAt, HasNoRoom, HasSettled};
 ghost use Rattle.split_ring.specs.Turns.{HasSender, IsLeaving};
 ghost use Rattle.split_ring.specs.Walks.{HasDone, same_hands};
@@ -22,10 +24,7 @@ use crate::links::SharedLink;
 use crate::slots::{accept_in, accepted_in, fill};
 use crate::turns::{era_of, is_live_in, other};
 use lane_model::{Desk, LaneTurn};
-use link_words::{
-    EraUse, IndexUse, Intent, LinkSeat, Ring, SenderState, load_entry, load_era, load_index,
-    publish_index, store_entry,
-};
+use link_words::{EraUse, IndexUse, Intent, LinkSeat, Ring, SenderState};
 use ring_core::RingSizes;
 use rp_base::{CallerNo, End, Era, Message};
 use std::snapshot::Snapshot;
@@ -93,7 +92,12 @@ impl<D: Desk> SharedLink<D> {
             return Err(SendFault::Busy(holder));
         }
         let answer = self.send_on(&mut caller.seat, who, message);
-        self.leave(&mut caller.seat, other(who.end), LaneTurn::Sender);
+        self.leave(
+            &mut caller.seat,
+            who.number,
+            other(who.end),
+            LaneTurn::Sender,
+        );
         answer
     }
 
@@ -104,10 +108,11 @@ impl<D: Desk> SharedLink<D> {
         who: CallerId,
         message: &Message,
     ) -> Result<u64, SendFault>
-        requires seat { IsSeatOf self.now.table.shared.table_id self.now.sizes seat.old.table_id seat.old.me }
-        requires turn { HasSender who message.now seat.old.me }
-        ensures seat { IsSeatOf self.now.table.shared.table_id self.now.sizes seat.new.table_id seat.new.me }
-        ensures settled { HasSettled D.row.coded D.meaning self.now.sizes who message.now result seat.old.me seat.new.me }
+        requires seat { IsOrderlySeat self.now.table.shared.table_id self.now.sizes seat.old.table_id seat.old.me }
+        requires turn { HasSender who message.now (seat_of who.number seat.old.me) }
+        ensures seat { IsOrderlySeat self.now.table.shared.table_id self.now.sizes seat.new.table_id seat.new.me }
+        ensures settled { HasSettled D.row.coded D.meaning self.now.sizes who message.now result (seat_of who.number seat.old.me) (seat_of who.number seat.new.me) }
+        ensures alone { IsAlone who.number seat.old.me → IsAlone who.number seat.new.me }
     {
         let mut call = self.send_begun(seat, who, message);
         if let Err(era) = self.find_send_era(seat, &call) {
@@ -129,11 +134,12 @@ impl<D: Desk> SharedLink<D> {
         who: CallerId,
         message: &Message,
     ) -> SendCall
-        requires seat { IsSeatOf self.now.table.shared.table_id self.now.sizes seat.old.table_id seat.old.me }
-        requires turn { HasSender who message.now seat.old.me }
-        ensures seat { IsSeatOf self.now.table.shared.table_id self.now.sizes seat.new.table_id seat.new.me }
-        ensures call { IsSendAt result stage.Turn seat.new.me × (result.who ≡ who) × (result.message.value ≡ message.now) }
-        ensures still { HasDone D.row.coded D.meaning [] same_hands seat.old.me seat.new.me }
+        requires seat { IsOrderlySeat self.now.table.shared.table_id self.now.sizes seat.old.table_id seat.old.me }
+        requires turn { HasSender who message.now (seat_of who.number seat.old.me) }
+        ensures seat { IsOrderlySeat self.now.table.shared.table_id self.now.sizes seat.new.table_id seat.new.me }
+        ensures call { IsSendAt result stage.Turn (seat_of result.who.number seat.new.me) × (result.who ≡ who) × (result.message.value ≡ message.now) }
+        ensures still { HasDone D.row.coded D.meaning [] same_hands (seat_of result.who.number seat.old.me) (seat_of result.who.number seat.new.me) }
+        ensures stays { StaysAlone result.who.number seat.old.me seat.new.me }
     {
         let slot = sender_slot(other(who.end));
         let (accepted, side) = accepted_in(seat.slot_mut(&self.table.shared, slot));
@@ -150,15 +156,16 @@ impl<D: Desk> SharedLink<D> {
     ///
     /// Errors: the era that was found, exactly where it is another or a closed one.
     pub(crate) fn find_send_era(&self, seat: &mut LinkSeat, call: &SendCall) -> Result<(), Era>
-        requires seat { IsSeatOf self.now.table.shared.table_id self.now.sizes seat.old.table_id seat.old.me }
-        requires call { IsSendAt call.now stage.Turn seat.old.me }
-        ensures seat { IsSeatOf self.now.table.shared.table_id self.now.sizes seat.new.table_id seat.new.me }
-        ensures live { IfOk result (λ _. IsSendAt call.now stage.Era seat.new.me
-            × HasDone D.row.coded D.meaning (Step (made.Era (live_era call.now.who.follows)) ∷ []) same_hands seat.old.me seat.new.me) }
-        ensures dead { IfErr result (λ era. (era ≢ live_era call.now.who.follows) × IsLeaving lane_turn.Sender (other call.now.who.end) seat.new.me
-            × HasDone D.row.coded D.meaning (Step (made.Era era) ∷ []) same_hands seat.old.me seat.new.me) }
+        requires seat { IsOrderlySeat self.now.table.shared.table_id self.now.sizes seat.old.table_id seat.old.me }
+        requires call { IsSendAt call.now stage.Turn (seat_of call.now.who.number seat.old.me) }
+        ensures seat { IsOrderlySeat self.now.table.shared.table_id self.now.sizes seat.new.table_id seat.new.me }
+        ensures live { IfOk result (λ _. IsSendAt call.now stage.Era (seat_of call.now.who.number seat.new.me)
+            × HasDone D.row.coded D.meaning (Step (made.Era (live_era call.now.who.follows)) ∷ []) same_hands (seat_of call.now.who.number seat.old.me) (seat_of call.now.who.number seat.new.me)) }
+        ensures dead { IfErr result (λ era. (era ≢ live_era call.now.who.follows) × IsLeaving lane_turn.Sender (other call.now.who.end) (call_end.Dead era) (seat_of call.now.who.number seat.new.me)
+            × HasDone D.row.coded D.meaning (Step (made.Era era) ∷ []) same_hands (seat_of call.now.who.number seat.old.me) (seat_of call.now.who.number seat.new.me)) }
+        ensures alone { StepsAlone D.row.coded D.meaning call.now.who.number (Steps call.now.who.number 0 None) seat.old.me seat.new.me }
     {
-        let era = era_of(load_era(&self.table.shared, seat, EraUse::Send));
+        let era = era_of(self.load_era(seat, call.who.number, EraUse::Send));
         if is_live_in(era, call.who.follows) {
             Ok(())
         } else {
@@ -174,17 +181,18 @@ impl<D: Desk> SharedLink<D> {
         seat: &mut LinkSeat,
         call: &SendCall,
     ) -> Result<(), SendFault>
-        requires seat { IsSeatOf self.now.table.shared.table_id self.now.sizes seat.old.table_id seat.old.me }
-        requires call { IsSendAt call.now stage.Era seat.old.me }
-        ensures seat { IsSeatOf self.now.table.shared.table_id self.now.sizes seat.new.table_id seat.new.me }
-        ensures room { IfOk result (λ _. IsSendAt call.now stage.Look seat.new.me
-            × ((returned : ℕ) × HasDone D.row.coded D.meaning (room_look call.now.who call.now.accepted returned ∷ []) same_hands seat.old.me seat.new.me)) }
+        requires seat { IsOrderlySeat self.now.table.shared.table_id self.now.sizes seat.old.table_id seat.old.me }
+        requires call { IsSendAt call.now stage.Era (seat_of call.now.who.number seat.old.me) }
+        ensures seat { IsOrderlySeat self.now.table.shared.table_id self.now.sizes seat.new.table_id seat.new.me }
+        ensures room { IfOk result (λ _. IsSendAt call.now stage.Look (seat_of call.now.who.number seat.new.me)
+            × ((returned : ℕ) × HasDone D.row.coded D.meaning (room_look call.now.who call.now.accepted returned ∷ []) same_hands (seat_of call.now.who.number seat.old.me) (seat_of call.now.who.number seat.new.me))) }
         ensures none { IfErr result (λ found. (returned : ℕ) × (ended : CallEnd) × HasNoRoom self.now.sizes call.now returned found ended
-            × IsLeaving lane_turn.Sender (other call.now.who.end) seat.new.me
-            × HasDone D.row.coded D.meaning (room_look call.now.who call.now.accepted returned ∷ []) same_hands seat.old.me seat.new.me) }
+            × IsLeaving lane_turn.Sender (other call.now.who.end) ended (seat_of call.now.who.number seat.new.me)
+            × HasDone D.row.coded D.meaning (room_look call.now.who call.now.accepted returned ∷ []) same_hands (seat_of call.now.who.number seat.old.me) (seat_of call.now.who.number seat.new.me)) }
+        ensures alone { StepsAlone D.row.coded D.meaning call.now.who.number (Steps call.now.who.number 0 None) seat.old.me seat.new.me }
     {
         let lane = other(call.who.end);
-        let index = load_index(&self.table.shared, seat, lane, IndexUse::Room);
+        let index = self.load_index(seat, call.who.number, lane, IndexUse::Room);
         let sizes = self.sizes_of(lane);
         let free = free_buffers(index, &sizes, call.accepted);
         if free == 0 {
@@ -199,45 +207,44 @@ impl<D: Desk> SharedLink<D> {
 
     /// Step 4 of a send: a buffer is out, of the sender's own list or of the return ring.
     pub(crate) fn take_free(&self, seat: &mut LinkSeat, call: &SendCall) -> u32
-        requires seat { IsSeatOf self.now.table.shared.table_id self.now.sizes seat.old.table_id seat.old.me }
-        requires call { IsSendAt call.now stage.Look seat.old.me }
-        ensures seat { IsSeatOf self.now.table.shared.table_id self.now.sizes seat.new.table_id seat.new.me }
-        ensures out { (y : Slot) × IsFilledAt self.now.sizes (record call.now { buffer = result }) stage.Buffer y seat.new.me }
-        ensures done { HasDone D.row.coded D.meaning (Step (made.Buffer result) ∷ []) same_hands seat.old.me seat.new.me }
+        requires seat { IsOrderlySeat self.now.table.shared.table_id self.now.sizes seat.old.table_id seat.old.me }
+        requires call { IsSendAt call.now stage.Look (seat_of call.now.who.number seat.old.me) }
+        ensures seat { IsOrderlySeat self.now.table.shared.table_id self.now.sizes seat.new.table_id seat.new.me }
+        ensures out { (y : Slot) × IsFilledAt self.now.sizes (record call.now { buffer = result }) stage.Buffer y (seat_of call.now.who.number seat.new.me) }
+        ensures done { HasDone D.row.coded D.meaning (Step (made.Buffer result) ∷ []) same_hands (seat_of call.now.who.number seat.old.me) (seat_of call.now.who.number seat.new.me) }
+        ensures alone { StepsAlone D.row.coded D.meaning call.now.who.number (Steps call.now.who.number 0 None) seat.old.me seat.new.me }
     {
         let lane = other(call.who.end);
         let own = u64::from(self.sizes_of(lane).own);
-        let table = &self.table.shared;
         if call.accepted < own {
-            load_index(table, seat, lane, IndexUse::OwnBuffer);
+            self.load_index(seat, call.who.number, lane, IndexUse::OwnBuffer);
             return call.accepted as u32;
         }
         let count = call.accepted - own;
-        let entry = load_entry(table, &self.sizes, seat, lane, Ring::Return, count);
+        let entry = self.load_entry(seat, call.who.number, lane, Ring::Return, count);
         (entry % 4_294_967_296) as u32
     }
 
     /// Step 5 of a send: the message is in the buffer, and the forward entry names it.
     pub(crate) fn store_message(&self, seat: &mut LinkSeat, call: &SendCall, message: &Message)
-        requires seat { IsSeatOf self.now.table.shared.table_id self.now.sizes seat.old.table_id seat.old.me }
-        requires call { (y : Slot) × IsFilledAt self.now.sizes call.now stage.Buffer y seat.old.me }
+        requires seat { IsOrderlySeat self.now.table.shared.table_id self.now.sizes seat.old.table_id seat.old.me }
+        requires call { (y : Slot) × IsFilledAt self.now.sizes call.now stage.Buffer y (seat_of call.now.who.number seat.old.me) }
         requires message { call.now.message.value ≡ message.now }
-        ensures seat { IsSeatOf self.now.table.shared.table_id self.now.sizes seat.new.table_id seat.new.me }
-        ensures stored { IsFilledAt self.now.sizes call.now stage.Entry (Buffer message.now) seat.new.me }
-        ensures done { HasDone D.row.coded D.meaning (Step made.Entry ∷ []) same_hands seat.old.me seat.new.me }
+        ensures seat { IsOrderlySeat self.now.table.shared.table_id self.now.sizes seat.new.table_id seat.new.me }
+        ensures stored { IsFilledAt self.now.sizes call.now stage.Entry (Buffer message.now) (seat_of call.now.who.number seat.new.me) }
+        ensures done { HasDone D.row.coded D.meaning (Step made.Entry ∷ []) same_hands (seat_of call.now.who.number seat.old.me) (seat_of call.now.who.number seat.new.me) }
+        ensures alone { StepsAlone D.row.coded D.meaning call.now.who.number (Steps call.now.who.number 0 None) seat.old.me seat.new.me }
     {
         let lane = other(call.who.end);
         let slot = self.buffer_slot(lane, call.buffer);
-        let table = &self.table.shared;
-        fill(seat.slot_mut(table, slot), message);
+        fill(seat.slot_mut(&self.table.shared, slot), message);
         let entry = UsedWord {
             id: call.buffer,
             len: entry_length(&self.sizes_of(lane), message),
         };
-        store_entry(
-            table,
-            &self.sizes,
+        self.store_entry(
             seat,
+            call.who.number,
             lane,
             Ring::Forward,
             call.accepted,
@@ -247,17 +254,23 @@ impl<D: Desk> SharedLink<D> {
 
     /// Step 6 of a send: the message is accepted, and the buffer at home.
     pub(crate) fn publish_message(&self, seat: &mut LinkSeat, call: &SendCall, message: &Message)
-        requires seat { IsSeatOf self.now.table.shared.table_id self.now.sizes seat.old.table_id seat.old.me }
+        requires seat { IsOrderlySeat self.now.table.shared.table_id self.now.sizes seat.old.table_id seat.old.me }
         requires message { call.now.message.value ≡ message.now }
-        requires call { IsFilledAt self.now.sizes call.now stage.Entry (Buffer call.now.message.value) seat.old.me }
-        ensures seat { IsSeatOf self.now.table.shared.table_id self.now.sizes seat.new.table_id seat.new.me }
-        ensures published { IsLeaving lane_turn.Sender (other call.now.who.end) seat.new.me }
-        ensures done { HasDone D.row.coded D.meaning (Publish (other call.now.who.end) call.now.who.follows call.now.accepted call.now.message.value ∷ []) same_hands seat.old.me seat.new.me }
+        requires call { IsFilledAt self.now.sizes call.now stage.Entry (Buffer call.now.message.value) (seat_of call.now.who.number seat.old.me) }
+        ensures seat { IsOrderlySeat self.now.table.shared.table_id self.now.sizes seat.new.table_id seat.new.me }
+        ensures published { IsLeaving lane_turn.Sender (other call.now.who.end) (call_end.Sent call.now.accepted) (seat_of call.now.who.number seat.new.me) }
+        ensures done { HasDone D.row.coded D.meaning (Publish (other call.now.who.end) call.now.who.follows call.now.accepted call.now.message.value ∷ []) same_hands (seat_of call.now.who.number seat.old.me) (seat_of call.now.who.number seat.new.me) }
+        ensures alone { StepsAlone D.row.coded D.meaning call.now.who.number (Steps call.now.who.number 0 None) seat.old.me seat.new.me }
     {
         let lane = other(call.who.end);
-        let table = &self.table.shared;
-        publish_index(table, seat, lane, Ring::Forward, call.accepted + 1);
-        let side = seat.slot_mut(table, sender_slot(lane));
+        self.publish_index(
+            seat,
+            call.who.number,
+            lane,
+            Ring::Forward,
+            call.accepted + 1,
+        );
+        let side = seat.slot_mut(&self.table.shared, sender_slot(lane));
         accept_in(side, call.who.number, message);
     }
 }

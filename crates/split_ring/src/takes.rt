@@ -1,6 +1,7 @@
 //! A take: a function for each step, and the whole walk.
-ghost use Rattle.std.specs.Prelude.{◌≡◌, ◌≢◌, ◌+◌, ◌≤◌, ◌<◌, ◌%◌, ℕ, List, ◌∷◌, [], length, IfOk, IfErr};
+ghost use Rattle.std.specs.Prelude.{◌≡◌, ◌≢◌, ◌+◌, ◌≤◌, ◌<◌, ◌%◌, ℕ, List, ◌∷◌, [], length, IfOk, IfErr, None};
 ghost use Rattle.rp_base.specs.declared.limits.TheConstants.{BOOK_MOST, CAPACITY_MOST};
+ghost use Rattle.lane_model.specs.declared.calls.CallEnd.TheVariants as call_end;
 ghost use Rattle.lane_model.specs.declared.recoveries.LaneTurn.TheVariants as lane_turn;
 ghost use Rattle.lane_model.specs.declared.stages.TakeStage.TheVariants as take_stage;
 ghost use Rattle.lane_model.specs.declared.stages.Work.TheVariants as work;
@@ -8,12 +9,13 @@ ghost use Rattle.link_words.specs.declared.rule.Event.TheVariants.{Step, Take};
 ghost use Rattle.link_words.specs.declared.rule.Made.TheVariants as made;
 ghost use Rattle.link_words.specs.declared.rule.ReceiverSide.{ReceiverSide};
 ghost use Rattle.link_words.specs.declared.rule.Slot.TheVariants.{Receiver};
+ghost use Rattle.link_words.specs.Deeds.{Steps};
 ghost use Rattle.link_words.specs.PlacedDesks.{table_at, IsRightTo};
 ghost use Rattle.link_words.specs.Steps.{handed_side};
 ghost use Rattle.link_words.specs.Words.{receiver_slot};
 ghost use Rattle.split_ring.specs.Callers.{Holds, IsCallerOf, IsAfterCall, MakesTake, TakeNotBelow};
-ghost use Rattle.split_ring.specs.Receives.{lane_number, message_look, IsTakeAt, HasBufferOut, IsHandedTo, HasSettledTake};
-ghost use Rattle.split_ring.specs.Seats.{IsSeatOf};
+ghost use Rattle.split_ring.specs.Receives.{handing_end, lane_number, message_look, IsTakeAt, HasBufferOut, IsHandedTo, HasSettledTake};
+ghost use Rattle.split_ring.specs.Focus.{IsAlone, IsOrderlySeat, StaysAlone, StepsAlone, seat_of};
 ghost use Rattle.split_ring.specs.Sends.{live_era};
 ghost use Rattle.split_ring.specs.Turns.{HasReceiver, IsLeaving, receive_slots};
 ghost use Rattle.split_ring.specs.Walks.{HasDone, same_hands, one_more};
@@ -23,9 +25,7 @@ use crate::links::SharedLink;
 use crate::slots::{handed_in, message_in};
 use crate::turns::{era_of, is_live_in};
 use lane_model::{Desk, Held, LaneTurn};
-use link_words::{
-    EraUse, IndexUse, Intent, LinkSeat, Ring, Slot, load_entry, load_era, load_index,
-};
+use link_words::{EraUse, IndexUse, Intent, LinkSeat, Ring, Slot};
 use rp_base::{Buffer, CallerNo, End, Era, Message, Verdict};
 
 /// A message that was handed over, in its buffer, and what the desk said of it.
@@ -101,16 +101,17 @@ impl<D: Desk> SharedLink<D> {
             return Err(TakeFault::Busy(holder));
         }
         let answer = self.take_on(&mut caller.seat, who);
-        self.leave(&mut caller.seat, who.end, LaneTurn::Receiver);
+        self.leave(&mut caller.seat, who.number, who.end, LaneTurn::Receiver);
         answer
     }
 
     /// The steps of a take behind its first, up to the one that settles its end.
     fn take_on(&self, seat: &mut LinkSeat, who: CallerId) -> Result<Taken, TakeFault>
-        requires seat { IsSeatOf self.now.table.shared.table_id self.now.sizes seat.old.table_id seat.old.me }
-        requires turn { HasReceiver who (work.Take take_stage.Turn) seat.old.me }
-        ensures seat { IsSeatOf self.now.table.shared.table_id self.now.sizes seat.new.table_id seat.new.me }
-        ensures settled { HasSettledTake D.row.coded D.meaning who result seat.old.me seat.new.me }
+        requires seat { IsOrderlySeat self.now.table.shared.table_id self.now.sizes seat.old.table_id seat.old.me }
+        requires turn { HasReceiver who (work.Take take_stage.Turn) (seat_of who.number seat.old.me) }
+        ensures seat { IsOrderlySeat self.now.table.shared.table_id self.now.sizes seat.new.table_id seat.new.me }
+        ensures settled { HasSettledTake D.row.coded D.meaning who result (seat_of who.number seat.old.me) (seat_of who.number seat.new.me) }
+        ensures alone { IsAlone who.number seat.old.me → IsAlone who.number seat.new.me }
     {
         let call = self.take_begun(seat, who);
         if let Err(era) = self.find_take_era(seat, &call) {
@@ -128,11 +129,12 @@ impl<D: Desk> SharedLink<D> {
 
     /// A take that has its turn, by its side state.
     pub(crate) fn take_begun(&self, seat: &mut LinkSeat, who: CallerId) -> TakeCall
-        requires seat { IsSeatOf self.now.table.shared.table_id self.now.sizes seat.old.table_id seat.old.me }
-        requires turn { HasReceiver who (work.Take take_stage.Turn) seat.old.me }
-        ensures seat { IsSeatOf self.now.table.shared.table_id self.now.sizes seat.new.table_id seat.new.me }
-        ensures call { IsTakeAt result (work.Take take_stage.Turn) seat.new.me × (result.who ≡ who) }
-        ensures still { HasDone D.row.coded D.meaning [] same_hands seat.old.me seat.new.me }
+        requires seat { IsOrderlySeat self.now.table.shared.table_id self.now.sizes seat.old.table_id seat.old.me }
+        requires turn { HasReceiver who (work.Take take_stage.Turn) (seat_of who.number seat.old.me) }
+        ensures seat { IsOrderlySeat self.now.table.shared.table_id self.now.sizes seat.new.table_id seat.new.me }
+        ensures call { IsTakeAt result (work.Take take_stage.Turn) (seat_of result.who.number seat.new.me) × (result.who ≡ who) }
+        ensures still { HasDone D.row.coded D.meaning [] same_hands (seat_of result.who.number seat.old.me) (seat_of result.who.number seat.new.me) }
+        ensures stays { StaysAlone result.who.number seat.old.me seat.new.me }
     {
         let slot = receiver_slot(who.end);
         TakeCall {
@@ -145,15 +147,16 @@ impl<D: Desk> SharedLink<D> {
     ///
     /// Errors: the era that was found, exactly where it is another or a closed one.
     pub(crate) fn find_take_era(&self, seat: &mut LinkSeat, call: &TakeCall) -> Result<(), Era>
-        requires seat { IsSeatOf self.now.table.shared.table_id self.now.sizes seat.old.table_id seat.old.me }
-        requires call { IsTakeAt call.now (work.Take take_stage.Turn) seat.old.me }
-        ensures seat { IsSeatOf self.now.table.shared.table_id self.now.sizes seat.new.table_id seat.new.me }
-        ensures live { IfOk result (λ _. IsTakeAt call.now (work.Take take_stage.Era) seat.new.me
-            × HasDone D.row.coded D.meaning (Step (made.Era (live_era call.now.who.follows)) ∷ []) same_hands seat.old.me seat.new.me) }
-        ensures dead { IfErr result (λ era. (era ≢ live_era call.now.who.follows) × IsLeaving lane_turn.Receiver call.now.who.end seat.new.me
-            × HasDone D.row.coded D.meaning (Step (made.Era era) ∷ []) same_hands seat.old.me seat.new.me) }
+        requires seat { IsOrderlySeat self.now.table.shared.table_id self.now.sizes seat.old.table_id seat.old.me }
+        requires call { IsTakeAt call.now (work.Take take_stage.Turn) (seat_of call.now.who.number seat.old.me) }
+        ensures seat { IsOrderlySeat self.now.table.shared.table_id self.now.sizes seat.new.table_id seat.new.me }
+        ensures live { IfOk result (λ _. IsTakeAt call.now (work.Take take_stage.Era) (seat_of call.now.who.number seat.new.me)
+            × HasDone D.row.coded D.meaning (Step (made.Era (live_era call.now.who.follows)) ∷ []) same_hands (seat_of call.now.who.number seat.old.me) (seat_of call.now.who.number seat.new.me)) }
+        ensures dead { IfErr result (λ era. (era ≢ live_era call.now.who.follows) × IsLeaving lane_turn.Receiver call.now.who.end (call_end.Dead era) (seat_of call.now.who.number seat.new.me)
+            × HasDone D.row.coded D.meaning (Step (made.Era era) ∷ []) same_hands (seat_of call.now.who.number seat.old.me) (seat_of call.now.who.number seat.new.me)) }
+        ensures alone { StepsAlone D.row.coded D.meaning call.now.who.number (Steps call.now.who.number 0 None) seat.old.me seat.new.me }
     {
-        let era = era_of(load_era(&self.table.shared, seat, EraUse::Take));
+        let era = era_of(self.load_era(seat, call.who.number, EraUse::Take));
         if is_live_in(era, call.who.follows) {
             Ok(())
         } else {
@@ -165,15 +168,16 @@ impl<D: Desk> SharedLink<D> {
     ///
     /// Errors: how many messages were accepted, exactly where each was handed over.
     pub(crate) fn look_for_message(&self, seat: &mut LinkSeat, call: &TakeCall) -> Result<(), u64>
-        requires seat { IsSeatOf self.now.table.shared.table_id self.now.sizes seat.old.table_id seat.old.me }
-        requires call { IsTakeAt call.now (work.Take take_stage.Era) seat.old.me }
-        ensures seat { IsSeatOf self.now.table.shared.table_id self.now.sizes seat.new.table_id seat.new.me }
-        ensures message { IfOk result (λ _. IsTakeAt call.now (work.Take take_stage.Look) seat.new.me
-            × ((accepted : ℕ) × HasDone D.row.coded D.meaning (message_look call.now.who call.now.handed accepted ∷ []) same_hands seat.old.me seat.new.me)) }
-        ensures empty { IfErr result (λ accepted. (accepted ≡ call.now.handed) × IsLeaving lane_turn.Receiver call.now.who.end seat.new.me
-            × HasDone D.row.coded D.meaning (message_look call.now.who accepted accepted ∷ []) same_hands seat.old.me seat.new.me) }
+        requires seat { IsOrderlySeat self.now.table.shared.table_id self.now.sizes seat.old.table_id seat.old.me }
+        requires call { IsTakeAt call.now (work.Take take_stage.Era) (seat_of call.now.who.number seat.old.me) }
+        ensures seat { IsOrderlySeat self.now.table.shared.table_id self.now.sizes seat.new.table_id seat.new.me }
+        ensures message { IfOk result (λ _. IsTakeAt call.now (work.Take take_stage.Look) (seat_of call.now.who.number seat.new.me)
+            × ((accepted : ℕ) × HasDone D.row.coded D.meaning (message_look call.now.who call.now.handed accepted ∷ []) same_hands (seat_of call.now.who.number seat.old.me) (seat_of call.now.who.number seat.new.me))) }
+        ensures empty { IfErr result (λ accepted. (accepted ≡ call.now.handed) × IsLeaving lane_turn.Receiver call.now.who.end (call_end.Empty accepted) (seat_of call.now.who.number seat.new.me)
+            × HasDone D.row.coded D.meaning (message_look call.now.who accepted accepted ∷ []) same_hands (seat_of call.now.who.number seat.old.me) (seat_of call.now.who.number seat.new.me)) }
+        ensures alone { StepsAlone D.row.coded D.meaning call.now.who.number (Steps call.now.who.number 0 None) seat.old.me seat.new.me }
     {
-        let index = load_index(&self.table.shared, seat, call.who.end, IndexUse::Message);
+        let index = self.load_index(seat, call.who.number, call.who.end, IndexUse::Message);
         if waiting_messages(index, call.handed) == 0 {
             Err(call.handed)
         } else {
@@ -183,17 +187,16 @@ impl<D: Desk> SharedLink<D> {
 
     /// Step 4 of a take: the buffer of the next message is out.
     pub(crate) fn take_filled(&self, seat: &mut LinkSeat, call: &TakeCall) -> u32
-        requires seat { IsSeatOf self.now.table.shared.table_id self.now.sizes seat.old.table_id seat.old.me }
-        requires call { IsTakeAt call.now (work.Take take_stage.Look) seat.old.me }
-        ensures seat { IsSeatOf self.now.table.shared.table_id self.now.sizes seat.new.table_id seat.new.me }
-        ensures out { (message : List ℕ) × HasBufferOut self.now.sizes call.now (work.Take take_stage.Buffer) result message seat.new.me }
-        ensures done { HasDone D.row.coded D.meaning (Step (made.Buffer result) ∷ []) same_hands seat.old.me seat.new.me }
+        requires seat { IsOrderlySeat self.now.table.shared.table_id self.now.sizes seat.old.table_id seat.old.me }
+        requires call { IsTakeAt call.now (work.Take take_stage.Look) (seat_of call.now.who.number seat.old.me) }
+        ensures seat { IsOrderlySeat self.now.table.shared.table_id self.now.sizes seat.new.table_id seat.new.me }
+        ensures out { (message : List ℕ) × HasBufferOut self.now.sizes call.now (work.Take take_stage.Buffer) result message (seat_of call.now.who.number seat.new.me) }
+        ensures done { HasDone D.row.coded D.meaning (Step (made.Buffer result) ∷ []) same_hands (seat_of call.now.who.number seat.old.me) (seat_of call.now.who.number seat.new.me) }
+        ensures alone { StepsAlone D.row.coded D.meaning call.now.who.number (Steps call.now.who.number 0 None) seat.old.me seat.new.me }
     {
-        let table = &self.table.shared;
-        let entry = load_entry(
-            table,
-            &self.sizes,
+        let entry = self.load_entry(
             seat,
+            call.who.number,
             call.who.end,
             Ring::Forward,
             call.handed,
@@ -211,19 +214,20 @@ impl<D: Desk> SharedLink<D> {
         call: &TakeCall,
         buffer: u32,
     ) -> Result<Taken, Era>
-        requires seat { IsSeatOf self.now.table.shared.table_id self.now.sizes seat.old.table_id seat.old.me }
-        requires call { (message : List ℕ) × HasBufferOut self.now.sizes call.now (work.Take take_stage.Buffer) buffer message seat.old.me }
-        ensures seat { IsSeatOf self.now.table.shared.table_id self.now.sizes seat.new.table_id seat.new.me }
-        ensures left { IsLeaving lane_turn.Receiver call.now.who.end seat.new.me }
+        requires seat { IsOrderlySeat self.now.table.shared.table_id self.now.sizes seat.old.table_id seat.old.me }
+        requires call { (message : List ℕ) × HasBufferOut self.now.sizes call.now (work.Take take_stage.Buffer) buffer message (seat_of call.now.who.number seat.old.me) }
+        ensures seat { IsOrderlySeat self.now.table.shared.table_id self.now.sizes seat.new.table_id seat.new.me }
+        ensures left { IsLeaving lane_turn.Receiver call.now.who.end (handing_end call.now.handed result) (seat_of call.now.who.number seat.new.me) }
         ensures handed { IfOk result (λ taken. (message : List ℕ) × IsHandedTo D.meaning call.now.who call.now.handed message taken
-            × HasDone D.row.coded D.meaning (Step (made.Era (live_era call.now.who.follows)) ∷ Take call.now.who.end call.now.who.follows call.now.handed message ∷ []) (one_more call.now.handed) seat.old.me seat.new.me) }
-        ensures dead { IfErr result (λ era. (era ≢ live_era call.now.who.follows) × HasDone D.row.coded D.meaning (Step (made.Era era) ∷ []) same_hands seat.old.me seat.new.me) }
+            × HasDone D.row.coded D.meaning (Step (made.Era (live_era call.now.who.follows)) ∷ Take call.now.who.end call.now.who.follows call.now.handed message ∷ []) (one_more call.now.handed) (seat_of call.now.who.number seat.old.me) (seat_of call.now.who.number seat.new.me)) }
+        ensures dead { IfErr result (λ era. (era ≢ live_era call.now.who.follows) × HasDone D.row.coded D.meaning (Step (made.Era era) ∷ []) same_hands (seat_of call.now.who.number seat.old.me) (seat_of call.now.who.number seat.new.me)) }
+        ensures alone { StepsAlone D.row.coded D.meaning call.now.who.number (Steps call.now.who.number 0 None) seat.old.me seat.new.me }
     {
         let who = call.who;
         let table = &self.table.shared;
         let slot = self.buffer_slot(who.end, buffer);
         let message = message_in(seat.slot_mut(table, slot));
-        let era = era_of(load_era(table, seat, EraUse::Hand));
+        let era = era_of(self.load_era(seat, who.number, EraUse::Hand));
         if is_live_in(era, who.follows) {
             let side = seat.slot_mut(table, receiver_slot(who.end));
             let verdict = self.judge(side, who.number, buffer, &message);

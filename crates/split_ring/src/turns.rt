@@ -1,15 +1,17 @@
 //! The first and the last step of a call.
-ghost use Rattle.std.specs.Prelude.{◌≡◌, ◌+◌, ◌∷◌, [], IfOk, IfErr};
+ghost use Rattle.std.specs.Prelude.{◌≡◌, ◌+◌, ◌∷◌, [], IfOk, IfErr, None, Some};
 ghost use Rattle.link_words.specs.declared.rule.Call.TheVariants.{Rests};
 ghost use Rattle.link_words.specs.declared.rule.Event.TheVariants.{Step};
 ghost use Rattle.link_words.specs.declared.rule.Made.TheVariants as made;
+ghost use Rattle.link_words.specs.Deeds.{Steps};
 ghost use Rattle.link_words.specs.Steps.{IsFit};
 ghost use Rattle.link_words.specs.Words.{other, era_word};
 ghost use Rattle.rp_base.specs.declared.kinds.Era.{Era};
 ghost use Rattle.std.specs.Prelude.{◌<◌};
 ghost use Rattle.lane_model.specs.Lanes.{is_live_in};
-ghost use Rattle.split_ring.specs.Seats.{pass_in, IsAt, IsSeatOf, IsCaller};
-ghost use Rattle.split_ring.specs.Turns.{HasBegun, IsLeaving, end_with};
+ghost use Rattle.split_ring.specs.Focus.{IsOrderlySeat, StepsAlone, seat_of};
+ghost use Rattle.split_ring.specs.Seats.{pass_in, IsAt, IsCaller};
+ghost use Rattle.split_ring.specs.Turns.{HasBegun, MayLeave, end_with};
 ghost use Rattle.split_ring.specs.Walks.{HasDone, same_hands};
 
 use crate::callers::CallerId;
@@ -46,7 +48,7 @@ pub(crate) fn is_live_in(era: Era, inc: Inc) -> bool
 }
 
 impl<D: Desk> SharedLink<D> {
-    /// Step 1 of a call: one attempt to take the turn that it needs.
+    /// Step 1 of a call of this caller, whose pass is one of the seat's: one attempt to take the turn that it needs.
     ///
     /// Errors: the holder of the turn, exactly where it was another's.
     pub(crate) fn enter(
@@ -55,11 +57,13 @@ impl<D: Desk> SharedLink<D> {
         who: CallerId,
         wish: Intent,
     ) -> Result<(), CallerNo>
-        requires caller { IsCaller self.now.table.shared.table_id self.now.sizes who seat.old.table_id seat.old.me }
-        requires fit { IsFit wish (pass_in seat.old.me).hands }
-        ensures seat { IsSeatOf self.now.table.shared.table_id self.now.sizes seat.new.table_id seat.new.me }
-        ensures entered { IfOk result (λ _. HasBegun who wish seat.new.me × HasDone D.row.coded D.meaning (Step (made.Turn 0) ∷ []) same_hands seat.old.me seat.new.me) }
-        ensures busy { IfErr result (λ holder. IsAt seat.new.me (Rests who.end) [] × HasDone D.row.coded D.meaning (Step (made.Turn (holder + 1)) ∷ []) same_hands seat.old.me seat.new.me) }
+        requires seat { IsOrderlySeat self.now.table.shared.table_id self.now.sizes seat.old.table_id seat.old.me }
+        requires caller { IsCaller self.now.table.shared.table_id self.now.sizes who seat.old.table_id (seat_of who.number seat.old.me) }
+        requires fit { IsFit wish (pass_in (seat_of who.number seat.old.me)).hands }
+        ensures seat { IsOrderlySeat self.now.table.shared.table_id self.now.sizes seat.new.table_id seat.new.me }
+        ensures entered { IfOk result (λ _. HasBegun who wish (seat_of who.number seat.new.me) × HasDone D.row.coded D.meaning (Step (made.Turn 0) ∷ []) same_hands (seat_of who.number seat.old.me) (seat_of who.number seat.new.me)) }
+        ensures busy { IfErr result (λ holder. IsAt (seat_of who.number seat.new.me) (Rests who.end) [] × HasDone D.row.coded D.meaning (Step (made.Turn (holder + 1)) ∷ []) same_hands (seat_of who.number seat.old.me) (seat_of who.number seat.new.me)) }
+        ensures alone { StepsAlone D.row.coded D.meaning who.number (Steps who.number who.follows (Some wish)) seat.old.me seat.new.me }
     {
         let start = CallStart {
             caller: who.number,
@@ -75,12 +79,13 @@ impl<D: Desk> SharedLink<D> {
         }
     }
 
-    /// The last step of a call: its turn is free.
-    pub(crate) fn leave(&self, seat: &mut LinkSeat, lane: End, turn: LaneTurn)
-        requires seat { IsSeatOf self.now.table.shared.table_id self.now.sizes seat.old.table_id seat.old.me }
-        requires call { IsLeaving turn lane seat.old.me }
-        ensures seat { IsSeatOf self.now.table.shared.table_id self.now.sizes seat.new.table_id seat.new.me }
-        ensures left { IsAt seat.new.me (Rests (end_with turn lane)) [] × HasDone D.row.coded D.meaning (Step made.Left ∷ []) same_hands seat.old.me seat.new.me }
+    /// The last step of the call of the caller of this number: its turn is free.
+    pub(crate) fn leave(&self, seat: &mut LinkSeat, number: CallerNo, lane: End, turn: LaneTurn)
+        requires seat { IsOrderlySeat self.now.table.shared.table_id self.now.sizes seat.old.table_id seat.old.me }
+        requires call { MayLeave turn lane (seat_of number seat.old.me) }
+        ensures seat { IsOrderlySeat self.now.table.shared.table_id self.now.sizes seat.new.table_id seat.new.me }
+        ensures left { IsAt (seat_of number seat.new.me) (Rests (end_with turn lane)) [] × HasDone D.row.coded D.meaning (Step made.Left ∷ []) same_hands (seat_of number seat.old.me) (seat_of number seat.new.me) }
+        ensures alone { StepsAlone D.row.coded D.meaning number (Steps number 0 None) seat.old.me seat.new.me }
     {
         leave_turn(&self.table.shared, seat, lane, turn);
     }

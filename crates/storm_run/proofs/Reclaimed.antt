@@ -60,7 +60,7 @@ pub reclaimed_one : (link : SharedLink Side) (callers : List Caller) (n : ℕ) (
     → HasReclaimed callers n before → HasRetired caller.id (pass_in caller.seat.me) before.seat.me after.seat.me → after.users ≡ slice_set before.users caller.id.number None → HasReclaimed callers (n + 1) after
 reclaimed_one link callers n before after caller are here had retired users =
     let told = retired.after in let within = here.0 in let at = at_place link callers n caller are here in let numbered = at.1 in let own = at.0.rests.number in
-    let ended : after.seat.me.0.ended ≡ ended_of caller.id (pass_in caller.seat.me) ∷ before.seat.me.0.ended = ap (λ (s : SeatState). s.0.ended) told in record {
+    let ended : after.seat.me.0.ended_passes ≡ ended_of caller.id (pass_in caller.seat.me) ∷ before.seat.me.0.ended_passes = ap (λ (s : SeatState). s.0.ended_passes) told in record {
       inc = ap (λ (s : SeatState). s.0.inc) told ∙ had.inc;
       closed = ap (λ (s : SeatState). s.0.is_closed) told ∙ ap not retired.closed;
       many = ap length users ∙ (length-set before.users caller.id.number None ∙ had.many);
@@ -70,8 +70,8 @@ reclaimed_one link callers n before after caller are here had retired users =
           (cases_eq caller.id.number k);
       freed = λ k has. listed_one before.seat.me.0.reclaims (pass_in caller.seat.me).number k (length callers) (omega (arith, own, numbered, within)) had.freed (subst (λ (ns : List ℕ). HasNumber ns k) (ap (λ (s : SeatState). s.0.reclaims) told) has);
       kept = λ k d below. ⊎_elim
-          (λ (same : n ≡ k). subst (λ (c : Caller). HasPassOf c after.seat.me.0.ended) (here.1 ∙ (get_or_default callers n caller d within ∙ ap (λ (j : ℕ). get_or callers j d) same))
+          (λ (same : n ≡ k). subst (λ (c : Caller). HasPassOf c after.seat.me.0.ended_passes) (here.1 ∙ (get_or_default callers n caller d within ∙ ap (λ (j : ℕ). get_or callers j d) same))
           (record { place = 0; pass = ended_of caller.id (pass_in caller.seat.me); here = ap (λ (ps : List Pass). get_elem? ps 0) ended; number = own; first = refl; own = refl }))
-          (λ (other : n ≡ k → ⊥). kept_still (get_or callers k d) (ended_of caller.id (pass_in caller.seat.me)) before.seat.me.0.ended after.seat.me.0.ended ended (had.kept k d (omega (arith, below, other))))
+          (λ (other : n ≡ k → ⊥). kept_still (get_or callers k d) (ended_of caller.id (pass_in caller.seat.me)) before.seat.me.0.ended_passes after.seat.me.0.ended_passes ended (had.kept k d (omega (arith, below, other))))
           (cases_eq n k);
     }

@@ -90,4 +90,4 @@ pub record HasReclaimed (callers : List Caller) (reclaimed : ℕ) (manager : Man
   pub many : length manager.users ≡ 64
   pub unused : (number : ℕ) → (reclaimed ≤ number → number < length callers → ⊥) → end_of manager.users number ≡ None
   pub freed : (number : ℕ) → HasNumber manager.seat.me.0.reclaims number → number < length callers
-  pub kept : (number : ℕ) (d : Caller) → number < reclaimed → HasPassOf (slice_index_or callers number d) manager.seat.me.0.ended
+  pub kept : (number : ℕ) (d : Caller) → number < reclaimed → HasPassOf (slice_index_or callers number d) manager.seat.me.0.ended_passes

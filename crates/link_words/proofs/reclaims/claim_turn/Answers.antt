@@ -32,5 +32,5 @@ compare_exchange_with-requires g c =
 
 pub returns-clause-step : goal.returns-clause-step
 returns-clause-step g c =
-    let me = c.args.seat.now.me in let me' = c.compare_exchange_with.new.seat.me in let t = c.compare_exchange_with.ensures.2 c.args.end c.receiver_place-word.ensures in
+    let me = c.args.seat.now.me in let me' = c.compare_exchange_with.new.seat.me in let t = c.compare_exchange_with.ensures.2.0 c.args.end c.receiver_place-word.ensures in
     subst (λ (p : ℕ). DoesAt g.row.D.coded g.D.Desk.meaning (place_of_number c.args.caller me.0.passes) me (HasWord p c.compare_exchange_with.result) (ManagerTakes lane_turn.Receiver c.args.end) me') c.receiver_place-word.ensures t.2

@@ -20,4 +20,4 @@ store-requires g c =
 pub returns-clause-step : goal.returns-clause-step
 returns-clause-step g c =
     let me = c.args.seat.now.me in let me' = c.store.new.seat.me in let k = place_of me in
-    subst (λ (p : ℕ). DoesAt g.row.D.coded g.D.Desk.meaning k me (StoresWord p 0) (ending_of (call_at k me.0.passes) (number_at k me.0.passes)) me') c.turn_place.ensures c.store.ensures.2.1
+    subst (λ (p : ℕ). DoesAt g.row.D.coded g.D.Desk.meaning k me (StoresWord p 0) (ending_of (call_at k me.0.passes) (number_at k me.0.passes)) me') c.turn_place.ensures c.store.ensures.2.0.1

@@ -27,10 +27,10 @@ store-requires g c =
     )
 
 pub returns-clause-told : goal.returns-clause-told
-returns-clause-told g c = (c.store.ensures.2 c.args.turn c.args.lane c.turn_place-word.ensures).0
+returns-clause-told g c = (c.store.ensures.2.0 c.args.turn c.args.lane c.turn_place-word.ensures).0
 
 pub returns-clause-step : goal.returns-clause-step
 returns-clause-step g c =
     let me = c.args.manager.now.me in
     subst (λ (k : ℕ). ManagerDoes g.row.D.coded g.D.Desk.meaning me (StoresWord k 0) (ManagerLeaves c.args.turn c.args.lane) c.store.new.seat.me) c.turn_place-word.ensures
-    (c.store.ensures.2 c.args.turn c.args.lane c.turn_place-word.ensures).1
+    (c.store.ensures.2.0 c.args.turn c.args.lane c.turn_place-word.ensures).1

@@ -29,10 +29,10 @@ compare_exchange-requires g c =
     )
 
 pub returns-clause-told : goal.returns-clause-told
-returns-clause-told g c = (c.compare_exchange.ensures.2 c.args.turn c.args.lane c.turn_place-word.ensures).0
+returns-clause-told g c = (c.compare_exchange.ensures.2.0 c.args.turn c.args.lane c.turn_place-word.ensures).0
 
 pub returns-clause-step : goal.returns-clause-step
 returns-clause-step g c =
     let me = c.args.manager.now.me in
     subst (λ (k : ℕ). ManagerDoes g.row.D.coded g.D.Desk.meaning me (HasWord k c.compare_exchange.result) (ManagerTakes c.args.turn c.args.lane) c.compare_exchange.new.seat.me) c.turn_place-word.ensures
-    (c.compare_exchange.ensures.2 c.args.turn c.args.lane c.turn_place-word.ensures).1
+    (c.compare_exchange.ensures.2.0 c.args.turn c.args.lane c.turn_place-word.ensures).1

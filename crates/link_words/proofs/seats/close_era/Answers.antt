@@ -34,7 +34,7 @@ compare_exchange_with-requires g c =
     )
 
 pub returns-clause-told : goal.returns-clause-told
-returns-clause-told g c = (c.compare_exchange_with.ensures.2 c.args.inc refl).0
+returns-clause-told g c = (c.compare_exchange_with.ensures.2.0 c.args.inc refl).0
 
 pub returns-clause-step : goal.returns-clause-step
-returns-clause-step g c = (c.compare_exchange_with.ensures.2 c.args.inc refl).1
+returns-clause-step g c = (c.compare_exchange_with.ensures.2.0 c.args.inc refl).1

@@ -5,6 +5,8 @@ use Rattle.link_words.specs.Calls.{SeatState}
 use Rattle.link_words.specs.Passes.{Manages, only_last, without_last, with_new_caller}
 use Rattle.link_words.specs.PlacedDesks.{placed_coded, placed_meaning}
 use Rattle.link_words.proofs.Moving.{making_same, new_last, only_any, still_manages}
+use Rattle.link_words.specs.Orderly.{IsOrderly}
+use Rattle.link_words.proofs.Orderly.{order_within, but_last_at}
 use Rattle.link_words.proofs.seats.split.Goals as goal
 
 pub let_go-requires-clause-manager : goal.let_go-requires-clause-manager
@@ -31,3 +33,7 @@ returns-clause-caller g c =
 
 pub returns-clause-step : goal.returns-clause-step
 returns-clause-step g c = making_same (placed_coded g.row.D.coded c.args.manager.now.me.0.sizes.desks) (placed_meaning g.row.D.coded c.args.manager.now.me.0.sizes.desks g.D.Desk.meaning) c.args.end c.args.manager.now.me c.enlist_carried.new.manager.me c.let_go.new.manager.me (ap (λ (s : SeatState). s.0.copy) c.let_go.ensures.manager.2) c.enlist_carried.ensures.step
+
+pub returns-clause-order : goal.returns-clause-order
+returns-clause-order g c = let v = c.enlist_carried.new.manager.me.0 in
+    subst IsOrderly (sym (ap (λ (s : SeatState). s.0) c.let_go.ensures.manager.2)) (order_within v (without_last v) (but_last_at v.passes) c.enlist_carried.ensures.order)

@@ -1,10 +1,18 @@
-use Rattle.std.proofs.Common.{ℕ, List, refl, sym, ap, ◌∙◌, subst}
+use Rattle.std.proofs.Common.{ℕ, List, refl, sym, ap, ◌∙◌, subst, []}
 use Rattle.lane_model.specs.Answers.{wish_of}
 use Rattle.lane_model.specs.declared.calls.Ask.{Ask}
 use Rattle.lane_model.specs.declared.calls.Ask.TheVariants as ask
 use Rattle.split_ring.specs.Calls.{IsOwnAsk}
 use Rattle.split_ring.specs.Turns.{HasBegun}
 use Rattle.split_ring.proofs.Seats.{still}
+use Rattle.split_ring.specs.Focus.{seat_of, StaysAlone}
+use Rattle.split_ring.specs.declared.callers.CallerId.{CallerId}
+use Rattle.split_ring.specs.Sends.{IsSendAt}
+use Rattle.split_ring.specs.Receives.{IsTakeAt}
+use Rattle.split_ring.specs.Walks.{HasDone, same_hands}
+use Rattle.lane_model.specs.declared.stages.SendStage.TheVariants as stage
+use Rattle.lane_model.specs.declared.stages.TakeStage.TheVariants as take_stage
+use Rattle.lane_model.specs.declared.stages.Work.TheVariants as work
 use Rattle.split_ring.proofs.links.SharedLink.begun_call.Goals as goal
 
 pub send_begun-call-requires-clause-seat : goal.send_begun-call-requires-clause-seat
@@ -13,7 +21,7 @@ send_begun-call-requires-clause-seat g c =
 
 pub send_begun-call-requires-clause-turn : goal.send_begun-call-requires-clause-turn
 send_begun-call-requires-clause-turn g c =
-    let coded = g.row.D.coded in let meaning = g.D.Desk.meaning in let z = c.args.self.now.sizes in let me = c.args.seat.now.me in let who = c.args.who in subst (λ (x : Ask). HasBegun who (wish_of x) me) c.in-Send.is c.requires.turn
+    let coded = g.row.D.coded in let meaning = g.D.Desk.meaning in let z = c.args.self.now.sizes in let me = (seat_of c.args.who.number c.args.seat.now.me) in let who = c.args.who in subst (λ (x : Ask). HasBegun who (wish_of x) me) c.in-Send.is c.requires.turn
 
 pub take_begun-requires-clause-seat : goal.take_begun-requires-clause-seat
 take_begun-requires-clause-seat g c =
@@ -21,7 +29,7 @@ take_begun-requires-clause-seat g c =
 
 pub take_begun-requires-clause-turn : goal.take_begun-requires-clause-turn
 take_begun-requires-clause-turn g c =
-    let coded = g.row.D.coded in let meaning = g.D.Desk.meaning in let z = c.args.self.now.sizes in let me = c.args.seat.now.me in let who = c.args.who in subst (λ (x : Ask). HasBegun who (wish_of x) me) c.in-Take.is c.requires.turn
+    let coded = g.row.D.coded in let meaning = g.D.Desk.meaning in let z = c.args.self.now.sizes in let me = (seat_of c.args.who.number c.args.seat.now.me) in let who = c.args.who in subst (λ (x : Ask). HasBegun who (wish_of x) me) c.in-Take.is c.requires.turn
 
 pub returns-in-Send-clause-seat : goal.returns-in-Send-clause-seat
 returns-in-Send-clause-seat g c =
@@ -29,11 +37,12 @@ returns-in-Send-clause-seat g c =
 
 pub returns-in-Send-clause-stands : goal.returns-in-Send-clause-stands
 returns-in-Send-clause-stands g c =
-    c.send_begun-call.ensures.call
+    let call = c.send_begun-call.result in let was = c.send_begun-call.ensures.call in
+    (subst (λ (w : CallerId). IsSendAt call stage.Turn (seat_of w.number c.send_begun-call.new.seat.me)) was.1 was.0, was.1, was.2)
 
 pub returns-in-Send-clause-still : goal.returns-in-Send-clause-still
 returns-in-Send-clause-still g c =
-    c.send_begun-call.ensures.still
+    subst (λ (w : CallerId). HasDone g.row.D.coded g.D.Desk.meaning [] same_hands (seat_of w.number c.args.seat.now.me) (seat_of w.number c.send_begun-call.new.seat.me)) c.send_begun-call.ensures.call.1 c.send_begun-call.ensures.still
 
 pub returns-in-Send-clause-hands : goal.returns-in-Send-clause-hands
 returns-in-Send-clause-hands g c =
@@ -49,11 +58,12 @@ returns-in-Take-clause-seat g c =
 
 pub returns-in-Take-clause-stands : goal.returns-in-Take-clause-stands
 returns-in-Take-clause-stands g c =
-    c.take_begun.ensures.call
+    let call = c.take_begun.result in let was = c.take_begun.ensures.call in
+    (subst (λ (w : CallerId). IsTakeAt call (work.Take take_stage.Turn) (seat_of w.number c.take_begun.new.seat.me)) was.1 was.0, was.1)
 
 pub returns-in-Take-clause-still : goal.returns-in-Take-clause-still
 returns-in-Take-clause-still g c =
-    c.take_begun.ensures.still
+    subst (λ (w : CallerId). HasDone g.row.D.coded g.D.Desk.meaning [] same_hands (seat_of w.number c.args.seat.now.me) (seat_of w.number c.take_begun.new.seat.me)) c.take_begun.ensures.call.1 c.take_begun.ensures.still
 
 pub returns-in-Take-clause-hands : goal.returns-in-Take-clause-hands
 returns-in-Take-clause-hands g c =
@@ -69,11 +79,11 @@ returns-in-Give-clause-seat g c =
 
 pub returns-in-Give-clause-stands : goal.returns-in-Give-clause-stands
 returns-in-Give-clause-stands g c =
-    let coded = g.row.D.coded in let meaning = g.D.Desk.meaning in let z = c.args.self.now.sizes in let me = c.args.seat.now.me in let who = c.args.who in (subst (λ (x : Ask). HasBegun who (wish_of x) me) c.in-Give.is c.requires.turn, subst (λ (x : Ask). IsOwnAsk who x me) c.in-Give.is c.requires.own)
+    let coded = g.row.D.coded in let meaning = g.D.Desk.meaning in let z = c.args.self.now.sizes in let me = (seat_of c.args.who.number c.args.seat.now.me) in let who = c.args.who in (subst (λ (x : Ask). HasBegun who (wish_of x) me) c.in-Give.is c.requires.turn, subst (λ (x : Ask). IsOwnAsk who x me) c.in-Give.is c.requires.own)
 
 pub returns-in-Give-clause-still : goal.returns-in-Give-clause-still
 returns-in-Give-clause-still g c =
-    let coded = g.row.D.coded in let meaning = g.D.Desk.meaning in let z = c.args.self.now.sizes in let me = c.args.seat.now.me in let who = c.args.who in still coded meaning me me refl
+    let coded = g.row.D.coded in let meaning = g.D.Desk.meaning in let z = c.args.self.now.sizes in let me = (seat_of c.args.who.number c.args.seat.now.me) in let who = c.args.who in still coded meaning me me refl
 
 pub returns-in-Give-clause-hands : goal.returns-in-Give-clause-hands
 returns-in-Give-clause-hands g c =
@@ -89,11 +99,11 @@ returns-in-Bind-clause-seat g c =
 
 pub returns-in-Bind-clause-stands : goal.returns-in-Bind-clause-stands
 returns-in-Bind-clause-stands g c =
-    let coded = g.row.D.coded in let meaning = g.D.Desk.meaning in let z = c.args.self.now.sizes in let me = c.args.seat.now.me in let who = c.args.who in subst (λ (x : Ask). HasBegun who (wish_of x) me) c.in-Bind.is c.requires.turn
+    let coded = g.row.D.coded in let meaning = g.D.Desk.meaning in let z = c.args.self.now.sizes in let me = (seat_of c.args.who.number c.args.seat.now.me) in let who = c.args.who in subst (λ (x : Ask). HasBegun who (wish_of x) me) c.in-Bind.is c.requires.turn
 
 pub returns-in-Bind-clause-still : goal.returns-in-Bind-clause-still
 returns-in-Bind-clause-still g c =
-    let coded = g.row.D.coded in let meaning = g.D.Desk.meaning in let z = c.args.self.now.sizes in let me = c.args.seat.now.me in let who = c.args.who in still coded meaning me me refl
+    let coded = g.row.D.coded in let meaning = g.D.Desk.meaning in let z = c.args.self.now.sizes in let me = (seat_of c.args.who.number c.args.seat.now.me) in let who = c.args.who in still coded meaning me me refl
 
 pub returns-in-Bind-clause-hands : goal.returns-in-Bind-clause-hands
 returns-in-Bind-clause-hands g c =
@@ -109,11 +119,11 @@ returns-in-Unbind-clause-seat g c =
 
 pub returns-in-Unbind-clause-stands : goal.returns-in-Unbind-clause-stands
 returns-in-Unbind-clause-stands g c =
-    let coded = g.row.D.coded in let meaning = g.D.Desk.meaning in let z = c.args.self.now.sizes in let me = c.args.seat.now.me in let who = c.args.who in subst (λ (x : Ask). HasBegun who (wish_of x) me) c.in-Unbind.is c.requires.turn
+    let coded = g.row.D.coded in let meaning = g.D.Desk.meaning in let z = c.args.self.now.sizes in let me = (seat_of c.args.who.number c.args.seat.now.me) in let who = c.args.who in subst (λ (x : Ask). HasBegun who (wish_of x) me) c.in-Unbind.is c.requires.turn
 
 pub returns-in-Unbind-clause-still : goal.returns-in-Unbind-clause-still
 returns-in-Unbind-clause-still g c =
-    let coded = g.row.D.coded in let meaning = g.D.Desk.meaning in let z = c.args.self.now.sizes in let me = c.args.seat.now.me in let who = c.args.who in still coded meaning me me refl
+    let coded = g.row.D.coded in let meaning = g.D.Desk.meaning in let z = c.args.self.now.sizes in let me = (seat_of c.args.who.number c.args.seat.now.me) in let who = c.args.who in still coded meaning me me refl
 
 pub returns-in-Unbind-clause-hands : goal.returns-in-Unbind-clause-hands
 returns-in-Unbind-clause-hands g c =
@@ -122,3 +132,18 @@ returns-in-Unbind-clause-hands g c =
 pub returns-in-Unbind-clause-path : goal.returns-in-Unbind-clause-path
 returns-in-Unbind-clause-path g c =
     λ start. (c.in-Unbind.is, refl)
+
+pub returns-in-Send-clause-stays : goal.returns-in-Send-clause-stays
+returns-in-Send-clause-stays g c = subst (λ (w : CallerId). StaysAlone w.number c.args.seat.now.me c.send_begun-call.new.seat.me) c.send_begun-call.ensures.call.1 c.send_begun-call.ensures.stays
+
+pub returns-in-Take-clause-stays : goal.returns-in-Take-clause-stays
+returns-in-Take-clause-stays g c = subst (λ (w : CallerId). StaysAlone w.number c.args.seat.now.me c.take_begun.new.seat.me) c.take_begun.ensures.call.1 c.take_begun.ensures.stays
+
+pub returns-in-Give-clause-stays : goal.returns-in-Give-clause-stays
+returns-in-Give-clause-stays g c = record { view = refl; others = refl }
+
+pub returns-in-Bind-clause-stays : goal.returns-in-Bind-clause-stays
+returns-in-Bind-clause-stays g c = record { view = refl; others = refl }
+
+pub returns-in-Unbind-clause-stays : goal.returns-in-Unbind-clause-stays
+returns-in-Unbind-clause-stays g c = record { view = refl; others = refl }

@@ -20,6 +20,7 @@ returns-clause-manager g c =
       knows = ap (λ (s : SeatState). s.0.users) m.2 ∙ (after.1 ∙ ap (λ (l : List _). slice_set l n (Some c.args.end)) c.requires.knows);
       told = ap (λ (s : SeatState). s.0.sizes) m.2 ∙ (after.2 ∙ c.requires.told);
       empty = ap (λ (s : SeatState). s.1) m.2 ∙ c.requires.empty;
+      order = c.split-seat.ensures.order;
     }
 
 pub returns-clause-some : goal.returns-clause-some

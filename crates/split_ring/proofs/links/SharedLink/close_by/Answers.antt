@@ -25,6 +25,7 @@ returns-clause-manager g c =
         knows = ap (λ (s : SeatState). s.0.users) x.noted ∙ q.knows;
         told = ap (λ (s : SeatState). s.0.sizes) x.noted ∙ q.told;
         empty = ap (λ (s : SeatState). s.1) x.noted ∙ q.empty;
+        order = c.close_once.ensures.order;
       },
       refl,
     )

@@ -29,7 +29,7 @@ pub returns-in-Ok-clause-manager : goal.returns-in-Ok-clause-manager
 returns-in-Ok-clause-manager g c =
     let q = c.requires.manager in let me = c.args.manager.now.seat.me in
     manager_again _ _ _ _ me.0 c.put_receiver.new.seat.me c.put_receiver.ensures.seat
-    (receiver_left c.args.end c.in-Ok.side me c.take_receiver.new.seat.me c.put_receiver.new.seat.me me.0 (rests_here me q.rests q.empty) c.in-Ok.ensures.taken c.put_receiver.ensures.put) q.knows
+    (receiver_left c.args.end c.in-Ok.side me c.take_receiver.new.seat.me c.put_receiver.new.seat.me me.0 (rests_here me q.rests q.empty) c.in-Ok.ensures.taken c.put_receiver.ensures.put) q.knows q.order
 
 pub returns-in-Ok-clause-state : goal.returns-in-Ok-clause-state
 returns-in-Ok-clause-state g c = λ m is.

@@ -20,6 +20,7 @@ returns-clause-manager g c =
       knows = ap (λ (w : View). w.users) view ∙ ap (λ (l : List _). slice_set l n (Some e)) q.knows;
       told = ap (λ (w : View). w.sizes) view ∙ q.told;
       empty = ap (λ (s : SeatState). s.1) told ∙ q.empty;
+      order = c.enlist_carried.ensures.order;
     }
 
 pub returns-clause-state : goal.returns-clause-state

@@ -16,6 +16,7 @@ use Rattle.link_words.specs.Words.{IsSized}
 use Rattle.split_ring.specs.Openings.{opened_words, IsOpenable}
 use Rattle.split_ring.proofs.Apart.{words_many}
 use Rattle.split_ring.proofs.Makes.{makes, code_is, has_entry, first_knows}
+use Rattle.split_ring.proofs.Focusing.{one_order}
 use Rattle.split_ring.proofs.links.SharedLink.make.Goals as goal
 
 pub new-requires : goal.new-requires
@@ -64,6 +65,7 @@ returns-in-Ok-clause-manager g c =
       knows = ap (λ (v : View). v.users) view;
       told = ap (λ (v : View). v.sizes) view;
       empty = ap (λ (s : SeatState). s.1) ok.4;
+      order = one_order c.in-Ok.seat.me.0 _ (ap (λ (v : View). v.passes) view);
     }
 
 pub returns-in-Ok-clause-state : goal.returns-in-Ok-clause-state

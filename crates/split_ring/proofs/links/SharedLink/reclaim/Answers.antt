@@ -15,6 +15,7 @@ use Rattle.rp_base.specs.declared.kinds.End.{End}
 use Rattle.link_words.specs.declared.rule.Pass.{Pass}
 use Rattle.link_words.specs.Passes.{Manages, callers_without}
 use Rattle.split_ring.proofs.Makes.{rests_at}
+use Rattle.split_ring.proofs.Focusing.{order_same}
 use Rattle.split_ring.proofs.links.SharedLink.reclaim.Goals as goal
 
 pub end_call-requires-clause-hands : goal.end_call-requires-clause-hands
@@ -80,4 +81,5 @@ returns-in-Ok-clause-manager g c =
           ∙ (ap (λ (ps : List Pass). callers_without ps c.learn_era.new.manager.me.0.users) c.in-Ok.ensures.ended.one ∙ ap₂ (λ (users : List (Option End)) (n : ℕ). slice_set users n None) m.knows c.requires.parts.user.number);
       told = ap (λ (s : SeatState). s.0.sizes) j.2 ∙ m.told;
       empty = ap (λ (s : SeatState). s.1) j.2 ∙ m.empty;
+      order = order_same c.learn_era.new.manager.me.0 c.join.new.manager.me.0 (ap (λ (s : SeatState). s.0.passes) j.2) m.order;
     }

@@ -13,12 +13,13 @@ use Rattle.link_words.specs.PlacedLinks.{KnowsState}
 use Rattle.split_ring.specs.States.{all_taken}
 use Rattle.split_ring.proofs.StateSteps.{all_again}
 use Rattle.split_ring.proofs.Reopened.{told_books, unopened_is, unopened_live, unopened_turn}
+use Rattle.split_ring.proofs.Focusing.{order_same}
 use Rattle.split_ring.proofs.links.SharedLink.reopen.Goals as goal
 
 pub returns-in-Err-find_closed-clause-manager : goal.returns-in-Err-find_closed-clause-manager
 returns-in-Err-find_closed-clause-manager g c =
     let me = c.args.manager.now.seat.me in let me1 = c.find_closed.new.seat.me in
-    manager_again _ _ _ _ (record me.0 { is_closed = false }) me1 c.find_closed.ensures.seat (rests_none me me1 false c.requires.rests c.requires.empty c.in-Err-find_closed.ensures.open.1) c.requires.knows
+    manager_again _ _ _ _ (record me.0 { is_closed = false }) me1 c.find_closed.ensures.seat (rests_none me me1 false c.requires.rests c.requires.empty c.in-Err-find_closed.ensures.open.1) c.requires.knows (order_same me.0 (record me.0 { is_closed = false }) refl c.requires.order)
 
 pub take_lanes-requires-clause-manager : goal.take_lanes-requires-clause-manager
 take_lanes-requires-clause-manager g c =
@@ -29,7 +30,7 @@ pub returns-in-Err-take_lanes-clause-manager : goal.returns-in-Err-take_lanes-cl
 returns-in-Err-take_lanes-clause-manager g c =
     let me = c.args.manager.now.seat.me in let me1 = c.find_closed.new.seat.me in let v : View = record me.0 { is_closed = true } in let closed = c.in-Ok-find_closed.ensures.closed in
     let none = rests_none me me1 true c.requires.rests c.requires.empty closed.2 in
-    manager_again _ _ _ _ v c.take_lanes.new.seat.me c.take_lanes.ensures.seat (c.in-Err-take_lanes.ensures.met.0 v none) c.requires.knows
+    manager_again _ _ _ _ v c.take_lanes.new.seat.me c.take_lanes.ensures.seat (c.in-Err-take_lanes.ensures.met.0 v none) c.requires.knows (order_same me.0 v refl c.requires.order)
 
 pub returns-in-Err-take_lanes-clause-answer : goal.returns-in-Err-take_lanes-clause-answer
 returns-in-Err-take_lanes-clause-answer g c =
@@ -58,7 +59,7 @@ returns-in-Some-clause-manager g c =
     let me = c.args.manager.now.seat.me in let me1 = c.find_closed.new.seat.me in let v : View = record me.0 { is_closed = true } in let closed = c.in-Ok-find_closed.ensures.closed in
     let none = rests_none me me1 true c.requires.rests c.requires.empty closed.2 in
     let taken = c.in-Ok-take_lanes.ensures.taken v none in let h = c.in-Ok-take_lanes.lanes.0 in let r = c.in-Ok-take_lanes.lanes.1 in let me2 = c.take_lanes.new.seat.me in
-    manager_again _ _ _ _ v c.put_lanes.new.seat.me c.put_lanes.ensures.seat (c.put_lanes.ensures.put v (both_sides h.sender h.receiver) (both_sides r.sender r.receiver) taken) c.requires.knows
+    manager_again _ _ _ _ v c.put_lanes.new.seat.me c.put_lanes.ensures.seat (c.put_lanes.ensures.put v (both_sides h.sender h.receiver) (both_sides r.sender r.receiver) taken) c.requires.knows (order_same me.0 v refl c.requires.order)
 
 pub returns-in-Some-clause-answer : goal.returns-in-Some-clause-answer
 returns-in-Some-clause-answer g c =
@@ -75,7 +76,7 @@ returns-in-None-clause-manager g c =
     let me = c.args.manager.now.seat.me in let me1 = c.find_closed.new.seat.me in let v : View = record me.0 { is_closed = true } in let closed = c.in-Ok-find_closed.ensures.closed in
     let none = rests_none me me1 true c.requires.rests c.requires.empty closed.2 in
     let taken = c.in-Ok-take_lanes.ensures.taken v none in let h = c.in-Ok-take_lanes.lanes.0 in let r = c.in-Ok-take_lanes.lanes.1 in let me2 = c.take_lanes.new.seat.me in
-    manager_again _ _ _ _ (next_view v) c.open_next.new.seat.me c.open_next.ensures.seat (c.open_next.ensures.next v taken (sym closed.0)) c.requires.knows
+    manager_again _ _ _ _ (next_view v) c.open_next.new.seat.me c.open_next.ensures.seat (c.open_next.ensures.next v taken (sym closed.0)) c.requires.knows (order_same me.0 (next_view v) refl c.requires.order)
 
 pub returns-in-None-clause-answer : goal.returns-in-None-clause-answer
 returns-in-None-clause-answer g c =

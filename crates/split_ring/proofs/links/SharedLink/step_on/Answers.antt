@@ -8,11 +8,12 @@ use Rattle.link_words.specs.declared.rule.Made.TheVariants as made
 use Rattle.link_words.specs.Words.{other}
 use Rattle.split_ring.specs.declared.calls.Phase.{Phase}
 use Rattle.split_ring.specs.declared.calls.Phase.TheVariants as phase
-use Rattle.split_ring.specs.Calls.{IsInPhase, Advances}
+use Rattle.split_ring.specs.Calls.{IsInPhase, Advances, call_end, deed_of}
 use Rattle.split_ring.specs.Seats.{IsAt}
 use Rattle.split_ring.specs.Turns.{IsLeaving}
 use Rattle.split_ring.specs.Walks.{same_hands, HasDone}
 use Rattle.split_ring.proofs.CallEnds.{left_sender, left_receiver}
+use Rattle.split_ring.specs.Focus.{seat_of, StepsAlone}
 use Rattle.split_ring.proofs.links.SharedLink.step_on.Goals as goal
 
 pub first_step-requires-clause-number : goal.first_step-requires-clause-number
@@ -25,7 +26,7 @@ first_step-requires-clause-seat g c =
 
 pub first_step-requires-clause-stands : goal.first_step-requires-clause-stands
 first_step-requires-clause-stands g c =
-    let coded = g.row.D.coded in let meaning = g.D.Desk.meaning in let z = c.args.self.now.sizes in let me = c.args.seat.now.me in let who = c.args.who in let p = c.args.phase in subst (λ (x : Phase). IsInPhase z who x me) c.in-Asked.is c.requires.stands
+    let coded = g.row.D.coded in let meaning = g.D.Desk.meaning in let z = c.args.self.now.sizes in let me = (seat_of c.args.who.number c.args.seat.now.me) in let who = c.args.who in let p = c.args.phase in subst (λ (x : Phase). IsInPhase z who x me) c.in-Asked.is c.requires.stands
 
 pub returns-in-Asked-clause-seat : goal.returns-in-Asked-clause-seat
 returns-in-Asked-clause-seat g c =
@@ -33,7 +34,7 @@ returns-in-Asked-clause-seat g c =
 
 pub returns-in-Asked-clause-step : goal.returns-in-Asked-clause-step
 returns-in-Asked-clause-step g c =
-    let coded = g.row.D.coded in let meaning = g.D.Desk.meaning in let z = c.args.self.now.sizes in let me = c.args.seat.now.me in let who = c.args.who in let p = c.args.phase in subst (λ (x : Phase). Advances coded meaning z who x c.first_step.result.1 c.first_step.result.0 me c.first_step.new.seat.me) (sym c.in-Asked.is) c.first_step.ensures.step
+    let coded = g.row.D.coded in let meaning = g.D.Desk.meaning in let z = c.args.self.now.sizes in let me = (seat_of c.args.who.number c.args.seat.now.me) in let who = c.args.who in let p = c.args.phase in subst (λ (x : Phase). Advances coded meaning z who x c.first_step.result.1 c.first_step.result.0 me (seat_of c.args.who.number c.first_step.new.seat.me)) (sym c.in-Asked.is) c.first_step.ensures.step
 
 pub send_step-requires-clause-seat : goal.send_step-requires-clause-seat
 send_step-requires-clause-seat g c =
@@ -41,7 +42,7 @@ send_step-requires-clause-seat g c =
 
 pub send_step-requires-clause-stands : goal.send_step-requires-clause-stands
 send_step-requires-clause-stands g c =
-    let coded = g.row.D.coded in let meaning = g.D.Desk.meaning in let z = c.args.self.now.sizes in let me = c.args.seat.now.me in let who = c.args.who in let p = c.args.phase in subst (λ (x : Phase). IsInPhase z who x me) c.in-Sends.is c.requires.stands
+    let coded = g.row.D.coded in let meaning = g.D.Desk.meaning in let z = c.args.self.now.sizes in let me = (seat_of c.args.who.number c.args.seat.now.me) in let who = c.args.who in let p = c.args.phase in subst (λ (x : Phase). IsInPhase z who x me) c.in-Sends.is c.requires.stands
 
 pub returns-in-Sends-clause-seat : goal.returns-in-Sends-clause-seat
 returns-in-Sends-clause-seat g c =
@@ -49,7 +50,7 @@ returns-in-Sends-clause-seat g c =
 
 pub returns-in-Sends-clause-step : goal.returns-in-Sends-clause-step
 returns-in-Sends-clause-step g c =
-    let coded = g.row.D.coded in let meaning = g.D.Desk.meaning in let z = c.args.self.now.sizes in let me = c.args.seat.now.me in let who = c.args.who in let p = c.args.phase in subst (λ (x : Phase). Advances coded meaning z who x c.send_step.result.1 c.send_step.result.0 me c.send_step.new.seat.me) (sym c.in-Sends.is) c.send_step.ensures.step
+    let coded = g.row.D.coded in let meaning = g.D.Desk.meaning in let z = c.args.self.now.sizes in let me = (seat_of c.args.who.number c.args.seat.now.me) in let who = c.args.who in let p = c.args.phase in subst (λ (x : Phase). Advances coded meaning z who x c.send_step.result.1 c.send_step.result.0 me (seat_of c.args.who.number c.send_step.new.seat.me)) (sym c.in-Sends.is) c.send_step.ensures.step
 
 pub take_step-requires-clause-seat : goal.take_step-requires-clause-seat
 take_step-requires-clause-seat g c =
@@ -57,7 +58,7 @@ take_step-requires-clause-seat g c =
 
 pub take_step-requires-clause-stands : goal.take_step-requires-clause-stands
 take_step-requires-clause-stands g c =
-    let coded = g.row.D.coded in let meaning = g.D.Desk.meaning in let z = c.args.self.now.sizes in let me = c.args.seat.now.me in let who = c.args.who in let p = c.args.phase in subst (λ (x : Phase). IsInPhase z who x me) c.in-Takes.is c.requires.stands
+    let coded = g.row.D.coded in let meaning = g.D.Desk.meaning in let z = c.args.self.now.sizes in let me = (seat_of c.args.who.number c.args.seat.now.me) in let who = c.args.who in let p = c.args.phase in subst (λ (x : Phase). IsInPhase z who x me) c.in-Takes.is c.requires.stands
 
 pub returns-in-Takes-clause-seat : goal.returns-in-Takes-clause-seat
 returns-in-Takes-clause-seat g c =
@@ -65,7 +66,7 @@ returns-in-Takes-clause-seat g c =
 
 pub returns-in-Takes-clause-step : goal.returns-in-Takes-clause-step
 returns-in-Takes-clause-step g c =
-    let coded = g.row.D.coded in let meaning = g.D.Desk.meaning in let z = c.args.self.now.sizes in let me = c.args.seat.now.me in let who = c.args.who in let p = c.args.phase in subst (λ (x : Phase). Advances coded meaning z who x c.take_step.result.1 c.take_step.result.0 me c.take_step.new.seat.me) (sym c.in-Takes.is) c.take_step.ensures.step
+    let coded = g.row.D.coded in let meaning = g.D.Desk.meaning in let z = c.args.self.now.sizes in let me = (seat_of c.args.who.number c.args.seat.now.me) in let who = c.args.who in let p = c.args.phase in subst (λ (x : Phase). Advances coded meaning z who x c.take_step.result.1 c.take_step.result.0 me (seat_of c.args.who.number c.take_step.new.seat.me)) (sym c.in-Takes.is) c.take_step.ensures.step
 
 pub give_step-requires-clause-seat : goal.give_step-requires-clause-seat
 give_step-requires-clause-seat g c =
@@ -73,7 +74,7 @@ give_step-requires-clause-seat g c =
 
 pub give_step-requires-clause-stands : goal.give_step-requires-clause-stands
 give_step-requires-clause-stands g c =
-    let coded = g.row.D.coded in let meaning = g.D.Desk.meaning in let z = c.args.self.now.sizes in let me = c.args.seat.now.me in let who = c.args.who in let p = c.args.phase in subst (λ (x : Phase). IsInPhase z who x me) c.in-Gives.is c.requires.stands
+    let coded = g.row.D.coded in let meaning = g.D.Desk.meaning in let z = c.args.self.now.sizes in let me = (seat_of c.args.who.number c.args.seat.now.me) in let who = c.args.who in let p = c.args.phase in subst (λ (x : Phase). IsInPhase z who x me) c.in-Gives.is c.requires.stands
 
 pub returns-in-Gives-clause-seat : goal.returns-in-Gives-clause-seat
 returns-in-Gives-clause-seat g c =
@@ -81,7 +82,7 @@ returns-in-Gives-clause-seat g c =
 
 pub returns-in-Gives-clause-step : goal.returns-in-Gives-clause-step
 returns-in-Gives-clause-step g c =
-    let coded = g.row.D.coded in let meaning = g.D.Desk.meaning in let z = c.args.self.now.sizes in let me = c.args.seat.now.me in let who = c.args.who in let p = c.args.phase in subst (λ (x : Phase). Advances coded meaning z who x c.give_step.result.1 c.give_step.result.0 me c.give_step.new.seat.me) (sym c.in-Gives.is) c.give_step.ensures.step
+    let coded = g.row.D.coded in let meaning = g.D.Desk.meaning in let z = c.args.self.now.sizes in let me = (seat_of c.args.who.number c.args.seat.now.me) in let who = c.args.who in let p = c.args.phase in subst (λ (x : Phase). Advances coded meaning z who x c.give_step.result.1 c.give_step.result.0 me (seat_of c.args.who.number c.give_step.new.seat.me)) (sym c.in-Gives.is) c.give_step.ensures.step
 
 pub desk_step-requires-clause-seat : goal.desk_step-requires-clause-seat
 desk_step-requires-clause-seat g c =
@@ -89,7 +90,7 @@ desk_step-requires-clause-seat g c =
 
 pub desk_step-requires-clause-stands : goal.desk_step-requires-clause-stands
 desk_step-requires-clause-stands g c =
-    let coded = g.row.D.coded in let meaning = g.D.Desk.meaning in let z = c.args.self.now.sizes in let me = c.args.seat.now.me in let who = c.args.who in let p = c.args.phase in subst (λ (x : Phase). IsInPhase z who x me) c.in-Asks.is c.requires.stands
+    let coded = g.row.D.coded in let meaning = g.D.Desk.meaning in let z = c.args.self.now.sizes in let me = (seat_of c.args.who.number c.args.seat.now.me) in let who = c.args.who in let p = c.args.phase in subst (λ (x : Phase). IsInPhase z who x me) c.in-Asks.is c.requires.stands
 
 pub returns-in-Asks-clause-seat : goal.returns-in-Asks-clause-seat
 returns-in-Asks-clause-seat g c =
@@ -97,7 +98,7 @@ returns-in-Asks-clause-seat g c =
 
 pub returns-in-Asks-clause-step : goal.returns-in-Asks-clause-step
 returns-in-Asks-clause-step g c =
-    let coded = g.row.D.coded in let meaning = g.D.Desk.meaning in let z = c.args.self.now.sizes in let me = c.args.seat.now.me in let who = c.args.who in let p = c.args.phase in subst (λ (x : Phase). Advances coded meaning z who x c.desk_step.result.1 c.desk_step.result.0 me c.desk_step.new.seat.me) (sym c.in-Asks.is) c.desk_step.ensures.step
+    let coded = g.row.D.coded in let meaning = g.D.Desk.meaning in let z = c.args.self.now.sizes in let me = (seat_of c.args.who.number c.args.seat.now.me) in let who = c.args.who in let p = c.args.phase in subst (λ (x : Phase). Advances coded meaning z who x c.desk_step.result.1 c.desk_step.result.0 me (seat_of c.args.who.number c.desk_step.new.seat.me)) (sym c.in-Asks.is) c.desk_step.ensures.step
 
 pub leave-requires-clause-seat : goal.leave-requires-clause-seat
 leave-requires-clause-seat g c =
@@ -109,11 +110,11 @@ leave-requires-in-LeavesReceiver-clause-seat g c =
 
 pub leave-requires-clause-call : goal.leave-requires-clause-call
 leave-requires-clause-call g c =
-    let coded = g.row.D.coded in let meaning = g.D.Desk.meaning in let z = c.args.self.now.sizes in let me = c.args.seat.now.me in let who = c.args.who in let p = c.args.phase in subst (λ (e : End). IsLeaving lane_turn.Sender e me) (sym c.other.ensures) (subst (λ (x : Phase). IsInPhase z who x me) c.in-LeavesSender.is c.requires.stands)
+    let coded = g.row.D.coded in let meaning = g.D.Desk.meaning in let z = c.args.self.now.sizes in let me = (seat_of c.args.who.number c.args.seat.now.me) in let who = c.args.who in let p = c.args.phase in (call_end c.in-LeavesSender.answer, subst (λ (e : End). IsLeaving lane_turn.Sender e (call_end c.in-LeavesSender.answer) me) (sym c.other.ensures) (subst (λ (x : Phase). IsInPhase z who x me) c.in-LeavesSender.is c.requires.stands))
 
 pub leave-requires-in-LeavesReceiver-clause-call : goal.leave-requires-in-LeavesReceiver-clause-call
 leave-requires-in-LeavesReceiver-clause-call g c =
-    let coded = g.row.D.coded in let meaning = g.D.Desk.meaning in let z = c.args.self.now.sizes in let me = c.args.seat.now.me in let who = c.args.who in let p = c.args.phase in subst (λ (x : Phase). IsInPhase z who x me) c.in-LeavesReceiver.is c.requires.stands
+    let coded = g.row.D.coded in let meaning = g.D.Desk.meaning in let z = c.args.self.now.sizes in let me = (seat_of c.args.who.number c.args.seat.now.me) in let who = c.args.who in let p = c.args.phase in (call_end c.in-LeavesReceiver.answer, subst (λ (x : Phase). IsInPhase z who x me) c.in-LeavesReceiver.is c.requires.stands)
 
 pub returns-in-LeavesSender-clause-seat : goal.returns-in-LeavesSender-clause-seat
 returns-in-LeavesSender-clause-seat g c =
@@ -125,14 +126,35 @@ returns-in-LeavesReceiver-clause-seat g c =
 
 pub returns-in-LeavesSender-clause-step : goal.returns-in-LeavesSender-clause-step
 returns-in-LeavesSender-clause-step g c =
-    let coded = g.row.D.coded in let meaning = g.D.Desk.meaning in let z = c.args.self.now.sizes in let me = c.args.seat.now.me in let who = c.args.who in let p = c.args.phase in let me' = c.leave.new.seat.me in let said = c.in-LeavesSender.answer in
+    let coded = g.row.D.coded in let meaning = g.D.Desk.meaning in let z = c.args.self.now.sizes in let me = (seat_of c.args.who.number c.args.seat.now.me) in let who = c.args.who in let p = c.args.phase in let me' = (seat_of c.args.who.number c.leave.new.seat.me) in let said = c.in-LeavesSender.answer in
     subst (λ (x : Phase). Advances coded meaning z who x (progress.Done said) phase.Ended me me') (sym c.in-LeavesSender.is)
     (left_sender coded meaning z who said me me' (subst (λ (e : End). IsAt me' (Rests (other e)) [] × HasDone coded meaning (Step made.Left ∷ []) same_hands me me') c.other.ensures c.leave.ensures.left))
 
 pub returns-in-LeavesReceiver-clause-step : goal.returns-in-LeavesReceiver-clause-step
 returns-in-LeavesReceiver-clause-step g c =
-    let coded = g.row.D.coded in let meaning = g.D.Desk.meaning in let z = c.args.self.now.sizes in let me = c.args.seat.now.me in let who = c.args.who in let p = c.args.phase in let me' = c.leave-in-LeavesReceiver.new.seat.me in let said = c.in-LeavesReceiver.answer in
+    let coded = g.row.D.coded in let meaning = g.D.Desk.meaning in let z = c.args.self.now.sizes in let me = (seat_of c.args.who.number c.args.seat.now.me) in let who = c.args.who in let p = c.args.phase in let me' = (seat_of c.args.who.number c.leave-in-LeavesReceiver.new.seat.me) in let said = c.in-LeavesReceiver.answer in
     subst (λ (x : Phase). Advances coded meaning z who x (progress.Done said) phase.Ended me me') (sym c.in-LeavesReceiver.is) (left_receiver coded meaning z who said me me' c.leave-in-LeavesReceiver.ensures.left)
 
 pub unreachable-requires : goal.unreachable-requires
-unreachable-requires g c = subst (λ (x : Phase). IsInPhase c.args.self.now.sizes c.args.who x c.args.seat.now.me) c.in-Ended.is c.requires.stands
+unreachable-requires g c = subst (λ (x : Phase). IsInPhase c.args.self.now.sizes c.args.who x (seat_of c.args.who.number c.args.seat.now.me)) c.in-Ended.is c.requires.stands
+
+pub returns-in-Asked-clause-alone : goal.returns-in-Asked-clause-alone
+returns-in-Asked-clause-alone g c = subst (λ (x : Phase). StepsAlone g.row.D.coded g.D.Desk.meaning c.args.who.number (deed_of c.args.who x) c.args.seat.now.me c.first_step.new.seat.me) (sym c.in-Asked.is) c.first_step.ensures.alone
+
+pub returns-in-Sends-clause-alone : goal.returns-in-Sends-clause-alone
+returns-in-Sends-clause-alone g c = subst (λ (x : Phase). StepsAlone g.row.D.coded g.D.Desk.meaning c.args.who.number (deed_of c.args.who x) c.args.seat.now.me c.send_step.new.seat.me) (sym c.in-Sends.is) c.send_step.ensures.alone
+
+pub returns-in-Takes-clause-alone : goal.returns-in-Takes-clause-alone
+returns-in-Takes-clause-alone g c = subst (λ (x : Phase). StepsAlone g.row.D.coded g.D.Desk.meaning c.args.who.number (deed_of c.args.who x) c.args.seat.now.me c.take_step.new.seat.me) (sym c.in-Takes.is) c.take_step.ensures.alone
+
+pub returns-in-Gives-clause-alone : goal.returns-in-Gives-clause-alone
+returns-in-Gives-clause-alone g c = subst (λ (x : Phase). StepsAlone g.row.D.coded g.D.Desk.meaning c.args.who.number (deed_of c.args.who x) c.args.seat.now.me c.give_step.new.seat.me) (sym c.in-Gives.is) c.give_step.ensures.alone
+
+pub returns-in-Asks-clause-alone : goal.returns-in-Asks-clause-alone
+returns-in-Asks-clause-alone g c = subst (λ (x : Phase). StepsAlone g.row.D.coded g.D.Desk.meaning c.args.who.number (deed_of c.args.who x) c.args.seat.now.me c.desk_step.new.seat.me) (sym c.in-Asks.is) c.desk_step.ensures.alone
+
+pub returns-in-LeavesSender-clause-alone : goal.returns-in-LeavesSender-clause-alone
+returns-in-LeavesSender-clause-alone g c = subst (λ (x : Phase). StepsAlone g.row.D.coded g.D.Desk.meaning c.args.who.number (deed_of c.args.who x) c.args.seat.now.me c.leave.new.seat.me) (sym c.in-LeavesSender.is) c.leave.ensures.alone
+
+pub returns-in-LeavesReceiver-clause-alone : goal.returns-in-LeavesReceiver-clause-alone
+returns-in-LeavesReceiver-clause-alone g c = subst (λ (x : Phase). StepsAlone g.row.D.coded g.D.Desk.meaning c.args.who.number (deed_of c.args.who x) c.args.seat.now.me c.leave-in-LeavesReceiver.new.seat.me) (sym c.in-LeavesReceiver.is) c.leave-in-LeavesReceiver.ensures.alone

@@ -1,0 +1,99 @@
+-- One pass of a seat that may have several, alone with the slots that are out with it, and what a step of it leaves as it is (own).
+use Rattle.std.specs.Prelude.{◌≡◌, ℕ, zero, suc, List, [], ◌∷◌}
+use base.Stored.{Coded}
+use Rattle.atomic_table.specs.Seated.{TableId}
+use Rattle.lane_model.specs.declared.lane_links.LaneLink.{LaneLink}
+use Rattle.lane_model.specs.declared.stages.SendStage.{SendStage}
+use Rattle.lane_model.specs.declared.stages.SendStage.TheVariants as stage
+use Rattle.lane_model.specs.declared.stages.TakeStage.TheVariants as take_stage
+use Rattle.lane_model.specs.declared.stages.Work.{Work}
+use Rattle.lane_model.specs.declared.stages.Work.TheVariants as work
+use Rattle.lane_model.specs.Desks.{DeskMeaning}
+use Rattle.ring_core.specs.declared.states.RingState.{RingState}
+use Rattle.link_words.specs.declared.rule.Call.{Call}
+use Rattle.link_words.specs.declared.rule.LinkSizes.{LinkSizes}
+use Rattle.link_words.specs.declared.rule.Pass.{Pass}
+use Rattle.link_words.specs.declared.rule.Slot.{Slot}
+use Rattle.link_words.specs.Calls.{SeatState, call_at, send_or, receive_or, under_way_or, with_pass_at}
+use Rattle.link_words.specs.Deeds.{Deed, after_deed}
+use Rattle.link_words.specs.Orderly.{IsOrderly}
+use Rattle.link_words.specs.Passes.{only_pass, place_of_number}
+use Rattle.link_words.specs.PlacedLinks.{KnowsState}
+use Rattle.split_ring.specs.Seats.{pass_in}
+
+-- how many slots are out with a send that has done the step of this stage last, and with other work
+abbrev pub send_count : SendStage → ℕ
+send_count stage.Turn = 1
+send_count stage.Era = 1
+send_count stage.Look = 1
+send_count stage.Buffer = 2
+send_count stage.Entry = 2
+
+abbrev pub work_count : Work → ℕ
+work_count (work.Take take_stage.Turn) = 1
+work_count (work.Take take_stage.Era) = 1
+work_count (work.Take take_stage.Look) = 1
+work_count (work.Take take_stage.Buffer) = 2
+work_count (work.Give number given) = 1
+work_count (work.Bind address) = 1
+work_count (work.Unbind address) = 1
+
+-- how many are out with a caller's call: none between its calls, and the side state alone where the end is settled
+abbrev pub slot_count : Call → ℕ
+slot_count call = send_or (receive_or 0 (λ e t x b message. under_way_or 1 (λ caller r. work_count r.work) t) call) (λ e t x b. under_way_or 1 (λ caller s. send_count s.stage) t) call
+
+-- the first so many slots, and those behind them
+abbrev pub front : ℕ → List (ℕ × Slot) → List (ℕ × Slot)
+front zero slots = []
+front (suc n) [] = []
+front (suc n) (x ∷ xs) = x ∷ front n xs
+
+abbrev pub behind : ℕ → List (ℕ × Slot) → List (ℕ × Slot)
+behind zero slots = slots
+behind (suc n) [] = []
+behind (suc n) (x ∷ xs) = behind n xs
+
+-- the seat as if it had the pass at this place alone, with the first so many of its slots
+abbrev pub focus : ℕ → ℕ → SeatState → SeatState
+focus k c me = (record me.0 { passes = only_pass k me.0.passes }, front c me.1)
+
+-- how many slots are out with the call of the pass of this number
+abbrev pub count_of : ℕ → SeatState → ℕ
+count_of n me = slot_count (call_at (place_of_number n me.0.passes) me.0.passes)
+
+-- the seat as if it had the pass of this number alone, with the slots of its call, which are in front of the others
+abbrev pub seat_of : ℕ → SeatState → SeatState
+seat_of n me = focus (place_of_number n me.0.passes) (count_of n me) me
+
+-- the slots behind those
+abbrev pub others_of : ℕ → SeatState → List (ℕ × Slot)
+others_of n me = behind (count_of n me) me.1
+
+-- the seat has that pass alone, and its slots
+pub record IsAlone (n : ℕ) (me : SeatState) : Type 0 where
+  pub one : me.0.passes ≡ pass_in me ∷ []
+  pub here : place_of_number n me.0.passes ≡ 0
+  pub none : others_of n me ≡ []
+
+-- the seat is one of this table, which has these sizes, and its passes are in order
+pub record IsOrderlySeat (table : TableId) (sizes : LinkSizes) (table_id : TableId) (me : SeatState) : Type 0 where
+  pub at_table : table_id ≡ table
+  pub told : me.0.sizes ≡ sizes
+  pub order : IsOrderly me.0
+
+-- of what the seat knows nothing else has changed than the pass of this number, which has it still, and the copy; and the others' slots are where they were
+pub record LeavesOthers (n : ℕ) (me me' : SeatState) : Type 0 where
+  pub change : Pass → Pass
+  pub view : me'.0 ≡ record me.0 { copy = me'.0.copy; passes = with_pass_at change (place_of_number n me.0.passes) me.0.passes }
+  pub here : place_of_number n me'.0.passes ≡ place_of_number n me.0.passes
+  pub others : others_of n me' ≡ others_of n me
+
+-- a step of the pass of this number, which is this deed: nothing else changes, and a manager that knew the state knows the one after the deed
+pub record StepsAlone {D : Type 0} (coded : Coded D) (meaning : DeskMeaning D) (n : ℕ) (d : Deed) (me me' : SeatState) : Type 0 where
+  pub leaves : LeavesOthers n me me'
+  pub knows : (m : LaneLink (RingState D)) → KnowsState coded me.0 m → KnowsState coded me'.0 (after_deed meaning m d)
+
+-- nothing changes but what is in the slots of the call of the pass of this number
+pub record StaysAlone (n : ℕ) (me me' : SeatState) : Type 0 where
+  pub view : me'.0 ≡ me.0
+  pub others : others_of n me' ≡ others_of n me
