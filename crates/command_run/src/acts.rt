@@ -138,15 +138,19 @@ macro_rules! call {
     };
 }
 
-/// What a call wishes, by the fields of its command.
-macro_rules! wish {
-    (Send, $source:ident, $destination:ident, $payload:ident) => {
+/// What a send wishes, by the fields of its command.
+macro_rules! send {
+    ($source:ident, $destination:ident, $payload:ident) => {
         CallWish::Send {
             source: *$source as u32,
             destination: *$destination as u32,
             payload: $payload.bytes(),
         }
     };
+}
+
+/// What a call of another kind wishes, by the fields of its command.
+macro_rules! wish {
     (Raw, $message:ident) => {
         CallWish::Raw {
             message: $message.bytes(),
@@ -215,12 +219,7 @@ pub(crate) fn line_of(command: &Command) -> Line<&Recipe, &[u8]>
             source,
             destination,
             payload,
-        } => call!(
-            Whole,
-            name,
-            caller,
-            wish!(Send, source, destination, payload)
-        ),
+        } => call!(Whole, name, caller, send!(source, destination, payload)),
         Command::Raw {
             name,
             caller,
@@ -248,12 +247,7 @@ pub(crate) fn line_of(command: &Command) -> Line<&Recipe, &[u8]>
             source,
             destination,
             payload,
-        } => call!(
-            Begun,
-            name,
-            caller,
-            wish!(Send, source, destination, payload)
-        ),
+        } => call!(Begun, name, caller, send!(source, destination, payload)),
         Command::BeginRaw {
             name,
             caller,

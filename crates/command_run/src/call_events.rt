@@ -2,6 +2,7 @@ ghost use Rattle.std.specs.Prelude.{◌≡◌, IfOk};
 ghost use Rattle.command_run.specs.CallEvents.{end_event, fault_event, refused_event, took_event};
 ghost use Rattle.link_bench.specs.Benches.{link_in};
 
+use crate::logs::event;
 use crash_recover::{Bench, BenchFault};
 use journal::Event;
 use lane_model::CallEnd;
@@ -12,25 +13,11 @@ use std::alloc::Global;
 pub(crate) fn fault_event(name: Name, caller: CallerNo, fault: BenchFault) -> Event
     ensures { result ≡ fault_event name caller fault }
 {
-    let number = u64::from(caller);
     match fault {
-        BenchFault::NoCaller => Event::NoCaller {
-            name,
-            caller: number,
-        },
-        BenchFault::InCall => Event::InCall {
-            name,
-            caller: number,
-        },
-        BenchFault::NoCall => Event::NoCall {
-            name,
-            caller: number,
-        },
-        BenchFault::NotHeld(message) => Event::NotHeld {
-            name,
-            caller: number,
-            number: message,
-        },
+        BenchFault::NoCaller => event!(NoCaller, name, [caller]),
+        BenchFault::InCall => event!(InCall, name, [caller]),
+        BenchFault::NoCall => event!(NoCall, name, [caller]),
+        BenchFault::NotHeld(number) => event!(NotHeld, name, [caller], number),
     }
 }
 
@@ -44,59 +31,23 @@ pub(crate) fn end_event(
 ) -> Result<Event, NoMemory>
     ensures { IfOk result (λ event. event ≡ end_event name (link_in bench.now) caller end) }
 {
-    let number = u64::from(caller);
     Ok(match end {
-        CallEnd::Sent(message) => Event::Sent {
-            name,
-            caller: number,
-            number: message,
-        },
-        CallEnd::Took(message, verdict) => {
-            let bytes = bench.taken_message(caller, message);
-            return took_event(alloc, name, number, message, bytes, verdict);
+        CallEnd::Sent(number) => event!(Sent, name, [caller], number),
+        CallEnd::Took(number, verdict) => {
+            let message = bench.taken_message(caller, number);
+            return took_event(alloc, name, caller, number, message, verdict);
         }
-        CallEnd::Gave(message) => Event::Gave {
-            name,
-            caller: number,
-            number: message,
-        },
-        CallEnd::Bound(endpoint) => Event::Bound {
-            name,
-            caller: number,
-            endpoint,
-        },
-        CallEnd::Unbound(endpoint) => Event::Unbound {
-            name,
-            caller: number,
-            endpoint,
-        },
-        CallEnd::Busy(holder) => Event::Busy {
-            name,
-            caller: number,
-            holder: u64::from(holder),
-        },
-        CallEnd::Dead(era) => Event::Dead {
-            name,
-            caller: number,
-            era,
-        },
-        CallEnd::NoBuffer(accepted, returned) => Event::NoBuffer {
-            name,
-            caller: number,
-            accepted,
-            returned,
-        },
-        CallEnd::BookFull(accepted) => Event::BookFull {
-            name,
-            caller: number,
-            accepted,
-        },
-        CallEnd::Empty(accepted) => Event::Empty {
-            name,
-            caller: number,
-            accepted,
-        },
-        CallEnd::Refused(fault) => refused_event(name, number, fault),
+        CallEnd::Gave(number) => event!(Gave, name, [caller], number),
+        CallEnd::Bound(endpoint) => event!(Bound, name, [caller], endpoint),
+        CallEnd::Unbound(endpoint) => event!(Unbound, name, [caller], endpoint),
+        CallEnd::Busy(holder) => event!(Busy, name, [caller, holder]),
+        CallEnd::Dead(era) => event!(Dead, name, [caller], era),
+        CallEnd::NoBuffer(accepted, returned) => {
+            event!(NoBuffer, name, [caller], accepted, returned)
+        }
+        CallEnd::BookFull(accepted) => event!(BookFull, name, [caller], accepted),
+        CallEnd::Empty(accepted) => event!(Empty, name, [caller], accepted),
+        CallEnd::Refused(fault) => refused_event(name, caller, fault),
     })
 }
 
@@ -104,7 +55,7 @@ pub(crate) fn end_event(
 fn took_event(
     alloc: Global,
     name: Name,
-    caller: u64,
+    caller: CallerNo,
     number: u64,
     message: &[u8],
     verdict: Verdict,
@@ -115,68 +66,42 @@ fn took_event(
         Verdict::To(endpoint) => {
             let header = rpmsg_header::fields(message);
             let payload = Data::copy_of(alloc, header.payload)?;
-            let src = u64::from(header.src);
-            Event::TookFromTo {
+            let source = header.src;
+            event!(
+                TookFromTo,
                 name,
-                caller,
+                [caller, source],
                 number,
-                source: src,
                 endpoint,
-                payload,
-            }
+                payload
+            )
         }
-        Verdict::Dropped(dst) => {
+        Verdict::Dropped(destination) => {
             let header = rpmsg_header::fields(message);
             let payload = Data::copy_of(alloc, header.payload)?;
-            let src = u64::from(header.src);
-            Event::TookFromDropped {
+            let source = header.src;
+            event!(
+                TookFromDropped,
                 name,
-                caller,
+                [caller, source, destination],
                 number,
-                source: src,
-                destination: u64::from(dst),
-                payload,
-            }
+                payload
+            )
         }
-        Verdict::Malformed => Event::TookMalformed {
-            name,
-            caller,
-            number,
-        },
-        Verdict::Service(what, channel, address, _) => {
-            Event::TookNs {
-                name,
-                caller,
-                number,
-                kind: what,
-                channel,
-                address: u64::from(address),
-            }
+        Verdict::Malformed => event!(TookMalformed, name, [caller], number),
+        Verdict::Service(kind, channel, address, _) => {
+            event!(TookNs, name, [caller, address], number, kind, channel)
         }
-        Verdict::ServiceMalformed => Event::TookNsMalformed {
-            name,
-            caller,
-            number,
-        },
+        Verdict::ServiceMalformed => event!(TookNsMalformed, name, [caller], number),
     })
 }
 
-fn refused_event(name: Name, caller: u64, fault: BindFault) -> Event
+fn refused_event(name: Name, caller: CallerNo, fault: BindFault) -> Event
     ensures { result ≡ refused_event name caller fault }
 {
     match fault {
-        BindFault::AddressTaken(address) => {
-            Event::AddressTaken {
-                name,
-                caller,
-                address: u64::from(address),
-            }
-        }
-        BindFault::EndpointsFull => Event::EndpointsFull { name, caller },
-        BindFault::NotBound(address) => Event::NotBound {
-            name,
-            caller,
-            address: u64::from(address),
-        },
+        BindFault::AddressTaken(address) => event!(AddressTaken, name, [caller, address]),
+        BindFault::EndpointsFull => event!(EndpointsFull, name, [caller]),
+        BindFault::NotBound(address) => event!(NotBound, name, [caller, address]),
     }
 }

@@ -2,7 +2,7 @@ ghost use Rattle.std.specs.Prelude.{◌≡◌, ◌++◌, OnOk, map};
 ghost use Rattle.journal.specs.Lines.{transcript};
 ghost use Rattle.command_run.specs.ChannelLists.{channel_event, channels_events};
 
-use crate::logs::RunLog;
+use crate::logs::{RunLog, event};
 use crash_recover::Bench;
 use journal::Event;
 use name_service::Channel;
@@ -16,10 +16,7 @@ pub(crate) fn tell_channels(name: Name, bench: &Bench, log: &mut RunLog) -> Resu
 {
     match bench.channels(log.alloc()) {
         Ok(channels) => tell_list(name, channels.as_slice(), log),
-        Err(SnapshotFault::StillTurn(holder)) => log.tell(&Event::StillTurn {
-            name,
-            caller: u64::from(holder),
-        }),
+        Err(SnapshotFault::StillTurn(caller)) => log.tell(&event!(StillTurn, name, [caller])),
         Err(SnapshotFault::NoMemory) => Err(NoMemory),
     }
 }
@@ -28,14 +25,9 @@ pub(crate) fn tell_channels(name: Name, bench: &Bench, log: &mut RunLog) -> Resu
 fn tell_list(name: Name, channels: &[Channel], log: &mut RunLog) -> Result<(), NoMemory>
     ensures { OnOk result (log.new ≡ record log.old { lines = log.old.lines ++ transcript (map (channel_event name) channels.now) }) }
 {
-    for channel in channels {
-        let address = u64::from(channel.address);
-        log.tell(&Event::Channel {
-            name,
-            channel: channel.name,
-            address,
-            endpoint: channel.endpoint,
-        })?;
+    for known in channels {
+        let (channel, address, endpoint) = (known.name, known.address, known.endpoint);
+        log.tell(&event!(Channel, name, [address], channel, endpoint))?;
     }
     Ok(())
 }

@@ -11,10 +11,8 @@ ghost use Rattle.rp_base.specs.declared.kinds.CrashKind.TheVariants as kind;
 ghost use Rattle.command_run.specs.CoreDrives.{actor_end_events, crash_events, drive_effect, drive_end, drive_steps, driven_events, is_crashed, is_over, rest_event, step_events};
 
 use crate::call_events::end_event;
-use crate::cores::NamedCore;
-use crate::fetches::CommandFault;
-use crate::logs::RunLog;
-use crate::stops::Stop;
+use crate::logs::event;
+use crate::{CommandFault, NamedCore, RunLog, Stop};
 use crash_recover::DriveProgress;
 use journal::Event;
 use lane_model::CallEnd;
@@ -222,10 +220,8 @@ impl NamedCore {
     fn tell_fault(&self, fault: WorkerFault, log: &mut RunLog) -> Result<(), NoMemory>
         ensures { IfOk result (λ _. Keeps log.old log.new (event.WorkerFault self.now.name (fault_number fault) ∷ crash_events self.now.name kind.Fatal self.now.core.bench)) }
     {
-        log.tell(&Event::WorkerFault {
-            name: self.name,
-            fault: u64::from(fault.number()),
-        })?;
+        let (name, fault) = (self.name, fault.number());
+        log.tell(&event!(WorkerFault, name, [fault]))?;
         self.tell_crash(CrashKind::Fatal, log)
     }
 
@@ -250,15 +246,11 @@ impl NamedCore {
     fn tell_crash(&self, kind: CrashKind, log: &mut RunLog) -> Result<(), NoMemory>
         ensures { IfOk result (λ _. Keeps log.old log.new (crash_events self.now.name kind self.now.core.bench)) }
     {
+        let name = self.name;
         if let Some(bench) = self.core.link() {
-            log.tell(&Event::Closed {
-                name: self.name,
-                inc: u64::from(bench.era().inc),
-            })?;
+            let inc = bench.era().inc;
+            log.tell(&event!(Closed, name, [inc]))?;
         }
-        log.tell(&Event::Crashed {
-            name: self.name,
-            kind,
-        })
+        log.tell(&Event::Crashed { name, kind })
     }
 }

@@ -5,12 +5,10 @@ ghost use Rattle.command_run.specs.Logs.{HasCoreEffect};
 ghost use Rattle.command_run.specs.CoreLinks.{core_link_effect, core_ring_effect, core_turn_holder, core_view_effect, found_view_effect};
 
 use crate::act_events::tell_answer;
-use crate::acts::LinkView;
-use crate::cores::NamedCore;
 use crate::links::tell_view;
-use crate::logs::RunLog;
+use crate::logs::event;
 use crate::rings::tell_bytes;
-use crate::stops::Stop;
+use crate::{LinkView, NamedCore, RunLog, Stop};
 use crash_recover::{Core, LinkAct};
 use journal::Event;
 use rp_base::{CallerNo, NoMemory};
@@ -79,14 +77,8 @@ impl NamedCore {
         ensures effect { IfOk result (λ ending. HasCoreEffect (core_ring_effect self.old.name self.old.core log.old.steps lane) self.new.core log.old log.new ending) }
     {
         let name = self.name;
-        if let Some(holder) = turn_holder(&self.core) {
-            return self.tell(
-                &Event::StillTurn {
-                    name,
-                    caller: u64::from(holder),
-                },
-                log,
-            );
+        if let Some(caller) = turn_holder(&self.core) {
+            return self.tell(&event!(StillTurn, name, [caller]), log);
         }
         let Some(bytes) = self.core.ring_bytes(log.alloc(), lane)? else {
             return self.tell(&Event::NoLink { name }, log);

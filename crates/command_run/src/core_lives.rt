@@ -9,20 +9,17 @@ ghost use Rattle.journal.specs.Lines.{line};
 ghost use Rattle.journal.specs.declared.events.Event.TheVariants as event;
 ghost use Rattle.command_run.specs.Logs.{HasCoreEffect};
 ghost use Rattle.command_run.specs.CoreEffects.{core_tells_all};
-ghost use Rattle.command_run.specs.CoreLives.{boot_effect, booted_image, core_fault_events, crash_effect, detach_effect, found_image, handover_effect, image_bytes, leave_effect, life_fault_event, load_fault_event, may_step, recover_effect, report_effect, shutdown_effect, start_event, start_events};
+ghost use Rattle.command_run.specs.CoreLives.{boot_effect, booted_image, core_fault_events, crash_effect, detach_effect, fault_at, found_image, handover_effect, image_bytes, leave_effect, life_fault_event, load_fault_event, may_step, recover_effect, report_effect, shutdown_effect, start_event, start_events};
 ghost use Rattle.command_run.specs.Fetches.{answer_of};
 
-use crate::cores::NamedCore;
-use crate::fetches::Fetched;
-use crate::logs::RunLog;
-use crate::objects::ScriptImage;
-use crate::stops::Stop;
+use crate::logs::event;
+use crate::{Fetched, NamedCore, RunLog, ScriptImage, Stop};
 use crash_recover::{CALLER_OUT, CoreFault, Crash, Leave, RINGS_CHANGED, Start};
 use fw_load::LoadFault;
 use journal::Event;
 use lane_model::ReopenFault;
 use proc_state::LifeFault;
-use rp_base::{CrashKind, IMAGE_MOST, Inc, Name, NoMemory, STEPS_MOST};
+use rp_base::{CrashKind, Era, IMAGE_MOST, Inc, Name, NoMemory, STEPS_MOST};
 use rp_io::FetchFault;
 
 impl NamedCore {
@@ -122,43 +119,23 @@ impl NamedCore {
         ensures effect { IfOk result (λ ending. HasCoreEffect (core_tells_all self.old.core log.old.steps (core_fault_events self.old.name image fault.now)) self.new.core log.old log.new ending) }
     {
         let name = self.name;
-        let event = match fault {
+        let event = match *fault {
             CoreFault::Fetch(FetchFault::Missing) => Event::Missing { name, image },
             CoreFault::Fetch(FetchFault::TooLarge(_)) => Event::TooLarge { name, image },
-            CoreFault::Load(fault) => load_fault_event(name, *fault),
-            CoreFault::Life(fault) => life_fault_event(name, *fault),
-            CoreFault::RingsChanged => Event::Fault {
-                name,
-                fault: u64::from(RINGS_CHANGED),
-            },
-            CoreFault::CallerOut(caller) => Event::FaultAt {
-                name,
-                fault: u64::from(CALLER_OUT),
-                index: u64::from(*caller),
-            },
-            CoreFault::Reopen(ReopenFault::StillOpen(era)) => {
-                Event::StillOpen {
-                    name,
-                    inc: u64::from(era.inc),
-                }
+            CoreFault::Load(fault) => load_fault_event(name, fault),
+            CoreFault::Life(fault) => life_fault_event(name, fault),
+            CoreFault::RingsChanged => fault_at(name, RINGS_CHANGED, None),
+            CoreFault::CallerOut(caller) => fault_at(name, CALLER_OUT, Some(u16::from(caller))),
+            CoreFault::Reopen(ReopenFault::StillOpen(Era { inc, .. })) => {
+                event!(StillOpen, name, [inc])
             }
-            CoreFault::Reopen(ReopenFault::StillTurn(caller)) => {
-                Event::StillTurn {
-                    name,
-                    caller: u64::from(*caller),
-                }
-            }
+            CoreFault::Reopen(ReopenFault::StillTurn(caller)) => event!(StillTurn, name, [caller]),
             CoreFault::Reopen(ReopenFault::StillHeld(caller, number)) => {
-                Event::StillHeld {
-                    name,
-                    caller: u64::from(*caller),
-                    number: *number,
-                }
+                event!(StillHeld, name, [caller], number)
             }
             CoreFault::Reopen(ReopenFault::IncarnationsSpent) => Event::IncarnationsSpent { name },
             CoreFault::Reopen(ReopenFault::NoMemory)
-            | CoreFault::Fetch(FetchFault::Failed)
-            | CoreFault::Fetch(FetchFault::NoMemory)
+            | CoreFault::Fetch(FetchFault::Failed | FetchFault::NoMemory)
             | CoreFault::NoMemory => return Err(NoMemory),
         };
         self.tell(&event, log)
@@ -198,10 +175,7 @@ impl NamedCore {
     {
         let name = self.name;
         match left {
-            Ok(Leave::Users(users)) => {
-                let users = u64::from(users);
-                self.tell(&Event::Users { name, users }, log)
-            }
+            Ok(Leave::Users(users)) => self.tell(&event!(Users, name, [users]), log),
             Ok(Leave::Last(None)) => self.tell(last, log),
             Ok(Leave::Last(Some(inc))) => {
                 self.tell_close(inc, log)?;
@@ -255,11 +229,9 @@ impl NamedCore {
         requires { log.old.steps < STEPS_MOST }
         ensures { OnOk result (log.new ≡ record { lines = log.old.lines ++ line (event.Closed self.now.name inc); steps = log.old.steps + 1 }) }
     {
+        let name = self.name;
         log.set_steps(log.steps() + 1);
-        log.tell(&Event::Closed {
-            name: self.name,
-            inc: u64::from(inc),
-        })
+        log.tell(&event!(Closed, name, [inc]))
     }
 }
 
@@ -268,18 +240,9 @@ fn start_event(name: Name, start: Start) -> Event
     ensures { result ≡ start_event name start }
 {
     match start {
-        Start::Running(inc) => Event::Running {
-            name,
-            inc: u64::from(inc),
-        },
-        Start::Attached(inc) => Event::Attached {
-            name,
-            inc: u64::from(inc),
-        },
-        Start::Users(users) => Event::Users {
-            name,
-            users: u64::from(users),
-        },
+        Start::Running(inc) => event!(Running, name, [inc]),
+        Start::Attached(inc) => event!(Attached, name, [inc]),
+        Start::Users(users) => event!(Users, name, [users]),
         Start::Detached => Event::Detached { name },
     }
 }
@@ -317,10 +280,7 @@ fn life_fault_event(name: Name, fault: LifeFault) -> Event
 {
     match fault {
         LifeFault::IncarnationsSpent => Event::IncarnationsSpent { name },
-        _ => Event::Fault {
-            name,
-            fault: u64::from(fault.number()),
-        },
+        _ => fault_at(name, fault.number(), None),
     }
 }
 
@@ -328,16 +288,15 @@ fn life_fault_event(name: Name, fault: LifeFault) -> Event
 fn load_fault_event(name: Name, fault: LoadFault) -> Event
     ensures { result ≡ load_fault_event name fault }
 {
-    let number = u64::from(fault.number().unwrap_or(0));
-    match fault.index() {
-        Some(index) => Event::FaultAt {
-            name,
-            fault: number,
-            index: u64::from(index),
-        },
-        None => Event::Fault {
-            name,
-            fault: number,
-        },
+    fault_at(name, fault.number().unwrap_or(0), fault.index())
+}
+
+/// A fault by its number, and the number of what it is about, if it is about something.
+pub(crate) fn fault_at(name: Name, fault: u8, index: Option<u16>) -> Event
+    ensures { result ≡ fault_at name fault index }
+{
+    match index {
+        Some(index) => event!(FaultAt, name, [fault, index]),
+        None => event!(Fault, name, [fault]),
     }
 }

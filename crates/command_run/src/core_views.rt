@@ -5,9 +5,8 @@ ghost use Rattle.journal.specs.Lines.{transcript};
 ghost use Rattle.command_run.specs.Logs.{HasCoreEffect};
 ghost use Rattle.command_run.specs.CoreViews.{mem_effect, table_effect, table_event, trace_bytes, trace_effect};
 
-use crate::cores::NamedCore;
-use crate::logs::RunLog;
-use crate::stops::Stop;
+use crate::logs::event;
+use crate::{NamedCore, RunLog, Stop};
 use crash_recover::Core;
 use image_report::table_rows;
 use journal::{Event, TableLine};
@@ -33,23 +32,19 @@ impl NamedCore {
     #[tactic(auto, unfolding(crate::specs::CoreViews::trace_effect))]
     pub(crate) fn tell_trace(
         &mut self,
-        index: u64,
+        trace: u64,
         log: &mut RunLog,
     ) -> Result<Option<Stop>, NoMemory>
         ensures same { self.new ≡ self.old }
-        ensures effect { IfOk result (λ ending. HasCoreEffect (trace_effect self.old.name self.old.core log.old.steps index) self.new.core log.old log.new ending) }
+        ensures effect { IfOk result (λ ending. HasCoreEffect (trace_effect self.old.name self.old.core log.old.steps trace) self.new.core log.old log.new ending) }
     {
         let name = self.name;
-        let event = match trace_bytes(&self.core, index) {
+        let event = match trace_bytes(&self.core, trace) {
             Some(bytes) => {
                 let text = Data::copy_of(log.alloc(), text_before_zero(bytes))?;
-                Event::Trace {
-                    name,
-                    trace: index,
-                    text,
-                }
+                Event::Trace { name, trace, text }
             }
-            None => Event::NoTrace { name, trace: index },
+            None => Event::NoTrace { name, trace },
         };
         self.tell(&event, log)
     }
@@ -68,16 +63,11 @@ impl NamedCore {
     {
         let name = self.name;
         let event = match self.core.memory(da, len) {
-            Some(bytes) => Event::Mem {
-                name,
-                da,
-                bytes: Data::copy_of(log.alloc(), bytes)?,
-            },
-            None => Event::Unmapped {
-                name,
-                da,
-                len: u64::from(len),
-            },
+            Some(bytes) => {
+                let bytes = Data::copy_of(log.alloc(), bytes)?;
+                Event::Mem { name, da, bytes }
+            }
+            None => event!(Unmapped, name, [len], da),
         };
         self.tell(&event, log)
     }

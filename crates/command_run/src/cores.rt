@@ -5,11 +5,9 @@ ghost use Rattle.command_run.specs.CoreEffects.{core_tells, driver_effect, is_on
 ghost use Rattle.command_run.specs.CoreCommands.{core_act_effect, core_effect};
 ghost use Rattle.command_run.specs.Fetches.{answer_of};
 
-use crate::acts::{CoreAct, NamedAct};
-use crate::fetches::Fetched;
-use crate::logs::RunLog;
-use crate::objects::ScriptImage;
-use crate::stops::Stop;
+use crate::core_lives::fault_at;
+use crate::logs::event;
+use crate::{CoreAct, Fetched, NamedAct, RunLog, ScriptImage, Stop};
 use crash_recover::{AddFault, Core};
 use journal::Event;
 use memory_pool::Region;
@@ -106,17 +104,9 @@ impl NamedCore {
     {
         let name = self.name;
         let event = match self.core.add_region(log.alloc(), region) {
-            Ok(index) => Event::Region {
-                name,
-                region: u64::from(index),
-            },
+            Ok(region) => event!(Region, name, [region]),
             Err(AddFault::NotOffline) => Event::NotOffline { name },
-            Err(AddFault::Region(fault)) => {
-                Event::Fault {
-                    name,
-                    fault: u64::from(fault.number().unwrap_or(0)),
-                }
-            }
+            Err(AddFault::Region(fault)) => fault_at(name, fault.number().unwrap_or(0), None),
             Err(AddFault::DriverTaken | AddFault::DriversFull) => unreachable!(),
             Err(AddFault::NoMemory) => return Err(NoMemory),
         };
@@ -155,16 +145,10 @@ impl NamedCore {
         ensures same { self.new ≡ self.old }
         ensures effect { IfOk result (λ ending. HasCoreEffect (state_effect self.old.name self.old.core log.old.steps) self.new.core log.old log.new ending) }
     {
+        let name = self.name;
         let life = self.core.life();
-        let users = u64::from(life.users());
-        let inc = u64::from(life.incarnation());
-        let event = Event::State {
-            name: self.name,
-            state: life.state(),
-            users,
-            inc,
-        };
-        self.tell(&event, log)
+        let (state, users, inc) = (life.state(), life.users(), life.incarnation());
+        self.tell(&event!(State, name, [users, inc], state), log)
     }
 
     /// Sets whether the core is recovered when it has crashed.
@@ -172,14 +156,9 @@ impl NamedCore {
         ensures name { self.new.name ≡ self.old.name }
         ensures effect { IfOk result (λ ending. HasCoreEffect (recovery_effect self.old.name self.old.core log.old.steps switch) self.new.core log.old log.new ending) }
     {
+        let name = self.name;
         self.core.set_recovery(is_on(switch));
-        self.tell(
-            &Event::Recovery {
-                name: self.name,
-                switch,
-            },
-            log,
-        )
+        self.tell(&Event::Recovery { name, switch }, log)
     }
 }
 

@@ -7,9 +7,8 @@ ghost use Rattle.command_run.specs.Dumps.{bytes_answer, crashed_load, kept_dumps
 ghost use Rattle.command_run.specs.Logs.{HasRunEffect};
 ghost use Rattle.command_run.specs.Runs.{dump_answer, dump_effect, dumped_effect};
 
-use crate::logs::RunLog;
-use crate::objects::{Objects, ScriptImage, has_image};
-use crate::stops::Stop;
+use crate::objects::has_image;
+use crate::{Objects, RunLog, ScriptImage, Stop};
 use core_dump::{Part, dump_len, write_dump};
 use crash_recover::Core;
 use fw_load::Loaded;
@@ -141,10 +140,8 @@ fn dump_parts(
         return Ok(Err(Event::ImageExists { name: wish.image }));
     }
     if len > IMAGE_MOST {
-        return Ok(Err(Event::DumpTooLarge {
-            name,
-            len: len as u64,
-        }));
+        let len = len as u64;
+        return Ok(Err(Event::DumpTooLarge { name, len }));
     }
     if wish.kept >= DUMPS_MOST {
         return Ok(Err(Event::DumpsFull { name }));

@@ -4,9 +4,7 @@ ghost use Rattle.command_run.specs.declared.fetches.CommandFault.TheVariants as 
 ghost use Rattle.command_run.specs.Runs.{asked_name};
 ghost use Rattle.command_run.specs.Fetches.{IsFetchFault, IsToldFor, IsToldUnder, RunsTold, answer_of};
 
-use crate::logs::RunLog;
-use crate::objects::Objects;
-use crate::stops::Stop;
+use crate::{Objects, RunLog, Stop};
 use rp_base::NoMemory;
 use rp_io::{Failed, FetchFault, FirmwareStore, Sink};
 use script_lang::Command;

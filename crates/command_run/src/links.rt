@@ -8,11 +8,9 @@ ghost use Rattle.command_run.specs.LinkCommands.{link_effect, manager_effect, vi
 ghost use Rattle.command_run.specs.Logs.{HasEffect};
 
 use crate::act_events::tell_answer;
-use crate::acts::{LinkView, ManagerAct, NamedAct};
 use crate::channel_lists::tell_channels;
-use crate::logs::RunLog;
 use crate::rings::tell_ring;
-use crate::stops::Stop;
+use crate::{LinkView, ManagerAct, NamedAct, RunLog, Stop};
 use crash_recover::{Bench, LinkAct, Nobody};
 use journal::Event;
 use rp_base::{Name, NoMemory};

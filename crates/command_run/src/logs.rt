@@ -16,6 +16,15 @@ use std::marker::Model;
 /// How many bytes are kept at least before they are handed on.
 const PIECE: usize = 16_384;
 
+/// An event of a name: each field is the variable that is called so, and those in brackets are widened.
+macro_rules! event {
+    ($kind:ident, $name:ident, [$($number:ident),*] $(, $field:ident)*) => {
+        Event::$kind { name: $name, $($number: u64::from($number),)* $($field),* }
+    };
+}
+
+pub(crate) use event;
+
 /// What a run keeps beside its links: the lines that wait to be handed to the sink, and the count of
 /// the steps that were done.
 #[derive(Drop)]

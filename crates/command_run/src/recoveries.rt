@@ -2,12 +2,11 @@ ghost use Rattle.std.specs.Prelude.{◌≡◌, IfOk};
 ghost use Rattle.command_run.specs.Logs.{HasEffect};
 ghost use Rattle.command_run.specs.Recoveries.{close_effect, reopen_effect};
 
-use crate::links::NamedBench;
-use crate::logs::RunLog;
-use crate::stops::Stop;
+use crate::logs::event;
+use crate::{NamedBench, RunLog, Stop};
 use journal::Event;
 use lane_model::{Already, ReopenFault};
-use rp_base::{NoMemory, STEPS_MOST};
+use rp_base::{Era, NoMemory, STEPS_MOST};
 
 impl NamedBench {
     /// Closes the link, in one step.
@@ -21,22 +20,11 @@ impl NamedBench {
             return Ok(Some(Stop::StepLimit));
         }
         log.set_steps(steps + 1);
-        let inc = u64::from(self.bench.era().inc);
+        let name = self.name;
+        let inc = self.bench.era().inc;
         match self.bench.close() {
-            Ok(()) => self.tell(
-                &Event::Closed {
-                    name: self.name,
-                    inc,
-                },
-                log,
-            ),
-            Err(Already(era)) => self.tell(
-                &Event::Already {
-                    name: self.name,
-                    era,
-                },
-                log,
-            ),
+            Ok(()) => self.tell(&event!(Closed, name, [inc]), log),
+            Err(Already(era)) => self.tell(&Event::Already { name, era }, log),
         }
     }
 
@@ -52,20 +40,10 @@ impl NamedBench {
                 name,
                 inc: u64::from(books.inc) + 1,
             },
-            Err(ReopenFault::StillOpen(era)) => Event::StillOpen {
-                name,
-                inc: u64::from(era.inc),
-            },
-            Err(ReopenFault::StillTurn(caller)) => Event::StillTurn {
-                name,
-                caller: u64::from(caller),
-            },
+            Err(ReopenFault::StillOpen(Era { inc, .. })) => event!(StillOpen, name, [inc]),
+            Err(ReopenFault::StillTurn(caller)) => event!(StillTurn, name, [caller]),
             Err(ReopenFault::StillHeld(caller, number)) => {
-                Event::StillHeld {
-                    name,
-                    caller: u64::from(caller),
-                    number,
-                }
+                event!(StillHeld, name, [caller], number)
             }
             Err(ReopenFault::IncarnationsSpent) => Event::IncarnationsSpent { name },
             Err(ReopenFault::NoMemory) => return Err(NoMemory),

@@ -3,7 +3,7 @@ ghost use Rattle.std.specs.List.{list_all};
 ghost use Rattle.journal.specs.Lines.{transcript};
 ghost use Rattle.command_run.specs.RingDumps.{bench_ring_events, dump_rows, ring_events, row_count, row_events};
 
-use crate::logs::RunLog;
+use crate::logs::{RunLog, event};
 use crash_recover::Bench;
 use journal::Event;
 use rp_base::{Data, Name, NoMemory};
@@ -22,11 +22,8 @@ pub(crate) fn tell_ring(
     requires { lane ≤ 1 }
     ensures { OnOk result (log.new ≡ record log.old { lines = log.old.lines ++ transcript (bench_ring_events name bench.now lane) }) }
 {
-    if let Some(holder) = bench.turn_holder() {
-        return log.tell(&Event::StillTurn {
-            name,
-            caller: u64::from(holder),
-        });
+    if let Some(caller) = bench.turn_holder() {
+        return log.tell(&event!(StillTurn, name, [caller]));
     }
     let bytes = bench.ring_bytes(log.alloc(), lane)?;
     tell_bytes(name, lane, &bytes, log)
@@ -42,11 +39,8 @@ pub(crate) fn tell_bytes(
     requires { lane ≤ 1 }
     ensures { OnOk result (log.new ≡ record log.old { lines = log.old.lines ++ transcript (ring_events name lane bytes.now) }) }
 {
-    log.tell(&Event::Ring {
-        name,
-        lane,
-        len: bytes.len() as u64,
-    })?;
+    let len = bytes.len() as u64;
+    log.tell(&Event::Ring { name, lane, len })?;
     tell_rows(name, bytes, log)
 }
 

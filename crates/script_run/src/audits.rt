@@ -41,12 +41,8 @@ fn audit_bytes<K: Sink>(alloc: Global, bytes: &[u8], out: &mut K) -> Status
     ensures fits { IsReadEnd result → length bytes.now ≤ TRANSCRIPT_MOST }
 {
     if bytes.len() > TRANSCRIPT_MOST {
-        return end_with(
-            alloc,
-            &[Notice::Refused(0, Cause::Size)],
-            Status::Refused,
-            out,
-        );
+        let refusal = Notice::Refused(0, Cause::Size);
+        return end_with(alloc, &[refusal], Status::Refused, out);
     }
     match audit(alloc, bytes) {
         Ok(answer) => end_with(alloc, &[audit_notice(answer)], audit_status(answer), out),

@@ -42,12 +42,10 @@ pub(crate) fn check<F: FirmwareStore, K: Sink>(
         (K.written out.old) (K.written out.new) (K.faults out.old) (K.faults out.new) }
 {
     match fetch_report(alloc, word, name, store) {
-        Ok(report) => end_with(
-            alloc,
-            report.notices.as_slice(),
-            report_status(&report),
-            out,
-        ),
+        Ok(report) => {
+            let status = report_status(&report);
+            end_with(alloc, report.notices.as_slice(), status, out)
+        }
         Err(ReportFault::Store) => end_with_text(b"* store fault\n", Status::StoreFault, out),
         Err(ReportFault::NoMemory) => Status::NoMemory,
     }
