@@ -1,5 +1,5 @@
 -- A drive, step by step.
-use Rattle.std.proofs.Common.{◌≡◌, ◌⊎◌, inl, inr, ℕ, zero, suc, ◌+◌, ◌==◌, Bool, true, false, cond, not, ◌||◌, List, [], ◌++◌, Option, Some, None, is_some, unwrap_or, refl, sym, ap, subst, ◌∙◌, true≢false, suc-ne-zero, ne_eqb, append-nil, append_assoc}
+use Rattle.std.proofs.Common.{◌≡◌, ◌⊎◌, inl, inr, ℕ, zero, suc, ◌+◌, ◌==◌, Bool, true, false, cond, not, ◌||◌, List, [], ◌++◌, arith, Option, Some, None, is_some, unwrap_or, refl, sym, ap, subst, ◌∙◌, true≢false, suc-ne-zero, ne_eqb, append-nil, append_assoc}
 use Rattle.rp_base.specs.declared.limits.TheConstants.{STEPS_MOST}
 use Rattle.journal.specs.Lines.{transcript}
 use Rattle.journal.specs.declared.events.Event.{Event}
@@ -9,7 +9,7 @@ use Rattle.core_actors.specs.declared.progress.Driven.TheVariants as driven
 use Rattle.crash_recover.specs.Drives.{DriveStep, actor_step, actor_to_step, drive_step, is_idle, with_turn_after}
 use Rattle.command_run.specs.declared.stops.Stop.{Stop}
 use Rattle.rp_io.specs.Contents.{AppendsFront}
-use Rattle.command_run.specs.Logs.{DrivesHanding, DrivesOn, Hands, HandsCoreEffect, HasCoreEffect, Keeps, LogState}
+use Rattle.command_run.specs.Logs.{CutsCore, DrivesHanding, DrivesOn, Hands, HandsCoreEffect, HasCoreEffect, Keeps, LogState}
 use Rattle.command_run.specs.CoreEffects.{CoreEffect, core_tells}
 use Rattle.command_run.specs.CoreLives.{core_stops}
 use Rattle.proc_state.specs.Lives.{is_up}
@@ -26,6 +26,11 @@ module _ (name : List ℕ) (is_quiet : Bool) where
       ap (λ (e : Option Event). rests_or core steps e
       (cond (steps == STEPS_MOST) (core_stops core steps) (step_then name is_quiet (drive_step core) (λ next. drive_steps more name is_quiet next (steps + 1))))) goes
       ∙ ap (λ (b : Bool). cond b (core_stops core steps) (step_then name is_quiet (drive_step core) (λ next. drive_steps more name is_quiet next (steps + 1)))) few
+
+  -- no step
+  pub steps_none : (core : CoreState) (steps : ℕ) → drive_steps 0 name is_quiet core steps ≡ core_tells core steps (unwrap_or (rest_event name core) (event.Paused name))
+  unfolding drive_steps
+  steps_none core steps = refl
 
   -- a drive of which no step is left
   ends_none : (rests : Option Event) (core : CoreState) (steps : ℕ)
@@ -101,6 +106,21 @@ pub drive_up : (name : List ℕ) (is_quiet : Bool) (core : CoreState) (steps cou
 unfolding drive_effect
 drive_up name is_quiet core steps count up = ap (λ (b : Bool). cond b (drive_steps count name is_quiet core steps) (core_tells core steps (event.NotRunning name))) up
 
+-- so one that was cut off is one of such a core
+pub cut_up : (name : List ℕ) (is_quiet : Bool) (core left : CoreState) (steps count : ℕ) (lines : List ℕ) (written now : Option (List ℕ)) → is_up core.life.state ≡ true
+    → CutsCore (λ done. drive_steps done name is_quiet core steps) count left lines written now → CutsCore (λ done. drive_effect name is_quiet core steps done) count left lines written now
+cut_up name is_quiet core left steps count lines written now up cut =
+    let same = drive_up name is_quiet core steps cut.done up in
+    record {
+      done = cut.done;
+      within = cut.within;
+      is = cut.is ∙ sym (ap (λ (e : CoreEffect). e.core) same);
+      told = cut.told;
+      last = cut.last;
+      tells = ap (λ (e : CoreEffect). e.events) same ∙ cut.tells;
+      front = cut.front;
+    }
+
 -- what a command on a core did that handed on nothing
 pub kept_core : (effect : CoreEffect) (left : CoreState) (before after : LogState) (written : Option (List ℕ)) (answer : Option Stop)
     → HasCoreEffect effect left before after answer → HandsCoreEffect effect left before after written written answer
@@ -118,7 +138,15 @@ told_twice first second effect = ap (λ (events : List Event). record effect { e
 module _ (name : List ℕ) (is_quiet : Bool) (count : ℕ) (first : CoreState) (before : LogState) where
   -- no step yet
   pub drive_first : DrivesOn name is_quiet count first before count first before
-  drive_first = record { told = []; lines = sym (append-nil before.lines); rest = refl }
+  drive_first = record {
+    done = 0;
+    all = omega arith;
+    told = [];
+    lines = sym (append-nil before.lines);
+    rest = λ more.
+        let none : 0 + more ≡ more = omega arith in
+        ap (λ (n : ℕ). drive_steps n name is_quiet first before.steps) none;
+  }
 
   -- one step more
   pub drive_goes_on : (left more : ℕ) (core next : CoreState) (log after : LogState) → left ≡ suc more → DrivesOn name is_quiet count first before left core log
@@ -127,23 +155,32 @@ module _ (name : List ℕ) (is_quiet : Bool) (count : ℕ) (first : CoreState) (
   drive_goes_on left more core next log after one on goes few steps keeps =
       let events = step_events name is_quiet (drive_step core) in
       record {
+        done = on.done + 1;
+        all = omega (arith, one, on.all);
         told = on.told ++ events;
         lines = ap (λ (l : LogState). l.lines) keeps ∙ ap (λ (l : List ℕ). l ++ transcript events) on.lines
             ∙ append_assoc before.lines (transcript on.told) (transcript events) ∙ ap (λ (l : List ℕ). before.lines ++ l) (sym (transcript-append on.told events));
-        rest = on.rest
-            ∙ ap (λ (n : ℕ). told_before on.told (drive_steps n name is_quiet core log.steps)) one
-            ∙ ap (told_before on.told) (steps_more name is_quiet more core log.steps goes few)
-            ∙ ap (λ (n : CoreState). told_before on.told (told_before events (drive_steps more name is_quiet n (log.steps + 1)))) (sym steps)
-            ∙ ap (λ (s : ℕ). told_before on.told (told_before events (drive_steps more name is_quiet next s))) (sym (ap (λ (l : LogState). l.steps) keeps))
-            ∙ told_twice on.told events (drive_steps more name is_quiet next after.steps);
+        rest = λ later.
+            let same : on.done + 1 + later ≡ on.done + suc later = omega arith in
+            ap (λ (n : ℕ). drive_steps n name is_quiet first before.steps) same
+            ∙ on.rest (suc later)
+            ∙ ap (told_before on.told) (steps_more name is_quiet later core log.steps goes few)
+            ∙ ap (λ (n : CoreState). told_before on.told (told_before events (drive_steps later name is_quiet n (log.steps + 1)))) (sym steps)
+            ∙ ap (λ (s : ℕ). told_before on.told (told_before events (drive_steps later name is_quiet next s))) (sym (ap (λ (l : LogState). l.steps) keeps))
+            ∙ told_twice on.told events (drive_steps later name is_quiet next after.steps);
       }
+
+  -- what is left of it does the rest
+  drive_rest : (left : ℕ) (core : CoreState) (log : LogState) (on : DrivesOn name is_quiet count first before left core log)
+      → drive_steps count name is_quiet first before.steps ≡ told_before on.told (drive_steps left name is_quiet core log.steps)
+  drive_rest left core log on = ap (λ (n : ℕ). drive_steps n name is_quiet first before.steps) (sym on.all) ∙ on.rest left
 
   -- what is left of it does this, and so the drive ends
   pub drive_ends : (left : ℕ) (core now : CoreState) (log after : LogState) (effect : CoreEffect) (answer : Option Stop) → DrivesOn name is_quiet count first before left core log
       → drive_steps left name is_quiet core log.steps ≡ effect → HasCoreEffect effect now log after answer
       → HasCoreEffect (drive_steps count name is_quiet first before.steps) now before after answer
   drive_ends left core now log after effect answer on is did =
-      subst (λ (e : CoreEffect). HasCoreEffect e now before after answer) (sym (on.rest ∙ ap (told_before on.told) is))
+      subst (λ (e : CoreEffect). HasCoreEffect e now before after answer) (sym (drive_rest left core log on ∙ ap (told_before on.told) is))
       (record {
         core = did.core;
         steps = did.steps;
@@ -154,27 +191,46 @@ module _ (name : List ℕ) (is_quiet : Bool) (count : ℕ) (first : CoreState) (
 
   -- all of it is told and kept, or handed on
   pub handing_first : (written : Option (List ℕ)) → DrivesHanding name is_quiet count first before written count first before written
-  handing_first written = record { told = []; hands = hands_kept written before.lines [] before.lines (sym (append-nil before.lines)); rest = refl }
+  handing_first written = record {
+    done = 0;
+    all = omega arith;
+    told = [];
+    hands = hands_kept written before.lines [] before.lines (sym (append-nil before.lines));
+    rest = λ more.
+        let none : 0 + more ≡ more = omega arith in
+        ap (λ (n : ℕ). drive_steps n name is_quiet first before.steps) none;
+  }
 
   module _ (written : Option (List ℕ)) (left : ℕ) (core : CoreState) (log : LogState) (now : Option (List ℕ)) (h : DrivesHanding name is_quiet count first before written left core log now) where
+    -- what is left of it does the rest
+    handing_rest : drive_steps count name is_quiet first before.steps ≡ told_before h.told (drive_steps left name is_quiet core log.steps)
+    handing_rest = ap (λ (n : ℕ). drive_steps n name is_quiet first before.steps) (sym h.all) ∙ h.rest left
+
     -- some steps more
     pub handing_on : (next_left : ℕ) (next : CoreState) (after : LogState) → DrivesOn name is_quiet left core log next_left next after
         → DrivesHanding name is_quiet count first before written next_left next after now
     handing_on next_left next after on = record {
+      done = h.done + on.done;
+      all = omega (arith, h.all, on.all);
       told = h.told ++ on.told;
       hands = subst (λ (bytes : List ℕ). Hands written before.lines now after.lines bytes) (sym (transcript-append h.told on.told))
           (hands_more written now now before.lines log.lines after.lines (transcript h.told) (transcript on.told) h.hands (hands_kept now log.lines (transcript on.told) after.lines on.lines));
-      rest = h.rest ∙ ap (told_before h.told) on.rest ∙ told_twice h.told on.told (drive_steps next_left name is_quiet next after.steps);
+      rest = λ later.
+          let same : h.done + on.done + later ≡ h.done + (on.done + later) = omega arith in
+          ap (λ (n : ℕ). drive_steps n name is_quiet first before.steps) same
+          ∙ h.rest (on.done + later) ∙ ap (told_before h.told) (on.rest later) ∙ told_twice h.told on.told (drive_steps later name is_quiet next after.steps);
     }
 
     -- what is kept is handed on, all of it or nothing
     pub handing_handed : (new : Option (List ℕ)) (after : LogState) → Hands now log.lines new after.lines [] → after.steps ≡ log.steps
         → DrivesHanding name is_quiet count first before written left core after new
     handing_handed new after handed same = record {
+      done = h.done;
+      all = h.all;
       told = h.told;
       hands = subst (λ (bytes : List ℕ). Hands written before.lines new after.lines bytes) (append-nil (transcript h.told))
           (hands_more written now new before.lines log.lines after.lines (transcript h.told) [] h.hands handed);
-      rest = h.rest ∙ ap (λ (steps : ℕ). told_before h.told (drive_steps left name is_quiet core steps)) (sym same);
+      rest = λ later. h.rest later ∙ ap (λ (steps : ℕ). told_before h.told (drive_steps later name is_quiet core steps)) (sym same);
     }
 
     -- what is left of it is done, and so the drive ends
@@ -182,7 +238,7 @@ module _ (name : List ℕ) (is_quiet : Bool) (count : ℕ) (first : CoreState) (
         → HandsCoreEffect (drive_steps count name is_quiet first before.steps) next before after written now answer
     handing_ends next after answer did =
         let effect = drive_steps left name is_quiet core log.steps in
-        subst (λ (e : CoreEffect). HandsCoreEffect e next before after written now answer) (sym h.rest)
+        subst (λ (e : CoreEffect). HandsCoreEffect e next before after written now answer) (sym handing_rest)
         (record {
           core = did.core;
           steps = did.steps;
@@ -197,5 +253,22 @@ module _ (name : List ℕ) (is_quiet : Bool) (count : ℕ) (first : CoreState) (
         let effect = drive_steps left name is_quiet core log.steps in
         let more = transcript effect.events in
         subst (λ (bytes : List ℕ). AppendsFront written new bytes)
-        (append_assoc before.lines (transcript h.told) more ∙ ap (λ (bytes : List ℕ). before.lines ++ bytes) (sym (transcript-append h.told effect.events) ∙ ap (λ (e : CoreEffect). transcript e.events) (sym h.rest)))
+        (append_assoc before.lines (transcript h.told) more ∙ ap (λ (bytes : List ℕ). before.lines ++ bytes) (sym (transcript-append h.told effect.events) ∙ ap (λ (e : CoreEffect). transcript e.events) (sym handing_rest)))
         (hands_front written now new before.lines log.lines (transcript h.told) more h.hands (front_of_more now new log.lines more front))
+
+    -- it was cut off behind its steps so far
+    pub handing_paused : (new : Option (List ℕ)) → AppendsFront now new log.lines → CutsCore (λ done. drive_steps done name is_quiet first before.steps) count core before.lines written new
+    handing_paused new front =
+        let none : h.done + 0 ≡ h.done = omega arith in
+        let did : drive_steps h.done name is_quiet first before.steps ≡ told_before h.told (core_tells core log.steps (unwrap_or (rest_event name core) (event.Paused name))) =
+        ap (λ (n : ℕ). drive_steps n name is_quiet first before.steps) (sym none) ∙ h.rest 0 ∙ ap (told_before h.told) (steps_none name is_quiet core log.steps) in
+        record {
+          done = h.done;
+          within = omega (arith, h.all);
+          is = sym (ap (λ (e : CoreEffect). e.core) did);
+          told = h.told;
+          last = unwrap_or (rest_event name core) (event.Paused name);
+          tells = ap (λ (e : CoreEffect). e.events) did;
+          front = subst (λ (bytes : List ℕ). AppendsFront written new bytes) (append-nil (before.lines ++ transcript h.told))
+              (hands_front written now new before.lines log.lines (transcript h.told) [] h.hands (subst (λ (bytes : List ℕ). AppendsFront now new bytes) (sym (append-nil log.lines)) front));
+        }

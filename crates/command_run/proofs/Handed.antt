@@ -1,9 +1,12 @@
 -- Bytes that are kept and handed on.
-use Rattle.std.proofs.Common.{◌≡◌, ℕ, ◌+◌, ◌≤◌, min, Option, Some, None, List, [], ◌++◌, length, take, refl, sym, ap, ◌∙◌, append_assoc, append-nil, arith, subst}
+use Rattle.std.proofs.Common.{◌≡◌, ℕ, ◌+◌, ◌≤◌, min, Option, Some, None, Result, Err, IfErr, List, [], ◌++◌, length, take, refl, sym, ap, ◌∙◌, append_assoc, append-nil, arith, subst}
 use Rattle.std.proofs.Math.Seq.{take-append-add}
 use Rattle.std.proofs.lemmas.List.{take_min, take-append-le}
 use Rattle.std.specs.Io.KnownBytes.{Appends}
 use Rattle.rp_io.specs.Contents.{AppendsFront}
+use Rattle.command_run.specs.declared.fetches.CommandFault.{CommandFault}
+use Rattle.command_run.specs.declared.fetches.CommandFault.TheVariants as command_fault
+use Rattle.command_run.specs.Fetches.{IfWrite}
 use Rattle.command_run.specs.Logs.{Hands}
 
 -- nothing was appended
@@ -78,3 +81,12 @@ front_after a b c x y whole front = record {
   count = length x + front.count;
   appended = appends_same a c (x ++ take front.count y) (take (length x + front.count) (x ++ y)) (sym (take-append-add x y front.count)) (appends_more a b c x (take front.count y) whole front.appended);
 }
+
+module _ (T holds : Type 0) (result : Result T CommandFault) where
+  -- the sink failed
+  pub on_write : result ≡ Err command_fault.Write → holds → IfErr result (λ why. IfWrite why holds)
+  on_write is found = subst (λ (r : Result T CommandFault). IfErr r (λ why. IfWrite why holds)) (sym is) found
+
+  -- memory ran out
+  pub no_write : result ≡ Err command_fault.NoMemory → IfErr result (λ why. IfWrite why holds)
+  no_write is = subst (λ (r : Result T CommandFault). IfErr r (λ why. IfWrite why holds)) (sym is) tt

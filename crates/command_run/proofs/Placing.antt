@@ -15,7 +15,7 @@ use Rattle.command_run.specs.NamedImages.{ImageState}
 use Rattle.command_run.specs.declared.stops.Stop.{Stop}
 use Rattle.lane_model.specs.declared.calls.LinkConfig.{LinkConfig}
 use Rattle.link_bench.specs.Benches.{BenchState, new_bench_of}
-use Rattle.command_run.specs.Logs.{LogState, HandsCoreEffect, HandsRunEffect, HasCoreEffect, HasEffect, HasRunEffect}
+use Rattle.command_run.specs.Logs.{CutsCore, CutsRun, LogState, HandsCoreEffect, HandsRunEffect, HasCoreEffect, HasEffect, HasRunEffect}
 use Rattle.command_run.specs.declared.acts.CoreAct.TheVariants as core
 use Rattle.command_run.specs.declared.acts.NamedAct.{NamedAct}
 use Rattle.command_run.specs.declared.acts.NamedAct.TheVariants as under
@@ -155,6 +155,25 @@ module _ (fetched : Answer) (run : RunState) (called : List ℕ) (count place : 
         hands = did.hands;
         ending = did.ending;
       })
+
+-- a drive of the core at a place that was cut off is one of the run
+pub drive_cut : (fetched : Answer) (run : RunState) (called : List ℕ) (count place : ℕ) (named now : NamedCoreState) (lines : List ℕ) (written new : Option (List ℕ)) → None ≡ place_of run.objects.links called
+    → Some place ≡ core_place run.objects.cores called → slice_get run.objects.cores place ≡ Some named → now.name ≡ named.name
+    → CutsCore (λ done. drive_effect named.name run.objects.is_quiet named.core run.steps done) count now.core lines written new
+    → CutsRun (λ done. name_effect fetched run called (under.Core (core.Drive done))) count (record run.objects { cores = slice_set run.objects.cores place now }) lines written new
+drive_cut fetched run called count place named now lines written new bare placed found name cut =
+    let at = drive_placed fetched run called cut.done place named bare placed found in
+    let left = (drive_effect named.name run.objects.is_quiet named.core run.steps cut.done).core in
+    record {
+      done = cut.done;
+      within = cut.within;
+      is = sym (ap (λ (e : RunEffect). e.run.objects) at
+          ∙ ap (λ (n : NamedCoreState). record run.objects { cores = slice_set run.objects.cores place n }) (with_core now named left name cut.is));
+      told = cut.told;
+      last = cut.last;
+      tells = ap (λ (e : RunEffect). e.events) at ∙ cut.tells;
+      front = cut.front;
+    }
 
 -- what a command did that handed on nothing
 pub kept_run : (effect : RunEffect) (objects : ObjectsState) (before after : LogState) (written : Option (List ℕ)) (answer : Option Stop)

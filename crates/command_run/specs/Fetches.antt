@@ -5,6 +5,7 @@ use Rattle.rp_io.specs.Causes.{Rose}
 use Rattle.rp_io.specs.Contents.{AppendsFront}
 use Rattle.rp_io.specs.Images.{fetch_answer}
 use Rattle.script_lang.specs.declared.commands.Command.{Command}
+use Rattle.script_lang.specs.declared.commands.Command.TheVariants as command
 use Rattle.journal.specs.Lines.{transcript}
 use Rattle.command_run.specs.declared.fetches.CommandFault.{CommandFault}
 use Rattle.command_run.specs.declared.fetches.CommandFault.TheVariants as command_fault
@@ -13,7 +14,7 @@ use Rattle.command_run.specs.declared.fetches.Fetched.TheVariants as fetched
 use Rattle.command_run.specs.declared.stops.Stop.{Stop}
 use Rattle.command_run.specs.Stores.{Answer, IsAnswer, IsShelf, Shelf, answer_for}
 use Rattle.command_run.specs.Runs.{ObjectsState, RunState, asked_name, effect_of}
-use Rattle.command_run.specs.Logs.{HandsRunEffect, LogState}
+use Rattle.command_run.specs.Logs.{CutsRun, HandsRunEffect, LogState}
 
 -- what was told
 abbrev pub answer_of : Fetched → Answer
@@ -49,18 +50,31 @@ EndsCut command_fault.Store text old new before now = ⊥
 EndsCut command_fault.Write text old new before now = AppendsFront old new text × Rose before now
 EndsCut command_fault.NoMemory text old new before now = AppendsFront old new text × (now ≡ before)
 
+-- this holds where the sink failed
+abbrev pub IfWrite : CommandFault → Type 0 → Type 0
+IfWrite command_fault.Store holds = Unit {0}
+IfWrite command_fault.Write holds = holds
+IfWrite command_fault.NoMemory holds = Unit {0}
+
 -- what a command tells was cut off, whatever the store has
 abbrev pub IsToldCut : CommandFault → RunState → Command → LogState → Option (List ℕ) → Option (List ℕ) → ℕ → ℕ → Type 0
 IsToldCut why run command before old new faults now =
     (shelf : Shelf) → EndsCut why (before.lines ++ transcript (effect_of (answer_for shelf (asked_name run.objects command)) run command).events) old new faults now
 
--- a command was run, or it asked a store that failed and told nothing, or what it tells was cut off
+-- the command is a drive, and was cut off where the sink failed
+pub record IsCutCommand (run : RunState) (asked : Command) (left : ObjectsState) (before : LogState) (written now : Option (List ℕ)) : Type 0 where
+  pub name : List ℕ
+  pub count : ℕ
+  pub is : asked ≡ command.Drive name count
+  pub cut : CutsRun (λ done. effect_of (Err fetch_fault.Missing) run (command.Drive name done)) count left before.lines written now
+
+-- a command was run, or it asked a store that failed, told nothing and left all as it was, or what it tells was cut off
 abbrev pub RunsTold : Result (Option Stop) CommandFault → Option (List (List ℕ × List ℕ)) → RunState → Command → ObjectsState → LogState → LogState → Option (List ℕ) → Option (List ℕ) → ℕ → ℕ → ℕ → ℕ → Type 0
 RunsTold (Ok answer) images run command left before after old new faults now was then =
     DidTold images run command left before after old new answer × (now ≡ faults) × (then ≡ was)
 RunsTold (Err command_fault.Store) images run command left before after old new faults now was then =
-    IsTrue (is_some (asked_name run.objects command)) × (after ≡ before) × (new ≡ old) × (now ≡ faults) × Rose was then
+    IsTrue (is_some (asked_name run.objects command)) × (after ≡ before) × (new ≡ old) × (now ≡ faults) × Rose was then × (left ≡ run.objects)
 RunsTold (Err command_fault.Write) images run command left before after old new faults now was then =
-    IsToldCut command_fault.Write run command before old new faults now × (then ≡ was)
+    IsToldCut command_fault.Write run command before old new faults now × (then ≡ was) × IsCutCommand run command left before old new
 RunsTold (Err command_fault.NoMemory) images run command left before after old new faults now was then =
     IsToldCut command_fault.NoMemory run command before old new faults now × (then ≡ was)

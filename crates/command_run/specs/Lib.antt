@@ -17,5 +17,6 @@ pub mod CoreLinks
 pub mod CoreCommands
 pub mod Dumps
 pub mod Runs
+pub mod Lookups
 pub mod Logs
 pub mod Fetches

@@ -1,8 +1,8 @@
 ghost use Rattle.std.specs.Prelude.{◌≡◌, ◌==◌, ◌≤◌, ◌+◌, ◌||◌, ◌⊎◌, ◌∷◌, ◌++◌, not, true, IfOk, IfErr, OnOk};
 ghost use Rattle.journal.specs.declared.events.Event.TheVariants as event;
 ghost use Rattle.journal.specs.Lines.{transcript};
-ghost use Rattle.command_run.specs.Logs.{DrivesHanding, DrivesOn, HandsCoreEffect, HasCoreEffect, Keeps};
-ghost use Rattle.command_run.specs.Fetches.{EndsCut};
+ghost use Rattle.command_run.specs.Logs.{CutsCore, DrivesHanding, DrivesOn, HandsCoreEffect, HasCoreEffect, Keeps};
+ghost use Rattle.command_run.specs.Fetches.{EndsCut, IfWrite};
 ghost use Rattle.rp_base.specs.declared.limits.TheConstants.{STEPS_MOST};
 ghost use Rattle.core_actors.specs.ActorSteps.{drive_of_progress};
 ghost use Rattle.crash_recover.specs.Drives.{drive_step, is_idle};
@@ -69,6 +69,8 @@ impl NamedCore {
         ensures same { OnOk result (K.faults out.new ≡ K.faults out.old) }
         ensures cut { IfErr result (λ why. EndsCut why (log.old.lines ++ transcript (drive_effect self.old.name is_quiet self.old.core log.old.steps count).events)
             (K.written out.old) (K.written out.new) (K.faults out.old) (K.faults out.new)) }
+        ensures paused { IfErr result (λ why. IfWrite why (CutsCore (λ done. drive_effect self.old.name is_quiet self.old.core log.old.steps done)
+            count self.new.core log.old.lines (K.written out.old) (K.written out.new))) }
     {
         if !self.core.life().is_up() {
             return Ok(self.drive(count, is_quiet, log)?);
@@ -91,6 +93,8 @@ impl NamedCore {
         ensures same { OnOk result (K.faults out.new ≡ K.faults out.old) }
         ensures cut { IfErr result (λ why. EndsCut why (log.old.lines ++ transcript (drive_steps count self.old.name is_quiet self.old.core log.old.steps).events)
             (K.written out.old) (K.written out.new) (K.faults out.old) (K.faults out.new)) }
+        ensures paused { IfErr result (λ why. IfWrite why (CutsCore (λ done. drive_steps done self.old.name is_quiet self.old.core log.old.steps)
+            count self.new.core log.old.lines (K.written out.old) (K.written out.new))) }
     {
         let mut left = count;
         while left > STRETCH {

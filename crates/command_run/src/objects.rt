@@ -1,4 +1,4 @@
-ghost use Rattle.std.specs.Prelude.{◌≡◌, ◌<◌, ◌++◌, Some, None, Err, IfOk, IfErr, OnOk, IfSome, false, length};
+ghost use Rattle.std.specs.Prelude.{◌≡◌, ◌<◌, ◌++◌, Some, None, Err, [], IfOk, IfErr, OnOk, IfSome, false, true, length};
 ghost use Rattle.std.specs.Option.{option_copied};
 ghost use Rattle.lane_model.specs.Conditions.{IsConfig};
 ghost use Rattle.script_lang.specs.Runnable.{IsBook, IsRunnable};
@@ -7,9 +7,10 @@ ghost use Rattle.rp_io.specs.declared.faults.FetchFault.TheVariants as fetch_fau
 ghost use Rattle.journal.specs.Lines.{transcript};
 ghost use Rattle.command_run.specs.declared.acts.CoreAct.TheVariants as core;
 ghost use Rattle.command_run.specs.declared.acts.NamedAct.TheVariants as under;
-ghost use Rattle.command_run.specs.Logs.{HandsRunEffect, HasRunEffect};
+ghost use Rattle.command_run.specs.Logs.{CutsRun, HandsRunEffect, HasRunEffect};
 ghost use Rattle.command_run.specs.Runs.{core_made_effect, core_place, without_link_effect, is_full, regions_of, asked_name, core_named, find_core, outside_image, effect_of, has_image, image_effect, image_place, made_effect, name_effect, new_run, place_of, quiet_effect, unnamed_effect};
-ghost use Rattle.command_run.specs.Fetches.{EndsCut, answer_of};
+ghost use Rattle.command_run.specs.Lookups.{bench_named, core_taken, find_link, is_bare, link_taken, without_core, without_link};
+ghost use Rattle.command_run.specs.Fetches.{EndsCut, IfWrite, answer_of};
 
 use crate::acts::{CoreAct, Line, Making, NamedAct, line_of};
 use crate::cores::{NamedCore, is_on};
@@ -59,6 +60,64 @@ impl Objects {
             images: Vec::new(alloc),
             is_quiet: false,
         }
+    }
+
+    /// The same, with the room of as many links and cores as there may be.
+    pub fn with_room(alloc: Global) -> Result<Objects, NoMemory>
+        ensures { IfOk result (λ objects. objects ≡ new_run.objects) }
+    {
+        Ok(Objects {
+            alloc,
+            links: Vec::with_capacity(alloc, OBJECTS_MOST)?,
+            cores: Vec::with_capacity(alloc, OBJECTS_MOST)?,
+            images: Vec::new(alloc),
+            is_quiet: false,
+        })
+    }
+
+    /// Whether there is no link and no core.
+    pub fn is_bare(&self) -> bool
+        ensures { result ≡ is_bare self.now }
+    {
+        self.links.len() + self.cores.len() == 0
+    }
+
+    /// Forgets the images, and has drives write their lines again. Where no link and no core was made,
+    /// nothing is.
+    pub fn forget_images(&mut self)
+        requires { is_bare self.old ≡ true }
+        ensures { self.new ≡ new_run.objects }
+    {
+        self.images.clear();
+        self.is_quiet = false;
+    }
+
+    /// The link of this name, or that of the core of this name.
+    pub fn bench(&self, name: &[u8]) -> Option<&Bench>
+        ensures { option_copied result ≡ bench_named self.now name.now }
+    {
+        match find_link(self.links.as_slice(), name) {
+            Some(named) => Some(&named.bench),
+            None => find_core(self.cores.as_slice(), name)?.core.link(),
+        }
+    }
+
+    /// Takes the link of this name out.
+    pub fn take_link(&mut self, name: &[u8]) -> Option<Bench>
+        ensures taken { result ≡ link_taken self.old name.now }
+        ensures left { self.new ≡ without_link self.old name.now }
+    {
+        let place = place_of(self.links.as_slice(), name)?;
+        Some(self.links.remove(place).bench)
+    }
+
+    /// Takes the core of this name out.
+    pub fn take_core(&mut self, name: &[u8]) -> Option<Core>
+        ensures taken { result ≡ core_taken self.old name.now }
+        ensures left { self.new ≡ without_core self.old name.now }
+    {
+        let place = core_place(self.cores.as_slice(), name)?;
+        Some(self.cores.remove(place).core)
     }
 
     /// Runs one command over what was told of the image that it asks for, tells its events, and
@@ -165,6 +224,8 @@ impl Objects {
         ensures same { OnOk result (K.faults out.new ≡ K.faults out.old) }
         ensures cut { IfErr result (λ why. EndsCut why (log.old.lines ++ transcript (name_effect (Err fetch_fault.Missing) (record { objects = self.old; steps = log.old.steps }) name (under.Core (core.Drive count))).events)
             (K.written out.old) (K.written out.new) (K.faults out.old) (K.faults out.new)) }
+        ensures paused { IfErr result (λ why. IfWrite why (CutsRun (λ done. name_effect (Err fetch_fault.Missing) (record { objects = self.old; steps = log.old.steps }) name (under.Core (core.Drive done)))
+            count self.new log.old.lines (K.written out.old) (K.written out.new))) }
     {
         match self.place_without_link(name.bytes()) {
             Some(place) => {
@@ -394,6 +455,13 @@ fn place_of(links: &[NamedBench], name: &[u8]) -> Option<usize>
     ensures within { IfSome result (λ place. place < length links.now) }
 {
     links.iter().position(|named| named.name.bytes() == name)
+}
+
+/// The link of this name.
+fn find_link<'a>(links: &'a [NamedBench], name: &[u8]) -> Option<&'a NamedBench>
+    ensures { option_copied result ≡ find_link links.now name.now }
+{
+    links.iter().find(|named| named.name.bytes() == name)
 }
 
 /// The core of this name.

@@ -37,7 +37,7 @@ fn small_bench(alloc: Global) -> Result<Bench, Fail> {
 }
 
 /// Makes a call step by step: how many steps it had, and how it ended.
-fn finish(bench: &mut Bench, caller: CallerNo, wished: Wish) -> Option<(u8, CallEnd)> {
+pub(crate) fn finish(bench: &mut Bench, caller: CallerNo, wished: Wish) -> Option<(u8, CallEnd)> {
     if bench.begin(caller, wished).is_err() {
         return None;
     }

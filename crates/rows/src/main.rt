@@ -7,7 +7,7 @@ mod rows;
 use crate::devices::calls;
 use crate::rows::{Row, names_in};
 use rp_io::{MemorySink, MemorySource, MemoryStore};
-use script_run::run_program;
+use script_run::{Yard, run_program};
 use std::alloc::{AllocError, Global};
 use std::io::{self, Write};
 use std::sync::Wait;
@@ -48,12 +48,14 @@ fn run_row<R: AllocGlobal + Threads + Wait + Sync, W: Write>(
         sink_fails,
     );
     let mut sink = sink.map_err(|_| AllocError)?;
+    let mut yard = Yard::new(alloc).map_err(|_| AllocError)?;
     let status = run_program(
         rt,
         alloc,
         words.as_slice(),
         &mut source,
         &mut store,
+        &mut yard,
         &mut sink,
     );
     write_row(alloc, name, status, sink.bytes(), out)

@@ -2,7 +2,7 @@
 #![tactic(auto)]
 
 use rp_io::{FolderStore, StdinSource, StdoutSink};
-use script_run::{Status, run_program};
+use script_run::{Status, Yard, run_program};
 use std::alloc::{AllocError, Global};
 use std::io::ErrorKind;
 use std::process::ExitCode;
@@ -24,6 +24,9 @@ fn run<R: AllocGlobal + Env + Files + Input + Print + Threads + Wait + Sync>(rt:
     let Ok(words) = behind_name(alloc, &given) else {
         return Status::NoMemory.number();
     };
+    let Ok(mut yard) = Yard::new(alloc) else {
+        return Status::NoMemory.number();
+    };
     let mut script = StdinSource::new(rt.reader());
     let mut store = FolderStore::new(rt);
     let mut out = StdoutSink::new(io::writer(rt));
@@ -33,6 +36,7 @@ fn run<R: AllocGlobal + Env + Files + Input + Print + Threads + Wait + Sync>(rt:
         words.as_slice(),
         &mut script,
         &mut store,
+        &mut yard,
         &mut out,
     )
 }

@@ -28,7 +28,7 @@ use Rattle.command_run.specs.declared.stops.Stop.{Stop}
 use Rattle.command_run.specs.declared.stops.Stop.TheVariants as stop
 use Rattle.script_run.specs.declared.runs.RunFault.TheVariants as run_fault
 use Rattle.command_run.specs.Stores.{IsHeld, IsTold, Told, held}
-use Rattle.command_run.specs.Runs.{new_run, run_of}
+use Rattle.command_run.specs.Runs.{ObjectsState, new_run, run_of}
 use Rattle.script_run.specs.Outputs.{Form, other, run, check, demo, storm, audit, Output, audit_output, storm_output, fails_in, too_long_output, usage_output, run_output, script_output, stop_output, transcript_output, report_output, store_fault_output}
 use Rattle.script_run.specs.Reports.{check_report, fetched_report}
 use Rattle.script_run.specs.Demos.{accepted_from, commands_output, counted_output, demo_output}
@@ -36,6 +36,7 @@ use Rattle.script_run.specs.Told.{RunWrites}
 use Rattle.command_run.proofs.Handed.{front_of_none}
 use Rattle.command_run.proofs.Shelves.{any_held, any_told, held_failed, held_run}
 use Rattle.script_run.specs.Endings.{AuditEnds, Devices, IsAsked, IsAuditOutput, IsReadWell, IsFaultOutput, IsOutput, IsCourse, IsCutOutput, IsFinal, IsRunCourse, IsRunOutput, IsReportOutput, IsScriptOutput, IsStatusCourse, IsWellRun, OfSource, SourceAsksNone, TextAsksNone, EndsWell, RunEnds, Writes, Ends}
+use Rattle.script_run.specs.Yards.{RunLeaves, StandsAs}
 
 -- the status of its number
 pub status_back : (ended : Status) → status_of (status_number ended) ≡ Some ended
@@ -183,7 +184,7 @@ script_cut : (images : Option (List (List ℕ × List ℕ))) (told : Told) (byte
 script_cut images told bytes is fails = record { told = told; is = is; fails = fails; written = output_is told bytes }
 
 -- what was read of a source says what all of it says
-read_same : (left bytes : List ℕ) → IsFrontOf (Some left) (SCRIPT_MOST + 1) bytes → script_of bytes ≡ script_of left
+pub read_same : (left bytes : List ℕ) → IsFrontOf (Some left) (SCRIPT_MOST + 1) bytes → script_of bytes ≡ script_of left
 read_same left bytes front = ap script_of front ∙ cut_same left
 
 -- what was read of a source that asks for no image asks for none
@@ -313,24 +314,40 @@ end_final : (failed : Bool) (stop : Option Stop) → IsFinal (cond failed store_
 end_final true stop = tt
 end_final false stop = stop_final stop
 
-module _ (images : Option (List (List ℕ × List ℕ))) (commands : List Command) (old new : Option (List ℕ)) (before now was then : ℕ) where
+-- with such a status the yard stands for the state in which the run ends
+final_stands : (ended : Status) (told : Told) (commands : List Command) (yard : ObjectsState) (old new : Option (List ℕ)) → IsFinal ended → yard ≡ (run_of told commands).last.objects
+    → StandsAs ended told commands yard old new
+final_stands status.Done told commands yard old new final is = is
+final_stands status.Unsound told commands yard old new final is = is
+final_stands status.Usage told commands yard old new final is = is
+final_stands status.ReadFault told commands yard old new final is = is
+final_stands status.WriteFault told commands yard old new final is = absurd final
+final_stands status.NoMemory told commands yard old new final is = absurd final
+final_stands status.Refused told commands yard old new final is = is
+final_stands status.StepLimit told commands yard old new final is = is
+final_stands status.StoreFault told commands yard old new final is = is
+
+module _ (images : Option (List (List ℕ × List ℕ))) (commands : List Command) (yard : ObjectsState) (old new : Option (List ℕ)) (before now was then : ℕ) where
   -- a run that was written whole
-  pub run_whole : (ended : Status) → RunWrites images commands (Ok ended) old new before now was then → RunEnds ended images (Ok commands) old new before now was then
+  pub run_whole : (ended : Status) → RunWrites images commands yard (Ok ended) old new before now was then → RunLeaves ended images commands yard old new before now was then
   run_whole ended writes =
       let ran = run_of writes.told commands in
       let final : IsFinal ended = subst IsFinal (sym writes.status) (end_final ran.failed ran.ending) in
       record {
-        told = writes.told;
-        course = final_status ended images writes.told ran.failed was then final writes.course;
-        written = writes_whole ended (transcript_output ran) old new before now final (sym writes.status) writes.text.0 writes.text.1;
+        ends = record {
+          told = writes.told;
+          course = final_status ended images writes.told ran.failed was then final writes.course;
+          written = writes_whole ended (transcript_output ran) old new before now final (sym writes.status) writes.text.0 writes.text.1;
+        };
+        stands = final_stands ended writes.told commands yard old new final writes.stands;
       }
 
   -- or in part
-  pub run_in_part : RunWrites images commands (Err run_fault.Write) old new before now was then → RunEnds status.WriteFault images (Ok commands) old new before now was then
-  run_in_part writes = record { told = writes.told; course = writes.course; written = writes.text }
+  pub run_in_part : RunWrites images commands yard (Err run_fault.Write) old new before now was then → RunLeaves status.WriteFault images commands yard old new before now was then
+  run_in_part writes = record { ends = record { told = writes.told; course = writes.course; written = writes.text }; stands = writes.stands }
 
-  pub run_no_memory : RunWrites images commands (Err run_fault.NoMemory) old new before now was then → RunEnds status.NoMemory images (Ok commands) old new before now was then
-  run_no_memory writes = record { told = writes.told; course = writes.course; written = writes.text }
+  pub run_no_memory : RunWrites images commands yard (Err run_fault.NoMemory) old new before now was then → RunLeaves status.NoMemory images commands yard old new before now was then
+  run_no_memory writes = record { ends = record { told = writes.told; course = writes.course; written = writes.text }; stands = tt }
 
 module _ (images : Option (List (List ℕ × List ℕ))) (said : Result (List Command) Refusal) (old : Option (List ℕ)) (before was : ℕ) where
   -- memory ran out before the run

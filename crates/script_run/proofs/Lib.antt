@@ -1,4 +1,5 @@
 pub mod Ends
+pub mod YardEnds
 pub mod FaultLines
 pub mod SoFar
 pub mod FetchedReports

@@ -5,5 +5,6 @@ pub mod Outputs
 pub mod Demos
 pub mod DemoRuns
 pub mod Endings
+pub mod Yards
 pub mod ImageReports
 pub mod Told

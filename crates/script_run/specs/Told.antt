@@ -1,5 +1,5 @@
 -- How what a run tells comes to its sink (own). No public clause speaks of this: it serves the contracts of the crate's own functions.
-use Rattle.std.specs.Prelude.{◌≡◌, ℕ, List, ◌++◌, Option, Result, Ok, Err}
+use Rattle.std.specs.Prelude.{◌≡◌, ◌⊎◌, ℕ, List, ◌++◌, Option, Result, Ok, Err}
 use Rattle.std.specs.Io.KnownBytes.{Appends}
 use Rattle.rp_io.specs.Causes.{Rose}
 use Rattle.rp_io.specs.Contents.{AppendsFront}
@@ -8,9 +8,10 @@ use Rattle.script_run.specs.declared.statuses.Status.{Status}
 use Rattle.script_run.specs.declared.runs.RunFault.{RunFault}
 use Rattle.script_run.specs.declared.runs.RunFault.TheVariants as run_fault
 use Rattle.command_run.specs.Stores.{Told}
-use Rattle.command_run.specs.Runs.{run_of}
+use Rattle.command_run.specs.Runs.{ObjectsState, run_of}
 use Rattle.script_run.specs.Outputs.{Output, transcript_output}
 use Rattle.script_run.specs.Endings.{IsRunCourse, IsWellRun}
+use Rattle.script_run.specs.Yards.{StandsBehind, StandsInDrive}
 
 -- a text is appended whole, or a front of it, where the sink failed or memory ran out
 abbrev pub Tells : {T : Type 0} → Result T RunFault → List ℕ → Option (List ℕ) → Option (List ℕ) → ℕ → ℕ → Type 0
@@ -33,9 +34,16 @@ IsResultCourse (Err run_fault.NoMemory) images told commands was then = IsWellRu
 IsResultCourse (Err run_fault.Write) images told commands was then = IsRunCourse images told (run_of told commands).failed was then
 IsResultCourse (Ok ended) images told commands was then = IsRunCourse images told (run_of told commands).failed was then
 
+-- what is left stands for the state in which the run ends; where the sink failed, for one that it had
+abbrev pub StandsFor : Result Status RunFault → Told → List Command → ObjectsState → Option (List ℕ) → Option (List ℕ) → Type 0
+StandsFor (Ok ended) told commands left old new = left ≡ (run_of told commands).last.objects
+StandsFor (Err run_fault.Write) told commands left old new = StandsBehind told commands left old new ⊎ StandsInDrive told commands left old new
+StandsFor (Err run_fault.NoMemory) told commands left old new = Unit {0}
+
 -- the run of these commands is written, over what the store told, with its last line
-pub record RunWrites (images : Option (List (List ℕ × List ℕ))) (commands : List Command) (result : Result Status RunFault) (old new : Option (List ℕ)) (before now was then : ℕ) : Type 0 where
+pub record RunWrites (images : Option (List (List ℕ × List ℕ))) (commands : List Command) (left : ObjectsState) (result : Result Status RunFault) (old new : Option (List ℕ)) (before now was then : ℕ) : Type 0 where
   pub told : Told
   pub course : IsResultCourse result images told commands was then
   pub status : AnswersStatus result (transcript_output (run_of told commands)).status
   pub text : Tells result (transcript_output (run_of told commands)).text old new before now
+  pub stands : StandsFor result told commands left old new

@@ -10,8 +10,10 @@ mod runs;
 mod statuses;
 mod storms;
 mod words;
+mod yards;
 
 pub use program::{run_program, run_script};
 pub use statuses::Status;
 pub use storms::run_storm;
 pub use words::Asked;
+pub use yards::Yard;

@@ -1,4 +1,4 @@
-ghost use Rattle.std.specs.Prelude.{◌≡◌, ◌≤◌, ◌+◌, Ok, length, map, true, false};
+ghost use Rattle.std.specs.Prelude.{◌≡◌, ◌≤◌, ◌<◌, ◌+◌, length, map, true, false};
 ghost use Rattle.rp_base.specs.declared.limits.TheConstants.{SCRIPT_MOST};
 ghost use Rattle.rp_io.specs.Causes.{Rose};
 ghost use Rattle.std.specs.Io.KnownBytes.{IsAtEnd};
@@ -6,9 +6,11 @@ ghost use Rattle.rp_io.specs.Contents.{LosesFront};
 ghost use Rattle.script_lang.specs.Grammar.{IsScript, script_of};
 ghost use Rattle.script_run.specs.Outputs.{form_of};
 ghost use Rattle.command_run.specs.Runs.{AsksNone, new_run};
+ghost use Rattle.command_run.specs.Lookups.{is_bare};
 ghost use Rattle.script_run.specs.Outputs.{run as run_form};
 ghost use Rattle.script_run.specs.Statuses.{status_of};
 ghost use Rattle.script_run.specs.Endings.{AnswersAs, AnswersWell, Ends, IsReadAnswer, IsReadEnd, NeedsNoStore, RunAnswersAs, RunEnds, SourceAsksNone, TextAsksNone, devices, reads_source, source_most};
+ghost use Rattle.script_run.specs.Yards.{Leaves, LeavesAs, RunLeaves, RunLeavesAs, ScriptLeaves, TextLeaves};
 
 use crate::audits::audit_text;
 use crate::demos::demo;
@@ -18,7 +20,7 @@ use crate::runs::run_commands;
 use crate::statuses::Status;
 use crate::storms::run_plan;
 use crate::words::{Asked, read_words};
-use command_run::Objects;
+use crate::yards::Yard;
 use journal::Notice;
 use rp_base::SCRIPT_MOST;
 use rp_io::{FirmwareStore, ReadFault, Sink, Source, read_front};
@@ -36,6 +38,11 @@ use storm_run::FreeGate;
 /// and handed over; with `audit` it reads a transcript from the source and writes whether its lines
 /// keep the rules; all other words are answered by the usage line. With `storm` alone it may wait.
 ///
+/// The yard is empty before. With `run` it has then the links and the cores of the script, as its run
+/// left them, also where the run came to the most steps or the store failed; where the sink failed, as
+/// they were when it did; where memory ran out they may be in any state. It stays empty where the
+/// script isn't read to its end or is none, and with other words.
+///
 /// The number is 0 where the whole output is written; 1 where `check` found no such image, one too
 /// large, or one that doesn't load, or `audit` a line that breaks a rule; 2 for other words; 3 where the
 /// source failed; 4 where the sink failed; 5 where memory ran out; 6 where the text is no script, or a
@@ -48,8 +55,10 @@ pub fn run_program<R: Threads + Wait + Sync, S: Source, F: FirmwareStore, K: Sin
     words: &[&str],
     script: &mut S,
     store: &mut F,
+    yard: &mut Yard,
     out: &mut K,
 ) -> u8
+    requires { is_bare yard.old ≡ true }
     ensures answer { let form = form_of (map (λ word. word.now) words.now) in
         let before = devices (S.left script.old) (S.faults script.old) (F.images store.old) (F.faults store.old) (K.written out.old) (K.faults out.old) in
         let now = devices (S.left script.new) (S.faults script.new) (F.images store.new) (F.faults store.new) (K.written out.new) (K.faults out.new) in
@@ -62,8 +71,13 @@ pub fn run_program<R: Threads + Wait + Sync, S: Source, F: FirmwareStore, K: Sin
     ensures taken { LosesFront (S.left script.old) (S.left script.new) (source_most (form_of (map (λ word. word.now) words.now))) }
     ensures unread { reads_source (form_of (map (λ word. word.now) words.now)) ≡ false → script.new ≡ script.old }
     ensures unasked { NeedsNoStore (form_of (map (λ word. word.now) words.now)) (S.left script.old) → store.new ≡ store.old }
+    ensures yard { let form = form_of (map (λ word. word.now) words.now) in
+        let before = devices (S.left script.old) (S.faults script.old) (F.images store.old) (F.faults store.old) (K.written out.old) (K.faults out.old) in
+        let now = devices (S.left script.new) (S.faults script.new) (F.images store.new) (F.faults store.new) (K.written out.new) (K.faults out.new) in
+        LeavesAs (status_of result) form before now yard.old yard.new }
+    ensures unfilled { ¬ IsAtEnd (S.left script.new) → yard.new ≡ yard.old }
 {
-    answer(rt, alloc, words, script, store, out).number()
+    answer(rt, alloc, words, script, store, yard, out).number()
 }
 
 /// How the program ends.
@@ -73,8 +87,10 @@ fn answer<R: Threads + Wait + Sync, S: Source, F: FirmwareStore, K: Sink>(
     words: &[&str],
     script: &mut S,
     store: &mut F,
+    yard: &mut Yard,
     out: &mut K,
 ) -> Status
+    requires { is_bare yard.old ≡ true }
     ensures ends { let form = form_of (map (λ word. word.now) words.now) in
         let before = devices (S.left script.old) (S.faults script.old) (F.images store.old) (F.faults store.old) (K.written out.old) (K.faults out.old) in
         let now = devices (S.left script.new) (S.faults script.new) (F.images store.new) (F.faults store.new) (K.written out.new) (K.faults out.new) in
@@ -83,12 +99,17 @@ fn answer<R: Threads + Wait + Sync, S: Source, F: FirmwareStore, K: Sink>(
     ensures taken { LosesFront (S.left script.old) (S.left script.new) (source_most (form_of (map (λ word. word.now) words.now))) }
     ensures unread { reads_source (form_of (map (λ word. word.now) words.now)) ≡ false → script.new ≡ script.old }
     ensures unasked { NeedsNoStore (form_of (map (λ word. word.now) words.now)) (S.left script.old) → store.new ≡ store.old }
+    ensures leaves { let form = form_of (map (λ word. word.now) words.now) in
+        let before = devices (S.left script.old) (S.faults script.old) (F.images store.old) (F.faults store.old) (K.written out.old) (K.faults out.old) in
+        let now = devices (S.left script.new) (S.faults script.new) (F.images store.new) (F.faults store.new) (K.written out.new) (K.faults out.new) in
+        Leaves result form before now yard.old yard.new }
+    ensures unfilled { ¬ IsAtEnd (S.left script.new) → yard.new ≡ yard.old }
 {
     let Ok(asked) = read_words(alloc, words) else {
         return Status::NoMemory;
     };
     match asked {
-        Asked::Run => run_text(alloc, script, store, out),
+        Asked::Run => run_text(alloc, script, store, yard, out),
         Asked::Check(word, name) => check(alloc, word, name, store, out),
         Asked::Demo(sessions) => demo(alloc, sessions, out),
         Asked::Storm(plan) => run_plan(rt, alloc, &plan, &FreeGate, out),
@@ -102,17 +123,23 @@ fn run_text<S: Source, F: FirmwareStore, K: Sink>(
     alloc: Global,
     script: &mut S,
     store: &mut F,
+    yard: &mut Yard,
     out: &mut K,
 ) -> Status
+    requires { is_bare yard.old ≡ true }
     ensures ends { let before = devices (S.left script.old) (S.faults script.old) (F.images store.old) (F.faults store.old) (K.written out.old) (K.faults out.old) in
         let now = devices (S.left script.new) (S.faults script.new) (F.images store.new) (F.faults store.new) (K.written out.new) (K.faults out.new) in
         Ends result run_form before now }
     ensures read { IsReadEnd result → IsAtEnd (S.left script.new) }
     ensures taken { LosesFront (S.left script.old) (S.left script.new) (SCRIPT_MOST + 1) }
     ensures unasked { SourceAsksNone (S.left script.old) → store.new ≡ store.old }
+    ensures leaves { let before = devices (S.left script.old) (S.faults script.old) (F.images store.old) (F.faults store.old) (K.written out.old) (K.faults out.old) in
+        let now = devices (S.left script.new) (S.faults script.new) (F.images store.new) (F.faults store.new) (K.written out.new) (K.faults out.new) in
+        ScriptLeaves result before now yard.old yard.new }
+    ensures unfilled { ¬ IsAtEnd (S.left script.new) → yard.new ≡ yard.old }
 {
     match read_front(alloc, script, SCRIPT_MOST) {
-        Ok(bytes) => run_bytes(alloc, &bytes, store, out),
+        Ok(bytes) => run_bytes(alloc, &bytes, store, yard, out),
         Err(ReadFault::Failed) => end_with_text(b"* read fault\n", Status::ReadFault, out),
         Err(ReadFault::NoMemory) => Status::NoMemory,
     }
@@ -123,14 +150,18 @@ fn run_bytes<F: FirmwareStore, K: Sink>(
     alloc: Global,
     bytes: &[u8],
     store: &mut F,
+    yard: &mut Yard,
     out: &mut K,
 ) -> Status
+    requires { is_bare yard.old ≡ true }
     ensures ends { RunEnds result (F.images store.old) (script_of bytes.now) (K.written out.old) (K.written out.new) (K.faults out.old) (K.faults out.new) (F.faults store.old) (F.faults store.new) }
     ensures fits { IsReadEnd result → length bytes.now ≤ SCRIPT_MOST }
     ensures unasked { TextAsksNone (script_of bytes.now) → store.new ≡ store.old }
+    ensures leaves { TextLeaves result (F.images store.old) (script_of bytes.now) yard.old yard.new (K.written out.old) (K.written out.new) (K.faults out.old) (K.faults out.new) (F.faults store.old) (F.faults store.new) }
+    ensures unfilled { SCRIPT_MOST < length bytes.now → yard.new ≡ yard.old }
 {
     match parse(alloc, bytes) {
-        Ok(parsed) => run_parsed(alloc, &parsed, store, out),
+        Ok(parsed) => run_parsed(alloc, &parsed, store, yard, out),
         Err(ParseFault::Refused(line, cause)) => {
             end_with(alloc, &[Notice::Refused(line, cause)], Status::Refused, out)
         }
@@ -140,19 +171,24 @@ fn run_bytes<F: FirmwareStore, K: Sink>(
 
 /// Runs a script from nothing, and writes its transcript. An image that the script didn't make is
 /// fetched from the store. It answers the number with which the process ends: 0, 4, 5, 7 or 8, each
-/// where [`run_program`] answers it.
+/// where [`run_program`] answers it. The yard is empty before, and has then the links and the cores of
+/// the script, as [`run_program`] leaves them.
 pub fn run_script<F: FirmwareStore, K: Sink>(
     alloc: Global,
     script: &Script,
     store: &mut F,
+    yard: &mut Yard,
     out: &mut K,
 ) -> u8
-    requires { IsScript script.now.commands.items }
+    requires script { IsScript script.now.commands.items }
+    requires empty { is_bare yard.old ≡ true }
     ensures answer { RunAnswersAs (status_of result) (F.images store.old) script.now.commands.items
         (K.written out.old) (K.written out.new) (K.faults out.old) (K.faults out.new) (F.faults store.old) (F.faults store.new) }
     ensures unasked { AsksNone new_run script.now.commands.items → store.new ≡ store.old }
+    ensures yard { RunLeavesAs (status_of result) (F.images store.old) script.now.commands.items yard.new
+        (K.written out.old) (K.written out.new) (K.faults out.old) (K.faults out.new) (F.faults store.old) (F.faults store.new) }
 {
-    run_parsed(alloc, script, store, out).number()
+    run_parsed(alloc, script, store, yard, out).number()
 }
 
 /// Runs a script from nothing, and writes its transcript.
@@ -160,13 +196,16 @@ fn run_parsed<F: FirmwareStore, K: Sink>(
     alloc: Global,
     script: &Script,
     store: &mut F,
+    yard: &mut Yard,
     out: &mut K,
 ) -> Status
-    requires { IsScript script.now.commands.items }
-    ensures ends { RunEnds result (F.images store.old) (Ok script.now.commands.items)
+    requires script { IsScript script.now.commands.items }
+    requires empty { is_bare yard.old ≡ true }
+    ensures leaves { RunLeaves result (F.images store.old) script.now.commands.items yard.new
         (K.written out.old) (K.written out.new) (K.faults out.old) (K.faults out.new) (F.faults store.old) (F.faults store.new) }
     ensures unasked { AsksNone new_run script.now.commands.items → store.new ≡ store.old }
 {
-    let mut objects = Objects::new(alloc);
-    run_commands(alloc, &mut objects, script.commands.as_slice(), store, out)
+    yard.objects.forget_images();
+    let commands = script.commands.as_slice();
+    run_commands(alloc, &mut yard.objects, commands, store, out)
 }

@@ -1,9 +1,9 @@
-ghost use Rattle.std.specs.Prelude.{◌≡◌, ◌≢◌, Ok, Err};
+ghost use Rattle.std.specs.Prelude.{◌≡◌, ◌≢◌, Err};
 ghost use Rattle.script_lang.specs.Runnable.{AreRunnable};
 ghost use Rattle.command_run.specs.Runs.{AsksNone, new_run};
 ghost use Rattle.script_run.specs.declared.runs.RunFault.TheVariants as fault;
 ghost use Rattle.script_run.specs.Outputs.{stop_output, store_fault_output};
-ghost use Rattle.script_run.specs.Endings.{RunEnds};
+ghost use Rattle.script_run.specs.Yards.{RunLeaves};
 ghost use Rattle.script_run.specs.Told.{EndsRun, RunWrites};
 
 use crate::statuses::Status;
@@ -54,7 +54,7 @@ pub(crate) fn run_commands<F: FirmwareStore, K: Sink>(
 ) -> Status
     requires runnable { AreRunnable commands.now }
     requires new { objects.old ≡ new_run.objects }
-    ensures ends { RunEnds result (F.images store.old) (Ok commands.now) (K.written out.old) (K.written out.new) (K.faults out.old) (K.faults out.new) (F.faults store.old) (F.faults store.new) }
+    ensures leaves { RunLeaves result (F.images store.old) commands.now objects.new (K.written out.old) (K.written out.new) (K.faults out.old) (K.faults out.new) (F.faults store.old) (F.faults store.new) }
     ensures unasked { AsksNone new_run commands.now → store.new ≡ store.old }
 {
     match tell_commands(alloc, objects, commands, store, out) {
@@ -74,7 +74,7 @@ fn tell_commands<F: FirmwareStore, K: Sink>(
 ) -> Result<Status, RunFault>
     requires runnable { AreRunnable commands.now }
     requires new { objects.old ≡ new_run.objects }
-    ensures written { RunWrites (F.images store.old) commands.now result (K.written out.old) (K.written out.new) (K.faults out.old) (K.faults out.new) (F.faults store.old) (F.faults store.new) }
+    ensures written { RunWrites (F.images store.old) commands.now objects.new result (K.written out.old) (K.written out.new) (K.faults out.old) (K.faults out.new) (F.faults store.old) (F.faults store.new) }
     ensures unasked { AsksNone new_run commands.now → store.new ≡ store.old }
 {
     let mut log = RunLog::new(alloc);

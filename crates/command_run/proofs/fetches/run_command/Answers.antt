@@ -10,9 +10,9 @@ use Rattle.command_run.specs.declared.acts.NamedAct.TheVariants as under
 use Rattle.command_run.specs.declared.fetches.CommandFault.{CommandFault}
 use Rattle.command_run.specs.declared.fetches.CommandFault.TheVariants as command_fault
 use Rattle.command_run.specs.declared.stops.Stop.{Stop}
-use Rattle.command_run.specs.Logs.{HandsRunEffect, LogState}
+use Rattle.command_run.specs.Logs.{CutsRun, HandsRunEffect, LogState}
 use Rattle.command_run.specs.Stores.{Answer}
-use Rattle.command_run.specs.Fetches.{EndsCut, IsFetchFault, RunsTold, answer_of}
+use Rattle.command_run.specs.Fetches.{EndsCut, IfWrite, IsFetchFault, RunsTold, answer_of}
 use Rattle.command_run.specs.Runs.{ObjectsState, RunState, asked_name, effect_of, name_effect}
 use Rattle.command_run.proofs.Handed.{front_of_none}
 use Rattle.command_run.proofs.Placing.{kept_run}
@@ -24,21 +24,22 @@ module _ (images : Option (List (List ℕ × List ℕ))) (run : RunState) where
   drive_told : (name : List ℕ) (count : ℕ) (left : ObjectsState) (before after : LogState) (old new : Option (List ℕ)) (faults now was : ℕ) (result : Result (Option Stop) CommandFault)
       → IfOk result (λ ending. HandsRunEffect (name_effect (Err fetch_fault.Missing) run name (under.Core (core.Drive count))) left before after old new ending) → OnOk result (now ≡ faults)
       → IfErr result (λ why. EndsCut why (before.lines ++ transcript (name_effect (Err fetch_fault.Missing) run name (under.Core (core.Drive count))).events) old new faults now)
+      → IfErr result (λ why. IfWrite why (CutsRun (λ done. name_effect (Err fetch_fault.Missing) run name (under.Core (core.Drive done))) count left before.lines old new))
       → RunsTold result images run (command.Drive name count) left before after old new faults now was was
   unfolding effect_of
-  drive_told name count left before after old new faults now was (Ok answer) did same cut =
+  drive_told name count left before after old new faults now was (Ok answer) did same cut paused =
       let shelf = shelf_of images None (Err fetch_fault.Missing) refl in
       (record { shelf = shelf.0; is = shelf.1; did = did }, same, refl)
-  drive_told name count left before after old new faults now was (Err command_fault.Store) did same cut = absurd cut
-  drive_told name count left before after old new faults now was (Err command_fault.Write) did same cut = ((λ shelf. cut), refl)
-  drive_told name count left before after old new faults now was (Err command_fault.NoMemory) did same cut = ((λ shelf. cut), refl)
+  drive_told name count left before after old new faults now was (Err command_fault.Store) did same cut paused = absurd cut
+  drive_told name count left before after old new faults now was (Err command_fault.Write) did same cut paused = ((λ shelf. cut), refl, record { name = name; count = count; is = refl; cut = paused })
+  drive_told name count left before after old new faults now was (Err command_fault.NoMemory) did same cut paused = ((λ shelf. cut), refl)
 
   -- a store that failed, or memory that ran out before anything was told
-  fetch_told : (asking : Command) (left : ObjectsState) (log : LogState) (written : Option (List ℕ)) (faults was then : ℕ) (why : CommandFault) → IsFetchFault why was then
-      → (why ≡ command_fault.Store → IsTrue (is_some (asked_name run.objects asking))) → RunsTold (Err why) images run asking left log log written written faults faults was then
-  fetch_told asking left log written faults was then command_fault.Store fault asked = (asked refl, refl, refl, refl, fault)
-  fetch_told asking left log written faults was then command_fault.Write fault asked = absurd fault
-  fetch_told asking left log written faults was then command_fault.NoMemory fault asked = ((λ shelf. (front_of_none written _, refl)), fault)
+  fetch_told : (asking : Command) (log : LogState) (written : Option (List ℕ)) (faults was then : ℕ) (why : CommandFault) → IsFetchFault why was then
+      → (why ≡ command_fault.Store → IsTrue (is_some (asked_name run.objects asking))) → RunsTold (Err why) images run asking run.objects log log written written faults faults was then
+  fetch_told asking log written faults was then command_fault.Store fault asked = (asked refl, refl, refl, refl, fault, refl)
+  fetch_told asking log written faults was then command_fault.Write fault asked = absurd fault
+  fetch_told asking log written faults was then command_fault.NoMemory fault asked = ((λ shelf. (front_of_none written _, refl)), fault)
 
 pub returns-in-Drive-clause-effect : goal.returns-in-Drive-clause-effect
 returns-in-Drive-clause-effect g c =
@@ -50,7 +51,7 @@ returns-in-Drive-clause-effect g c =
     (sink.faults c.args.out.now) (sink.faults c.drive.new.out) (store.faults c.args.store.now) (store.faults c.args.store.now))
     (sym c.in-Drive.is)
     (drive_told images run c.in-Drive.name c.in-Drive.count c.drive.new.self c.args.log.now c.drive.new.log (sink.written c.args.out.now) (sink.written c.drive.new.out)
-    (sink.faults c.args.out.now) (sink.faults c.drive.new.out) (store.faults c.args.store.now) c.drive.result c.drive.ensures.effect c.drive.ensures.same c.drive.ensures.cut)
+    (sink.faults c.args.out.now) (sink.faults c.drive.new.out) (store.faults c.args.store.now) c.drive.result c.drive.ensures.effect c.drive.ensures.same c.drive.ensures.cut c.drive.ensures.paused)
 
 pub returns-in_err-fetched : goal.returns-in_err-fetched
 returns-in_err-fetched g c =
@@ -63,7 +64,7 @@ returns-in_err-fetched g c =
       effect = subst (λ (r : Result (Option Stop) CommandFault). RunsTold r images run c.args.command.now c.args.objects.now c.args.log.now c.args.log.now (sink.written c.args.out.now) (sink.written c.args.out.now)
           (sink.faults c.args.out.now) (sink.faults c.args.out.now) (store.faults c.args.store.now) (store.faults c.fetch_for_command.new.store))
           (sym (found.1 ∙ ap (λ (why : CommandFault). Err why) found.2))
-          (fetch_told images run c.args.command.now c.args.objects.now c.args.log.now (sink.written c.args.out.now) (sink.faults c.args.out.now) (store.faults c.args.store.now) (store.faults c.fetch_for_command.new.store)
+          (fetch_told images run c.args.command.now c.args.log.now (sink.written c.args.out.now) (sink.faults c.args.out.now) (store.faults c.args.store.now) (store.faults c.fetch_for_command.new.store)
           c.in_err-fetched.field-0.0 c.in_err-fetched.ensures.fault (λ is. c.in_err-fetched.ensures.asked (ap (λ (why : CommandFault). Err why) is)));
       kept = c.fetch_for_command.ensures.kept;
       unasked = c.fetch_for_command.ensures.unasked;

@@ -9,7 +9,7 @@ returns-in-Ok g c =
     let store = g.F.FirmwareStore in
     let sink = g.K.Sink in
     record {
-      ends = run_whole (store.images c.args.store.now) c.args.commands.now (sink.written c.args.out.now) (sink.written c.tell_commands.new.out)
+      leaves = run_whole (store.images c.args.store.now) c.args.commands.now c.tell_commands.new.objects (sink.written c.args.out.now) (sink.written c.tell_commands.new.out)
           (sink.faults c.args.out.now) (sink.faults c.tell_commands.new.out) (store.faults c.args.store.now) (store.faults c.tell_commands.new.store) c.in-Ok.status c.in-Ok.ensures.written;
       unasked = c.tell_commands.ensures.unasked;
     }
@@ -19,9 +19,9 @@ returns-in-Err-Write g c =
     let store = g.F.FirmwareStore in
     let sink = g.K.Sink in
     record {
-      ends = run_in_part (store.images c.args.store.now) c.args.commands.now (sink.written c.args.out.now) (sink.written c.tell_commands.new.out)
+      leaves = run_in_part (store.images c.args.store.now) c.args.commands.now c.tell_commands.new.objects (sink.written c.args.out.now) (sink.written c.tell_commands.new.out)
           (sink.faults c.args.out.now) (sink.faults c.tell_commands.new.out) (store.faults c.args.store.now) (store.faults c.tell_commands.new.store)
-          (subst (λ (fault : RunFault). RunWrites (store.images c.args.store.now) c.args.commands.now (Err fault) (sink.written c.args.out.now) (sink.written c.tell_commands.new.out)
+          (subst (λ (fault : RunFault). RunWrites (store.images c.args.store.now) c.args.commands.now c.tell_commands.new.objects (Err fault) (sink.written c.args.out.now) (sink.written c.tell_commands.new.out)
           (sink.faults c.args.out.now) (sink.faults c.tell_commands.new.out) (store.faults c.args.store.now) (store.faults c.tell_commands.new.store))
           c.in-Err-Write.field-0-is c.in-Err-Write.ensures.written);
       unasked = c.tell_commands.ensures.unasked;
@@ -32,9 +32,9 @@ returns-in-Err-NoMemory g c =
     let store = g.F.FirmwareStore in
     let sink = g.K.Sink in
     record {
-      ends = run_no_memory (store.images c.args.store.now) c.args.commands.now (sink.written c.args.out.now) (sink.written c.tell_commands.new.out)
+      leaves = run_no_memory (store.images c.args.store.now) c.args.commands.now c.tell_commands.new.objects (sink.written c.args.out.now) (sink.written c.tell_commands.new.out)
           (sink.faults c.args.out.now) (sink.faults c.tell_commands.new.out) (store.faults c.args.store.now) (store.faults c.tell_commands.new.store)
-          (subst (λ (fault : RunFault). RunWrites (store.images c.args.store.now) c.args.commands.now (Err fault) (sink.written c.args.out.now) (sink.written c.tell_commands.new.out)
+          (subst (λ (fault : RunFault). RunWrites (store.images c.args.store.now) c.args.commands.now c.tell_commands.new.objects (Err fault) (sink.written c.args.out.now) (sink.written c.tell_commands.new.out)
           (sink.faults c.args.out.now) (sink.faults c.tell_commands.new.out) (store.faults c.args.store.now) (store.faults c.tell_commands.new.store))
           c.in-Err-NoMemory.field-0-is c.in-Err-NoMemory.ensures.written);
       unasked = c.tell_commands.ensures.unasked;

@@ -29,8 +29,8 @@ loop-command-init g c =
     let written = sink.written c.args.out.now in
     let images = store.images c.args.store.now in
     record {
-      so_far = subst (λ (log : LogState). SoFar images commands written written log.lines (λ later. run_from later (record { objects = c.args.objects.now; steps = log.steps }) commands)) (sym c.new-log.ensures)
-          (subst (λ (objects : ObjectsState). SoFar images commands written written [] (λ later. run_from later (record { objects = objects; steps = 0 }) commands)) (sym c.requires.new)
+      so_far = subst (λ (log : LogState). SoFar images commands commands written written log.lines (λ later rest. run_from later (record { objects = c.args.objects.now; steps = log.steps }) rest)) (sym c.new-log.ensures)
+          (subst (λ (objects : ObjectsState). SoFar images commands commands written written [] (λ later rest. run_from later (record { objects = objects; steps = 0 }) rest)) (sym c.requires.new)
           (so_far_none images commands written));
       runnable = c.requires.runnable;
       same = refl;
@@ -58,11 +58,11 @@ returns-in_err-hand_on-in-Ok-None g c =
     let did = subst (λ (held : Option (List (List ℕ × List ℕ))). DidTold held state first c.run_command.new.objects c.loop-command.log c.run_command.new.log
     (sink.written c.loop-command.out) (sink.written c.run_command.new.out) c.in-Ok-None.field-0) c.loop-command.invariant.images told.0 in
     record {
-      written = subst (λ (result : Result Status RunFault). RunWrites images commands result (sink.written c.args.out.now) (sink.written c.hand_on.new.out)
+      written = subst (λ (result : Result Status RunFault). RunWrites images commands c.run_command.new.objects result (sink.written c.args.out.now) (sink.written c.hand_on.new.out)
           (sink.faults c.args.out.now) (sink.faults c.hand_on.new.out) (store.faults c.args.store.now) (store.faults c.run_command.new.store))
           (sym (found.1 ∙ ap (λ (fault : RunFault). Err fault) found.2))
-          (so_far_write_fault images commands (sink.written c.args.out.now) (sink.written c.run_command.new.out) c.run_command.new.log.lines
-          (λ later. run_from later next (drop (i + 1) commands)) (sink.written c.hand_on.new.out) (sink.faults c.args.out.now) (sink.faults c.hand_on.new.out)
+          (so_far_write_fault images commands (drop (i + 1) commands) (sink.written c.args.out.now) (sink.written c.run_command.new.out) c.run_command.new.log.lines
+          next (sink.written c.hand_on.new.out) (sink.faults c.args.out.now) (sink.faults c.hand_on.new.out)
           (store.faults c.args.store.now) (store.faults c.run_command.new.store)
           (so_far_after images commands (sink.written c.args.out.now) (sink.written c.loop-command.out) c.loop-command.objects i first c.loop-command.log
           c.loop-command.invariant.so_far c.loop-command-test.true c.command-item.is c.run_command.new.objects c.run_command.new.log (sink.written c.run_command.new.out) c.in-Ok-None.field-0 did c.in-Ok-None.field-0-is)
@@ -91,9 +91,9 @@ returns-in-Ok-Some g c =
     c.loop-command.invariant.so_far c.loop-command-test.true c.command-item.is c.run_command.new.objects c.run_command.new.log (sink.written c.run_command.new.out) c.in-Ok-Some.field-0 did c.in-Ok-Some.stop c.in-Ok-Some.field-0-is in
     record {
       written =
-          so_far_ends images commands (sink.written c.args.out.now) (sink.written c.run_command.new.out) c.run_command.new.log.lines _ c.end_run.result (Some c.in-Ok-Some.stop)
-          (sink.written c.end_run.new.out) (sink.faults c.args.out.now) (sink.faults c.run_command.new.out) (sink.faults c.end_run.new.out)
-          (store.faults c.args.store.now) (store.faults c.run_command.new.store) so_far (λ later. refl) (λ later. refl) (told.1 ∙ c.loop-command.invariant.same)
+          so_far_ends images commands (drop (i + 1) commands) (sink.written c.args.out.now) (sink.written c.run_command.new.out) c.run_command.new.log.lines _ c.end_run.result (Some c.in-Ok-Some.stop)
+          c.run_command.new.objects (sink.written c.end_run.new.out) (sink.faults c.args.out.now) (sink.faults c.run_command.new.out) (sink.faults c.end_run.new.out)
+          (store.faults c.args.store.now) (store.faults c.run_command.new.store) so_far (λ later. refl) (λ later. refl) (λ later. did.did.objects) (told.1 ∙ c.loop-command.invariant.same)
           (told.2 ∙ c.loop-command.invariant.still) c.end_run.ensures;
       unasked = λ none.
           let sofar = c.loop-command.invariant.unasked none in
@@ -116,11 +116,11 @@ returns-in-Err-Store g c =
     let asks = asked_some (asked_name c.loop-command.objects first) failed.0 in
     record {
       written =
-          so_far_fails images commands (sink.written c.args.out.now) (sink.written c.run_command.new.out) c.loop-command.log.lines state (drop i commands) first (drop (i + 1) commands) asks.0
-          c.end_failed.result (sink.written c.end_failed.new.out) (sink.faults c.args.out.now) (sink.faults c.run_command.new.out) (sink.faults c.end_failed.new.out)
+          so_far_fails images commands (drop i commands) (sink.written c.args.out.now) (sink.written c.run_command.new.out) c.loop-command.log.lines state first (drop (i + 1) commands) asks.0
+          c.end_failed.result c.run_command.new.objects (sink.written c.end_failed.new.out) (sink.faults c.args.out.now) (sink.faults c.run_command.new.out) (sink.faults c.end_failed.new.out)
           (store.faults c.args.store.now) (store.faults c.run_command.new.store)
-          (subst (λ (written : Option (List ℕ)). SoFar images commands (sink.written c.args.out.now) written c.loop-command.log.lines (λ later. run_from later state (drop i commands))) (sym failed.2) c.loop-command.invariant.so_far)
-          (left_at commands i first c.loop-command-test.true c.command-item.is) asks.1 (failed.3 ∙ c.loop-command.invariant.same) c.end_failed.ensures.found
+          (subst (λ (written : Option (List ℕ)). SoFar images commands (drop i commands) (sink.written c.args.out.now) written c.loop-command.log.lines (λ later rest. run_from later state rest)) (sym failed.2) c.loop-command.invariant.so_far)
+          (left_at commands i first c.loop-command-test.true c.command-item.is) asks.1 failed.5 (failed.3 ∙ c.loop-command.invariant.same) c.end_failed.ensures.found
           (subst (λ (faults : ℕ). Rose faults (store.faults c.run_command.new.store)) c.loop-command.invariant.still failed.4)
           (subst (λ (log : LogState). EndsRun c.end_failed.result store_fault_output log.lines (sink.written c.run_command.new.out) (sink.written c.end_failed.new.out)
           (sink.faults c.run_command.new.out) (sink.faults c.end_failed.new.out)) failed.1 c.end_failed.ensures.written);
@@ -143,8 +143,8 @@ returns-in-Err-Write g c =
     record {
       written =
           so_far_write_cut (store.images c.args.store.now) commands (sink.written c.args.out.now) (sink.written c.loop-command.out) c.loop-command.objects c.loop-command.command-index first c.loop-command.log
-          c.loop-command.invariant.so_far c.loop-command-test.true c.command-item.is (sink.written c.run_command.new.out) (sink.faults c.args.out.now) (sink.faults c.loop-command.out) (sink.faults c.run_command.new.out)
-          (store.faults c.args.store.now) (store.faults c.run_command.new.store) failed.0 c.loop-command.invariant.same (failed.1 ∙ c.loop-command.invariant.still);
+          c.loop-command.invariant.so_far c.loop-command-test.true c.command-item.is (sink.written c.run_command.new.out) c.run_command.new.objects failed.2 (sink.faults c.args.out.now) (sink.faults c.loop-command.out)
+          (sink.faults c.run_command.new.out) (store.faults c.args.store.now) (store.faults c.run_command.new.store) failed.0 c.loop-command.invariant.same (failed.1 ∙ c.loop-command.invariant.still);
       unasked = λ none.
           let sofar = c.loop-command.invariant.unasked none in
           c.run_command.ensures.unasked (asks_first state (drop c.loop-command.command-index commands) first (drop (c.loop-command.command-index + 1) commands)
@@ -164,7 +164,7 @@ returns-in-Err-NoMemory g c =
     record {
       written =
           so_far_memory_cut (store.images c.args.store.now) commands (sink.written c.args.out.now) (sink.written c.loop-command.out) c.loop-command.objects c.loop-command.command-index first c.loop-command.log
-          c.loop-command.invariant.so_far c.loop-command-test.true c.command-item.is (sink.written c.run_command.new.out) (sink.faults c.args.out.now) (sink.faults c.loop-command.out) (sink.faults c.run_command.new.out)
+          c.loop-command.invariant.so_far c.loop-command-test.true c.command-item.is c.run_command.new.objects (sink.written c.run_command.new.out) (sink.faults c.args.out.now) (sink.faults c.loop-command.out) (sink.faults c.run_command.new.out)
           (store.faults c.args.store.now) (store.faults c.run_command.new.store) failed.0 c.loop-command.invariant.same (failed.1 ∙ c.loop-command.invariant.still);
       unasked = λ none.
           let sofar = c.loop-command.invariant.unasked none in
@@ -188,10 +188,10 @@ loop-command-preserved g c =
     let did = subst (λ (held : Option (List (List ℕ × List ℕ))). DidTold held state first c.run_command.new.objects c.loop-command.log c.run_command.new.log
     (sink.written c.loop-command.out) (sink.written c.run_command.new.out) c.in-Ok-None.field-0) c.loop-command.invariant.images told.0 in
     record {
-      so_far = subst (λ (steps : ℕ). SoFar images commands (sink.written c.args.out.now) (sink.written c.hand_on.new.out) c.hand_on.new.self.lines (λ later. run_from later (record { objects = c.run_command.new.objects; steps = steps }) more))
+      so_far = subst (λ (steps : ℕ). SoFar images commands more (sink.written c.args.out.now) (sink.written c.hand_on.new.out) c.hand_on.new.self.lines (λ later rest. run_from later (record { objects = c.run_command.new.objects; steps = steps }) rest))
           (sym handed.steps)
-          (so_far_handed images commands (sink.written c.args.out.now) (sink.written c.run_command.new.out) c.run_command.new.log.lines
-          (λ later. run_from later (record { objects = c.run_command.new.objects; steps = c.run_command.new.log.steps }) more)
+          (so_far_handed images commands more (sink.written c.args.out.now) (sink.written c.run_command.new.out) c.run_command.new.log.lines
+          (λ later rest. run_from later (record { objects = c.run_command.new.objects; steps = c.run_command.new.log.steps }) rest)
           (sink.written c.hand_on.new.out) c.hand_on.new.self.lines
           (so_far_after images commands (sink.written c.args.out.now) (sink.written c.loop-command.out) c.loop-command.objects i first c.loop-command.log
           c.loop-command.invariant.so_far c.loop-command-test.true c.command-item.is c.run_command.new.objects c.run_command.new.log (sink.written c.run_command.new.out) c.in-Ok-None.field-0 did c.in-Ok-None.field-0-is)
@@ -221,10 +221,10 @@ returns g c =
     λ later. ap (run_from later state) (drop_of_length-le commands c.loop-command-test.false) ∙ run_none later state in
     record {
       written =
-          so_far_ends images commands (sink.written c.args.out.now) (sink.written c.loop-command.out) c.loop-command.log.lines (λ later. run_from later state left) c.end_run-2.result None
-          (sink.written c.end_run-2.new.out) (sink.faults c.args.out.now) (sink.faults c.loop-command.out) (sink.faults c.end_run-2.new.out)
+          so_far_ends images commands left (sink.written c.args.out.now) (sink.written c.loop-command.out) c.loop-command.log.lines (λ later rest. run_from later state rest) c.end_run-2.result None
+          c.loop-command.objects (sink.written c.end_run-2.new.out) (sink.faults c.args.out.now) (sink.faults c.loop-command.out) (sink.faults c.end_run-2.new.out)
           (store.faults c.args.store.now) (store.faults c.loop-command.store)
-          c.loop-command.invariant.so_far (λ later. ap (λ (run : Run). run.events) (ended later)) (λ later. ap (λ (run : Run). end_output run) (ended later)) c.loop-command.invariant.same
+          c.loop-command.invariant.so_far (λ later. ap (λ (run : Run). run.events) (ended later)) (λ later. ap (λ (run : Run). end_output run) (ended later)) (λ later. sym (ap (λ (run : Run). run.last.objects) (ended later))) c.loop-command.invariant.same
           c.loop-command.invariant.still c.end_run-2.ensures;
       unasked = λ none. (c.loop-command.invariant.unasked none).0;
     }

@@ -10,8 +10,8 @@ invariant-loop-command g l =
     let store = g.F.FirmwareStore in
     let sink = g.K.Sink in
     record {
-      so_far : SoFar (store.images l.fn.store) l.fn.commands (sink.written l.fn.out) (sink.written l.out) l.log.lines
-          (λ later. run_from later (record { objects = l.objects; steps = l.log.steps }) (drop l.command-index l.fn.commands));
+      so_far : SoFar (store.images l.fn.store) l.fn.commands (drop l.command-index l.fn.commands) (sink.written l.fn.out) (sink.written l.out) l.log.lines
+          (λ later rest. run_from later (record { objects = l.objects; steps = l.log.steps }) rest);
       runnable : AreRunnable (drop l.command-index l.fn.commands);
       same : sink.faults l.out ≡ sink.faults l.fn.out;
       images : store.images l.store ≡ store.images l.fn.store;

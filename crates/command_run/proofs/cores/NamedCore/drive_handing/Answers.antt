@@ -8,7 +8,7 @@ use Rattle.command_run.specs.declared.fetches.CommandFault.{CommandFault}
 use Rattle.command_run.specs.CoreEffects.{CoreEffect}
 use Rattle.command_run.specs.Fetches.{EndsCut}
 use Rattle.command_run.specs.CoreDrives.{drive_steps}
-use Rattle.command_run.proofs.Handed.{front_of_none}
+use Rattle.command_run.proofs.Handed.{front_of_none, no_write}
 use Rattle.command_run.proofs.Driving.{drive_up, handing_cut}
 use Rattle.command_run.proofs.cores.NamedCore.drive_handing.Goals as goal
 
@@ -30,3 +30,8 @@ returns-in_err-drive_running-clause-cut g c =
           (front_of_none now c.drive_pieces.new.log.lines),
       c.in_ok-left.ensures.same,
     ))
+
+pub returns-in_err-drive_running-clause-paused : goal.returns-in_err-drive_running-clause-paused
+returns-in_err-drive_running-clause-paused g c =
+    let found = err_from_is_err_and c.from_residual-in_err-drive_running.result c.from_residual-in_err-drive_running.ensures.1 in
+    no_write (Option Stop) _ c.from_residual-in_err-drive_running.result (found.1 ∙ ap (λ (why : CommandFault). Err why) found.2)

@@ -1,4 +1,4 @@
-use Rattle.std.proofs.Common.{◌≡◌, ◌<◌, ◌++◌, List, Option, Some, None, Err, IfOk, IfErr, Result, length, slice_get, slice_set, refl, sym, ap, subst, ◌∙◌}
+use Rattle.std.proofs.Common.{◌≡◌, ◌<◌, ◌++◌, List, Option, Some, None, Ok, Err, IfOk, IfErr, Result, length, slice_get, slice_set, refl, sym, ap, subst, ◌∙◌}
 use Rattle.std.proofs.lemmas.Option.{slice_get_read}
 use Rattle.std.proofs.lemmas.Result.{IfOk-weaker, err_from_is_err_and}
 use Rattle.rp_io.specs.declared.faults.FetchFault.TheVariants as fetch_fault
@@ -8,12 +8,13 @@ use Rattle.command_run.specs.declared.acts.CoreAct.TheVariants as core
 use Rattle.command_run.specs.declared.acts.NamedAct.TheVariants as under
 use Rattle.command_run.specs.declared.stops.Stop.{Stop}
 use Rattle.command_run.specs.declared.fetches.CommandFault.{CommandFault}
+use Rattle.command_run.specs.declared.fetches.CommandFault.TheVariants as command_fault
 use Rattle.command_run.specs.CoreDrives.{drive_effect}
-use Rattle.command_run.specs.Fetches.{EndsCut}
-use Rattle.command_run.specs.Logs.{HandsCoreEffect, HandsRunEffect}
+use Rattle.command_run.specs.Fetches.{EndsCut, IfWrite}
+use Rattle.command_run.specs.Logs.{CutsCore, CutsRun, HandsCoreEffect, HandsRunEffect}
 use Rattle.command_run.specs.Runs.{ObjectsState, RunEffect, RunState, core_place, name_effect, place_of}
-use Rattle.command_run.proofs.Handed.{front_of_none}
-use Rattle.command_run.proofs.Placing.{drive_placed, drive_run, kept_run}
+use Rattle.command_run.proofs.Handed.{front_of_none, no_write}
+use Rattle.command_run.proofs.Placing.{drive_cut, drive_placed, drive_run, kept_run}
 use Rattle.command_run.proofs.objects.Objects.drive.Goals as goal
 
 pub returns-in-Some-clause-effect : goal.returns-in-Some-clause-effect
@@ -79,3 +80,43 @@ pub returns-in_ok-run_on_links-in-None-clause-effect : goal.returns-in_ok-run_on
 returns-in_ok-run_on_links-in-None-clause-effect g c =
     let effect = name_effect (Err fetch_fault.Missing) (record { objects = c.args.self.now; steps = c.args.log.now.steps }) c.args.name (under.Core (core.Drive c.args.count)) in
     kept_run effect c.run_on_links.new.self c.args.log.now c.run_on_links.new.log (g.K.Sink.written c.args.out.now) c.in_ok-run_on_links-in-None.field-0 c.in_ok-run_on_links-in-None.ensures
+
+-- where a drive of a core was cut off, so is what holds of it
+cut_so : (result : Result (Option Stop) CommandFault) (First Second : Type 0) → (First → Second) → IfErr result (λ why. IfWrite why First) → IfErr result (λ why. IfWrite why Second)
+cut_so (Ok answer) First Second so cut = cut
+cut_so (Err command_fault.Store) First Second so cut = cut
+cut_so (Err command_fault.Write) First Second so cut = so cut
+cut_so (Err command_fault.NoMemory) First Second so cut = cut
+
+pub returns-in-Some-clause-paused : goal.returns-in-Some-clause-paused
+returns-in-Some-clause-paused g c =
+    let sink = g.K.Sink in
+    let items = c.self.inside.cores.items in
+    let links = c.self.inside.links.items in
+    let images = c.self.inside.images.items in
+    let is_quiet = c.self.inside.is_quiet in
+    let place = c.in-Some.place in
+    let named = c.index_mut.result.now in
+    let now = c.drive_handing.new.self in
+    let log = c.args.log.now in
+    let run : RunState = record { objects = record { links = links; cores = items; images = images; is_quiet = is_quiet }; steps = log.steps } in
+    let placed : Some place ≡ core_place items c.args.name =
+    c.in-Some.ensures.core ∙ ap (λ (o : ObjectsState). core_place o.cores c.bytes.result.now) (sym c.self.view_is) ∙ ap (core_place items) c.bytes.ensures.bytes in
+    let bare : None ≡ place_of links c.args.name =
+    c.in-Some.ensures.link ∙ ap (λ (o : ObjectsState). place_of o.links c.bytes.result.now) (sym c.self.view_is) ∙ ap (place_of links) c.bytes.ensures.bytes in
+    let found : slice_get items place ≡ Some named =
+    slice_get_read items (length items) place named refl (subst (λ (o : ObjectsState). place < length o.cores) (sym c.self.view_is) c.in-Some.ensures.within) c.index_mut.ensures.value in
+    let left : ObjectsState = record { links = links; cores = slice_set items place now; images = images; is_quiet = is_quiet } in
+    let written = sink.written c.args.out.now in
+    let after = sink.written c.drive_handing.new.out in
+    let cuts : ObjectsState → Type 0 = λ objects.
+    CutsRun (λ done. name_effect (Err fetch_fault.Missing) (record { objects = objects; steps = log.steps }) c.args.name (under.Core (core.Drive done))) c.args.count left log.lines written after in
+    subst (λ (objects : ObjectsState). IfErr c.drive_handing.result (λ why. IfWrite why (cuts objects))) c.self.view_is
+    (cut_so c.drive_handing.result (CutsCore (λ done. drive_effect named.name is_quiet named.core log.steps done) c.args.count now.core log.lines written after) (cuts run.objects)
+    (drive_cut (Err fetch_fault.Missing) run c.args.name c.args.count place named now log.lines written after bare placed found c.drive_handing.ensures.name)
+    c.drive_handing.ensures.paused)
+
+pub returns-in_err-run_on_links-in-None-clause-paused : goal.returns-in_err-run_on_links-in-None-clause-paused
+returns-in_err-run_on_links-in-None-clause-paused g c =
+    let found = err_from_is_err_and c.from_residual.result c.from_residual.ensures.1 in
+    no_write (Option Stop) _ c.from_residual.result (found.1 ∙ ap (λ (why : CommandFault). Err why) found.2)
