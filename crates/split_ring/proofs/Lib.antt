@@ -28,3 +28,5 @@ pub mod Reopening
 pub mod StateSteps
 pub mod Reopened
 pub mod Finding
+pub mod Turning
+pub mod Carrying

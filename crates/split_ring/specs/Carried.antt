@@ -2,7 +2,7 @@
 use Rattle.std.specs.Prelude.{◌≡◌, ◌≢◌, ◌≤◌, ◌<◌, ◌+◌, ℕ, zero, suc, List, [], ◌∷◌, ◌++◌, length, Some, true, slice_index}
 use mathlib.Core.Option.{some}
 use lib.ListN.{get_elem?}
-use base.Stored.{Coded}
+use Rattle.atomic_table.specs.Table.{turned}
 use Rattle.rp_base.specs.declared.kinds.End.{End}
 use Rattle.lane_model.specs.declared.calls.Progress.{Progress}
 use Rattle.lane_model.specs.declared.calls.Progress.TheVariants as progress
@@ -32,17 +32,31 @@ out_before zero counts = 0
 out_before (suc n) [] = 0
 out_before (suc n) (c ∷ cs) = c + out_before n cs
 
+-- the first slots go behind the others, so many, one after the other
+abbrev pub turned_by : ℕ → List (ℕ × Slot) → List (ℕ × Slot)
+turned_by zero slots = slots
+turned_by (suc n) slots = turned_by n (turned slots)
+
 -- the slots with those of this side state in front
 abbrev pub turned_to : ℕ → List ℕ → List (ℕ × Slot) → List (ℕ × Slot)
 turned_to side counts slots = behind (out_before side counts) slots ++ front (out_before side counts) slots
 
 -- the seat as if it had the pass of this caller alone, with what is out with its call in this phase
+abbrev pub carried_at : CallerId → Phase → List ℕ → SeatState → SeatState
+carried_at who p counts me = seat_of who.number (me.0, turned_to (side_of who.end p) counts me.1)
+
 abbrev pub carried_seat : CallerId → Phase → Manager → SeatState
-carried_seat who p manager = seat_of who.number (manager.seat.me.0, turned_to (side_of who.end p) manager.out manager.seat.me.1)
+carried_seat who p manager = carried_at who p manager.out manager.seat.me
+
+-- each slot that is out is one of a carried call, and they stand in the order of the side states with which they are out, with each so many
+pub record HasBlocks (counts : List ℕ) (me : SeatState) : Type 0 where
+  pub four : length counts ≡ 4
+  pub few : (slot : ℕ) → slice_index counts slot ≤ 2
+  pub all : out_before 4 counts ≡ length me.1
+  pub owned : (slot : ℕ) → slice_index counts slot ≢ 0 → (k : ℕ) × (p : Pass) × (get_elem? me.0.passes k ≡ some p) × (has_side slot p.call ≡ true)
 
 module _ {D : Type 0} where
-  -- the manager's seat is one of this link, has no turn itself, knows who is in use, and its passes are in order; each slot that is out is one of a
-  -- carried call, and they stand in the order of the side states with which they are out
+  -- the manager's seat is one of this link, has no turn itself, and knows who is in use; its passes are in order, and so are the slots that are out
   pub record IsCarrierOf (link : SharedLink D) (manager : Manager) : Type 0 where
     pub at_table : manager.seat.table_id ≡ link.table.shared.table_id
     pub manages : Manages manager.seat.me.0
@@ -50,9 +64,7 @@ module _ {D : Type 0} where
     pub knows : manager.seat.me.0.users ≡ manager.users
     pub told : manager.seat.me.0.sizes ≡ link.sizes
     pub order : IsOrderly manager.seat.me.0
-    pub four : length manager.out ≡ 4
-    pub all : out_before 4 manager.out ≡ length manager.seat.me.1
-    pub owned : (side : ℕ) → slice_index manager.out side ≢ 0 → (k : ℕ) × (p : Pass) × (get_elem? manager.seat.me.0.passes k ≡ some p) × (has_side side p.call ≡ true)
+    pub blocks : HasBlocks manager.out manager.seat.me
 
   -- the manager carries this caller, which is in this phase of its call, or in no call, where the call has ended
   pub record Carries (link : SharedLink D) (manager : Manager) (who : CallerId) (p : Phase) : Type 0 where

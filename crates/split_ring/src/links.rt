@@ -112,6 +112,7 @@ impl<D: Desk> SharedLink<D> {
                 Manager {
                     seat,
                     users: [None; 64],
+                    out: [0; 4],
                 },
             )),
             Err(_) => Err(NoMemory),
