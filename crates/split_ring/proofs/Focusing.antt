@@ -107,7 +107,7 @@ number_there k [] p at = absurd (some-ne-none p (sym at))
 number_there zero (q ∷ ps) p at = ap (λ (x : Pass). x.number) (some-injective q p at)
 number_there (suc k) (q ∷ ps) p at = number_there k ps p at
 
-changed_there : (f : Pass → Pass) (k : ℕ) (ps : List Pass) (p : Pass) → get_elem? ps k ≡ some p → get_elem? (with_pass_at f k ps) k ≡ some (f p)
+pub changed_there : (f : Pass → Pass) (k : ℕ) (ps : List Pass) (p : Pass) → get_elem? ps k ≡ some p → get_elem? (with_pass_at f k ps) k ≡ some (f p)
 changed_there f k [] p at = absurd (some-ne-none p (sym at))
 changed_there f zero (q ∷ ps) p at = ap (λ (x : Pass). some (f x)) (some-injective q p at)
 changed_there f (suc k) (q ∷ ps) p at = changed_there f k ps p at

@@ -30,3 +30,4 @@ pub mod Reopened
 pub mod Finding
 pub mod Turning
 pub mod Carrying
+pub mod CarriedSteps

@@ -18,7 +18,7 @@ more_last : (xs ys zs : Slots) → (xs ++ ys) ++ zs ≡ xs ++ (ys ++ zs)
 more_last [] ys zs = refl
 more_last (x ∷ xs) ys zs = ap (λ (l : Slots). x ∷ l) (more_last xs ys zs)
 
-length_both : (xs ys : Slots) → length (xs ++ ys) ≡ length xs + length ys
+pub length_both : (xs ys : Slots) → length (xs ++ ys) ≡ length xs + length ys
 length_both [] ys = omega arith
 length_both (x ∷ xs) ys = let more = length_both xs ys in omega (arith, more)
 
@@ -62,6 +62,11 @@ length_behind : (c : ℕ) (xs : Slots) → c ≤ length xs → c + length (behin
 length_behind zero xs few = omega arith
 length_behind (suc c) [] few = absurd (omega (arith, few))
 length_behind (suc c) (x ∷ xs) few = let more = length_behind c xs (omega (arith, few)) in omega (arith, more)
+
+pub front_short : (c : ℕ) (xs : Slots) → length (front c xs) ≤ length xs
+front_short zero xs = omega arith
+front_short (suc c) [] = omega arith
+front_short (suc c) (x ∷ xs) = let more = front_short c xs in omega (arith, more)
 
 -- so many turned
 turned_more : (c : ℕ) (xs ys : Slots) → c ≤ length xs → turned_by c (xs ++ ys) ≡ behind c xs ++ (ys ++ front c xs)
@@ -184,12 +189,16 @@ own_front i cs xs within all = block_first (out_before i cs) (slice_index cs i) 
 pub own_behind : (i : ℕ) (cs : List ℕ) (xs : Slots) → i < length cs → out_before (length cs) cs ≡ length xs → behind (slice_index cs i) (turned_to i cs xs) ≡ behind (out_before i cs + slice_index cs i) xs ++ front (out_before i cs) xs
 own_behind i cs xs within all = block_rest (out_before i cs) (slice_index cs i) xs (block_fits i cs xs within all)
 
+pub length_turned : (i : ℕ) (cs : List ℕ) (xs : Slots) → i < length cs → out_before (length cs) cs ≡ length xs → length (turned_to i cs xs) ≡ length xs
+length_turned i cs xs within all =
+    let b = out_before i cs in let few = block_fits i cs xs within all in let one = length_both (behind b xs) (front b xs) in let two = length_behind b xs (omega (arith, few)) in let three = length_front b xs (omega (arith, few)) in omega (arith, one, two, three)
+
 module _ (i : ℕ) (cs : List ℕ) (new xs : Slots) (within : i < length cs) (all : out_before (length cs) cs ≡ length xs) where
   -- the counts and the slots with others of one side state
-  abbrev next_counts : List ℕ
+  abbrev pub next_counts : List ℕ
   next_counts = slice_set cs i (length new)
 
-  abbrev next_slots : Slots
+  abbrev pub next_slots : Slots
   next_slots = with_block (out_before i cs) (slice_index cs i) new xs
 
   pub all_next : out_before (length cs) next_counts ≡ length next_slots

@@ -1,5 +1,5 @@
 //! The calls of the callers that a manager carries, which are taken step by step.
-ghost use Rattle.std.specs.Prelude.{◌≡◌, ◌≢◌, ◌+◌, ◌<◌, ◌≤◌, Some};
+ghost use Rattle.std.specs.Prelude.{◌≡◌, ◌≢◌, ◌+◌, ◌<◌, ◌≤◌, ℕ, Some, slice_index};
 ghost use Rattle.lane_model.specs.declared.lane_links.LaneLink.{LaneLink};
 ghost use Rattle.lane_model.specs.Links.{end_of};
 ghost use Rattle.ring_core.specs.declared.states.RingState.{RingState};
@@ -8,7 +8,7 @@ ghost use Rattle.split_ring.specs.declared.callers.CallerId.{CallerId};
 ghost use Rattle.split_ring.specs.declared.calls.Phase.{Phase};
 ghost use Rattle.split_ring.specs.Callers.{IsStateOf};
 ghost use Rattle.split_ring.specs.Calls.{Advances, deed_of};
-ghost use Rattle.split_ring.specs.Carried.{Carries, CarriesOn, IsCarrierOf, carried_seat, turned_by};
+ghost use Rattle.split_ring.specs.Carried.{Carries, CarriesOn, IsCarrierOf, carried_seat, out_before, turned_by};
 ghost use Rattle.split_ring.specs.Phases.{IsUnderWay, side_of, slots_in};
 
 use crate::callers::{CallerId, Manager};
@@ -67,6 +67,21 @@ fn turn_by(seat: &mut LinkSeat, count: u8)
     }
 }
 
+impl Manager {
+    /// How many slots are out with the first so many side states.
+    fn out_before(&self, side: usize) -> u8
+        requires few { (slot : ℕ) → slice_index self.now.out slot ≤ 2 }
+        requires within { side ≤ 4 }
+        ensures { result ≡ out_before side self.now.out }
+    {
+        let mut count = 0;
+        for place in 0..side {
+            count += self.out[place];
+        }
+        count
+    }
+}
+
 impl<D: Desk> SharedLink<D> {
     /// One step of a call of a caller that the manager carries: the step that `advance_call` would take. The call
     /// follows this incarnation, the same at each of its steps.
@@ -98,14 +113,13 @@ impl<D: Desk> SharedLink<D> {
         };
         let side = side_of(end, &call.phase);
         let had = slots_in(&call.phase);
-        turn_by(&mut manager.seat, manager.out_before(side));
+        let before = manager.out_before(side);
+        turn_by(&mut manager.seat, before);
         let phase = mem::replace(&mut call.phase, Phase::Ended);
         let (next, progress) = self.step_on(&mut manager.seat, who, phase);
-        let has = slots_in(&next);
-        if had != 0 || has != 0 {
-            manager.out[side] = has;
-        }
-        turn_by(&mut manager.seat, manager.out_from(side));
+        manager.out[side] = manager.out[side] + slots_in(&next) - had;
+        let rest = manager.out_before(4) - before;
+        turn_by(&mut manager.seat, rest);
         call.phase = next;
         progress
     }
