@@ -79,15 +79,15 @@ module _ (z : LinkSizes) (who : CallerId) (p p' : Phase) (counts : List ℕ) (me
   here_now : get_elem? b.0.passes here ≡ some (pass_in (seat_of who.number b))
   here_now = ap (get_elem? b.0.passes) (sym s.leaves.here) ∙ pass_there who.number b who p' now
 
-  passes : b.0.passes ≡ with_pass_at s.leaves.change here me.0.passes
+  pub passes : b.0.passes ≡ with_pass_at s.leaves.change here me.0.passes
   passes = ap (λ (v : View). v.passes) s.leaves.view
 
-  keeps : (q : Pass) → get_elem? me.0.passes here ≡ some q → (s.leaves.change q).number ≡ q.number
+  pub keeps : (q : Pass) → get_elem? me.0.passes here ≡ some q → (s.leaves.change q).number ≡ q.number
   keeps q there =
       found_number who.number b.0.passes (s.leaves.change q) ((λ i. get_elem? (passes i) (s.leaves.here i)) ∙ changed_there s.leaves.change here me.0.passes q there) ∙ sym (found_number who.number me.0.passes q there)
 
   -- each other pass is where it was
-  stays_there : (k : ℕ) (q : Pass) → (k ≡ here → ⊥) → get_elem? me.0.passes k ≡ some q → get_elem? b.0.passes k ≡ some q
+  pub stays_there : (k : ℕ) (q : Pass) → (k ≡ here → ⊥) → get_elem? me.0.passes k ≡ some q → get_elem? b.0.passes k ≡ some q
   stays_there k q differs there = ap (λ (ps : List Pass). get_elem? ps k) passes ∙ (others_there s.leaves.change here k me.0.passes differs ∙ there)
 
   -- a side state of the pass before the step
@@ -96,27 +96,27 @@ module _ (z : LinkSizes) (who : CallerId) (p p' : Phase) (counts : List ℕ) (me
       was.only slot (ap (has_side slot) (sym was.at.in_call ∙ ap (λ (x : Pass). x.call) (some-injective (pass_in (seat_of who.number a)) q (sym here_was ∙ there))) ∙ has)
 
   side_was : slots_in p ≢ 0 → has_side at (pass_in (seat_of who.number a)).call ≡ true
-  side_was some = ap (has_side at) was.at.in_call ∙ was.sided some
+  side_was more = ap (has_side at) was.at.in_call ∙ was.sided more
 
   side_now : slots_in p' ≢ 0 → has_side at (pass_in (seat_of who.number b)).call ≡ true
-  side_now some = ap (has_side at) now.at.in_call ∙ (ap (λ (k : ℕ). has_side k now.call) (sym (s.same some)) ∙ now.sided some)
+  side_now more = ap (has_side at) now.at.in_call ∙ (ap (λ (k : ℕ). has_side k now.call) (sym (s.same more)) ∙ now.sided more)
 
   -- the block of its side state was that of the call, or nothing is out with the call before the step and behind it
   block_was : (count ≡ slots_in p) ⊎ ((slots_in p ≡ 0) × (slots_in p' ≡ 0))
   block_was = by (slots_in p) (slots_in p') count refl refl refl
     where
       none : (n m : ℕ) → slots_in p ≡ 0 → slots_in p' ≡ suc n → count ≡ suc m → ⊥
-      none n m had has some =
-          let owned = s.blocks.owned at (λ is. not_less m (sym some ∙ is)) in
+      none n m had has more =
+          let owned = s.blocks.owned at (λ is. not_less m (sym more ∙ is)) in
           ⊎_elim (λ (same : owned.0 ≡ here). (own_side at owned.1 (ap (get_elem? me.0.passes) (sym same) ∙ owned.2) owned.3).0 had)
             (λ (differs : owned.0 ≡ here → ⊥). differs (s.next_order.sides at owned.0 here owned.1 (pass_in (seat_of who.number b)) (stays_there owned.0 owned.1 differs owned.2) here_now owned.3 (side_now (λ is. not_less n (sym has ∙ is)))))
             (cases_eq owned.0 here)
 
       by : (had has c : ℕ) → slots_in p ≡ had → slots_in p' ≡ has → count ≡ c → (count ≡ slots_in p) ⊎ ((slots_in p ≡ 0) × (slots_in p' ≡ 0))
-      by (suc n) has c had is some = inl (s.counted (λ none. not_less n (sym had ∙ none)))
-      by zero zero c had is some = inr (had, is)
-      by zero (suc n) zero had is some = inl (some ∙ sym had)
-      by zero (suc n) (suc m) had is some = absurd (none n m had is some)
+      by (suc n) has c had is more = inl (s.counted (λ none. not_less n (sym had ∙ none)))
+      by zero zero c had is more = inr (had, is)
+      by zero (suc n) zero had is more = inl (more ∙ sym had)
+      by zero (suc n) (suc m) had is more = absurd (none n m had is more)
 
   -- where nothing was out and nothing is, the slots are the same
   slots_same : slots_in p ≡ 0 → slots_in p' ≡ 0 → b.1 ≡ a.1
@@ -186,7 +186,7 @@ module _ (z : LinkSizes) (who : CallerId) (p p' : Phase) (counts : List ℕ) (me
       own (suc n) has = ap (λ (k : ℕ). front (slots_in p') (turned_to k next_out next_block)) (s.same (λ none. not_less n (sym has ∙ none))) ∙ own_now
 
   pub counted_next : slots_in p' ≢ 0 → slice_index next_out (side_of who.end p') ≡ slots_in p'
-  counted_next some = ap (slice_index next_out) (s.same some) ∙ (index_here at next_count counts within ∙ ⊎_elim (λ (is : count ≡ slots_in p). let next : next_count ≡ slots_in p' = omega (arith, is) in next) (λ (bare : (slots_in p ≡ 0) × (slots_in p' ≡ 0)). absurd (some bare.1)) block_was)
+  counted_next more = ap (slice_index next_out) (s.same more) ∙ (index_here at next_count counts within ∙ ⊎_elim (λ (is : count ≡ slots_in p). let next : next_count ≡ slots_in p' = omega (arith, is) in next) (λ (bare : (slots_in p ≡ 0) × (slots_in p' ≡ 0)). absurd (more bare.1)) block_was)
 
   -- the slots are in blocks again
   pub blocks_next : HasBlocks next_out (b.0, next_block)
@@ -202,21 +202,21 @@ module _ (z : LinkSizes) (who : CallerId) (p p' : Phase) (counts : List ℕ) (me
       few_now = ⊎_elim (λ (is : count ≡ slots_in p). let few = slots_few p' in omega (arith, is, few)) (λ (bare : (slots_in p ≡ 0) × (slots_in p' ≡ 0)). let few = s.blocks.few at in let none = bare.0 in let more = bare.1 in omega (arith, few, none, more)) block_was
 
       by_now : slots_in p' ≢ 0 → (k : ℕ) × (q : Pass) × (get_elem? b.0.passes k ≡ some q) × (has_side at q.call ≡ true)
-      by_now some = (here, pass_in (seat_of who.number b), here_now, side_now some)
+      by_now more = (here, pass_in (seat_of who.number b), here_now, side_now more)
 
       by_was : (slot : ℕ) → ((slots_in p ≢ 0) × (slot ≡ at) → ⊥) → slice_index counts slot ≢ 0 → (k : ℕ) × (q : Pass) × (get_elem? b.0.passes k ≡ some q) × (has_side slot q.call ≡ true)
-      by_was slot apart some = let old = s.blocks.owned slot some in
+      by_was slot apart more = let old = s.blocks.owned slot more in
           (old.0, old.1, stays_there old.0 old.1 (λ same. apart (own_side slot old.1 (ap (get_elem? me.0.passes) (sym same) ∙ old.2) old.3)) old.2, old.3)
 
       at_side : (n : ℕ) → slots_in p' ≡ n → slice_index next_out at ≢ 0 → (k : ℕ) × (q : Pass) × (get_elem? b.0.passes k ≡ some q) × (has_side at q.call ≡ true)
-      at_side (suc n) has some = by_now (λ none. not_less n (sym has ∙ none))
-      at_side zero has some = let is = index_here at next_count counts within in
-          by_was at (λ bad. some (is ∙ (let c = s.counted bad.0 in let e : next_count ≡ 0 = omega (arith, c, has) in e))) (λ none. some (is ∙ (let e : next_count ≡ 0 = omega (arith, none, has) in e)))
+      at_side (suc n) has more = by_now (λ none. not_less n (sym has ∙ none))
+      at_side zero has more = let is = index_here at next_count counts within in
+          by_was at (λ bad. more (is ∙ (let c = s.counted bad.0 in let e : next_count ≡ 0 = omega (arith, c, has) in e))) (λ none. more (is ∙ (let e : next_count ≡ 0 = omega (arith, none, has) in e)))
 
       owned : (slot : ℕ) → slice_index next_out slot ≢ 0 → (k : ℕ) × (q : Pass) × (get_elem? b.0.passes k ≡ some q) × (has_side slot q.call ≡ true)
-      owned slot some = ⊎_elim
-          (λ (same : slot ≡ at). subst (λ (i : ℕ). (k : ℕ) × (q : Pass) × (get_elem? b.0.passes k ≡ some q) × (has_side i q.call ≡ true)) (sym same) (at_side (slots_in p') refl (λ none. some (ap (slice_index next_out) same ∙ none))))
-          (λ (differs : slot ≡ at → ⊥). by_was slot (λ bad. differs bad.1) (λ none. some (index_set slot at next_count counts differs ∙ none))) (cases_eq slot at)
+      owned slot more = ⊎_elim
+          (λ (same : slot ≡ at). subst (λ (i : ℕ). (k : ℕ) × (q : Pass) × (get_elem? b.0.passes k ≡ some q) × (has_side i q.call ≡ true)) (sym same) (at_side (slots_in p') refl (λ none. more (ap (slice_index next_out) same ∙ none))))
+          (λ (differs : slot ≡ at → ⊥). by_was slot (λ bad. differs bad.1) (λ none. more (index_set slot at next_count counts differs ∙ none))) (cases_eq slot at)
 
   -- another caller that the manager carries
   module _ (other : CallerId) (q : Phase) (apart : other.number ≢ who.number) (number : (pass_in (carried_at other q counts me)).number ≡ other.number) (counted : slots_in q ≢ 0 → slice_index counts (side_of other.end q) ≡ slots_in q) (stood : StandsIn z other q (carried_at other q counts me)) where
@@ -245,11 +245,11 @@ module _ (z : LinkSizes) (who : CallerId) (p p' : Phase) (counts : List ℕ) (me
     there_now = stays_there there (pass_in (seat_of other.number beside)) elsewhere there_was
 
     side_there : slots_in q ≢ 0 → has_side (side_of other.end q) (pass_in (seat_of other.number beside)).call ≡ true
-    side_there some = ap (has_side (side_of other.end q)) then_at.at.in_call ∙ then_at.sided some
+    side_there more = ap (has_side (side_of other.end q)) then_at.at.in_call ∙ then_at.sided more
 
     -- two calls have no side state in common
     sides_apart : slots_in q ≢ 0 → side_of other.end q ≡ at → (slots_in p ≡ 0) × (slots_in p' ≡ 0)
-    sides_apart some same = let has : has_side at (pass_in (seat_of other.number beside)).call ≡ true = ap (λ (k : ℕ). has_side k (pass_in (seat_of other.number beside)).call) (sym same) ∙ side_there some in (
+    sides_apart more same = let has : has_side at (pass_in (seat_of other.number beside)).call ≡ true = ap (λ (k : ℕ). has_side k (pass_in (seat_of other.number beside)).call) (sym same) ∙ side_there more in (
       zero_of (slots_in p) (λ more. elsewhere (s.order.sides at there here (pass_in (seat_of other.number beside)) (pass_in (seat_of who.number a)) there_was here_was has (side_was more))),
       zero_of (slots_in p') (λ more. elsewhere (s.next_order.sides at there here (pass_in (seat_of other.number beside)) (pass_in (seat_of who.number b)) there_now here_now has (side_now more))),
     )
@@ -259,15 +259,15 @@ module _ (z : LinkSizes) (who : CallerId) (p p' : Phase) (counts : List ℕ) (me
         zero_of (suc n) not = absurd (not (not_less n))
 
     pub counted_beside : slots_in q ≢ 0 → slice_index next_out (side_of other.end q) ≡ slots_in q
-    counted_beside some = ⊎_elim
-        (λ (same : side_of other.end q ≡ at). let bare = sides_apart some same in let had = bare.0 in let has = bare.1 in
-          ap (slice_index next_out) same ∙ (index_here at next_count counts within ∙ ((let e : next_count ≡ count = omega (arith, had, has) in e) ∙ (ap (slice_index counts) (sym same) ∙ counted some))))
-        (λ (differs : side_of other.end q ≡ at → ⊥). index_set (side_of other.end q) at next_count counts differs ∙ counted some) (cases_eq (side_of other.end q) at)
+    counted_beside more = ⊎_elim
+        (λ (same : side_of other.end q ≡ at). let bare = sides_apart more same in let had = bare.0 in let has = bare.1 in
+          ap (slice_index next_out) same ∙ (index_here at next_count counts within ∙ ((let e : next_count ≡ count = omega (arith, had, has) in e) ∙ (ap (slice_index counts) (sym same) ∙ counted more))))
+        (λ (differs : side_of other.end q ≡ at → ⊥). index_set (side_of other.end q) at next_count counts differs ∙ counted more) (cases_eq (side_of other.end q) at)
 
     block_beside : (n : ℕ) → slots_in q ≡ n → front (slots_in q) (turned_to (side_of other.end q) next_out next_block) ≡ front (slots_in q) (turned_to (side_of other.end q) counts me.1)
     block_beside zero none = ap (λ (k : ℕ). front k (turned_to (side_of other.end q) next_out next_block)) none ∙ sym (ap (λ (k : ℕ). front k (turned_to (side_of other.end q) counts me.1)) none)
-    block_beside (suc n) is = let some : slots_in q ≢ 0 = λ none. not_less n (sym is ∙ none) in let c = counted some in let j = side_of other.end q in ⊎_elim
-        (λ (same : side_of other.end q ≡ at). let bare = sides_apart some same in let had = bare.0 in let has = bare.1 in let e : next_count ≡ count = omega (arith, had, has) in
+    block_beside (suc n) is = let more : slots_in q ≢ 0 = λ none. not_less n (sym is ∙ none) in let c = counted more in let j = side_of other.end q in ⊎_elim
+        (λ (same : side_of other.end q ≡ at). let bare = sides_apart more same in let had = bare.0 in let has = bare.1 in let e : next_count ≡ count = omega (arith, had, has) in
           let many : slots_in q ≡ length new = sym c ∙ (ap (slice_index counts) same ∙ (sym e ∙ sym block_next.0)) in
           (λ i. front (many i) (turned_to (same i) (sym counts_same i) next_block)) ∙ (own_next at counts new me.1 within all
           ∙ ((λ i. front (e i) (slots_same had has i)) ∙ (λ i. front ((ap (slice_index counts) (sym same) ∙ c) i) (turned_to (sym same i) counts me.1)))))

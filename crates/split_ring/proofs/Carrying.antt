@@ -41,7 +41,6 @@ use Rattle.split_ring.specs.Receives.{HasBufferOut, IsGiveAt, IsHeldBy, IsTakeAt
 use Rattle.split_ring.specs.Reclaims.{StandsIn}
 use Rattle.split_ring.specs.Seats.{IsAt, first_pass, pass_in}
 use Rattle.split_ring.proofs.Focusing.{call_there, changed_there, false-true, found_number, only_there}
-use Rattle.split_ring.proofs.Turning.{all_next, before_grows, before_same, block_fits, front_short, index_here, index_set, length_behind, length_block, length_both, length_front, length_set, length_turned, others_next, own_behind, own_next, turned_back, with_block}
 
 -- in which call a seat is, with which slots, by the phase
 pub record IsPhaseAt (who : CallerId) (p : Phase) (me : SeatState) : Type 0 where
@@ -219,7 +218,7 @@ slots_few (phase.LeavesReceiver answer) = omega arith
 slots_few phase.Ended = omega arith
 
 -- a change of one pass leaves the others
-others_there : (f : Pass → Pass) (j k : ℕ) (ps : List Pass) → (k ≡ j → ⊥) → get_elem? (with_pass_at f j ps) k ≡ get_elem? ps k
+pub others_there : (f : Pass → Pass) (j k : ℕ) (ps : List Pass) → (k ≡ j → ⊥) → get_elem? (with_pass_at f j ps) k ≡ get_elem? ps k
 others_there f j k [] differs = refl
 others_there f zero zero (p ∷ ps) differs = absurd (differs refl)
 others_there f zero (suc k) (p ∷ ps) differs = refl

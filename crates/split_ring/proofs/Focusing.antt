@@ -22,7 +22,7 @@ use Rattle.link_words.specs.declared.rule.Slot.{Slot}
 use Rattle.link_words.specs.declared.rule.View.{View}
 use Rattle.link_words.specs.Calls.{SeatState, Becomes, call_at, number_at, own_at, in_hand_at, first_side, has_side, is_side, place_of, place_with, with_pass_at}
 use Rattle.link_words.specs.Orderly.{IsOrderly}
-use Rattle.link_words.specs.Deeds.{Deed, MayDo, Steps, after_deed}
+use Rattle.link_words.specs.Deeds.{Deed, IsSoundState, MayDo, Steps, after_deed}
 use Rattle.link_words.specs.Passes.{Manages, Mover, only_pass, place_of_number, with_call}
 use Rattle.link_words.specs.Codes.{copied}
 use Rattle.link_words.specs.PlacedDesks.{PlacedDesk, placed_coded, placed_meaning}
@@ -391,7 +391,7 @@ module _ {D : Type 0} (coded : Coded D) (meaning : DeskMeaning D) where
       }
 
   -- the state of a step is the one that a manager knew
-  known_is : (me : SeatState) (state : Links me) (m : LaneLink (RingState D)) → KnowsState coded me.0 m → ((c : LinkCopy) → me.0.copy ≡ Some c → c ≡ copied (placed_coded coded me.0.sizes.desks) state) → state ≡ placed_link coded me.0.sizes.desks m
+  pub known_is : (me : SeatState) (state : Links me) (m : LaneLink (RingState D)) → KnowsState coded me.0 m → ((c : LinkCopy) → me.0.copy ≡ Some c → c ≡ copied (placed_coded coded me.0.sizes.desks) state) → state ≡ placed_link coded me.0.sizes.desks m
   known_is me state m knows same = sym (copied_one (placed_coded coded me.0.sizes.desks) (placed_link coded me.0.sizes.desks m) state (same _ knows.copy))
 
   -- so the call before the step is one in it, and the call behind the step one in the state after the deed
@@ -410,6 +410,7 @@ module _ {D : Type 0} (coded : Coded D) (meaning : DeskMeaning D) where
     leaves = leaves;
     knows = λ m knows. subst (λ (j : ℕ). KnowsState coded me'.0 (after_deed meaning m (Steps j 0 None))) (number_is n me f)
         (state_after coded meaning (Steps (number_at (place_of me) me.0.passes) 0 None) me.0 me'.0 s.state m knows (same_carrier n me me' leaves knows.manages) (λ c was. s.copy c knows.manages knows.carries was));
+    sound = λ m knows. subst (λ (l : Links me). IsSoundState (placed_meaning coded me.0.sizes.desks meaning) l) (known_is me s.state m knows (λ c was. (s.copy c knows.manages knows.carries was).0)) s.sound;
     calls = λ m knows. let desk = placed_meaning coded me.0.sizes.desks meaning in let here = f.here ∙ sym leaves.here in
         shows_calls n (Steps n 0 None) me me' s.state m (known_is me s.state m knows (λ c was. (s.copy c knows.manages knows.carries was).0)) (ap (λ (v : View). v.sizes) leaves.view)
         (subst (λ (t : ℕ × Call). IsCallOf s.state 0 t.0 t.1) (λ i. (number_is n me f i, call_at (f.here i) me.0.passes)) s.before)
@@ -435,6 +436,7 @@ module _ {D : Type 0} (coded : Coded D) (meaning : DeskMeaning D) where
   begins_on n follows w me me' Reads leaves s = record {
     leaves = leaves;
     knows = λ m knows. state_after coded meaning (Steps n follows (Some w)) me.0 me'.0 s.state m knows (same_carrier n me me' leaves knows.manages) (λ c was. s.copy c knows.manages knows.carries was);
+    sound = λ m knows. subst (λ (l : Links me). IsSoundState (placed_meaning coded me.0.sizes.desks meaning) l) (known_is me s.state m knows (λ c was. (s.copy c knows.manages knows.carries was).0)) s.sound;
     calls = λ m knows. shows_calls n (Steps n follows (Some w)) me me' s.state m (known_is me s.state m knows (λ c was. (s.copy c knows.manages knows.carries was).0)) (ap (λ (v : View). v.sizes) leaves.view) s.before
         (subst (λ (k : ℕ). IsCallOf (after_deed (placed_meaning coded me.0.sizes.desks meaning) s.state (Steps n follows (Some w))) 0 n (call_at k me'.0.passes)) (sym leaves.here) s.after);
   }
@@ -449,6 +451,7 @@ module _ {D : Type 0} (coded : Coded D) (meaning : DeskMeaning D) where
       others = steps.leaves.others ∙ stays.others;
     };
     knows = λ m knows. steps.knows m (subst (λ (v : View). KnowsState coded v m) (sym stays.view) knows);
+    sound = λ m knows. subst (λ (v : View). IsSoundState (placed_meaning coded v.sizes.desks meaning) (placed_link coded v.sizes.desks m)) stays.view (steps.sound m (subst (λ (v : View). KnowsState coded v m) (sym stays.view) knows));
     calls = λ m knows. let both = steps.calls m (subst (λ (v : View). KnowsState coded v m) (sym stays.view) knows) in (subst (λ (v : View). ShowsCall coded n (v, a.1) m) stays.view both.0, both.1);
   }
 
@@ -461,6 +464,7 @@ module _ {D : Type 0} (coded : Coded D) (meaning : DeskMeaning D) where
       others = stays.others ∙ steps.leaves.others;
     };
     knows = λ m knows. subst (λ (v : View). KnowsState coded v (after_deed meaning m d)) (sym stays.view) (steps.knows m knows);
+    sound = λ m knows. steps.sound m knows;
     calls = λ m knows. let both = steps.calls m knows in (both.0, subst (λ (v : View). ShowsCall coded n (v, c.1) (after_deed meaning m d)) (sym stays.view) both.1);
   }
 

@@ -31,3 +31,5 @@ pub mod Finding
 pub mod Turning
 pub mod Carrying
 pub mod CarriedSteps
+pub mod CarriedLinks
+pub mod Outcomes

@@ -135,7 +135,7 @@ module _ {D : Type 0} (coded : Coded D) (meaning : DeskMeaning D) where
   desk_there tables m side.Host = refl
   desk_there tables m side.Remote = refl
 
-  turn_there : (tables : _) (m : LaneLink (RingState D)) (e : End) → (lane_to (placed_link coded tables m) e).lane.receiver ≡ (lane_to m e).lane.receiver
+  pub turn_there : (tables : _) (m : LaneLink (RingState D)) (e : End) → (lane_to (placed_link coded tables m) e).lane.receiver ≡ (lane_to m e).lane.receiver
   turn_there tables m side.Host = refl
   turn_there tables m side.Remote = refl
 
@@ -144,7 +144,7 @@ module _ {D : Type 0} (coded : Coded D) (meaning : DeskMeaning D) where
   desk_known me me' e x m s right knows = ap (λ r. r.code) right ∙ ap coded.code (ap (λ (l : Links me). (lane_to l e).lane.desk.desk) (state_known me _ _ me' m s knows) ∙ desk_there me.0.sizes.desks m e)
 
   -- the word of a receiver's turn that was found
-  found_turn : {tables : _} (state : LaneLink (RingState (PlacedDesk coded tables))) (e : End) (n : ℕ) → n ≡ get_or (layout (words_of 0 [] state)) (place_in (receiver_word e)) 0 → n ≡ turn_word (lane_to state e).lane.receiver
+  pub found_turn : {tables : _} (state : LaneLink (RingState (PlacedDesk coded tables))) (e : End) (n : ℕ) → n ≡ get_or (layout (words_of 0 [] state)) (place_in (receiver_word e)) 0 → n ≡ turn_word (lane_to state e).lane.receiver
   found_turn state e n is = is ∙ (found_apart 10 (words_of 0 [] state) (receiver_word e) ∙ sym (receiver_of state e))
 
   pub turn_free : (me me' : SeatState) (e : End) (m : LaneLink (RingState D)) → FindsTurnFree coded meaning lane_turn.Receiver e me me' → KnowsState coded me.0 m → (lane_to m e).lane.receiver ≡ turn.Free

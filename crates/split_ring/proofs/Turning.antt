@@ -58,7 +58,7 @@ behind_twice (suc a) d [] n is few = absurd (omega (arith, few))
 behind_twice (suc a) d (x ∷ xs) zero is few = absurd (omega (arith, is))
 behind_twice (suc a) d (x ∷ xs) (suc n) is few = behind_twice a d xs n (omega (arith, is)) (omega (arith, few))
 
-length_behind : (c : ℕ) (xs : Slots) → c ≤ length xs → c + length (behind c xs) ≡ length xs
+pub length_behind : (c : ℕ) (xs : Slots) → c ≤ length xs → c + length (behind c xs) ≡ length xs
 length_behind zero xs few = omega arith
 length_behind (suc c) [] few = absurd (omega (arith, few))
 length_behind (suc c) (x ∷ xs) few = let more = length_behind c xs (omega (arith, few)) in omega (arith, more)

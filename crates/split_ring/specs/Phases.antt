@@ -1,5 +1,5 @@
 -- What a phase of a call tells: the side state that is out, how many slots are, how many steps are done, and what the next step says (own).
-use Rattle.std.specs.Prelude.{◌≡◌, ◌+◌, ℕ, Some}
+use Rattle.std.specs.Prelude.{◌≡◌, ◌+◌, ℕ, Option, Some, None}
 use Rattle.rp_base.specs.declared.kinds.End.{End}
 use Rattle.lane_model.specs.declared.calls.Answer.{Answer}
 use Rattle.lane_model.specs.declared.calls.Ask.{Ask}
@@ -15,8 +15,13 @@ use Rattle.lane_model.specs.declared.stages.SendStage.TheVariants as stage
 use Rattle.lane_model.specs.declared.stages.TakeStage.{TakeStage}
 use Rattle.lane_model.specs.declared.stages.TakeStage.TheVariants as take_stage
 use Rattle.lane_model.specs.declared.stages.Work.TheVariants as work
-use Rattle.lane_model.specs.Answers.{busy_answer}
-use Rattle.link_words.specs.Words.{other, sender_slot, receiver_slot}
+use Rattle.lane_model.specs.declared.calls.Wish.{Wish}
+use Rattle.lane_model.specs.declared.calls.Wish.TheVariants as wish
+use Rattle.lane_model.specs.declared.lane_links.LaneLink.{LaneLink}
+use Rattle.lane_model.specs.Answers.{busy_answer, wish_of}
+use Rattle.lane_model.specs.Lanes.{holder}
+use Rattle.ring_core.specs.declared.states.RingState.{RingState}
+use Rattle.link_words.specs.Words.{lane_to, other, sender_slot, receiver_slot}
 use Rattle.split_ring.specs.Calls.{call_end}
 use Rattle.split_ring.specs.Focus.{send_count, work_count}
 use Rattle.split_ring.specs.declared.calls.Phase.{Phase}
@@ -88,10 +93,30 @@ IsEndOf (phase.LeavesSender answer) said = said ≡ answer
 IsEndOf (phase.LeavesReceiver answer) said = said ≡ answer
 IsEndOf other said = ⊥
 
+-- the end of a call in this phase is not settled yet
+abbrev pub IsUnsettled : Phase → Type 0
+IsUnsettled (phase.LeavesSender answer) = ⊥
+IsUnsettled (phase.LeavesReceiver answer) = ⊥
+IsUnsettled phase.Ended = ⊥
+IsUnsettled other = Unit {0}
+
 -- what the next step of a call of this end says: its number, with the same turn behind it; or the call's end
 abbrev pub IsNext : End → Phase → Progress → Phase → Type 0
-IsNext end before (progress.At number) after = (number ≡ steps_in before + 1) × (side_of end after ≡ side_of end before) × IsUnderWay after
+IsNext end before (progress.At number) after = (number ≡ steps_in before + 1) × (side_of end after ≡ side_of end before) × IsUnderWay after × IsUnsettled before
 IsNext end before (progress.Done said) after = (after ≡ phase.Ended) × IsEndOf before said
+
+-- what a caller wishes whose call has done no step
+abbrev pub wished_in : Phase → Option Wish
+wished_in (phase.Asked asked) = Some (wish_of asked)
+wished_in other = None
+
+-- who has the turn that a caller of this end needs for what it wishes
+abbrev pub holder_for : {D : Type 0} → End → Wish → LaneLink (RingState D) → Option ℕ
+holder_for end (wish.Send message) m = holder (lane_to m (other end)).lane.sender
+holder_for end wish.Take m = holder (lane_to m end).lane.receiver
+holder_for end (wish.Give number) m = holder (lane_to m end).lane.receiver
+holder_for end (wish.Bind address) m = holder (lane_to m end).lane.receiver
+holder_for end (wish.Unbind address) m = holder (lane_to m end).lane.receiver
 
 -- what a step came to, by what it says
 abbrev pub outcome_said : Progress → Outcome

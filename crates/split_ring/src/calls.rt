@@ -1,14 +1,19 @@
 //! A call taken step by step: in which phase it is, and one step of it.
 ghost use Rattle.std.specs.Prelude.{◌≡◌, ◌∷◌, [], ◌<◌, Some, Err};
+ghost use Rattle.lane_model.specs.declared.lane_links.LaneLink.{LaneLink};
 ghost use Rattle.lane_model.specs.Answers.{wish_of, busy_answer};
+ghost use Rattle.lane_model.specs.Links.{form_step};
+ghost use Rattle.ring_core.specs.declared.states.RingState.{RingState};
+ghost use Rattle.ring_core.specs.RingSteps.{ring_form};
 ghost use Rattle.link_words.specs.declared.rule.Event.TheVariants.{Step};
 ghost use Rattle.link_words.specs.declared.rule.Made.TheVariants as made;
 ghost use Rattle.link_words.specs.Calls.{SeatState};
+ghost use Rattle.link_words.specs.PlacedLinks.{KnowsState};
 ghost use Rattle.split_ring.specs.declared.calls.Phase.TheVariants as phase;
 ghost use Rattle.split_ring.specs.Calls.{deed_of, send_answer, desk_said, hands_in, IsInPhase, IsOwnAsk, IsShort, IsPath, Advances};
 ghost use Rattle.split_ring.specs.Callers.{IsAdvanced, MayAdvance, StepNotBelow, TakesStep};
 ghost use Rattle.split_ring.specs.Focus.{IsOrderlySeat, StaysAlone, StepsAlone, seat_of};
-ghost use Rattle.split_ring.specs.Phases.{IsNext, IsUnderWay, asked_side, side_of};
+ghost use Rattle.split_ring.specs.Phases.{IsNext, IsUnderWay, asked_side, outcome_said, side_of, wished_in};
 ghost use Rattle.split_ring.specs.Seats.{pass_in};
 ghost use Rattle.split_ring.specs.Turns.{HasBegun};
 ghost use Rattle.split_ring.specs.Walks.{HasDone, same_hands};
@@ -138,6 +143,7 @@ impl<D: Desk> SharedLink<D> {
         ensures step { Advances D.row.coded D.meaning self.now.sizes who phase result.1 result.0 (seat_of who.number seat.old.me) (seat_of who.number seat.new.me) }
         ensures alone { StepsAlone D.row.coded D.meaning who.number (deed_of who phase) seat.old.me seat.new.me }
         ensures next { IsNext who.end phase result.1 result.0 }
+        ensures said { (m : LaneLink (RingState D)) → KnowsState D.row.coded seat.old.me.0 m → outcome_said result.1 ≡ (form_step (ring_form D.meaning) D.meaning m who.number who.follows (wished_in phase)).outcome }
     {
         match phase {
             Phase::Asked(ask) => self.first_step(seat, who, ask),
@@ -166,6 +172,7 @@ impl<D: Desk> SharedLink<D> {
         ensures step { Advances D.row.coded D.meaning self.now.sizes who (phase.Asked ask) result.1 result.0 (seat_of who.number seat.old.me) (seat_of who.number seat.new.me) }
         ensures alone { StepsAlone D.row.coded D.meaning who.number (deed_of who (phase.Asked ask)) seat.old.me seat.new.me }
         ensures next { IsNext who.end (phase.Asked ask) result.1 result.0 }
+        ensures said { (m : LaneLink (RingState D)) → KnowsState D.row.coded seat.old.me.0 m → outcome_said result.1 ≡ (form_step (ring_form D.meaning) D.meaning m who.number who.follows (wished_in (phase.Asked ask))).outcome }
     {
         match self.enter(seat, who, wish_of(&ask)) {
             Ok(()) => (self.begun_call(seat, who, ask), Progress::At(1)),

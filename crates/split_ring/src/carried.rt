@@ -1,15 +1,16 @@
 //! The calls of the callers that a manager carries, which are taken step by step.
 ghost use Rattle.std.specs.Prelude.{◌≡◌, ◌≢◌, ◌+◌, ◌<◌, ◌≤◌, ℕ, Some, slice_index};
 ghost use Rattle.lane_model.specs.declared.lane_links.LaneLink.{LaneLink};
-ghost use Rattle.lane_model.specs.Links.{end_of};
+ghost use Rattle.lane_model.specs.Links.{end_of, form_step};
 ghost use Rattle.ring_core.specs.declared.states.RingState.{RingState};
+ghost use Rattle.ring_core.specs.RingSteps.{ring_form};
 ghost use Rattle.link_words.specs.Deeds.{after_deed};
 ghost use Rattle.split_ring.specs.declared.callers.CallerId.{CallerId};
 ghost use Rattle.split_ring.specs.declared.calls.Phase.{Phase};
 ghost use Rattle.split_ring.specs.Callers.{IsStateOf};
 ghost use Rattle.split_ring.specs.Calls.{Advances, deed_of};
 ghost use Rattle.split_ring.specs.Carried.{Carries, CarriesOn, IsCarrierOf, carried_seat, out_before, turned_by};
-ghost use Rattle.split_ring.specs.Phases.{IsUnderWay, side_of, slots_in};
+ghost use Rattle.split_ring.specs.Phases.{IsUnderWay, outcome_said, side_of, slots_in, wished_in};
 
 use crate::callers::{CallerId, Manager};
 use crate::calls::{Phase, RingCall};
@@ -97,8 +98,9 @@ impl<D: Desk> SharedLink<D> {
         ensures manager { IsCarrierOf self.now manager.new × (manager.new.users ≡ manager.old.users) }
         ensures call { (end : End) → end_of manager.old.users caller ≡ Some end → CarriesOn self.now manager.new (record { number = caller; end = end; follows = inc }) call.new.phase result }
         ensures others { (who : CallerId) (p : Phase) → who.number ≢ caller → Carries self.now manager.old who p → Carries self.now manager.new who p }
-        ensures step { (end : End) → end_of manager.old.users caller ≡ Some end → let who = record { number = caller; end = end; follows = inc } in
+        ensures step { (end : End) → end_of manager.old.users caller ≡ Some end → let who : CallerId = record { number = caller; end = end; follows = inc } in
             Advances D.row.coded D.meaning self.now.sizes who call.old.phase result call.new.phase (carried_seat who call.old.phase manager.old) (carried_seat who call.old.phase manager.new) }
+        ensures said { (m : LaneLink (RingState D)) → IsStateOf D.row.coded manager.old m → outcome_said result ≡ (form_step (ring_form D.meaning) D.meaning m caller inc (wished_in call.old.phase)).outcome }
         ensures state { (end : End) → end_of manager.old.users caller ≡ Some end → (m : LaneLink (RingState D)) → IsStateOf D.row.coded manager.old m
             → IsStateOf D.row.coded manager.new (after_deed D.meaning m (deed_of (record { number = caller; end = end; follows = inc }) call.old.phase)) }
     {
