@@ -1,5 +1,5 @@
 -- The manager behind a step of a call that it carries: it is a carrier still, and each call that it carries is where it was or where the step left it.
-use Rattle.std.proofs.Common.{◌≡◌, ◌≢◌, ◌+◌, ◌-◌, ◌<◌, ◌≤◌, ℕ, List, refl, sym, ap, ◌∙◌, subst, arith}
+use Rattle.std.proofs.Common.{◌≡◌, ◌≢◌, ◌+◌, ◌-◌, ◌<◌, ◌≤◌, ℕ, zero, suc, length, get_or, List, [], ◌∷◌, refl, sym, ap, ◌∙◌, subst, arith}
 use Rattle.std.specs.Prelude.{Option, Some, None, slice_index, slice_set}
 use mathlib.Core.Option.{some}
 use lib.ListN.{get_elem?}
@@ -168,6 +168,11 @@ end_or (Some e) = e
 
 pub same_user : (users : List (Option End)) (n : ℕ) (e e' : End) → end_of users n ≡ Some e → end_of users n ≡ Some e' → e ≡ e'
 same_user users n e e' one two = ap end_or (sym one ∙ two)
+
+pub user_of : (users : List (Option End)) (n : ℕ) (found : Option End) (e : End) → n < length users → found ≡ get_or users n found → found ≡ Some e → end_of users n ≡ Some e
+user_of [] n found e low is has = absurd (omega (arith, low))
+user_of (x ∷ xs) zero found e low is has = sym is ∙ has
+user_of (x ∷ xs) (suc n) found e low is has = user_of xs n found e (omega (arith, low)) is has
 
 abbrev pub caller_id : ℕ → End → ℕ → CallerId
 caller_id number end follows = record { number = number; end = end; follows = follows }

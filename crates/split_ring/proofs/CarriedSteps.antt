@@ -35,7 +35,7 @@ pub record IsCarriedStep (z : LinkSizes) (who : CallerId) (p p' : Phase) (counts
   pub same : slots_in p' ≢ 0 → side_of who.end p' ≡ side_of who.end p
 
 -- the pass of a seat that has one
-pass_there : (n : ℕ) (me : SeatState) (who : CallerId) (p : Phase) → IsPhaseAt who p (seat_of n me) → get_elem? me.0.passes (place_of_number n me.0.passes) ≡ some (pass_in (seat_of n me))
+pub pass_there : (n : ℕ) (me : SeatState) (who : CallerId) (p : Phase) → IsPhaseAt who p (seat_of n me) → get_elem? me.0.passes (place_of_number n me.0.passes) ≡ some (pass_in (seat_of n me))
 pass_there n me who p is = (only_there (place_of_number n me.0.passes) me.0.passes 0 (pass_in (seat_of n me)) (ap (λ (ps : List Pass). get_elem? ps 0) is.at.one)).1
 
 pub count_there : (n : ℕ) (me : SeatState) (who : CallerId) (p : Phase) → IsPhaseAt who p (seat_of n me) → count_of n me ≡ slots_in p

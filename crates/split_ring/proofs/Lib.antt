@@ -32,4 +32,5 @@ pub mod Turning
 pub mod Carrying
 pub mod CarriedSteps
 pub mod CarriedLinks
+pub mod CarriedMakes
 pub mod Outcomes

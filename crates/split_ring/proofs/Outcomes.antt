@@ -117,11 +117,8 @@ pub give_on : (s : GiveStage) → (give_steps s ≢ 0) × ((said : Answer) → �
 give_on give_stage.Turn = (λ is. absurd (omega (arith, is)), λ said none. none)
 give_on give_stage.Entry = (λ is. absurd (omega (arith, is)), λ said none. none)
 
-one_zero : 1 ≡ 0 → ⊥
-one_zero is = omega (arith, is)
-
-pub desk_on : (1 ≢ 0) × ((said : Answer) → ⊥ → ⊥)
-desk_on = (one_zero, λ said none. none)
+pub desk_on : (n : ℕ) → n ≡ 1 → (n ≢ 0) × ((said : Answer) → ⊥ → ⊥)
+desk_on n one = (λ is. absurd (omega (arith, is, one)), λ said none. none)
 
 busy_end : (h : ℕ) (asked : Ask) → call_end (busy_answer h (Some asked)) ≡ end.Busy h
 busy_end h (ask.Send message) = refl

@@ -207,7 +207,7 @@ returns-in-Gives-clause-said g c = λ m knows. let coded = g.row.D.coded in let 
 pub returns-in-Asks-clause-said : goal.returns-in-Asks-clause-said
 returns-in-Asks-clause-said g c = λ m knows. let coded = g.row.D.coded in let meaning = g.D.Desk.meaning in let who = c.args.who in let a = c.args.seat.now.me in let z = c.args.self.now.sizes in let s = c.desk_step in let p = phase.Asks c.in-Asks.asked in
     subst (λ (x : Phase). outcome_said s.result.1 ≡ (form_step (ring_form meaning) meaning m who.number who.follows (wished_in x)).outcome) (sym c.in-Asks.is)
-    (later_said coded meaning who.number who.follows a m (s.ensures.alone.calls m knows).0 (s.ensures.alone.sound m knows) z who p s.result.1 s.result.0 (subst (λ (x : Phase). IsInPhase z who x (seat_of who.number a)) c.in-Asks.is c.requires.stands) s.ensures.next (desk_on ))
+    (later_said coded meaning who.number who.follows a m (s.ensures.alone.calls m knows).0 (s.ensures.alone.sound m knows) z who p s.result.1 s.result.0 (subst (λ (x : Phase). IsInPhase z who x (seat_of who.number a)) c.in-Asks.is c.requires.stands) s.ensures.next (desk_on 1 refl))
 
 pub returns-in-LeavesSender-clause-said : goal.returns-in-LeavesSender-clause-said
 returns-in-LeavesSender-clause-said g c = λ m knows. let coded = g.row.D.coded in let meaning = g.D.Desk.meaning in let who = c.args.who in let a = c.args.seat.now.me in let z = c.args.self.now.sizes in let s = c.leave in let said = c.in-LeavesSender.answer in
