@@ -42,5 +42,6 @@ returns-clause-call g c =
     let lent : w ≡ Sender t.0 = inside_alone n full call (sender_slot (other who.end)) k (Sender t.0) w [] t.2 c.slot_mut.ensures.value in
     let read = c.accepted_in-accepted.ensures t.0 lent in
     let at : IsAt (seat_of n full1) call ((sender_slot (other who.end), Sender t.0) ∷ []) = subst (λ (s : SeatState). IsAt (seat_of n s) call ((sender_slot (other who.end), Sender t.0) ∷ [])) (λ i. (full.0, c.slot_mut.ensures.value i)) t.2 in
-    let side : SenderSide → SeatState → Type 0 = λ x s. IsAt s (Sends (other who.end) (turn.Taken n (record { follows = who.follows; message = c.args.message.now; stage = stage.Turn })) x 0) ((sender_slot (other who.end), Sender x) ∷ []) in
-    ((subst (λ (x : SenderSide). side x (seat_of n full1)) (sym read.1) at, record { is = ap (λ (x : SenderSide). x.accepted) read.1 ∙ sym read.0; most = subst (λ (j : ℕ). j ≤ BOOK_MOST) (sym read.0) t.1 }), refl, refl)
+    let side : SenderSide → List ℕ → Type 0 = λ x m. IsAt (seat_of n full1) (Sends (other who.end) (turn.Taken n (record { follows = who.follows; message = m; stage = stage.Turn })) x 0) ((sender_slot (other who.end), Sender x) ∷ []) in
+    let begun : side c.accepted_in-accepted.result.1.value c.of.result.value = subst (side c.accepted_in-accepted.result.1.value) (sym c.of.ensures) (subst (λ (x : SenderSide). side x c.args.message.now) (sym read.1) at) in
+    ((begun, record { is = ap (λ (x : SenderSide). x.accepted) read.1 ∙ sym read.0; most = subst (λ (j : ℕ). j ≤ BOOK_MOST) (sym read.0) t.1 }), refl, c.of.ensures)

@@ -21,7 +21,7 @@ take_lanes-requires-clause-manager g c = let q = c.requires in let me = c.args.m
 
 pub returns-in-Err-clause-manager : goal.returns-in-Err-clause-manager
 returns-in-Err-clause-manager g c = let q = c.requires in let me = c.args.manager.now.seat.me in
-    (manager_again _ _ _ _ me.0 c.take_lanes.new.seat.me c.take_lanes.ensures.seat (c.in-Err.ensures.met.0 me.0 (rests_here me q.rests q.empty)) q.knows, refl)
+    (manager_again _ _ _ _ me.0 c.take_lanes.new.seat.me c.take_lanes.ensures.seat (c.in-Err.ensures.met.0 me.0 (rests_here me q.rests q.empty)) q.knows q.order, refl)
 
 pub returns-in-Err-clause-view : goal.returns-in-Err-clause-view
 returns-in-Err-clause-view g c = let q = c.requires in let me = c.args.manager.now.seat.me in none_view me me.0 c.take_lanes.new.seat.me q.rests refl (c.in-Err.ensures.met.0 me.0 (rests_here me q.rests q.empty))
@@ -45,7 +45,7 @@ returns-in-Ok-found-clause-manager g c =
     let q = c.requires in let me = c.args.manager.now.seat.me in let h = c.in-Ok.lanes.0 in let r = c.in-Ok.lanes.1 in let me3 = c.put_lanes.new.seat.me in
     let taken = c.in-Ok.ensures.taken me.0 (rests_here me q.rests q.empty) in let still = subst (HasAll me.0 h.sender h.receiver r.sender r.receiver) (sym c.find_words-found.ensures.same.1) taken in
     let left = c.put_lanes.ensures.put me.0 (both_sides h.sender h.receiver) (both_sides r.sender r.receiver) still in
-    (manager_again _ _ _ _ me.0 me3 c.put_lanes.ensures.seat left q.knows, refl)
+    (manager_again _ _ _ _ me.0 me3 c.put_lanes.ensures.seat left q.knows q.order, refl)
 
 pub returns-in-Ok-found-clause-view : goal.returns-in-Ok-found-clause-view
 returns-in-Ok-found-clause-view g c =
@@ -83,7 +83,7 @@ returns-in-Err-found-clause-manager g c =
     let q = c.requires in let me = c.args.manager.now.seat.me in let h = c.in-Ok.lanes.0 in let r = c.in-Ok.lanes.1 in let me3 = c.put_lanes.new.seat.me in
     let taken = c.in-Ok.ensures.taken me.0 (rests_here me q.rests q.empty) in let still = subst (HasAll me.0 h.sender h.receiver r.sender r.receiver) (sym c.find_words-found.ensures.same.1) taken in
     let left = c.put_lanes.ensures.put me.0 (both_sides h.sender h.receiver) (both_sides r.sender r.receiver) still in
-    (manager_again _ _ _ _ me.0 me3 c.put_lanes.ensures.seat left q.knows, refl)
+    (manager_again _ _ _ _ me.0 me3 c.put_lanes.ensures.seat left q.knows q.order, refl)
 
 pub returns-in-Err-found-clause-view : goal.returns-in-Err-found-clause-view
 returns-in-Err-found-clause-view g c =

@@ -99,12 +99,12 @@ returns-in-Look-clause-step g c =
 pub returns-in-Ok-hand_over-clause-step : goal.returns-in-Ok-hand_over-clause-step
 returns-in-Ok-hand_over-clause-step g c =
     let coded = g.row.D.coded in let meaning = g.D.Desk.meaning in let z = c.args.self.now.sizes in let full = c.args.seat.now.me in let me = seat_of c.args.call.who.number full in let who = c.args.who in let call = c.args.call in let b = c.args.buffer in let was = c.requires.stands in let q : TakeStands z call b c.args.stage me × (call.who ≡ who) = (subst (λ (w : CallerId). TakeStands z call b c.args.stage (seat_of w.number full)) (sym was.1) was.0, was.1) in let taken = c.in-Ok-hand_over.taken in
-    let full' = c.hand_over.new.seat.me in let me' = seat_of c.args.call.who.number full' in let after = phase.LeavesReceiver (answer.Took taken.held taken.verdict) in take_by coded meaning z who c.args.stage take_stage.Buffer call b (progress.At 5) after full full' c.in-Buffer.is q.1 (take_handed coded meaning z call b taken me me' c.hand_over.ensures.left c.in-Ok-hand_over.ensures.handed)
+    let full' = c.hand_over.new.seat.me in let me' = seat_of c.args.call.who.number full' in let after = phase.LeavesReceiver (answer.Took taken.held taken.verdict) in take_by coded meaning z who c.args.stage take_stage.Buffer call b (progress.At 5) after full full' c.in-Buffer.is q.1 (take_handed coded meaning z call b taken me me' c.in-Ok-hand_over.ensures.left c.in-Ok-hand_over.ensures.handed)
 
 pub returns-in-Err-hand_over-clause-step : goal.returns-in-Err-hand_over-clause-step
 returns-in-Err-hand_over-clause-step g c =
     let coded = g.row.D.coded in let meaning = g.D.Desk.meaning in let z = c.args.self.now.sizes in let full = c.args.seat.now.me in let me = seat_of c.args.call.who.number full in let who = c.args.who in let call = c.args.call in let b = c.args.buffer in let was = c.requires.stands in let q : TakeStands z call b c.args.stage me × (call.who ≡ who) = (subst (λ (w : CallerId). TakeStands z call b c.args.stage (seat_of w.number full)) (sym was.1) was.0, was.1) in
-    let full' = c.hand_over.new.seat.me in let me' = seat_of c.args.call.who.number full' in let after = phase.LeavesReceiver (answer.Dead c.in-Err-hand_over.era) in take_by coded meaning z who c.args.stage take_stage.Buffer call b (progress.At 5) after full full' c.in-Buffer.is q.1 (take_late coded meaning z call b c.in-Err-hand_over.era me me' c.hand_over.ensures.left c.in-Err-hand_over.ensures.dead)
+    let full' = c.hand_over.new.seat.me in let me' = seat_of c.args.call.who.number full' in let after = phase.LeavesReceiver (answer.Dead c.in-Err-hand_over.era) in take_by coded meaning z who c.args.stage take_stage.Buffer call b (progress.At 5) after full full' c.in-Buffer.is q.1 (take_late coded meaning z call b c.in-Err-hand_over.era me me' c.in-Err-hand_over.ensures.left c.in-Err-hand_over.ensures.dead)
 
 pub returns-in-Ok-clause-alone : goal.returns-in-Ok-clause-alone
 returns-in-Ok-clause-alone g c = steps_by g.row.D.coded g.D.Desk.meaning c.args.self.now.sizes c.args.who c.args.call.who c.args.seat.now.me c.find_take_era.new.seat.me c.requires.stands.1 c.find_take_era.ensures.alone
