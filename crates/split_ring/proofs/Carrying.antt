@@ -126,7 +126,7 @@ at_same me me' call slots passes out at = record {
 held_same : (who : CallerId) (held : HeldBuffer) (me me' : SeatState) → me'.0.passes ≡ me.0.passes → IsHeldBy who held me → IsHeldBy who held me'
 held_same who held me me' passes h = record { lane = h.lane; caller = h.caller; numbered = subst (λ (l : List Pass). HasNumber (first_pass l).hands held.number) (sym passes) h.numbered }
 
-own_same : (who : CallerId) (asked : Ask) (me me' : SeatState) → me'.0.passes ≡ me.0.passes → IsOwnAsk who asked me → IsOwnAsk who asked me'
+pub own_same : (who : CallerId) (asked : Ask) (me me' : SeatState) → me'.0.passes ≡ me.0.passes → IsOwnAsk who asked me → IsOwnAsk who asked me'
 own_same who (ask.Send message) me me' passes own = own
 own_same who ask.Take me me' passes own = own
 own_same who (ask.Give held) me me' passes own = held_same who held me me' passes own

@@ -8,6 +8,7 @@ use Rattle.rp_base.specs.declared.kinds.Era.{Era}
 use Rattle.lane_model.specs.declared.calls.Answer.{Answer}
 use Rattle.lane_model.specs.declared.calls.Ask.{Ask}
 use Rattle.lane_model.specs.declared.calls.Ask.TheVariants as ask
+use Rattle.lane_model.specs.declared.calls.CallEnd.{CallEnd}
 use Rattle.lane_model.specs.declared.calls.CallEnd.TheVariants as end
 use Rattle.lane_model.specs.declared.calls.Outcome.{Outcome}
 use Rattle.lane_model.specs.declared.calls.Outcome.TheVariants as outcome
@@ -79,8 +80,8 @@ number_or (Some n) = n
 taken_has : {C : Type 0} (k n : ℕ) (c : C) → holder (turn.Taken k c) ≡ Some n → has_call (turn.Taken k c) n ≡ true
 taken_has k n c is = eq-eqb k n (ap number_or is)
 
-leaving_has : {C : Type 0} (k n : ℕ) (ended : _) → holder {C} (turn.Leaving k ended) ≡ Some n → has_call {C} (turn.Leaving k ended) n ≡ true
-leaving_has k n ended is = eq-eqb k n (ap number_or is)
+leaving_has : (C : Type 0) (k n : ℕ) (ended : CallEnd) → holder {C = C} (turn.Leaving k ended) ≡ Some n → has_call {C = C} (turn.Leaving k ended) n ≡ true
+leaving_has C k n ended is = eq-eqb k n (ap number_or is)
 
 -- a turn that became a call's was free, where the call's caller had none before
 was_free : {C : Type 0} (now : Turn C) (n : ℕ) (c d : C) → taken_by now n d ≡ turn.Taken n c → has_call now n ≡ false → holder now ≡ None
@@ -186,48 +187,45 @@ module _ {D : Type 0} (coded : Coded D) (meaning : DeskMeaning D) where
       by_end m e n f None at.0 ∙ received_said m.era (lane_to m (other e)) (lane_to m e) n f t k (no_sender tables m e n t sound is (has at.1.1)) is goes
 
   module _ (n f : ℕ) (a : SeatState) (m : Link) (shows : ShowsCall coded n a m) (sound : IsSoundState (placed_meaning coded a.0.sizes.desks meaning) (placed_link coded a.0.sizes.desks m)) where
-    abbrev tables : DeskTables
-    tables = a.0.sizes.desks
-
     shown : (call : Call) (slots : List (ℕ × Slot)) → IsAt (seat_of n a) call slots → IsCallOf (placed_link coded a.0.sizes.desks m) 0 n call
     shown call slots at = subst (IsCallOf (placed_link coded a.0.sizes.desks m) 0 n) (call_of_at n a call slots at) shows
 
     sends_on : (e : End) (k : ℕ) (c : Sending) (x : SenderSide) (b : ℕ) (slots : List (ℕ × Slot)) (said : Outcome) → IsAt (seat_of n a) (Sends (other e) (turn.Taken k c) x b) slots
         → ((state : LaneState D) → (send_step m.era state k c c.stage).outcome ≡ said) → (form_step (ring_form meaning) meaning m n f None).outcome ≡ said
-    sends_on e k c x b slots said at goes = send_outcome tables m e n f (turn.Taken k c) x b said (shown _ slots at) (taken_has k n c) goes
+    sends_on e k c x b slots said at goes = send_outcome a.0.sizes.desks m e n f (turn.Taken k c) x b said (shown _ slots at) (taken_has k n c) goes
 
     receives_on : (e : End) (k : ℕ) (c : Receiving) (x : ReceiverSide) (b : ℕ) (message : List ℕ) (slots : List (ℕ × Slot)) (said : Outcome) → IsAt (seat_of n a) (Receives e (turn.Taken k c) x b message) slots
         → ((state : LaneState D) → (receive_step meaning m.era state k c c.work).outcome ≡ said) → (form_step (ring_form meaning) meaning m n f None).outcome ≡ said
-    receives_on e k c x b message slots said at goes = receive_outcome tables m e n f (turn.Taken k c) x b message said sound (shown _ slots at) (taken_has k n c) goes
+    receives_on e k c x b message slots said at goes = receive_outcome a.0.sizes.desks m e n f (turn.Taken k c) x b message said sound (shown _ slots at) (taken_has k n c) goes
 
     -- a later step of a call, by its phase
     later_is : (z : LinkSizes) (who : CallerId) (p : Phase) (said : Progress) (p' : Phase) → IsInPhase z who p (seat_of n a) → IsNext who.end p said p' → steps_in p ≢ 0 → (form_step (ring_form meaning) meaning m n f None).outcome ≡ outcome.At (steps_in p + 1)
-    later_is z who (phase.Asked asked) said p' at next some = absurd (some refl)
-    later_is z who (phase.Sends stage.Turn c message) said p' at next some = sends_on c.who.end _ _ _ _ _ (outcome.At 2) at.0.0 (λ state. refl)
-    later_is z who (phase.Sends stage.Era c message) said p' at next some = sends_on c.who.end _ _ _ _ _ (outcome.At 3) at.0.0 (λ state. refl)
-    later_is z who (phase.Sends stage.Look c message) said p' at next some = sends_on c.who.end _ _ _ _ _ (outcome.At 4) at.0.0 (λ state. refl)
-    later_is z who (phase.Sends stage.Buffer c message) said p' at next some = sends_on c.who.end _ _ _ _ _ (outcome.At 5) at.0.1.0 (λ state. refl)
-    later_is z who (phase.Sends stage.Entry c message) said p' at next some = sends_on c.who.end _ _ _ _ _ (outcome.At 6) at.0.0 (λ state. refl)
-    later_is z who (phase.Takes take_stage.Turn c buffer) said p' at next some = receives_on c.who.end _ _ _ _ _ _ (outcome.At 2) at.0.at (λ state. refl)
-    later_is z who (phase.Takes take_stage.Era c buffer) said p' at next some = receives_on c.who.end _ _ _ _ _ _ (outcome.At 3) at.0.at (λ state. refl)
-    later_is z who (phase.Takes take_stage.Look c buffer) said p' at next some = receives_on c.who.end _ _ _ _ _ _ (outcome.At 4) at.0.at (λ state. refl)
-    later_is z who (phase.Takes take_stage.Buffer c buffer) said p' at next some = receives_on c.who.end _ _ _ _ _ _ (outcome.At 5) at.0.1.at (λ state. refl)
-    later_is z who (phase.Gives give_stage.Turn held returned) said p' at next some = receives_on who.end _ _ _ _ _ _ (outcome.At 2) at.0.3 (λ state. refl)
-    later_is z who (phase.Gives give_stage.Entry held returned) said p' at next some = receives_on who.end _ _ _ _ _ _ (outcome.At 3) at.0.at (λ state. refl)
-    later_is z who (phase.Asks (asks.Bind address)) said p' at next some = receives_on who.end _ _ _ _ _ _ (outcome.At 2) at.3 (λ state. refl)
-    later_is z who (phase.Asks (asks.Unbind address)) said p' at next some = receives_on who.end _ _ _ _ _ _ (outcome.At 2) at.3 (λ state. refl)
-    later_is z who (phase.LeavesSender answer) said p' at next some = absurd (some refl)
-    later_is z who (phase.LeavesReceiver answer) said p' at next some = absurd (some refl)
-    later_is z who phase.Ended said p' at next some = absurd at
+    later_is z who (phase.Asked asked) said p' at next on = absurd (on refl)
+    later_is z who (phase.Sends stage.Turn c message) said p' at next on = sends_on c.who.end _ _ _ _ _ (outcome.At 2) at.0.0 (λ state. refl)
+    later_is z who (phase.Sends stage.Era c message) said p' at next on = sends_on c.who.end _ _ _ _ _ (outcome.At 3) at.0.0 (λ state. refl)
+    later_is z who (phase.Sends stage.Look c message) said p' at next on = sends_on c.who.end _ _ _ _ _ (outcome.At 4) at.0.0 (λ state. refl)
+    later_is z who (phase.Sends stage.Buffer c message) said p' at next on = sends_on c.who.end _ _ _ _ _ (outcome.At 5) at.0.1.0 (λ state. refl)
+    later_is z who (phase.Sends stage.Entry c message) said p' at next on = sends_on c.who.end _ _ _ _ _ (outcome.At 6) at.0.0 (λ state. refl)
+    later_is z who (phase.Takes take_stage.Turn c buffer) said p' at next on = receives_on c.who.end _ _ _ _ _ _ (outcome.At 2) at.0.at (λ state. refl)
+    later_is z who (phase.Takes take_stage.Era c buffer) said p' at next on = receives_on c.who.end _ _ _ _ _ _ (outcome.At 3) at.0.at (λ state. refl)
+    later_is z who (phase.Takes take_stage.Look c buffer) said p' at next on = receives_on c.who.end _ _ _ _ _ _ (outcome.At 4) at.0.at (λ state. refl)
+    later_is z who (phase.Takes take_stage.Buffer c buffer) said p' at next on = receives_on c.who.end _ _ _ _ _ _ (outcome.At 5) at.0.1.at (λ state. refl)
+    later_is z who (phase.Gives give_stage.Turn held returned) said p' at next on = receives_on who.end _ _ _ _ _ _ (outcome.At 2) at.0.3 (λ state. refl)
+    later_is z who (phase.Gives give_stage.Entry held returned) said p' at next on = receives_on who.end _ _ _ _ _ _ (outcome.At 3) at.0.at (λ state. refl)
+    later_is z who (phase.Asks (asks.Bind address)) said p' at next on = receives_on who.end _ _ _ _ _ _ (outcome.At 2) at.3 (λ state. refl)
+    later_is z who (phase.Asks (asks.Unbind address)) said p' at next on = receives_on who.end _ _ _ _ _ _ (outcome.At 2) at.3 (λ state. refl)
+    later_is z who (phase.LeavesSender answer) said p' at next on = absurd (on refl)
+    later_is z who (phase.LeavesReceiver answer) said p' at next on = absurd (on refl)
+    later_is z who phase.Ended said p' at next on = absurd at
 
     pub later_said : (z : LinkSizes) (who : CallerId) (p : Phase) (said : Progress) (p' : Phase) → IsInPhase z who p (seat_of n a) → IsNext who.end p said p' → (steps_in p ≢ 0) × ((s : Answer) → IsEndOf p s → ⊥) → outcome_said said ≡ (form_step (ring_form meaning) meaning m n f None).outcome
     later_said z who p said p' at next on = said_at who.end p said p' next on.1 ∙ sym (later_is z who p said p' at next on.0)
 
-    pub sender_left : (z : LinkSizes) (who : CallerId) (answer : Answer) → IsInPhase z who (phase.LeavesSender answer) (seat_of n a) → outcome.Ended (call_end answer) ≡ (form_step (ring_form meaning) meaning m n f None).outcome
-    sender_left z who answer at = sym (send_outcome tables m who.end n f _ _ _ (outcome.Ended (call_end answer)) (shown _ _ at.3) (leaving_has _ n _) (λ state. refl))
+    pub send_left : (z : LinkSizes) (who : CallerId) (answer : Answer) → IsInPhase z who (phase.LeavesSender answer) (seat_of n a) → outcome.Ended (call_end answer) ≡ (form_step (ring_form meaning) meaning m n f None).outcome
+    send_left z who answer at = sym (send_outcome a.0.sizes.desks m who.end n f _ _ _ (outcome.Ended (call_end answer)) (shown _ _ at.3) (leaving_has Sending _ n (call_end answer)) (λ state. refl))
 
-    pub receiver_left : (z : LinkSizes) (who : CallerId) (answer : Answer) → IsInPhase z who (phase.LeavesReceiver answer) (seat_of n a) → outcome.Ended (call_end answer) ≡ (form_step (ring_form meaning) meaning m n f None).outcome
-    receiver_left z who answer at = sym (receive_outcome tables m who.end n f _ _ _ _ (outcome.Ended (call_end answer)) sound (shown _ _ at.4) (leaving_has _ n _) (λ state. refl))
+    pub receive_left : (z : LinkSizes) (who : CallerId) (answer : Answer) → IsInPhase z who (phase.LeavesReceiver answer) (seat_of n a) → outcome.Ended (call_end answer) ≡ (form_step (ring_form meaning) meaning m n f None).outcome
+    receive_left z who answer at = sym (receive_outcome a.0.sizes.desks m who.end n f _ _ _ _ (outcome.Ended (call_end answer)) sound (shown _ _ at.4) (leaving_has Receiving _ n (call_end answer)) (λ state. refl))
 
   abbrev Placed : SeatState → Type 0
   Placed me = LaneLink (RingState (PlacedDesk coded me.0.sizes.desks))

@@ -12,6 +12,9 @@ ghost use Rattle.link_words.specs.PlacedLinks.{KnowsState};
 ghost use Rattle.split_ring.specs.declared.calls.Phase.TheVariants as phase;
 ghost use Rattle.split_ring.specs.Calls.{deed_of, send_answer, desk_said, hands_in, IsInPhase, IsOwnAsk, IsShort, IsPath, Advances};
 ghost use Rattle.split_ring.specs.Callers.{IsAdvanced, MayAdvance, StepNotBelow, TakesStep};
+ghost use Rattle.split_ring.specs.declared.callers.CallerId.{CallerId};
+ghost use Rattle.split_ring.specs.declared.callers.Manager.{Manager};
+ghost use Rattle.split_ring.specs.Carried.{Carries, carried_seat};
 ghost use Rattle.split_ring.specs.Focus.{IsOrderlySeat, StaysAlone, StepsAlone, seat_of};
 ghost use Rattle.split_ring.specs.Phases.{IsNext, IsUnderWay, asked_side, outcome_said, side_of, wished_in};
 ghost use Rattle.split_ring.specs.Seats.{pass_in};
@@ -112,7 +115,8 @@ fn desk_said(asked: DeskAsk, answer: Result<Endpoint, DeskFault>) -> Answer
 impl<D: Desk> SharedLink<D> {
     /// A call that asks this, which has done no step yet. It follows the incarnation that its caller follows.
     pub fn begin_call(&self, ask: Ask) -> RingCall<D>
-        ensures { result.phase ≡ phase.Asked ask }
+        ensures asked { result.phase ≡ phase.Asked ask }
+        ensures carried { (manager : Manager) (who : CallerId) → Carries self.now manager who phase.Ended → IsOwnAsk who ask (carried_seat who phase.Ended manager) → Carries self.now manager who result.phase × IsUnderWay result.phase }
     {
         RingCall {
             phase: Phase::Asked(ask),

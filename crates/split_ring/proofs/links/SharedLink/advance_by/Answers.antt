@@ -26,7 +26,7 @@ pub step_on-next-requires-clause-number : goal.step_on-next-requires-clause-numb
 step_on-next-requires-clause-number g c =
     let coded = g.row.D.coded in let meaning = g.D.Desk.meaning in let link = c.args.self.now in let before = c.args.manager.now in let p = c.args.call.now.phase in let q = c.requires.call in let carrier = c.requires.manager in
     let who : CallerId = record { number = c.args.caller; end = c.in-Some-Some.end; follows = c.args.inc } in
-    let user : end_of before.users c.args.caller ≡ Some c.in-Some-Some.end = let look = c.in-Some-Some.ensures.lookup in subst (λ (k : ℕ). end_of before.users k ≡ Some c.in-Some-Some.end) c.from.ensures (user_of before.users c.from.result c.in-Some-Some.field-0.now c.in-Some-Some.end look.3.0 look.1 (first_of (c.in-Some-Some.field-0-is, c.in-Some-Some.end-is, cc))) in
+    let user : end_of before.users c.args.caller ≡ Some c.in-Some-Some.end = let look = c.in-Some-Some.ensures.lookup in subst (λ (k : ℕ). end_of before.users k ≡ Some c.in-Some-Some.end) c.from.ensures (user_of before.users c.from.result c.in-Some-Some.field-0.now c.in-Some-Some.end look.3.0 look.1 c.in-Some-Some.field-0-is) in
     let carries : Carries link before who p = carries_here link before c.args.caller c.args.inc p q.0 c.in-Some-Some.end q.1 user in
     let turned : c.turn_by.new.seat.me ≡ seat_turned who p before = turned_front link before who p c.out_before-before.result c.turn_by.new.seat.me carrier (c.out_before-before.ensures ∙ ap (λ (k : ℕ). out_before k before.out) c.side_of-side.ensures.side) c.turn_by.ensures.turned in
     (ap (λ (x : SeatState). (pass_in (seat_of who.number x)).number) turned ∙ carries.number, carries.low)
@@ -35,7 +35,7 @@ pub step_on-next-requires-clause-stands : goal.step_on-next-requires-clause-stan
 step_on-next-requires-clause-stands g c =
     let coded = g.row.D.coded in let meaning = g.D.Desk.meaning in let link = c.args.self.now in let before = c.args.manager.now in let p = c.args.call.now.phase in let q = c.requires.call in let carrier = c.requires.manager in
     let who : CallerId = record { number = c.args.caller; end = c.in-Some-Some.end; follows = c.args.inc } in
-    let user : end_of before.users c.args.caller ≡ Some c.in-Some-Some.end = let look = c.in-Some-Some.ensures.lookup in subst (λ (k : ℕ). end_of before.users k ≡ Some c.in-Some-Some.end) c.from.ensures (user_of before.users c.from.result c.in-Some-Some.field-0.now c.in-Some-Some.end look.3.0 look.1 (first_of (c.in-Some-Some.field-0-is, c.in-Some-Some.end-is, cc))) in
+    let user : end_of before.users c.args.caller ≡ Some c.in-Some-Some.end = let look = c.in-Some-Some.ensures.lookup in subst (λ (k : ℕ). end_of before.users k ≡ Some c.in-Some-Some.end) c.from.ensures (user_of before.users c.from.result c.in-Some-Some.field-0.now c.in-Some-Some.end look.3.0 look.1 c.in-Some-Some.field-0-is) in
     let carries : Carries link before who p = carries_here link before c.args.caller c.args.inc p q.0 c.in-Some-Some.end q.1 user in
     let turned : c.turn_by.new.seat.me ≡ seat_turned who p before = turned_front link before who p c.out_before-before.result c.turn_by.new.seat.me carrier (c.out_before-before.ensures ∙ ap (λ (k : ℕ). out_before k before.out) c.side_of-side.ensures.side) c.turn_by.ensures.turned in
     let z = link.sizes in subst (λ (x : Phase). IsInPhase z who x (seat_of who.number c.turn_by.new.seat.me)) (sym c.replace-phase.ensures.value)
@@ -45,7 +45,7 @@ pub out_before-requires-clause-few : goal.out_before-requires-clause-few
 out_before-requires-clause-few g c = λ slot.
     let coded = g.row.D.coded in let meaning = g.D.Desk.meaning in let link = c.args.self.now in let before = c.args.manager.now in let p = c.args.call.now.phase in let q = c.requires.call in let carrier = c.requires.manager in
     let who : CallerId = record { number = c.args.caller; end = c.in-Some-Some.end; follows = c.args.inc } in
-    let user : end_of before.users c.args.caller ≡ Some c.in-Some-Some.end = let look = c.in-Some-Some.ensures.lookup in subst (λ (k : ℕ). end_of before.users k ≡ Some c.in-Some-Some.end) c.from.ensures (user_of before.users c.from.result c.in-Some-Some.field-0.now c.in-Some-Some.end look.3.0 look.1 (first_of (c.in-Some-Some.field-0-is, c.in-Some-Some.end-is, cc))) in
+    let user : end_of before.users c.args.caller ≡ Some c.in-Some-Some.end = let look = c.in-Some-Some.ensures.lookup in subst (λ (k : ℕ). end_of before.users k ≡ Some c.in-Some-Some.end) c.from.ensures (user_of before.users c.from.result c.in-Some-Some.field-0.now c.in-Some-Some.end look.3.0 look.1 c.in-Some-Some.field-0-is) in
     let carries : Carries link before who p = carries_here link before c.args.caller c.args.inc p q.0 c.in-Some-Some.end q.1 user in
     let turned : c.turn_by.new.seat.me ≡ seat_turned who p before = turned_front link before who p c.out_before-before.result c.turn_by.new.seat.me carrier (c.out_before-before.ensures ∙ ap (λ (k : ℕ). out_before k before.out) c.side_of-side.ensures.side) c.turn_by.ensures.turned in
     let s = c.step_on-next in let b = s.new.seat.me in let said = s.result.1 in let next = s.result.0 in
@@ -65,7 +65,7 @@ pub returns-clause-manager : goal.returns-clause-manager
 returns-clause-manager g c =
     let coded = g.row.D.coded in let meaning = g.D.Desk.meaning in let link = c.args.self.now in let before = c.args.manager.now in let p = c.args.call.now.phase in let q = c.requires.call in let carrier = c.requires.manager in
     let who : CallerId = record { number = c.args.caller; end = c.in-Some-Some.end; follows = c.args.inc } in
-    let user : end_of before.users c.args.caller ≡ Some c.in-Some-Some.end = let look = c.in-Some-Some.ensures.lookup in subst (λ (k : ℕ). end_of before.users k ≡ Some c.in-Some-Some.end) c.from.ensures (user_of before.users c.from.result c.in-Some-Some.field-0.now c.in-Some-Some.end look.3.0 look.1 (first_of (c.in-Some-Some.field-0-is, c.in-Some-Some.end-is, cc))) in
+    let user : end_of before.users c.args.caller ≡ Some c.in-Some-Some.end = let look = c.in-Some-Some.ensures.lookup in subst (λ (k : ℕ). end_of before.users k ≡ Some c.in-Some-Some.end) c.from.ensures (user_of before.users c.from.result c.in-Some-Some.field-0.now c.in-Some-Some.end look.3.0 look.1 c.in-Some-Some.field-0-is) in
     let carries : Carries link before who p = carries_here link before c.args.caller c.args.inc p q.0 c.in-Some-Some.end q.1 user in
     let turned : c.turn_by.new.seat.me ≡ seat_turned who p before = turned_front link before who p c.out_before-before.result c.turn_by.new.seat.me carrier (c.out_before-before.ensures ∙ ap (λ (k : ℕ). out_before k before.out) c.side_of-side.ensures.side) c.turn_by.ensures.turned in
     let s = c.step_on-next in let b = s.new.seat.me in let said = s.result.1 in let next = s.result.0 in
@@ -83,7 +83,7 @@ pub returns-clause-call : goal.returns-clause-call
 returns-clause-call g c = λ end is.
     let coded = g.row.D.coded in let meaning = g.D.Desk.meaning in let link = c.args.self.now in let before = c.args.manager.now in let p = c.args.call.now.phase in let q = c.requires.call in let carrier = c.requires.manager in
     let who : CallerId = record { number = c.args.caller; end = c.in-Some-Some.end; follows = c.args.inc } in
-    let user : end_of before.users c.args.caller ≡ Some c.in-Some-Some.end = let look = c.in-Some-Some.ensures.lookup in subst (λ (k : ℕ). end_of before.users k ≡ Some c.in-Some-Some.end) c.from.ensures (user_of before.users c.from.result c.in-Some-Some.field-0.now c.in-Some-Some.end look.3.0 look.1 (first_of (c.in-Some-Some.field-0-is, c.in-Some-Some.end-is, cc))) in
+    let user : end_of before.users c.args.caller ≡ Some c.in-Some-Some.end = let look = c.in-Some-Some.ensures.lookup in subst (λ (k : ℕ). end_of before.users k ≡ Some c.in-Some-Some.end) c.from.ensures (user_of before.users c.from.result c.in-Some-Some.field-0.now c.in-Some-Some.end look.3.0 look.1 c.in-Some-Some.field-0-is) in
     let carries : Carries link before who p = carries_here link before c.args.caller c.args.inc p q.0 c.in-Some-Some.end q.1 user in
     let turned : c.turn_by.new.seat.me ≡ seat_turned who p before = turned_front link before who p c.out_before-before.result c.turn_by.new.seat.me carrier (c.out_before-before.ensures ∙ ap (λ (k : ℕ). out_before k before.out) c.side_of-side.ensures.side) c.turn_by.ensures.turned in
     let s = c.step_on-next in let b = s.new.seat.me in let said = s.result.1 in let next = s.result.0 in
@@ -101,7 +101,7 @@ pub returns-clause-others : goal.returns-clause-others
 returns-clause-others g c = λ other r apart carried.
     let coded = g.row.D.coded in let meaning = g.D.Desk.meaning in let link = c.args.self.now in let before = c.args.manager.now in let p = c.args.call.now.phase in let q = c.requires.call in let carrier = c.requires.manager in
     let who : CallerId = record { number = c.args.caller; end = c.in-Some-Some.end; follows = c.args.inc } in
-    let user : end_of before.users c.args.caller ≡ Some c.in-Some-Some.end = let look = c.in-Some-Some.ensures.lookup in subst (λ (k : ℕ). end_of before.users k ≡ Some c.in-Some-Some.end) c.from.ensures (user_of before.users c.from.result c.in-Some-Some.field-0.now c.in-Some-Some.end look.3.0 look.1 (first_of (c.in-Some-Some.field-0-is, c.in-Some-Some.end-is, cc))) in
+    let user : end_of before.users c.args.caller ≡ Some c.in-Some-Some.end = let look = c.in-Some-Some.ensures.lookup in subst (λ (k : ℕ). end_of before.users k ≡ Some c.in-Some-Some.end) c.from.ensures (user_of before.users c.from.result c.in-Some-Some.field-0.now c.in-Some-Some.end look.3.0 look.1 c.in-Some-Some.field-0-is) in
     let carries : Carries link before who p = carries_here link before c.args.caller c.args.inc p q.0 c.in-Some-Some.end q.1 user in
     let turned : c.turn_by.new.seat.me ≡ seat_turned who p before = turned_front link before who p c.out_before-before.result c.turn_by.new.seat.me carrier (c.out_before-before.ensures ∙ ap (λ (k : ℕ). out_before k before.out) c.side_of-side.ensures.side) c.turn_by.ensures.turned in
     let s = c.step_on-next in let b = s.new.seat.me in let said = s.result.1 in let next = s.result.0 in
@@ -119,7 +119,7 @@ pub returns-clause-step : goal.returns-clause-step
 returns-clause-step g c = λ end is.
     let coded = g.row.D.coded in let meaning = g.D.Desk.meaning in let link = c.args.self.now in let before = c.args.manager.now in let p = c.args.call.now.phase in let q = c.requires.call in let carrier = c.requires.manager in
     let who : CallerId = record { number = c.args.caller; end = c.in-Some-Some.end; follows = c.args.inc } in
-    let user : end_of before.users c.args.caller ≡ Some c.in-Some-Some.end = let look = c.in-Some-Some.ensures.lookup in subst (λ (k : ℕ). end_of before.users k ≡ Some c.in-Some-Some.end) c.from.ensures (user_of before.users c.from.result c.in-Some-Some.field-0.now c.in-Some-Some.end look.3.0 look.1 (first_of (c.in-Some-Some.field-0-is, c.in-Some-Some.end-is, cc))) in
+    let user : end_of before.users c.args.caller ≡ Some c.in-Some-Some.end = let look = c.in-Some-Some.ensures.lookup in subst (λ (k : ℕ). end_of before.users k ≡ Some c.in-Some-Some.end) c.from.ensures (user_of before.users c.from.result c.in-Some-Some.field-0.now c.in-Some-Some.end look.3.0 look.1 c.in-Some-Some.field-0-is) in
     let carries : Carries link before who p = carries_here link before c.args.caller c.args.inc p q.0 c.in-Some-Some.end q.1 user in
     let turned : c.turn_by.new.seat.me ≡ seat_turned who p before = turned_front link before who p c.out_before-before.result c.turn_by.new.seat.me carrier (c.out_before-before.ensures ∙ ap (λ (k : ℕ). out_before k before.out) c.side_of-side.ensures.side) c.turn_by.ensures.turned in
     let s = c.step_on-next in let b = s.new.seat.me in let said = s.result.1 in let next = s.result.0 in
@@ -138,7 +138,7 @@ pub returns-clause-state : goal.returns-clause-state
 returns-clause-state g c = λ end is m known.
     let coded = g.row.D.coded in let meaning = g.D.Desk.meaning in let link = c.args.self.now in let before = c.args.manager.now in let p = c.args.call.now.phase in let q = c.requires.call in let carrier = c.requires.manager in
     let who : CallerId = record { number = c.args.caller; end = c.in-Some-Some.end; follows = c.args.inc } in
-    let user : end_of before.users c.args.caller ≡ Some c.in-Some-Some.end = let look = c.in-Some-Some.ensures.lookup in subst (λ (k : ℕ). end_of before.users k ≡ Some c.in-Some-Some.end) c.from.ensures (user_of before.users c.from.result c.in-Some-Some.field-0.now c.in-Some-Some.end look.3.0 look.1 (first_of (c.in-Some-Some.field-0-is, c.in-Some-Some.end-is, cc))) in
+    let user : end_of before.users c.args.caller ≡ Some c.in-Some-Some.end = let look = c.in-Some-Some.ensures.lookup in subst (λ (k : ℕ). end_of before.users k ≡ Some c.in-Some-Some.end) c.from.ensures (user_of before.users c.from.result c.in-Some-Some.field-0.now c.in-Some-Some.end look.3.0 look.1 c.in-Some-Some.field-0-is) in
     let carries : Carries link before who p = carries_here link before c.args.caller c.args.inc p q.0 c.in-Some-Some.end q.1 user in
     let turned : c.turn_by.new.seat.me ≡ seat_turned who p before = turned_front link before who p c.out_before-before.result c.turn_by.new.seat.me carrier (c.out_before-before.ensures ∙ ap (λ (k : ℕ). out_before k before.out) c.side_of-side.ensures.side) c.turn_by.ensures.turned in
     let s = c.step_on-next in let b = s.new.seat.me in let said = s.result.1 in let next = s.result.0 in

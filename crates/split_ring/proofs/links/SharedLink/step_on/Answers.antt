@@ -13,7 +13,7 @@ use Rattle.lane_model.specs.declared.calls.Outcome.TheVariants as outcome
 use Rattle.lane_model.specs.Links.{form_step}
 use Rattle.ring_core.specs.RingSteps.{ring_form}
 use Rattle.split_ring.specs.Phases.{IsNext, outcome_said, wished_in}
-use Rattle.split_ring.proofs.Outcomes.{desk_on, give_on, later_said, receiver_left, send_on, sender_left, take_on}
+use Rattle.split_ring.proofs.Outcomes.{desk_on, give_on, later_said, receive_left, send_left, send_on, take_on}
 use Rattle.split_ring.specs.Seats.{IsAt}
 use Rattle.split_ring.specs.Turns.{IsLeaving}
 use Rattle.split_ring.specs.Walks.{same_hands, HasDone}
@@ -212,9 +212,9 @@ returns-in-Asks-clause-said g c = λ m knows. let coded = g.row.D.coded in let m
 pub returns-in-LeavesSender-clause-said : goal.returns-in-LeavesSender-clause-said
 returns-in-LeavesSender-clause-said g c = λ m knows. let coded = g.row.D.coded in let meaning = g.D.Desk.meaning in let who = c.args.who in let a = c.args.seat.now.me in let z = c.args.self.now.sizes in let s = c.leave in let said = c.in-LeavesSender.answer in
     subst (λ (x : Phase). outcome.Ended (call_end said) ≡ (form_step (ring_form meaning) meaning m who.number who.follows (wished_in x)).outcome) (sym c.in-LeavesSender.is)
-    (sender_left coded meaning who.number who.follows a m (s.ensures.alone.calls m knows).0 (s.ensures.alone.sound m knows) z who said (subst (λ (x : Phase). IsInPhase z who x (seat_of who.number a)) c.in-LeavesSender.is c.requires.stands))
+    (send_left coded meaning who.number who.follows a m (s.ensures.alone.calls m knows).0 (s.ensures.alone.sound m knows) z who said (subst (λ (x : Phase). IsInPhase z who x (seat_of who.number a)) c.in-LeavesSender.is c.requires.stands))
 
 pub returns-in-LeavesReceiver-clause-said : goal.returns-in-LeavesReceiver-clause-said
 returns-in-LeavesReceiver-clause-said g c = λ m knows. let coded = g.row.D.coded in let meaning = g.D.Desk.meaning in let who = c.args.who in let a = c.args.seat.now.me in let z = c.args.self.now.sizes in let s = c.leave-in-LeavesReceiver in let said = c.in-LeavesReceiver.answer in
     subst (λ (x : Phase). outcome.Ended (call_end said) ≡ (form_step (ring_form meaning) meaning m who.number who.follows (wished_in x)).outcome) (sym c.in-LeavesReceiver.is)
-    (receiver_left coded meaning who.number who.follows a m (s.ensures.alone.calls m knows).0 (s.ensures.alone.sound m knows) z who said (subst (λ (x : Phase). IsInPhase z who x (seat_of who.number a)) c.in-LeavesReceiver.is c.requires.stands))
+    (receive_left coded meaning who.number who.follows a m (s.ensures.alone.calls m knows).0 (s.ensures.alone.sound m knows) z who said (subst (λ (x : Phase). IsInPhase z who x (seat_of who.number a)) c.in-LeavesReceiver.is c.requires.stands))
