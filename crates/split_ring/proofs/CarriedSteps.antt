@@ -109,8 +109,8 @@ module _ (z : LinkSizes) (who : CallerId) (p p' : Phase) (counts : List ℕ) (me
       none n m had has more =
           let owned = s.blocks.owned at (λ is. not_less m (sym more ∙ is)) in
           ⊎_elim (λ (same : owned.0 ≡ here). (own_side at owned.1 (ap (get_elem? me.0.passes) (sym same) ∙ owned.2) owned.3).0 had)
-            (λ (differs : owned.0 ≡ here → ⊥). differs (s.next_order.sides at owned.0 here owned.1 (pass_in (seat_of who.number b)) (stays_there owned.0 owned.1 differs owned.2) here_now owned.3 (side_now (λ is. not_less n (sym has ∙ is)))))
-            (cases_eq owned.0 here)
+          (λ (differs : owned.0 ≡ here → ⊥). differs (s.next_order.sides at owned.0 here owned.1 (pass_in (seat_of who.number b)) (stays_there owned.0 owned.1 differs owned.2) here_now owned.3 (side_now (λ is. not_less n (sym has ∙ is)))))
+          (cases_eq owned.0 here)
 
       by : (had has c : ℕ) → slots_in p ≡ had → slots_in p' ≡ has → count ≡ c → (count ≡ slots_in p) ⊎ ((slots_in p ≡ 0) × (slots_in p' ≡ 0))
       by (suc n) has c had is more = inl (s.counted (λ none. not_less n (sym had ∙ none)))
@@ -127,15 +127,15 @@ module _ (z : LinkSizes) (who : CallerId) (p p' : Phase) (counts : List ℕ) (me
   block_next : (length (front next_count b.1) ≡ next_count) × (behind next_count b.1 ≡ behind count a.1)
   block_next = ⊎_elim
       (λ (is : count ≡ slots_in p).
-        let next : next_count ≡ slots_in p' = omega (arith, is) in let cb = count_there who.number b who p' now in let ca = count_there who.number a who p was in (
-          ap (λ (k : ℕ). length (front k b.1)) (next ∙ sym cb) ∙ (ap length now.at.out ∙ (now.long ∙ sym next)),
-          ap (λ (k : ℕ). behind k b.1) (next ∙ sym cb) ∙ (s.leaves.others ∙ ap (λ (k : ℕ). behind k a.1) (ca ∙ sym is)),
-        ))
+      let next : next_count ≡ slots_in p' = omega (arith, is) in let cb = count_there who.number b who p' now in let ca = count_there who.number a who p was in (
+        ap (λ (k : ℕ). length (front k b.1)) (next ∙ sym cb) ∙ (ap length now.at.out ∙ (now.long ∙ sym next)),
+        ap (λ (k : ℕ). behind k b.1) (next ∙ sym cb) ∙ (s.leaves.others ∙ ap (λ (k : ℕ). behind k a.1) (ca ∙ sym is)),
+      ))
       (λ (bare : (slots_in p ≡ 0) × (slots_in p' ≡ 0)).
-        let next : next_count ≡ count = omega (arith, bare.0, bare.1) in let same = slots_same bare.0 bare.1 in let fits = block_fits at counts me.1 within all in let long = length_turned at counts me.1 within all in (
-          (λ i. length (front (next i) (same i))) ∙ (length_front count a.1 (omega (arith, fits, long)) ∙ sym next),
-          λ i. behind (next i) (same i),
-        ))
+      let next : next_count ≡ count = omega (arith, bare.0, bare.1) in let same = slots_same bare.0 bare.1 in let fits = block_fits at counts me.1 within all in let long = length_turned at counts me.1 within all in (
+        (λ i. length (front (next i) (same i))) ∙ (length_front count a.1 (omega (arith, fits, long)) ∙ sym next),
+        λ i. behind (next i) (same i),
+      ))
       block_was
 
   abbrev new : Slots
@@ -168,7 +168,7 @@ module _ (z : LinkSizes) (who : CallerId) (p p' : Phase) (counts : List ℕ) (me
   own_now : front (slots_in p') (turned_to at next_out next_block) ≡ front (slots_in p') b.1
   own_now = ⊎_elim
       (λ (is : count ≡ slots_in p). let next : next_count ≡ slots_in p' = omega (arith, is) in
-        (λ i. front (sym next i) (turned_to at (sym counts_same i) next_block)) ∙ (ap (λ (k : ℕ). front k (turned_to at (slice_set counts at (length new)) next_block)) (sym block_next.0) ∙ (own_next at counts new me.1 within all ∙ ap (λ (k : ℕ). front k b.1) next)))
+      (λ i. front (sym next i) (turned_to at (sym counts_same i) next_block)) ∙ (ap (λ (k : ℕ). front k (turned_to at (slice_set counts at (length new)) next_block)) (sym block_next.0) ∙ (own_next at counts new me.1 within all ∙ ap (λ (k : ℕ). front k b.1) next)))
       (λ (bare : (slots_in p ≡ 0) × (slots_in p' ≡ 0)). ap (λ (k : ℕ). front k (turned_to at next_out next_block)) bare.1 ∙ sym (ap (λ (k : ℕ). front k b.1) bare.1))
       block_was
 
@@ -261,18 +261,18 @@ module _ (z : LinkSizes) (who : CallerId) (p p' : Phase) (counts : List ℕ) (me
     pub counted_beside : slots_in q ≢ 0 → slice_index next_out (side_of other.end q) ≡ slots_in q
     counted_beside more = ⊎_elim
         (λ (same : side_of other.end q ≡ at). let bare = sides_apart more same in let had = bare.0 in let has = bare.1 in
-          ap (slice_index next_out) same ∙ (index_here at next_count counts within ∙ ((let e : next_count ≡ count = omega (arith, had, has) in e) ∙ (ap (slice_index counts) (sym same) ∙ counted more))))
+        ap (slice_index next_out) same ∙ (index_here at next_count counts within ∙ ((let e : next_count ≡ count = omega (arith, had, has) in e) ∙ (ap (slice_index counts) (sym same) ∙ counted more))))
         (λ (differs : side_of other.end q ≡ at → ⊥). index_set (side_of other.end q) at next_count counts differs ∙ counted more) (cases_eq (side_of other.end q) at)
 
     block_beside : (n : ℕ) → slots_in q ≡ n → front (slots_in q) (turned_to (side_of other.end q) next_out next_block) ≡ front (slots_in q) (turned_to (side_of other.end q) counts me.1)
     block_beside zero none = ap (λ (k : ℕ). front k (turned_to (side_of other.end q) next_out next_block)) none ∙ sym (ap (λ (k : ℕ). front k (turned_to (side_of other.end q) counts me.1)) none)
     block_beside (suc n) is = let more : slots_in q ≢ 0 = λ none. not_less n (sym is ∙ none) in let c = counted more in let j = side_of other.end q in ⊎_elim
         (λ (same : side_of other.end q ≡ at). let bare = sides_apart more same in let had = bare.0 in let has = bare.1 in let e : next_count ≡ count = omega (arith, had, has) in
-          let many : slots_in q ≡ length new = sym c ∙ (ap (slice_index counts) same ∙ (sym e ∙ sym block_next.0)) in
-          (λ i. front (many i) (turned_to (same i) (sym counts_same i) next_block)) ∙ (own_next at counts new me.1 within all
-          ∙ ((λ i. front (e i) (slots_same had has i)) ∙ (λ i. front ((ap (slice_index counts) (sym same) ∙ c) i) (turned_to (sym same i) counts me.1)))))
+        let many : slots_in q ≡ length new = sym c ∙ (ap (slice_index counts) same ∙ (sym e ∙ sym block_next.0)) in
+        (λ i. front (many i) (turned_to (same i) (sym counts_same i) next_block)) ∙ (own_next at counts new me.1 within all
+        ∙ ((λ i. front (e i) (slots_same had has i)) ∙ (λ i. front ((ap (slice_index counts) (sym same) ∙ c) i) (turned_to (sym same i) counts me.1)))))
         (λ (differs : side_of other.end q ≡ at → ⊥). (λ i. front (sym c i) (turned_to j (sym counts_same i) next_block))
-          ∙ (others_next at counts new me.1 within all j differs (let low = side_low other.end q in let four = s.blocks.four in omega (arith, low, four)) ∙ ap (λ (k : ℕ). front k (turned_to j counts me.1)) c)) (cases_eq (side_of other.end q) at)
+        ∙ (others_next at counts new me.1 within all j differs (let low = side_low other.end q in let four = s.blocks.four in omega (arith, low, four)) ∙ ap (λ (k : ℕ). front k (turned_to j counts me.1)) c)) (cases_eq (side_of other.end q) at)
 
     slots_beside : (carried_at other q next_out (b.0, next_block)).1 ≡ (carried_at other q counts me).1
     slots_beside =

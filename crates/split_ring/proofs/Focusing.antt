@@ -401,7 +401,7 @@ module _ {D : Type 0} (coded : Coded D) (meaning : DeskMeaning D) where
       let z = me.0.sizes in let call = call_at (place_of_number n me'.0.passes) me'.0.passes in (
         subst (λ (l : Links me). IsCallOf l 0 n (call_at (place_of_number n me.0.passes) me.0.passes)) is before,
         subst (λ (y : LinkSizes). IsCallOf (placed_link coded y.desks (after_deed meaning m d)) 0 n call) (sym sizes)
-        (subst (λ (l : Links me). IsCallOf l 0 n call) (ap (λ (l : Links me). after_deed (placed_meaning coded z.desks meaning) l d) is ∙ deed_placed coded z.desks meaning m d) after),
+            (subst (λ (l : Links me). IsCallOf l 0 n call) (ap (λ (l : Links me). after_deed (placed_meaning coded z.desks meaning) l d) is ∙ deed_placed coded z.desks meaning m d) after),
       )
 
   -- and the manager, which knew the state, knows the next one

@@ -299,7 +299,7 @@ module _ {D : Type 0} (coded : Coded D) (meaning : DeskMeaning D) where
     free_for (wish.Send message) at after = let q = rests_in who.number who.end a m rests before in let c : Sending = record { follows = who.follows; message = message; stage = stage.Turn } in
         was_free (lane_to m (other who.end)).lane.sender who.number c c
         (sym (sender_after m who.end who.number who.follows message q.0) ∙ sender_in b.0.sizes.desks (After (wish.Send message)) (other who.end) (turn.Taken who.number c)
-          (subst (IsCallOf (placed_link coded b.0.sizes.desks (After (wish.Send message))) 0 who.number) (call_of_at who.number b _ _ at.2) after).1.0)
+        (subst (IsCallOf (placed_link coded b.0.sizes.desks (After (wish.Send message))) 0 who.number) (call_of_at who.number b _ _ at.2) after).1.0)
         (no_send_in a.0.sizes.desks m (other who.end) who.number q.1)
     free_for wish.Take at after = receive_free wish.Take _ _ (λ message is. absurd (cc)) at.3 after
     free_for (wish.Give number) at after = receive_free (wish.Give number) _ _ (λ message is. absurd (cc)) at.3 after

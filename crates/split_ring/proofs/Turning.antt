@@ -150,8 +150,8 @@ turned_back b c t new xs ys few first rest count within =
     let long : t ≡ length (new ++ behind (b + c) xs) = omega (arith, one, three, four, count) in
     let most : t ≤ length (new ++ behind (b + c) xs) = omega (arith, long) in
     ap (turned_by t) whole2 ∙ (turned_more t (new ++ behind (b + c) xs) (front b xs) most
-      ∙ ((λ i. behind (long i) (new ++ behind (b + c) xs) ++ (front b xs ++ front (long i) (new ++ behind (b + c) xs)))
-      ∙ ((λ i. none (new ++ behind (b + c) xs) i ++ (front b xs ++ all (new ++ behind (b + c) xs) i)) )))
+    ∙ ((λ i. behind (long i) (new ++ behind (b + c) xs) ++ (front b xs ++ front (long i) (new ++ behind (b + c) xs)))
+    ∙ ((λ i. none (new ++ behind (b + c) xs) i ++ (front b xs ++ all (new ++ behind (b + c) xs) i)))))
   where
     none : (l : Slots) → behind (length l) l ≡ []
     none [] = refl
@@ -221,8 +221,8 @@ module _ (i : ℕ) (cs : List ℕ) (new xs : Slots) (within : i < length cs) (al
       by : (j < i) ⊎ (i ≤ j) → front (slice_index cs j) (behind (out_before j next_counts) next_slots) ≡ front (slice_index cs j) (behind (out_before j cs) xs)
       by = ⊎_elim
           (λ (less : j < i). let b = out_before i cs in let c = slice_index cs i in let d = slice_index cs j in let few = block_fits i cs xs within all in
-            let same = before_same j i (length new) cs (omega (arith, less)) in let next = before_next j cs inside in let grows = before_grows (suc j) i cs (omega (arith, less)) in
-            ap (λ (o : ℕ). front d (behind o next_slots)) same ∙ block_before b c (out_before j cs) d new xs few (omega (arith, next, grows)))
+          let same = before_same j i (length new) cs (omega (arith, less)) in let next = before_next j cs inside in let grows = before_grows (suc j) i cs (omega (arith, less)) in
+          ap (λ (o : ℕ). front d (behind o next_slots)) same ∙ block_before b c (out_before j cs) d new xs few (omega (arith, next, grows)))
           (λ (more : i ≤ j). let b = out_before i cs in let c = slice_index cs i in let d = slice_index cs j in let few = block_fits i cs xs within all in
-            let less : i < j = omega (arith, more, differs) in let set = before_set j i (length new) cs less within in let next = before_next i cs within in let grows = before_grows (suc i) j cs (omega (arith, less)) in
-            block_behind b c (out_before j cs) (out_before j next_counts) d new xs few (omega (arith, next, grows)) set)
+          let less : i < j = omega (arith, more, differs) in let set = before_set j i (length new) cs less within in let next = before_next i cs within in let grows = before_grows (suc i) j cs (omega (arith, less)) in
+          block_behind b c (out_before j cs) (out_before j next_counts) d new xs few (omega (arith, next, grows)) set)

@@ -139,7 +139,12 @@ impl<D: Desk> SharedLink<D> {
     }
 
     /// The next step of the call of a seat in this phase.
-    pub(crate) fn step_on(&self, seat: &mut LinkSeat, who: CallerId, phase: Phase) -> (Phase, Progress)
+    pub(crate) fn step_on(
+        &self,
+        seat: &mut LinkSeat,
+        who: CallerId,
+        phase: Phase,
+    ) -> (Phase, Progress)
         requires seat { IsOrderlySeat self.now.table.shared.table_id self.now.sizes seat.old.table_id seat.old.me }
         requires number { ((pass_in (seat_of who.number seat.old.me)).number ≡ who.number) × (who.number < 64) }
         requires stands { IsInPhase self.now.sizes who phase (seat_of who.number seat.old.me) }

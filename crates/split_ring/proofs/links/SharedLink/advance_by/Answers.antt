@@ -51,14 +51,14 @@ out_before-requires-clause-few g c = λ slot.
     let s = c.step_on-next in let b = s.new.seat.me in let said = s.result.1 in let next = s.result.0 in
     let h : HasAdvanced coded meaning link who p said next before b = has_advanced coded meaning link who p said next before b c.replace-phase.result c.turn_by.new.seat.me c.replace-phase.ensures.value turned carrier carries s.ensures.alone s.ensures.seat.order s.ensures.next s.ensures.step in
     let out : slice_set before.out c.side_of-side.result (slice_index before.out c.side_of-side.result + c.slots_in.result - c.slots_in-had.result) ≡ out_after coded meaning link who p said next before b h
-        = λ i. slice_set before.out (c.side_of-side.ensures.side i) (slice_index before.out (c.side_of-side.ensures.side i) + c.slots_in.ensures i - c.slots_in-had.ensures i) in
+    = λ i. slice_set before.out (c.side_of-side.ensures.side i) (slice_index before.out (c.side_of-side.ensures.side i) + c.slots_in.ensures i - c.slots_in-had.ensures i) in
     let few = out_few coded meaning link who p said next before b h slot in let same = ap (λ (l : List ℕ). slice_index l slot) out in omega (arith, few, same)
 
 pub overflow_sub-rest : goal.overflow_sub-rest
 overflow_sub-rest g c = let before = c.args.manager.now in let p = c.args.call.now.phase in
     let least = before_least before c.in-Some-Some.end p (slice_index before.out c.side_of-side.result + c.slots_in.result - c.slots_in-had.result) in
     let one : c.out_before.result ≡ out_before 4 (slice_set before.out (side_of c.in-Some-Some.end p) (slice_index before.out c.side_of-side.result + c.slots_in.result - c.slots_in-had.result))
-        = c.out_before.ensures ∙ ap (λ (k : ℕ). out_before 4 (slice_set before.out k (slice_index before.out c.side_of-side.result + c.slots_in.result - c.slots_in-had.result))) c.side_of-side.ensures.side in
+    = c.out_before.ensures ∙ ap (λ (k : ℕ). out_before 4 (slice_set before.out k (slice_index before.out c.side_of-side.result + c.slots_in.result - c.slots_in-had.result))) c.side_of-side.ensures.side in
     let two = c.out_before-before.ensures ∙ ap (λ (k : ℕ). out_before k before.out) c.side_of-side.ensures.side in omega (arith, least, one, two)
 
 pub returns-clause-manager : goal.returns-clause-manager
@@ -71,10 +71,10 @@ returns-clause-manager g c =
     let s = c.step_on-next in let b = s.new.seat.me in let said = s.result.1 in let next = s.result.0 in
     let h : HasAdvanced coded meaning link who p said next before b = has_advanced coded meaning link who p said next before b c.replace-phase.result c.turn_by.new.seat.me c.replace-phase.ensures.value turned carrier carries s.ensures.alone s.ensures.seat.order s.ensures.next s.ensures.step in
     let out : slice_set before.out c.side_of-side.result (slice_index before.out c.side_of-side.result + c.slots_in.result - c.slots_in-had.result) ≡ out_after coded meaning link who p said next before b h
-        = λ i. slice_set before.out (c.side_of-side.ensures.side i) (slice_index before.out (c.side_of-side.ensures.side i) + c.slots_in.ensures i - c.slots_in-had.ensures i) in
+    = λ i. slice_set before.out (c.side_of-side.ensures.side i) (slice_index before.out (c.side_of-side.ensures.side i) + c.slots_in.ensures i - c.slots_in-had.ensures i) in
     let after : Manager = record { seat = c.turn_by-2.new.seat; users = before.users; out = slice_set before.out c.side_of-side.result (slice_index before.out c.side_of-side.result + c.slots_in.result - c.slots_in-had.result) } in
     let rest : c.out_before.result - c.out_before-before.result ≡ out_before 4 (out_after coded meaning link who p said next before b h) - out_before (side_of who.end p) before.out
-        = λ i. (c.out_before.ensures ∙ ap (out_before 4) out) i - (c.out_before-before.ensures ∙ ap (λ (k : ℕ). out_before k before.out) c.side_of-side.ensures.side) i in
+    = λ i. (c.out_before.ensures ∙ ap (out_before 4) out) i - (c.out_before-before.ensures ∙ ap (λ (k : ℕ). out_before k before.out) c.side_of-side.ensures.side) i in
     let seat : after.seat.me ≡ seat_after coded meaning link who p said next before b h = turned_again coded meaning link who p said next before b h (c.out_before.result - c.out_before-before.result) c.turn_by-2.new.seat.me rest c.turn_by-2.ensures.turned in
     let table = c.turn_by-2.ensures.same.0 ∙ s.ensures.seat.at_table in
     (carrier_after coded meaning link who p said next before b h after seat out refl table, refl)
@@ -89,10 +89,10 @@ returns-clause-call g c = λ end is.
     let s = c.step_on-next in let b = s.new.seat.me in let said = s.result.1 in let next = s.result.0 in
     let h : HasAdvanced coded meaning link who p said next before b = has_advanced coded meaning link who p said next before b c.replace-phase.result c.turn_by.new.seat.me c.replace-phase.ensures.value turned carrier carries s.ensures.alone s.ensures.seat.order s.ensures.next s.ensures.step in
     let out : slice_set before.out c.side_of-side.result (slice_index before.out c.side_of-side.result + c.slots_in.result - c.slots_in-had.result) ≡ out_after coded meaning link who p said next before b h
-        = λ i. slice_set before.out (c.side_of-side.ensures.side i) (slice_index before.out (c.side_of-side.ensures.side i) + c.slots_in.ensures i - c.slots_in-had.ensures i) in
+    = λ i. slice_set before.out (c.side_of-side.ensures.side i) (slice_index before.out (c.side_of-side.ensures.side i) + c.slots_in.ensures i - c.slots_in-had.ensures i) in
     let after : Manager = record { seat = c.turn_by-2.new.seat; users = before.users; out = slice_set before.out c.side_of-side.result (slice_index before.out c.side_of-side.result + c.slots_in.result - c.slots_in-had.result) } in
     let rest : c.out_before.result - c.out_before-before.result ≡ out_before 4 (out_after coded meaning link who p said next before b h) - out_before (side_of who.end p) before.out
-        = λ i. (c.out_before.ensures ∙ ap (out_before 4) out) i - (c.out_before-before.ensures ∙ ap (λ (k : ℕ). out_before k before.out) c.side_of-side.ensures.side) i in
+    = λ i. (c.out_before.ensures ∙ ap (out_before 4) out) i - (c.out_before-before.ensures ∙ ap (λ (k : ℕ). out_before k before.out) c.side_of-side.ensures.side) i in
     let seat : after.seat.me ≡ seat_after coded meaning link who p said next before b h = turned_again coded meaning link who p said next before b h (c.out_before.result - c.out_before-before.result) c.turn_by-2.new.seat.me rest c.turn_by-2.ensures.turned in
     let table = c.turn_by-2.ensures.same.0 ∙ s.ensures.seat.at_table in
     subst (λ (e : End). CarriesOn link after (record { number = c.args.caller; end = e; follows = c.args.inc }) next said) (same_user before.users c.args.caller who.end end user is) (carries_on coded meaning link who p said next before b h after seat out refl table)
@@ -107,10 +107,10 @@ returns-clause-others g c = λ other r apart carried.
     let s = c.step_on-next in let b = s.new.seat.me in let said = s.result.1 in let next = s.result.0 in
     let h : HasAdvanced coded meaning link who p said next before b = has_advanced coded meaning link who p said next before b c.replace-phase.result c.turn_by.new.seat.me c.replace-phase.ensures.value turned carrier carries s.ensures.alone s.ensures.seat.order s.ensures.next s.ensures.step in
     let out : slice_set before.out c.side_of-side.result (slice_index before.out c.side_of-side.result + c.slots_in.result - c.slots_in-had.result) ≡ out_after coded meaning link who p said next before b h
-        = λ i. slice_set before.out (c.side_of-side.ensures.side i) (slice_index before.out (c.side_of-side.ensures.side i) + c.slots_in.ensures i - c.slots_in-had.ensures i) in
+    = λ i. slice_set before.out (c.side_of-side.ensures.side i) (slice_index before.out (c.side_of-side.ensures.side i) + c.slots_in.ensures i - c.slots_in-had.ensures i) in
     let after : Manager = record { seat = c.turn_by-2.new.seat; users = before.users; out = slice_set before.out c.side_of-side.result (slice_index before.out c.side_of-side.result + c.slots_in.result - c.slots_in-had.result) } in
     let rest : c.out_before.result - c.out_before-before.result ≡ out_before 4 (out_after coded meaning link who p said next before b h) - out_before (side_of who.end p) before.out
-        = λ i. (c.out_before.ensures ∙ ap (out_before 4) out) i - (c.out_before-before.ensures ∙ ap (λ (k : ℕ). out_before k before.out) c.side_of-side.ensures.side) i in
+    = λ i. (c.out_before.ensures ∙ ap (out_before 4) out) i - (c.out_before-before.ensures ∙ ap (λ (k : ℕ). out_before k before.out) c.side_of-side.ensures.side) i in
     let seat : after.seat.me ≡ seat_after coded meaning link who p said next before b h = turned_again coded meaning link who p said next before b h (c.out_before.result - c.out_before-before.result) c.turn_by-2.new.seat.me rest c.turn_by-2.ensures.turned in
     let table = c.turn_by-2.ensures.same.0 ∙ s.ensures.seat.at_table in
     others_after coded meaning link who p said next before b h after seat out refl table other r apart carried
@@ -125,10 +125,10 @@ returns-clause-step g c = λ end is.
     let s = c.step_on-next in let b = s.new.seat.me in let said = s.result.1 in let next = s.result.0 in
     let h : HasAdvanced coded meaning link who p said next before b = has_advanced coded meaning link who p said next before b c.replace-phase.result c.turn_by.new.seat.me c.replace-phase.ensures.value turned carrier carries s.ensures.alone s.ensures.seat.order s.ensures.next s.ensures.step in
     let out : slice_set before.out c.side_of-side.result (slice_index before.out c.side_of-side.result + c.slots_in.result - c.slots_in-had.result) ≡ out_after coded meaning link who p said next before b h
-        = λ i. slice_set before.out (c.side_of-side.ensures.side i) (slice_index before.out (c.side_of-side.ensures.side i) + c.slots_in.ensures i - c.slots_in-had.ensures i) in
+    = λ i. slice_set before.out (c.side_of-side.ensures.side i) (slice_index before.out (c.side_of-side.ensures.side i) + c.slots_in.ensures i - c.slots_in-had.ensures i) in
     let after : Manager = record { seat = c.turn_by-2.new.seat; users = before.users; out = slice_set before.out c.side_of-side.result (slice_index before.out c.side_of-side.result + c.slots_in.result - c.slots_in-had.result) } in
     let rest : c.out_before.result - c.out_before-before.result ≡ out_before 4 (out_after coded meaning link who p said next before b h) - out_before (side_of who.end p) before.out
-        = λ i. (c.out_before.ensures ∙ ap (out_before 4) out) i - (c.out_before-before.ensures ∙ ap (λ (k : ℕ). out_before k before.out) c.side_of-side.ensures.side) i in
+    = λ i. (c.out_before.ensures ∙ ap (out_before 4) out) i - (c.out_before-before.ensures ∙ ap (λ (k : ℕ). out_before k before.out) c.side_of-side.ensures.side) i in
     let seat : after.seat.me ≡ seat_after coded meaning link who p said next before b h = turned_again coded meaning link who p said next before b h (c.out_before.result - c.out_before-before.result) c.turn_by-2.new.seat.me rest c.turn_by-2.ensures.turned in
     let table = c.turn_by-2.ensures.same.0 ∙ s.ensures.seat.at_table in
     subst (λ (e : End). let who : CallerId = record { number = c.args.caller; end = e; follows = c.args.inc } in Advances coded meaning link.sizes who p said next (carried_seat who p before) (carried_seat who p after))
@@ -144,10 +144,10 @@ returns-clause-state g c = λ end is m known.
     let s = c.step_on-next in let b = s.new.seat.me in let said = s.result.1 in let next = s.result.0 in
     let h : HasAdvanced coded meaning link who p said next before b = has_advanced coded meaning link who p said next before b c.replace-phase.result c.turn_by.new.seat.me c.replace-phase.ensures.value turned carrier carries s.ensures.alone s.ensures.seat.order s.ensures.next s.ensures.step in
     let out : slice_set before.out c.side_of-side.result (slice_index before.out c.side_of-side.result + c.slots_in.result - c.slots_in-had.result) ≡ out_after coded meaning link who p said next before b h
-        = λ i. slice_set before.out (c.side_of-side.ensures.side i) (slice_index before.out (c.side_of-side.ensures.side i) + c.slots_in.ensures i - c.slots_in-had.ensures i) in
+    = λ i. slice_set before.out (c.side_of-side.ensures.side i) (slice_index before.out (c.side_of-side.ensures.side i) + c.slots_in.ensures i - c.slots_in-had.ensures i) in
     let after : Manager = record { seat = c.turn_by-2.new.seat; users = before.users; out = slice_set before.out c.side_of-side.result (slice_index before.out c.side_of-side.result + c.slots_in.result - c.slots_in-had.result) } in
     let rest : c.out_before.result - c.out_before-before.result ≡ out_before 4 (out_after coded meaning link who p said next before b h) - out_before (side_of who.end p) before.out
-        = λ i. (c.out_before.ensures ∙ ap (out_before 4) out) i - (c.out_before-before.ensures ∙ ap (λ (k : ℕ). out_before k before.out) c.side_of-side.ensures.side) i in
+    = λ i. (c.out_before.ensures ∙ ap (out_before 4) out) i - (c.out_before-before.ensures ∙ ap (λ (k : ℕ). out_before k before.out) c.side_of-side.ensures.side) i in
     let seat : after.seat.me ≡ seat_after coded meaning link who p said next before b h = turned_again coded meaning link who p said next before b h (c.out_before.result - c.out_before-before.result) c.turn_by-2.new.seat.me rest c.turn_by-2.ensures.turned in
     let table = c.turn_by-2.ensures.same.0 ∙ s.ensures.seat.at_table in
     subst (λ (e : End). IsStateOf coded after (after_deed meaning m (deed_of (record { number = c.args.caller; end = e; follows = c.args.inc }) p)))

@@ -86,4 +86,4 @@ returns-in-Err-clause-said g c = λ m knows.
     let coded = g.row.D.coded in let meaning = g.D.Desk.meaning in let who = c.args.who in let a = c.args.seat.now.me in let shows = c.enter.ensures.alone.calls m knows in let h = c.in-Err.holder in
     ap (λ (x : Answer). outcome.Ended (call_end x)) c.busy_answer.ensures
     ∙ first_refused coded meaning m who.end who.number who.follows c.args.ask h (rests_user coded meaning who.number who.end a m c.requires.stands.0 shows.0)
-      (subst (λ (w : Wish). holder_for who.end w m ≡ Some h) c.wish_of.ensures.wish (c.in-Err.ensures.met m knows))
+    (subst (λ (w : Wish). holder_for who.end w m ≡ Some h) c.wish_of.ensures.wish (c.in-Err.ensures.met m knows))
