@@ -1,5 +1,5 @@
 -- What each step tells a seat that may have several passes is what it would tell of the pass alone.
-use Rattle.std.proofs.Common.{◌≡◌, ◌≢◌, ◌⊎◌, inl, inr, ⊎_elim, ℕ, zero, suc, ◌+◌, ◌*◌, ◌%◌, ◌<◌, ◌≤◌, ◌++◌, ◌==◌, Bool, true, false, cond, length, List, [], ◌∷◌, refl, sym, ap, ◌∙◌, subst}
+use Rattle.std.proofs.Common.{◌≡◌, ◌≢◌, ◌⊎◌, inl, inr, ℕ, suc, ◌+◌, ◌%◌, ◌<◌, ◌≤◌, ◌++◌, ◌==◌, Bool, true, false, cond, length, List, [], ◌∷◌, refl, sym, ap, ◌∙◌, subst}
 use Rattle.std.specs.Prelude.{None}
 use mathlib.Core.Option.{some}
 use lib.ListN.{get_elem?}
@@ -28,12 +28,9 @@ use Rattle.lane_model.specs.Desks.{DeskMeaning}
 use Rattle.lane_model.specs.Lanes.{is_live_in}
 use Rattle.lane_model.specs.Receives.{after_take_era}
 use Rattle.lane_model.specs.Sends.{after_send_era}
-use Rattle.ring_core.specs.declared.states.Hand.{Hand}
-use Rattle.ring_core.specs.declared.states.RingSizes.{RingSizes}
 use Rattle.ring_core.specs.Rings.{return_count, entry_length}
 use Rattle.ring_core.specs.RingSteps.{hands_without}
 use Rattle.vring_layout.specs.declared.words.UsedWord.{UsedWord}
-use Rattle.link_words.specs.declared.codes.DeskRight.{DeskRight}
 use Rattle.link_words.specs.declared.codes.DeskTables.{DeskTables}
 use Rattle.link_words.specs.declared.loads.EraUse.{EraUse}
 use Rattle.link_words.specs.declared.loads.EraUse.TheVariants as era
@@ -60,9 +57,9 @@ use Rattle.link_words.specs.Orderly.{IsOrderly}
 use Rattle.link_words.specs.Parts.{AreNear}
 use Rattle.link_words.specs.Passes.{with_call, place_of_number}
 use Rattle.link_words.specs.PlacedDesks.{IsRightTo, no_right}
-use Rattle.link_words.specs.Steps.{GoesOn, EndsAt, LeavesTurn, LeavesSender, LeavesReceiver, TakesTurn, TakesSender, TakesReceiver, first_work, MayLoadIndex, LoadsIndex, MayLoadEntry, LoadsEntry, MayLoadEra, LoadsEra, MayStoreEntry, StoresEntry, MayPublish, PublishesIndex, SendLoadsEra, SendLooks, SendTakesBuffer, SendStoresEntry, SendPublishes, TakeLoadsEra, TakeLooks, TakeTakesBuffer, TakeHands, GiveStoresEntry, GivePublishes, BindLoadsEra, look_turn, take_look_turn, with_room, with_publish, with_waiting, with_handing, with_given, with_binding, with_entry, accepted_side, handed_side, given_or, hands_but, desk_says, desk_after}
+use Rattle.link_words.specs.Steps.{GoesOn, EndsAt, LeavesTurn, TakesTurn, TakesSender, TakesReceiver, first_work, MayLoadIndex, LoadsIndex, MayLoadEntry, LoadsEntry, MayLoadEra, LoadsEra, MayStoreEntry, StoresEntry, MayPublish, PublishesIndex, SendLoadsEra, SendLooks, SendTakesBuffer, SendStoresEntry, SendPublishes, TakeLoadsEra, TakeLooks, TakeTakesBuffer, TakeHands, GiveStoresEntry, GivePublishes, BindLoadsEra, look_turn, take_look_turn, with_room, with_publish, with_waiting, with_handing, with_given, with_binding, with_entry, accepted_side, handed_side, given_or, hands_but, desk_says, desk_after}
 use Rattle.link_words.specs.Words.{other, sizes_at, buffer_slot, sender_slot, receiver_slot}
-use Rattle.split_ring.specs.Focus.{send_count, work_count, slot_count, front, behind, count_of, seat_of, others_of, LeavesOthers, StepsAlone}
+use Rattle.split_ring.specs.Focus.{send_count, work_count, slot_count, front, behind, count_of, seat_of, LeavesOthers, StepsAlone}
 use Rattle.split_ring.proofs.Focusing.{Focused, Links, goes_alone, goes_on, focused, step_alone, calls_same, owns_same, hands_same, count_is, call_there, place_alone, found_number, rest_front, rest_behind, lent_front}
 
 -- what a step reads of the call of the pass that steps

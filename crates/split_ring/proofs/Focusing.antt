@@ -15,7 +15,6 @@ use Rattle.rp_base.specs.declared.kinds.End.TheVariants as side
 use Rattle.link_words.specs.declared.copies.LinkCopy.{LinkCopy}
 use Rattle.link_words.specs.declared.rule.Call.{Call}
 use Rattle.link_words.specs.declared.rule.Call.TheVariants.{Idle, Sends, Rests, Reclaims, EndsHeld, Receives, EndsReceive, EndsSend, EndsBoth, Reopens, Gathers}
-use Rattle.link_words.specs.declared.rule.Event.{Event}
 use Rattle.link_words.specs.declared.rule.LinkSizes.{LinkSizes}
 use Rattle.link_words.specs.declared.rule.Pass.{Pass}
 use Rattle.link_words.specs.declared.rule.Slot.{Slot}

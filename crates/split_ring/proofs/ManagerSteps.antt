@@ -8,7 +8,6 @@ use Rattle.rp_base.specs.declared.kinds.End.TheVariants as side
 use Rattle.lane_model.specs.declared.lane_links.LaneLink.{LaneLink}
 use Rattle.lane_model.specs.declared.recoveries.LaneTurn.{LaneTurn}
 use Rattle.lane_model.specs.declared.recoveries.LaneTurn.TheVariants as lane_turn
-use Rattle.lane_model.specs.declared.stages.Receiving.{Receiving}
 use Rattle.lane_model.specs.declared.stages.Turn.{Turn}
 use Rattle.lane_model.specs.declared.stages.Turn.TheVariants as turn
 use Rattle.lane_model.specs.Desks.{DeskMeaning}

@@ -3,8 +3,6 @@ use Rattle.std.proofs.Common.{◌≡◌, ◌<◌, ℕ, Bool, true, false, cond, 
 use Rattle.std.specs.Prelude.{Option, Some, None, fold, nat_lt}
 use Rattle.std.specs.Option.{option_map, option_or}
 use base.Stored.{Coded}
-use Rattle.rp_base.specs.declared.kinds.End.{End}
-use Rattle.rp_base.specs.declared.kinds.End.TheVariants as side
 use Rattle.rp_base.specs.declared.kinds.Era.{Era}
 use Rattle.lane_model.specs.declared.lane_links.LaneLink.{LaneLink}
 use Rattle.lane_model.specs.declared.recoveries.Books.{Books}
@@ -33,7 +31,7 @@ use Rattle.link_words.specs.PlacedLinks.{IsSameCarrier, KnowsState, placed_link}
 use Rattle.link_words.specs.Reopens.{KeepsCopy, OpensLink, books_by, both_sides, least_hand, lesser_hand}
 use Rattle.link_words.specs.Seats.{FindsEraOfCopy, LearnsEra}
 use Rattle.link_words.specs.Sides.{sides_at}
-use Rattle.link_words.specs.Words.{era_word, lane_to, sender_side}
+use Rattle.link_words.specs.Words.{era_word, lane_to}
 use Rattle.link_words.proofs.Closes.{era_of_word}
 use Rattle.link_words.proofs.Placed.{state_after}
 use Rattle.split_ring.specs.Gathers.{IsCalling}

@@ -1,11 +1,10 @@
 -- What the manager knows of the state of a link over its turns of a lane.
 use Rattle.std.proofs.Common.{◌≡◌, ◌+◌, ℕ, List, [], ◌∷◌, map, get_or, refl, sym, ap, ◌∙◌, subst}
-use Rattle.std.specs.Prelude.{Option, Some, None}
+use Rattle.std.specs.Prelude.{Some, None}
 use Rattle.std.specs.Option.{option_or}
 use base.Stored.{Coded}
 use Rattle.rp_base.specs.declared.kinds.End.{End}
 use Rattle.rp_base.specs.declared.kinds.End.TheVariants as side
-use Rattle.rp_base.specs.declared.kinds.Era.{Era}
 use Rattle.lane_model.specs.declared.lane_links.LaneLink.{LaneLink}
 use Rattle.lane_model.specs.declared.recoveries.LaneTurn.TheVariants as lane_turn
 use Rattle.lane_model.specs.declared.states.LaneState.{LaneState}
@@ -34,7 +33,7 @@ use Rattle.link_words.specs.Reopens.{ManagerDoes, gathered, manager_place}
 use Rattle.link_words.specs.Rule.{IsCallOf}
 use Rattle.link_words.specs.Steps.{HasWord, StoresWord}
 use Rattle.link_words.specs.Turns.{turns_in}
-use Rattle.link_words.specs.Words.{lane_to, receiver_side, receiver_slot, receiver_word, sender_side, sender_slot, sender_word, turn_word, words_of}
+use Rattle.link_words.specs.Words.{lane_to, receiver_slot, receiver_word, sender_side, sender_slot, sender_word, turn_word, words_of}
 use Rattle.link_words.proofs.Apart.{found_apart}
 use Rattle.link_words.proofs.TurnWords.{lane_again, receiver_beside, sender_again, sender_of}
 use Rattle.split_ring.specs.Gathers.{FindsTurnFree, FreesTurn, IsCalling, Meets, PutsSide, TakesSide, lane_slots}

@@ -1,5 +1,5 @@
 -- What the manager's calls answer and leave of a link whose state it knows (own).
-use Rattle.std.specs.Prelude.{◌≡◌, ◌⊎◌, ◌*◌, ℕ, Result, Ok, Err, Some, None}
+use Rattle.std.specs.Prelude.{◌≡◌, ◌⊎◌, ◌*◌, Result, Ok, Err, Some, None}
 use base.Stored.{Coded}
 use Rattle.lane_model.specs.declared.lane_links.LaneLink.{LaneLink}
 use Rattle.lane_model.specs.declared.recoveries.Books.{Books}

@@ -1,4 +1,4 @@
-use Rattle.std.proofs.Common.{◌≡◌, refl, sym, ap, ◌∙◌, subst}
+use Rattle.std.proofs.Common.{refl, sym, ap, ◌∙◌, subst}
 use Rattle.link_words.specs.Calls.{SeatState}
 use Rattle.split_ring.specs.Calls.{IsInPhase, Advances}
 use Rattle.split_ring.specs.Focus.{seat_of}

@@ -5,9 +5,8 @@ use Rattle.link_words.specs.declared.rule.Made.TheVariants as made
 use Rattle.link_words.specs.declared.rule.Slot.{Slot}
 use Rattle.link_words.specs.declared.rule.Slot.TheVariants.{Receiver}
 use Rattle.link_words.specs.Calls.{SeatState}
-use Rattle.link_words.specs.Steps.{desk_says}
 use Rattle.link_words.specs.Words.{receiver_slot}
-use Rattle.split_ring.specs.Binds.{desk_work, asked_side, asked_call, desk_result}
+use Rattle.split_ring.specs.Binds.{asked_side, asked_call, desk_result}
 use Rattle.split_ring.specs.Seats.{IsAt}
 use Rattle.split_ring.specs.Sends.{live_era}
 use Rattle.split_ring.specs.Walks.{same_hands}

@@ -1,5 +1,5 @@
-use Rattle.std.proofs.Common.{sym, subst, refl, ◌≡◌, ◌+◌, ℕ, ◌∷◌, [], ap, ◌∙◌}
-use Rattle.std.specs.Prelude.{Result, Ok, Err}
+use Rattle.std.proofs.Common.{sym, subst, refl, ◌+◌, ◌∷◌, []}
+use Rattle.std.specs.Prelude.{Result, Err}
 use Rattle.rp_base.specs.declared.kinds.Endpoint.{Endpoint}
 use Rattle.split_ring.specs.Binds.{IsDeskCall, desk_result}
 use Rattle.split_ring.specs.declared.binds.DeskFault.{DeskFault}
@@ -11,7 +11,6 @@ use Rattle.split_ring.proofs.BindSteps.{asks_fit, asks_begun, asks_whole}
 use Rattle.split_ring.specs.Calls.{call_end, desk_said}
 use Rattle.split_ring.proofs.Focusing.{alone_leaves, caller_alone, caller_seat, caller_there, caller_again, both_alone}
 use Rattle.split_ring.specs.Focus.{seat_of}
-use Rattle.link_words.specs.Calls.{SeatState}
 use Rattle.link_words.specs.declared.rule.Event.TheVariants.{Step}
 use Rattle.link_words.specs.declared.rule.Made.TheVariants as made
 use Rattle.split_ring.specs.declared.binds.DeskFault.TheVariants as fault

@@ -1,4 +1,4 @@
-use Rattle.std.proofs.Common.{◌≡◌, ◌<◌, ◌%◌, ℕ, not, List, map, length, get_or, refl, sym, ap, ◌∙◌, subst}
+use Rattle.std.proofs.Common.{◌≡◌, ◌<◌, ◌%◌, ℕ, not, List, map, length, get_or, sym, ap, ◌∙◌, subst}
 use Rattle.rp_base.specs.Limits.{IsRingSize, ring_capacity}
 use Rattle.ring_core.specs.declared.states.RingSizes.{RingSizes}
 use Rattle.ring_core.specs.Rings.{entry_of}
@@ -6,7 +6,6 @@ use Rattle.ring_core.specs.RingWords.{device_sends}
 use Rattle.vring_layout.specs.declared.words.UsedWord.{UsedWord}
 use Rattle.link_words.specs.declared.rule.LinkSizes.{LinkSizes}
 use Rattle.link_words.specs.Calls.{SeatState}
-use Rattle.link_words.specs.Reopens.{MayGather}
 use Rattle.link_words.specs.Words.{sizes_at}
 use Rattle.split_ring.specs.Snapshots.{FindsIn, HasEntry, HasIndex}
 use Rattle.split_ring.proofs.Finding.{lane_found}

@@ -1,7 +1,7 @@
-use Rattle.std.proofs.Common.{ap, ◌∙◌, ◌+◌, ◌*◌, ◌%◌}
+use Rattle.std.proofs.Common.{ap, ◌∙◌}
 use Rattle.link_words.specs.declared.rule.View.{View}
 use Rattle.link_words.specs.Layouts.{place_in}
-use Rattle.link_words.specs.Steps.{HasWord, StoresWord, index_number, ring_index}
+use Rattle.link_words.specs.Steps.{HasWord}
 use Rattle.link_words.specs.Words.{entry_number}
 use Rattle.split_ring.proofs.AloneSteps.{may_load_entry, entry_done}
 use Rattle.split_ring.proofs.links.SharedLink.load_entry.Goals as goal

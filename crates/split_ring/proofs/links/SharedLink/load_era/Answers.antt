@@ -1,8 +1,6 @@
-use Rattle.std.proofs.Common.{ap, ◌∙◌, ◌+◌, ◌*◌, ◌%◌}
+use Rattle.std.proofs.Common.{ap, ◌∙◌}
 use Rattle.link_words.specs.declared.rule.View.{View}
-use Rattle.link_words.specs.Layouts.{place_in}
-use Rattle.link_words.specs.Steps.{HasWord, StoresWord, index_number, ring_index}
-use Rattle.link_words.specs.Words.{entry_number}
+use Rattle.link_words.specs.Steps.{HasWord}
 use Rattle.split_ring.proofs.AloneSteps.{may_load_era, era_done}
 use Rattle.split_ring.proofs.links.SharedLink.load_era.Goals as goal
 

@@ -1,4 +1,4 @@
-use Rattle.std.proofs.Common.{◌+◌, ◌%◌, ◌∷◌, [], refl, ◌∙◌, subst}
+use Rattle.std.proofs.Common.{◌+◌, ◌%◌, ◌∷◌, [], refl, subst}
 use Rattle.atomic_table.specs.Table.{rest}
 use Rattle.lane_model.specs.declared.calls.CallEnd.TheVariants as end
 use Rattle.lane_model.specs.declared.stages.Turn.TheVariants as turn

@@ -1,6 +1,5 @@
 use Rattle.std.proofs.Common.{◌+◌, ◌%◌, ℕ, List, ◌∷◌, [], refl, sym, ap, ◌∙◌, subst}
 use Rattle.rp_base.specs.declared.kinds.End.{End}
-use Rattle.lane_model.specs.declared.calls.CallEnd.TheVariants as end
 use Rattle.link_words.specs.declared.rule.Event.TheVariants.{Publish}
 use Rattle.link_words.specs.declared.rule.Ring.TheVariants as ring
 use Rattle.link_words.specs.declared.rule.Slot.{Slot}

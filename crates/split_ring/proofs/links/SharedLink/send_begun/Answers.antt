@@ -10,7 +10,7 @@ use Rattle.link_words.specs.Calls.{SeatState}
 use Rattle.link_words.specs.Words.{other, sender_slot}
 use Rattle.split_ring.specs.Focus.{seat_of}
 use Rattle.split_ring.specs.Seats.{IsAt}
-use Rattle.split_ring.proofs.Focusing.{lent_alone, inside_alone, rewritten_alone, swapped_stays}
+use Rattle.split_ring.proofs.Focusing.{lent_alone, inside_alone, swapped_stays}
 use Rattle.split_ring.proofs.Seats.{still}
 use Rattle.rp_base.specs.declared.limits.TheConstants.{BOOK_MOST}
 use Rattle.split_ring.proofs.links.SharedLink.send_begun.Goals as goal

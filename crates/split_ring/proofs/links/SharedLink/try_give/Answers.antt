@@ -1,7 +1,7 @@
 use Rattle.std.specs.Prelude.{Ok, Err}
 use Rattle.split_ring.proofs.GiveSteps.{gives_whole, give_seen}
 use Rattle.lane_model.specs.declared.calls.CallEnd.TheVariants as end
-use Rattle.std.proofs.Common.{refl, ◌≡◌, ◌+◌, ℕ, ◌∷◌, [], sym, ap, ◌∙◌, subst}
+use Rattle.std.proofs.Common.{refl, ◌≡◌, ◌+◌, ℕ, ◌∷◌, [], sym, subst}
 use Rattle.split_ring.proofs.Focusing.{alone_leaves, caller_alone, caller_seat, caller_there, caller_again, both_alone, alone_same}
 use Rattle.split_ring.specs.Focus.{seat_of}
 use Rattle.link_words.specs.Calls.{SeatState}

@@ -1,9 +1,8 @@
 use Rattle.split_ring.proofs.TakeWalks.{takes_whole, take_seen, in_hand}
-use Rattle.std.proofs.Common.{refl, ◌≡◌, ◌+◌, ℕ, ◌∷◌, [], sym, ap, ◌∙◌, subst}
+use Rattle.std.proofs.Common.{refl, ◌+◌, ◌∷◌, []}
 use Rattle.split_ring.proofs.Focusing.{alone_leaves, caller_alone, caller_seat, caller_there, caller_again, both_alone}
 use Rattle.split_ring.specs.Focus.{seat_of}
-use Rattle.link_words.specs.Calls.{SeatState}
-use Rattle.std.specs.Prelude.{Ok, Err}
+use Rattle.std.specs.Prelude.{Err}
 use Rattle.link_words.specs.declared.rule.Event.TheVariants.{Step}
 use Rattle.link_words.specs.declared.rule.Made.TheVariants as made
 use Rattle.split_ring.specs.Receives.{IsTake}
