@@ -73,7 +73,7 @@ pub returns-in-Ok-clause-next : goal.returns-in-Ok-clause-next
 returns-in-Ok-clause-next g c = (refl, c.begun_call.ensures.next.0, c.begun_call.ensures.next.1, tt)
 
 pub returns-in-Err-clause-next : goal.returns-in-Err-clause-next
-returns-in-Err-clause-next g c = (refl, c.in-Err.holder, c.busy_answer.ensures)
+returns-in-Err-clause-next g c = (refl, (c.in-Err.holder, c.busy_answer.ensures))
 
 pub returns-in-Ok-clause-said : goal.returns-in-Ok-clause-said
 returns-in-Ok-clause-said g c = λ m knows.
