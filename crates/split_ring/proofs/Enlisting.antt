@@ -21,7 +21,7 @@ found_first : (n : ℕ) (ps qs : List Pass) (p : Pass) (b : Bool) (q : Pass) →
 found_first n ps qs p true q rest at = refl
 found_first n ps qs p false q rest at = ap suc (rest at)
 
-place_longer : (n : ℕ) (ps qs : List Pass) (p : Pass) → get_elem? ps (place_of_number n ps) ≡ some p → place_of_number n (ps ++ qs) ≡ place_of_number n ps
+pub place_longer : (n : ℕ) (ps qs : List Pass) (p : Pass) → get_elem? ps (place_of_number n ps) ≡ some p → place_of_number n (ps ++ qs) ≡ place_of_number n ps
 place_longer n [] qs p at = absurd (some-ne-none p (sym at))
 place_longer n (q ∷ ps) qs p at = found_first n ps qs p (eqb q.number n) q (place_longer n ps qs p) at
 

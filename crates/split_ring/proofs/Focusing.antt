@@ -12,6 +12,7 @@ use Rattle.lane_model.specs.declared.lane_links.LaneLink.{LaneLink}
 use Rattle.lane_model.specs.Desks.{DeskMeaning}
 use Rattle.ring_core.specs.declared.states.RingState.{RingState}
 use Rattle.rp_base.specs.declared.kinds.End.TheVariants as side
+use Rattle.link_words.specs.declared.copies.LinkCopy.{LinkCopy}
 use Rattle.link_words.specs.declared.rule.Call.{Call}
 use Rattle.link_words.specs.declared.rule.Call.TheVariants.{Idle, Sends, Rests, Reclaims, EndsHeld, Receives, EndsReceive, EndsSend, EndsBoth, Reopens, Gathers}
 use Rattle.link_words.specs.declared.rule.LinkSizes.{LinkSizes}
@@ -20,17 +21,18 @@ use Rattle.link_words.specs.declared.rule.Slot.{Slot}
 use Rattle.link_words.specs.declared.rule.View.{View}
 use Rattle.link_words.specs.Calls.{SeatState, Becomes, call_at, number_at, own_at, in_hand_at, first_side, has_side, is_side, place_of, place_with, with_pass_at}
 use Rattle.link_words.specs.Orderly.{IsOrderly}
-use Rattle.link_words.specs.Deeds.{Deed, MayDo, Steps, after_deed}
+use Rattle.link_words.specs.Deeds.{Deed, IsSoundState, MayDo, Steps, after_deed}
 use Rattle.link_words.specs.Passes.{Manages, Mover, only_pass, place_of_number, with_call}
 use Rattle.link_words.specs.Codes.{copied}
 use Rattle.link_words.specs.PlacedDesks.{PlacedDesk, placed_coded, placed_meaning}
-use Rattle.link_words.specs.PlacedLinks.{KnowsState, IsSameCarrier}
+use Rattle.link_words.specs.PlacedLinks.{KnowsState, IsSameCarrier, placed_link}
 use Rattle.link_words.specs.Rule.{IsCallOf}
 use Rattle.link_words.specs.Sides.{is_there}
 use Rattle.link_words.specs.Steps.{Begins, GoesOn}
 use Rattle.link_words.proofs.Orderly.{order_within}
-use Rattle.link_words.proofs.Placed.{state_after}
-use Rattle.split_ring.specs.Focus.{slot_count, front, behind, focus, count_of, seat_of, others_of, IsAlone, IsOrderlySeat, LeavesOthers, StepsAlone, StaysAlone}
+use Rattle.link_words.proofs.Exact.{copied_one}
+use Rattle.link_words.proofs.Placed.{deed_placed, state_after}
+use Rattle.split_ring.specs.Focus.{slot_count, front, behind, focus, count_of, seat_of, others_of, IsAlone, IsOrderlySeat, LeavesOthers, ShowsCall, StepsAlone, StaysAlone}
 use Rattle.split_ring.specs.Seats.{IsAt, IsCaller, IsSeatOf, first_pass, pass_in}
 use Rattle.split_ring.specs.declared.callers.CallerId.{CallerId}
 use Rattle.split_ring.proofs.Seats.{call_here, number_place, rewritten}
@@ -104,7 +106,7 @@ number_there k [] p at = absurd (some-ne-none p (sym at))
 number_there zero (q ∷ ps) p at = ap (λ (x : Pass). x.number) (some-injective q p at)
 number_there (suc k) (q ∷ ps) p at = number_there k ps p at
 
-changed_there : (f : Pass → Pass) (k : ℕ) (ps : List Pass) (p : Pass) → get_elem? ps k ≡ some p → get_elem? (with_pass_at f k ps) k ≡ some (f p)
+pub changed_there : (f : Pass → Pass) (k : ℕ) (ps : List Pass) (p : Pass) → get_elem? ps k ≡ some p → get_elem? (with_pass_at f k ps) k ≡ some (f p)
 changed_there f k [] p at = absurd (some-ne-none p (sym at))
 changed_there f zero (q ∷ ps) p at = ap (λ (x : Pass). some (f x)) (some-injective q p at)
 changed_there f (suc k) (q ∷ ps) p at = changed_there f k ps p at
@@ -387,12 +389,31 @@ module _ {D : Type 0} (coded : Coded D) (meaning : DeskMeaning D) where
             (x.0, x.1 ∙ ap (λ (j : ℕ). Some (copied (placed_coded coded me.0.sizes.desks) (after_deed desk s.state (Steps j 0 None)))) number);
       }
 
+  -- the state of a step is the one that a manager knew
+  pub known_is : (me : SeatState) (state : Links me) (m : LaneLink (RingState D)) → KnowsState coded me.0 m → ((c : LinkCopy) → me.0.copy ≡ Some c → c ≡ copied (placed_coded coded me.0.sizes.desks) state) → state ≡ placed_link coded me.0.sizes.desks m
+  known_is me state m knows same = sym (copied_one (placed_coded coded me.0.sizes.desks) (placed_link coded me.0.sizes.desks m) state (same _ knows.copy))
+
+  -- so the call before the step is one in it, and the call behind the step one in the state after the deed
+  shows_calls : (n : ℕ) (d : Deed) (me me' : SeatState) (state : Links me) (m : LaneLink (RingState D)) → state ≡ placed_link coded me.0.sizes.desks m → me'.0.sizes ≡ me.0.sizes → IsCallOf state 0 n (call_at (place_of_number n me.0.passes) me.0.passes)
+      → IsCallOf (after_deed (placed_meaning coded me.0.sizes.desks meaning) state d) 0 n (call_at (place_of_number n me'.0.passes) me'.0.passes) → ShowsCall coded n me m × ShowsCall coded n me' (after_deed meaning m d)
+  shows_calls n d me me' state m is sizes before after =
+      let z = me.0.sizes in let call = call_at (place_of_number n me'.0.passes) me'.0.passes in (
+        subst (λ (l : Links me). IsCallOf l 0 n (call_at (place_of_number n me.0.passes) me.0.passes)) is before,
+        subst (λ (y : LinkSizes). IsCallOf (placed_link coded y.desks (after_deed meaning m d)) 0 n call) (sym sizes)
+            (subst (λ (l : Links me). IsCallOf l 0 n call) (ap (λ (l : Links me). after_deed (placed_meaning coded z.desks meaning) l d) is ∙ deed_placed coded z.desks meaning m d) after),
+      )
+
   -- and the manager, which knew the state, knows the next one
   pub goes_on : (n : ℕ) (me me' : SeatState) (Reads : Links me → Links me → Type 0) → Focused n me → LeavesOthers n me me' → GoesOn coded meaning me Reads me' → StepsAlone coded meaning n (Steps n 0 None) me me'
   goes_on n me me' Reads f leaves s = record {
     leaves = leaves;
     knows = λ m knows. subst (λ (j : ℕ). KnowsState coded me'.0 (after_deed meaning m (Steps j 0 None))) (number_is n me f)
         (state_after coded meaning (Steps (number_at (place_of me) me.0.passes) 0 None) me.0 me'.0 s.state m knows (same_carrier n me me' leaves knows.manages) (λ c was. s.copy c knows.manages knows.carries was));
+    sound = λ m knows. subst (λ (l : Links me). IsSoundState (placed_meaning coded me.0.sizes.desks meaning) l) (known_is me s.state m knows (λ c was. (s.copy c knows.manages knows.carries was).0)) s.sound;
+    calls = λ m knows. let desk = placed_meaning coded me.0.sizes.desks meaning in let here = f.here ∙ sym leaves.here in
+        shows_calls n (Steps n 0 None) me me' s.state m (known_is me s.state m knows (λ c was. (s.copy c knows.manages knows.carries was).0)) (ap (λ (v : View). v.sizes) leaves.view)
+        (subst (λ (t : ℕ × Call). IsCallOf s.state 0 t.0 t.1) (λ i. (number_is n me f i, call_at (f.here i) me.0.passes)) s.before)
+        (subst (λ (t : ℕ × Call). IsCallOf (after_deed desk s.state (Steps t.0 0 None)) 0 t.0 t.1) (λ i. (number_is n me f i, call_at (here i) me'.0.passes)) s.after);
   }
 
   -- a first step of the pass of this number
@@ -414,6 +435,9 @@ module _ {D : Type 0} (coded : Coded D) (meaning : DeskMeaning D) where
   begins_on n follows w me me' Reads leaves s = record {
     leaves = leaves;
     knows = λ m knows. state_after coded meaning (Steps n follows (Some w)) me.0 me'.0 s.state m knows (same_carrier n me me' leaves knows.manages) (λ c was. s.copy c knows.manages knows.carries was);
+    sound = λ m knows. subst (λ (l : Links me). IsSoundState (placed_meaning coded me.0.sizes.desks meaning) l) (known_is me s.state m knows (λ c was. (s.copy c knows.manages knows.carries was).0)) s.sound;
+    calls = λ m knows. shows_calls n (Steps n follows (Some w)) me me' s.state m (known_is me s.state m knows (λ c was. (s.copy c knows.manages knows.carries was).0)) (ap (λ (v : View). v.sizes) leaves.view) s.before
+        (subst (λ (k : ℕ). IsCallOf (after_deed (placed_meaning coded me.0.sizes.desks meaning) s.state (Steps n follows (Some w))) 0 n (call_at k me'.0.passes)) (sym leaves.here) s.after);
   }
 
   -- what is in the slots of the call changes before a step, or behind it
@@ -426,6 +450,8 @@ module _ {D : Type 0} (coded : Coded D) (meaning : DeskMeaning D) where
       others = steps.leaves.others ∙ stays.others;
     };
     knows = λ m knows. steps.knows m (subst (λ (v : View). KnowsState coded v m) (sym stays.view) knows);
+    sound = λ m knows. subst (λ (v : View). IsSoundState (placed_meaning coded v.sizes.desks meaning) (placed_link coded v.sizes.desks m)) stays.view (steps.sound m (subst (λ (v : View). KnowsState coded v m) (sym stays.view) knows));
+    calls = λ m knows. let both = steps.calls m (subst (λ (v : View). KnowsState coded v m) (sym stays.view) knows) in (subst (λ (v : View). ShowsCall coded n (v, a.1) m) stays.view both.0, both.1);
   }
 
   pub steps_stay : (n : ℕ) (d : Deed) (a b c : SeatState) → StepsAlone coded meaning n d a b → StaysAlone n b c → StepsAlone coded meaning n d a c
@@ -437,6 +463,8 @@ module _ {D : Type 0} (coded : Coded D) (meaning : DeskMeaning D) where
       others = stays.others ∙ steps.leaves.others;
     };
     knows = λ m knows. subst (λ (v : View). KnowsState coded v (after_deed meaning m d)) (sym stays.view) (steps.knows m knows);
+    sound = λ m knows. steps.sound m knows;
+    calls = λ m knows. let both = steps.calls m knows in (both.0, subst (λ (v : View). ShowsCall coded n (v, c.1) (after_deed meaning m d)) (sym stays.view) both.1);
   }
 
 -- a caller that is in no call, alone

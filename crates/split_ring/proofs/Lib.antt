@@ -28,3 +28,9 @@ pub mod Reopening
 pub mod StateSteps
 pub mod Reopened
 pub mod Finding
+pub mod Turning
+pub mod Carrying
+pub mod CarriedSteps
+pub mod CarriedLinks
+pub mod CarriedMakes
+pub mod Outcomes

@@ -1,6 +1,7 @@
 -- The manager's own steps as changes of the link's state, and what it knows of the state over them.
 use Rattle.std.proofs.Common.{◌≡◌, ◌+◌, ℕ, Bool, true, false, List, [], ◌∷◌, get_or, refl, sym, ap, ◌∙◌, subst, arith}
 use Rattle.std.specs.Prelude.{Some, None, Result, if◌then◌else◌}
+use lib.ListN.{get_elem?}
 use base.Stored.{Coded}
 use Rattle.rp_base.specs.declared.kinds.End.{End}
 use Rattle.rp_base.specs.declared.kinds.End.TheVariants as side
@@ -45,7 +46,7 @@ use Rattle.link_words.proofs.Placed.{state_after}
 use Rattle.link_words.proofs.TurnWords.{back_again, receiver_of}
 use Rattle.split_ring.specs.Gathers.{IsCalling, TakesSide, PutsSide, FindsTurnFree, FreesTurn, Meets}
 use Rattle.split_ring.proofs.Gathering.{manager_at, same_place}
-use Rattle.split_ring.proofs.Reopening.{manager_calls, rests_none}
+use Rattle.split_ring.proofs.Reopening.{manager_calls, rests_none, same_passes}
 
 -- a turn by its word
 pub free_by : {C : Type 0} (t : Turn C) → 0 ≡ turn_word t → t ≡ turn.Free
@@ -134,7 +135,7 @@ module _ {D : Type 0} (coded : Coded D) (meaning : DeskMeaning D) where
   desk_there tables m side.Host = refl
   desk_there tables m side.Remote = refl
 
-  turn_there : (tables : _) (m : LaneLink (RingState D)) (e : End) → (lane_to (placed_link coded tables m) e).lane.receiver ≡ (lane_to m e).lane.receiver
+  pub turn_there : (tables : _) (m : LaneLink (RingState D)) (e : End) → (lane_to (placed_link coded tables m) e).lane.receiver ≡ (lane_to m e).lane.receiver
   turn_there tables m side.Host = refl
   turn_there tables m side.Remote = refl
 
@@ -143,7 +144,7 @@ module _ {D : Type 0} (coded : Coded D) (meaning : DeskMeaning D) where
   desk_known me me' e x m s right knows = ap (λ r. r.code) right ∙ ap coded.code (ap (λ (l : Links me). (lane_to l e).lane.desk.desk) (state_known me _ _ me' m s knows) ∙ desk_there me.0.sizes.desks m e)
 
   -- the word of a receiver's turn that was found
-  found_turn : {tables : _} (state : LaneLink (RingState (PlacedDesk coded tables))) (e : End) (n : ℕ) → n ≡ get_or (layout (words_of 0 [] state)) (place_in (receiver_word e)) 0 → n ≡ turn_word (lane_to state e).lane.receiver
+  pub found_turn : {tables : _} (state : LaneLink (RingState (PlacedDesk coded tables))) (e : End) (n : ℕ) → n ≡ get_or (layout (words_of 0 [] state)) (place_in (receiver_word e)) 0 → n ≡ turn_word (lane_to state e).lane.receiver
   found_turn state e n is = is ∙ (found_apart 10 (words_of 0 [] state) (receiver_word e) ∙ sym (receiver_of state e))
 
   pub turn_free : (me me' : SeatState) (e : End) (m : LaneLink (RingState D)) → FindsTurnFree coded meaning lane_turn.Receiver e me me' → KnowsState coded me.0 m → (lane_to m e).lane.receiver ≡ turn.Free
@@ -166,28 +167,41 @@ carrier_of v call call' slots slots' me me' c c' = let own = manager_at v call' 
 abbrev pub LeavesReceiverOf : End → ReceiverSide → SeatState → Type 0
 LeavesReceiverOf lane x me = (v : View) × (a : LaneSides) × (b : LaneSides) × (slots : List (ℕ × Slot)) × IsCalling v (Gathers a b) ((receiver_slot lane, Empty) ∷ slots) me × ((sides_at lane a b).receiver ≡ Some x)
 
-pub receiver_held : (lane : End) (x : ReceiverSide) (me me1 : SeatState) (v : View) → IsCalling v (Gathers no_sides no_sides) [] me → TakesSide lane (λ g. record g { receiver = Some x }) (receiver_slot lane) me me1 → LeavesReceiverOf lane x me1
-receiver_held side.Host x me me1 v c one = (v, record no_sides { receiver = Some x }, no_sides, [], one v no_sides no_sides [] c, refl)
-receiver_held side.Remote x me me1 v c one = (v, no_sides, record no_sides { receiver = Some x }, [], one v no_sides no_sides [] c, refl)
+pub receiver_held : (lane : End) (x : ReceiverSide) (slots : List (ℕ × Slot)) (me me1 : SeatState) (v : View) → IsCalling v (Gathers no_sides no_sides) slots me → TakesSide lane (λ g. record g { receiver = Some x }) (receiver_slot lane) me me1 → LeavesReceiverOf lane x me1
+receiver_held side.Host x slots me me1 v c one = (v, record no_sides { receiver = Some x }, no_sides, slots, one v no_sides no_sides slots c, refl)
+receiver_held side.Remote x slots me me1 v c one = (v, no_sides, record no_sides { receiver = Some x }, slots, one v no_sides no_sides slots c, refl)
 
-pub receiver_left : (lane : End) (x : ReceiverSide) (me me1 me2 : SeatState) (v : View) → IsCalling v (Gathers no_sides no_sides) [] me → TakesSide lane (λ g. record g { receiver = Some x }) (receiver_slot lane) me me1
-    → PutsSide lane (λ g. record g { receiver = None }) (receiver_slot lane) me1 me2 → IsCalling v (Gathers no_sides no_sides) [] me2
-receiver_left side.Host x me me1 me2 v c one two = two v (record no_sides { receiver = Some x }) no_sides [] (one v no_sides no_sides [] c)
-receiver_left side.Remote x me me1 me2 v c one two = two v no_sides (record no_sides { receiver = Some x }) [] (one v no_sides no_sides [] c)
+pub receiver_left : (lane : End) (x : ReceiverSide) (slots : List (ℕ × Slot)) (me me1 me2 : SeatState) (v : View) → IsCalling v (Gathers no_sides no_sides) slots me → TakesSide lane (λ g. record g { receiver = Some x }) (receiver_slot lane) me me1
+    → PutsSide lane (λ g. record g { receiver = None }) (receiver_slot lane) me1 me2 → IsCalling v (Gathers no_sides no_sides) slots me2
+receiver_left side.Host x slots me me1 me2 v c one two = two v (record no_sides { receiver = Some x }) no_sides slots (one v no_sides no_sides slots c)
+receiver_left side.Remote x slots me me1 me2 v c one two = two v no_sides (record no_sides { receiver = Some x }) slots (one v no_sides no_sides slots c)
 
 -- the manager at rest, by its own view
 pub rests_here : (me : SeatState) → ManagerAt me (Gathers no_sides no_sides) → me.1 ≡ [] → IsCalling me.0 (Gathers no_sides no_sides) [] me
 rests_here me at none = rests_none me me me.0.is_closed at none refl
 
+-- the same with what is out with the calls that it carries
+pub rests_with : (me : SeatState) → ManagerAt me (Gathers no_sides no_sides) → IsCalling me.0 (Gathers no_sides no_sides) me.1 me
+rests_with me at = record {
+  manager = at.mover.pass;
+  here = ap (get_elem? me.0.passes) (sym at.here) ∙ at.mover.here;
+  number = at.number;
+  is = λ i. (record me.0 { passes = sym (same_passes me (Gathers no_sides no_sides) at) i }, me.1);
+}
+
+-- and behind turns of its own that it has left nothing has changed but the copy
+pub still_resting : (me me' : SeatState) → ManagerAt me (Gathers no_sides no_sides) → IsCalling me.0 (Gathers no_sides no_sides) me.1 me' → me' ≡ (record me.0 { copy = me'.0.copy }, me.1)
+still_resting me me' at c = c.is ∙ (λ i. (record me.0 { copy = me'.0.copy; passes = same_passes me (Gathers no_sides no_sides) at i }, me.1))
+
 -- a receiver's turn was taken and left: the state is as before
 module _ {D : Type 0} (coded : Coded D) (meaning : DeskMeaning D) where
-  pub state_again : (e : End) (x : ReceiverSide) (me me1 me2 : SeatState) (m : LaneLink (RingState D)) → IsCalling me.0 (Gathers no_sides no_sides) [] me → TakesSide e (λ g. record g { receiver = Some x }) (receiver_slot e) me me1 → PutsSide e (λ g. record g { receiver = None }) (receiver_slot e) me1 me2
-      → FindsTurnFree coded meaning lane_turn.Receiver e me me1 → FreesTurn coded meaning lane_turn.Receiver e me1 me2 → KnowsState coded me.0 m → KnowsState coded me2.0 m
-  state_again e x me me1 me2 m none took left find free knows =
-      let call = gathered e (λ g. record g { receiver = Some x }) no_sides no_sides in let slots : List (ℕ × Slot) = (receiver_slot e, Empty) ∷ [] in
-      let one : IsCalling me.0 call slots me1 = took me.0 no_sides no_sides [] none in let two = receiver_left e x me me1 me2 me.0 none took left in
-      let taken = known_after coded meaning me (HasWord (place_in (receiver_word e)) 0) (ManagerTakes lane_turn.Receiver e) me1 m find knows (carrier_of me.0 (Gathers no_sides no_sides) call [] slots me me1 none one) in
-      let freed = known_after coded meaning me1 (StoresWord (place_in (receiver_word e)) 0) (ManagerLeaves lane_turn.Receiver e) me2 (after_deed meaning m (ManagerTakes lane_turn.Receiver e)) free taken (carrier_of me.0 call (Gathers no_sides no_sides) slots [] me1 me2 one two) in
+  pub state_again : (e : End) (x : ReceiverSide) (out : List (ℕ × Slot)) (me me1 me2 : SeatState) (m : LaneLink (RingState D)) → IsCalling me.0 (Gathers no_sides no_sides) out me → TakesSide e (λ g. record g { receiver = Some x }) (receiver_slot e) me me1
+      → PutsSide e (λ g. record g { receiver = None }) (receiver_slot e) me1 me2 → FindsTurnFree coded meaning lane_turn.Receiver e me me1 → FreesTurn coded meaning lane_turn.Receiver e me1 me2 → KnowsState coded me.0 m → KnowsState coded me2.0 m
+  state_again e x out me me1 me2 m none took left find free knows =
+      let call = gathered e (λ g. record g { receiver = Some x }) no_sides no_sides in let slots : List (ℕ × Slot) = (receiver_slot e, Empty) ∷ out in
+      let one : IsCalling me.0 call slots me1 = took me.0 no_sides no_sides out none in let two = receiver_left e x out me me1 me2 me.0 none took left in
+      let taken = known_after coded meaning me (HasWord (place_in (receiver_word e)) 0) (ManagerTakes lane_turn.Receiver e) me1 m find knows (carrier_of me.0 (Gathers no_sides no_sides) call out slots me me1 none one) in
+      let freed = known_after coded meaning me1 (StoresWord (place_in (receiver_word e)) 0) (ManagerLeaves lane_turn.Receiver e) me2 (after_deed meaning m (ManagerTakes lane_turn.Receiver e)) free taken (carrier_of me.0 call (Gathers no_sides no_sides) slots out me1 me2 one two) in
       subst (λ (l : LaneLink (RingState D)). KnowsState coded me2.0 l) (back_again meaning m e (turn_free coded meaning me me1 e m find knows)) freed
 
   -- a close by the manager: the state follows, and the answer is that of its era

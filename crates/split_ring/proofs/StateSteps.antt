@@ -62,7 +62,7 @@ module _ {D : Type 0} (coded : Coded D) (meaning : DeskMeaning D) where
   abbrev Links : (me : SeatState) → Type 0
   Links me = LaneLink (RingState (PlacedDesk coded me.0.sizes.desks))
 
-  sender_there : (tables : DeskTables) (m : LaneLink (RingState D)) (e : End) → (lane_to (placed_link coded tables m) e).lane.sender ≡ (lane_to m e).lane.sender
+  pub sender_there : (tables : DeskTables) (m : LaneLink (RingState D)) (e : End) → (lane_to (placed_link coded tables m) e).lane.sender ≡ (lane_to m e).lane.sender
   sender_there tables m side.Host = refl
   sender_there tables m side.Remote = refl
 
@@ -81,7 +81,7 @@ module _ {D : Type 0} (coded : Coded D) (meaning : DeskMeaning D) where
   sender_known : (me : SeatState) (Reads : Links me → Links me → Type 0) (d : Deed) (me' : SeatState) (e : End) (m : LaneLink (RingState D)) (s : ManagerDoes coded meaning me Reads d me') → KnowsState coded me.0 m → (lane_to m e).lane.sender ≡ (lane_to s.state e).lane.sender
   sender_known me Reads d me' e m s knows = sym (sender_there me.0.sizes.desks m e) ∙ sym (ap (λ (l : Links me). (lane_to l e).lane.sender) (state_known coded meaning me Reads d me' m s knows))
 
-  found_sender : {tables : DeskTables} (state : LaneLink (RingState (PlacedDesk coded tables))) (e : End) (n : ℕ) → n ≡ get_or (layout (words_of 0 [] state)) (place_in (sender_word e)) 0 → n ≡ turn_word (lane_to state e).lane.sender
+  pub found_sender : {tables : DeskTables} (state : LaneLink (RingState (PlacedDesk coded tables))) (e : End) (n : ℕ) → n ≡ get_or (layout (words_of 0 [] state)) (place_in (sender_word e)) 0 → n ≡ turn_word (lane_to state e).lane.sender
   found_sender state e n is = is ∙ (found_apart 10 (words_of 0 [] state) (sender_word e) ∙ sym (sender_of state e))
 
   sender_free : (me me' : SeatState) (e : End) (m : LaneLink (RingState D)) → FindsTurnFree coded meaning lane_turn.Sender e me me' → KnowsState coded me.0 m → (lane_to m e).lane.sender ≡ turn.Free

@@ -15,10 +15,12 @@ use Rattle.link_words.specs.declared.rule.LinkSizes.{LinkSizes}
 use Rattle.link_words.specs.declared.rule.Pass.{Pass}
 use Rattle.link_words.specs.declared.rule.Slot.{Slot}
 use Rattle.link_words.specs.Calls.{SeatState, call_at, send_or, receive_or, under_way_or, with_pass_at}
-use Rattle.link_words.specs.Deeds.{Deed, after_deed}
+use Rattle.link_words.specs.Deeds.{Deed, IsSoundState, after_deed}
 use Rattle.link_words.specs.Orderly.{IsOrderly}
 use Rattle.link_words.specs.Passes.{only_pass, place_of_number}
-use Rattle.link_words.specs.PlacedLinks.{KnowsState}
+use Rattle.link_words.specs.PlacedDesks.{placed_meaning}
+use Rattle.link_words.specs.PlacedLinks.{KnowsState, placed_link}
+use Rattle.link_words.specs.Rule.{IsCallOf}
 use Rattle.split_ring.specs.Seats.{pass_in}
 
 -- how many slots are out with a send that has done the step of this stage last, and with other work
@@ -88,10 +90,17 @@ pub record LeavesOthers (n : ℕ) (me me' : SeatState) : Type 0 where
   pub here : place_of_number n me'.0.passes ≡ place_of_number n me.0.passes
   pub others : others_of n me' ≡ others_of n me
 
--- a step of the pass of this number, which is this deed: nothing else changes, and a manager that knew the state knows the one after the deed
+-- in this state of the link the pass of this number is in the call that the view says
+abbrev pub ShowsCall : {D : Type 0} → Coded D → ℕ → SeatState → LaneLink (RingState D) → Type 0
+ShowsCall coded n me m = IsCallOf (placed_link coded me.0.sizes.desks m) 0 n (call_at (place_of_number n me.0.passes) me.0.passes)
+
+-- a step of the pass of this number, which is this deed: nothing else changes, and a manager that knew the state, which was sound, knows the one after the deed;
+-- in both the pass is in the call that the view says
 pub record StepsAlone {D : Type 0} (coded : Coded D) (meaning : DeskMeaning D) (n : ℕ) (d : Deed) (me me' : SeatState) : Type 0 where
   pub leaves : LeavesOthers n me me'
   pub knows : (m : LaneLink (RingState D)) → KnowsState coded me.0 m → KnowsState coded me'.0 (after_deed meaning m d)
+  pub sound : (m : LaneLink (RingState D)) → KnowsState coded me.0 m → IsSoundState (placed_meaning coded me.0.sizes.desks meaning) (placed_link coded me.0.sizes.desks m)
+  pub calls : (m : LaneLink (RingState D)) → KnowsState coded me.0 m → ShowsCall coded n me m × ShowsCall coded n me' (after_deed meaning m d)
 
 -- nothing changes but what is in the slots of the call of the pass of this number
 pub record StaysAlone (n : ℕ) (me me' : SeatState) : Type 0 where

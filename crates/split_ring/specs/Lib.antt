@@ -20,3 +20,5 @@ pub mod States
 pub mod Reopens
 pub mod ManagerCalls
 pub mod Snapshots
+pub mod Phases
+pub mod Carried

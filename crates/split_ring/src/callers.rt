@@ -61,6 +61,8 @@ pub struct Manager {
     pub(crate) seat: LinkSeat,
     /// The callers in use, by number.
     pub(crate) users: [Option<End>; 64],
+    /// How many slots are out with the calls that it carries, by the slot of the side state.
+    pub(crate) out: [u8; 4],
 }
 
 /// The least number that is not in use.

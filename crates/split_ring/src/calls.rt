@@ -1,13 +1,22 @@
 //! A call taken step by step: in which phase it is, and one step of it.
 ghost use Rattle.std.specs.Prelude.{◌≡◌, ◌∷◌, [], ◌<◌, Some, Err};
+ghost use Rattle.lane_model.specs.declared.lane_links.LaneLink.{LaneLink};
 ghost use Rattle.lane_model.specs.Answers.{wish_of, busy_answer};
+ghost use Rattle.lane_model.specs.Links.{form_step};
+ghost use Rattle.ring_core.specs.declared.states.RingState.{RingState};
+ghost use Rattle.ring_core.specs.RingSteps.{ring_form};
 ghost use Rattle.link_words.specs.declared.rule.Event.TheVariants.{Step};
 ghost use Rattle.link_words.specs.declared.rule.Made.TheVariants as made;
 ghost use Rattle.link_words.specs.Calls.{SeatState};
+ghost use Rattle.link_words.specs.PlacedLinks.{KnowsState};
 ghost use Rattle.split_ring.specs.declared.calls.Phase.TheVariants as phase;
 ghost use Rattle.split_ring.specs.Calls.{deed_of, send_answer, desk_said, hands_in, IsInPhase, IsOwnAsk, IsShort, IsPath, Advances};
 ghost use Rattle.split_ring.specs.Callers.{IsAdvanced, MayAdvance, StepNotBelow, TakesStep};
+ghost use Rattle.split_ring.specs.declared.callers.CallerId.{CallerId};
+ghost use Rattle.split_ring.specs.declared.callers.Manager.{Manager};
+ghost use Rattle.split_ring.specs.Carried.{Carries, carried_seat};
 ghost use Rattle.split_ring.specs.Focus.{IsOrderlySeat, StaysAlone, StepsAlone, seat_of};
+ghost use Rattle.split_ring.specs.Phases.{IsNext, IsUnderWay, asked_side, outcome_said, side_of, wished_in};
 ghost use Rattle.split_ring.specs.Seats.{pass_in};
 ghost use Rattle.split_ring.specs.Turns.{HasBegun};
 ghost use Rattle.split_ring.specs.Walks.{HasDone, same_hands};
@@ -106,7 +115,8 @@ fn desk_said(asked: DeskAsk, answer: Result<Endpoint, DeskFault>) -> Answer
 impl<D: Desk> SharedLink<D> {
     /// A call that asks this, which has done no step yet. It follows the incarnation that its caller follows.
     pub fn begin_call(&self, ask: Ask) -> RingCall<D>
-        ensures { result.phase ≡ phase.Asked ask }
+        ensures asked { result.phase ≡ phase.Asked ask }
+        ensures carried { (manager : Manager) (who : CallerId) → Carries self.now manager who phase.Ended → IsOwnAsk who ask (carried_seat who phase.Ended manager) → Carries self.now manager who result.phase × IsUnderWay result.phase }
     {
         RingCall {
             phase: Phase::Asked(ask),
@@ -129,13 +139,20 @@ impl<D: Desk> SharedLink<D> {
     }
 
     /// The next step of the call of a seat in this phase.
-    fn step_on(&self, seat: &mut LinkSeat, who: CallerId, phase: Phase) -> (Phase, Progress)
+    pub(crate) fn step_on(
+        &self,
+        seat: &mut LinkSeat,
+        who: CallerId,
+        phase: Phase,
+    ) -> (Phase, Progress)
         requires seat { IsOrderlySeat self.now.table.shared.table_id self.now.sizes seat.old.table_id seat.old.me }
         requires number { ((pass_in (seat_of who.number seat.old.me)).number ≡ who.number) × (who.number < 64) }
         requires stands { IsInPhase self.now.sizes who phase (seat_of who.number seat.old.me) }
         ensures seat { IsOrderlySeat self.now.table.shared.table_id self.now.sizes seat.new.table_id seat.new.me }
         ensures step { Advances D.row.coded D.meaning self.now.sizes who phase result.1 result.0 (seat_of who.number seat.old.me) (seat_of who.number seat.new.me) }
         ensures alone { StepsAlone D.row.coded D.meaning who.number (deed_of who phase) seat.old.me seat.new.me }
+        ensures next { IsNext who.end phase result.1 result.0 }
+        ensures said { (m : LaneLink (RingState D)) → KnowsState D.row.coded seat.old.me.0 m → outcome_said result.1 ≡ (form_step (ring_form D.meaning) D.meaning m who.number who.follows (wished_in phase)).outcome }
     {
         match phase {
             Phase::Asked(ask) => self.first_step(seat, who, ask),
@@ -163,6 +180,8 @@ impl<D: Desk> SharedLink<D> {
         ensures seat { IsOrderlySeat self.now.table.shared.table_id self.now.sizes seat.new.table_id seat.new.me }
         ensures step { Advances D.row.coded D.meaning self.now.sizes who (phase.Asked ask) result.1 result.0 (seat_of who.number seat.old.me) (seat_of who.number seat.new.me) }
         ensures alone { StepsAlone D.row.coded D.meaning who.number (deed_of who (phase.Asked ask)) seat.old.me seat.new.me }
+        ensures next { IsNext who.end (phase.Asked ask) result.1 result.0 }
+        ensures said { (m : LaneLink (RingState D)) → KnowsState D.row.coded seat.old.me.0 m → outcome_said result.1 ≡ (form_step (ring_form D.meaning) D.meaning m who.number who.follows (wished_in (phase.Asked ask))).outcome }
     {
         match self.enter(seat, who, wish_of(&ask)) {
             Ok(()) => (self.begun_call(seat, who, ask), Progress::At(1)),
@@ -181,6 +200,7 @@ impl<D: Desk> SharedLink<D> {
         ensures hands { hands_in result ≡ same_hands }
         ensures path { (start : SeatState) → IsPath D.row.coded D.meaning self.now.sizes who ask result (Step (made.Turn 0) ∷ []) start (seat_of who.number seat.new.me) }
         ensures stays { StaysAlone who.number seat.old.me seat.new.me }
+        ensures next { (side_of who.end result ≡ asked_side who.end ask) × IsUnderWay result }
     {
         match ask {
             Ask::Send(message) => {
@@ -208,6 +228,7 @@ impl<D: Desk> SharedLink<D> {
         ensures seat { IsOrderlySeat self.now.table.shared.table_id self.now.sizes seat.new.table_id seat.new.me }
         ensures step { Advances D.row.coded D.meaning self.now.sizes who (phase.Sends stage call message) result.1 result.0 (seat_of who.number seat.old.me) (seat_of who.number seat.new.me) }
         ensures alone { StepsAlone D.row.coded D.meaning who.number (deed_of who (phase.Sends stage call message)) seat.old.me seat.new.me }
+        ensures next { IsNext who.end (phase.Sends stage call message) result.1 result.0 }
     {
         let mut call = call;
         match stage {
@@ -260,6 +281,7 @@ impl<D: Desk> SharedLink<D> {
         ensures seat { IsOrderlySeat self.now.table.shared.table_id self.now.sizes seat.new.table_id seat.new.me }
         ensures step { Advances D.row.coded D.meaning self.now.sizes who (phase.Takes stage call buffer) result.1 result.0 (seat_of who.number seat.old.me) (seat_of who.number seat.new.me) }
         ensures alone { StepsAlone D.row.coded D.meaning who.number (deed_of who (phase.Takes stage call buffer)) seat.old.me seat.new.me }
+        ensures next { IsNext who.end (phase.Takes stage call buffer) result.1 result.0 }
     {
         match stage {
             TakeStage::Turn => match self.find_take_era(seat, &call) {
@@ -304,6 +326,7 @@ impl<D: Desk> SharedLink<D> {
         ensures seat { IsOrderlySeat self.now.table.shared.table_id self.now.sizes seat.new.table_id seat.new.me }
         ensures step { Advances D.row.coded D.meaning self.now.sizes who (phase.Gives stage held returned) result.1 result.0 (seat_of who.number seat.old.me) (seat_of who.number seat.new.me) }
         ensures alone { StepsAlone D.row.coded D.meaning who.number (deed_of who (phase.Gives stage held returned)) seat.old.me seat.new.me }
+        ensures next { IsNext who.end (phase.Gives stage held returned) result.1 result.0 }
     {
         let number = held.number();
         match stage {
@@ -325,6 +348,7 @@ impl<D: Desk> SharedLink<D> {
         ensures seat { IsOrderlySeat self.now.table.shared.table_id self.now.sizes seat.new.table_id seat.new.me }
         ensures step { Advances D.row.coded D.meaning self.now.sizes who (phase.Asks asked) result.1 result.0 (seat_of who.number seat.old.me) (seat_of who.number seat.new.me) }
         ensures alone { StepsAlone D.row.coded D.meaning who.number (deed_of who (phase.Asks asked)) seat.old.me seat.new.me }
+        ensures next { IsNext who.end (phase.Asks asked) result.1 result.0 }
     {
         let answer = desk_result(self.ask_desk(seat, who, asked));
         (

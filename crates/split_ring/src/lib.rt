@@ -4,6 +4,7 @@
 mod binds;
 mod callers;
 mod calls;
+mod carried;
 mod closes;
 mod ends;
 mod forms;

@@ -67,6 +67,7 @@ fn first_of(config: &LinkConfig) -> Inc
 
 impl<D: Desk> SharedLink<D> {
     ghost use Rattle.split_ring.specs.Callers.{IsCallerOf, IsManagerOf, IsStateOf};
+    ghost use Rattle.split_ring.specs.Carried.{IsCarrierOf};
 
     /// A new link, live in its first incarnation, and the one who makes its callers.
     ///
@@ -81,6 +82,7 @@ impl<D: Desk> SharedLink<D> {
         requires desks { IsFreshDesk D.meaning host × IsFreshDesk D.meaning remote }
         ensures sizes { IfOk result (λ made. made.0.sizes ≡ sizes_for config made.0.sizes.desks) }
         ensures manager { IfOk result (λ made. IsManagerOf made.0 made.1) }
+        ensures carrier { IfOk result (λ made. IsCarrierOf made.0 made.1) }
         ensures view { IfOk result (λ made. made.1.seat.me ≡ (first_view made.0.sizes 64, [])) }
         ensures state { IfOk result (λ made. IsStateOf D.row.coded made.1 (opened_ring_link config host remote)) }
     {
@@ -112,6 +114,7 @@ impl<D: Desk> SharedLink<D> {
                 Manager {
                     seat,
                     users: [None; 64],
+                    out: [0; 4],
                 },
             )),
             Err(_) => Err(NoMemory),

@@ -4,12 +4,16 @@ ghost use Rattle.link_words.specs.declared.rule.Call.TheVariants.{Rests};
 ghost use Rattle.link_words.specs.declared.rule.Event.TheVariants.{Step};
 ghost use Rattle.link_words.specs.declared.rule.Made.TheVariants as made;
 ghost use Rattle.link_words.specs.Deeds.{Steps};
+ghost use Rattle.link_words.specs.PlacedLinks.{KnowsState};
 ghost use Rattle.link_words.specs.Steps.{IsFit};
 ghost use Rattle.link_words.specs.Words.{other, era_word};
 ghost use Rattle.rp_base.specs.declared.kinds.Era.{Era};
 ghost use Rattle.std.specs.Prelude.{◌<◌};
+ghost use Rattle.lane_model.specs.declared.lane_links.LaneLink.{LaneLink};
 ghost use Rattle.lane_model.specs.Lanes.{is_live_in};
+ghost use Rattle.ring_core.specs.declared.states.RingState.{RingState};
 ghost use Rattle.split_ring.specs.Focus.{IsOrderlySeat, StepsAlone, seat_of};
+ghost use Rattle.split_ring.specs.Phases.{holder_for};
 ghost use Rattle.split_ring.specs.Seats.{pass_in, IsAt, IsCaller};
 ghost use Rattle.split_ring.specs.Turns.{HasBegun, MayLeave, end_with};
 ghost use Rattle.split_ring.specs.Walks.{HasDone, same_hands};
@@ -64,6 +68,7 @@ impl<D: Desk> SharedLink<D> {
         ensures entered { IfOk result (λ _. HasBegun who wish (seat_of who.number seat.new.me) × HasDone D.row.coded D.meaning (Step (made.Turn 0) ∷ []) same_hands (seat_of who.number seat.old.me) (seat_of who.number seat.new.me)) }
         ensures busy { IfErr result (λ holder. IsAt (seat_of who.number seat.new.me) (Rests who.end) [] × HasDone D.row.coded D.meaning (Step (made.Turn (holder + 1)) ∷ []) same_hands (seat_of who.number seat.old.me) (seat_of who.number seat.new.me)) }
         ensures alone { StepsAlone D.row.coded D.meaning who.number (Steps who.number who.follows (Some wish)) seat.old.me seat.new.me }
+        ensures met { IfErr result (λ found. (m : LaneLink (RingState D)) → KnowsState D.row.coded seat.old.me.0 m → holder_for who.end wish m ≡ Some found) }
     {
         let start = CallStart {
             caller: who.number,

@@ -13,6 +13,7 @@ use Rattle.split_ring.specs.Walks.{HasDone, same_hands}
 use Rattle.lane_model.specs.declared.stages.SendStage.TheVariants as stage
 use Rattle.lane_model.specs.declared.stages.TakeStage.TheVariants as take_stage
 use Rattle.lane_model.specs.declared.stages.Work.TheVariants as work
+use Rattle.split_ring.specs.Phases.{asked_side}
 use Rattle.split_ring.proofs.links.SharedLink.begun_call.Goals as goal
 
 pub send_begun-call-requires-clause-seat : goal.send_begun-call-requires-clause-seat
@@ -147,3 +148,18 @@ returns-in-Bind-clause-stays g c = record { view = refl; others = refl }
 
 pub returns-in-Unbind-clause-stays : goal.returns-in-Unbind-clause-stays
 returns-in-Unbind-clause-stays g c = record { view = refl; others = refl }
+
+pub returns-in-Send-clause-next : goal.returns-in-Send-clause-next
+returns-in-Send-clause-next g c = (sym (ap (asked_side c.args.who.end) c.in-Send.is), tt)
+
+pub returns-in-Take-clause-next : goal.returns-in-Take-clause-next
+returns-in-Take-clause-next g c = (sym (ap (asked_side c.args.who.end) c.in-Take.is), tt)
+
+pub returns-in-Give-clause-next : goal.returns-in-Give-clause-next
+returns-in-Give-clause-next g c = (sym (ap (asked_side c.args.who.end) c.in-Give.is), tt)
+
+pub returns-in-Bind-clause-next : goal.returns-in-Bind-clause-next
+returns-in-Bind-clause-next g c = (sym (ap (asked_side c.args.who.end) c.in-Bind.is), tt)
+
+pub returns-in-Unbind-clause-next : goal.returns-in-Unbind-clause-next
+returns-in-Unbind-clause-next g c = (sym (ap (asked_side c.args.who.end) c.in-Unbind.is), tt)

@@ -39,5 +39,5 @@ pub returns-clause-state : goal.returns-clause-state
 returns-clause-state g c = λ m is.
     let x = c.close_once.ensures.closed in let me = c.args.manager.now.seat.me in let me' = c.close_once.new.seat.me in
     let knows : SeatState = (record me.0 { is_closed = is_closed_behind c.args.inc x.era }, me.1) in
-    closed_state g.row.D.coded g.D.Desk.meaning c.args.inc c.close_once.result c.args.manager.now (record { seat = c.close_once.new.seat; users = c.args.manager.now.users }) m x
+    closed_state g.row.D.coded g.D.Desk.meaning c.args.inc c.close_once.result c.args.manager.now (record { seat = c.close_once.new.seat; users = c.args.manager.now.users; out = c.args.manager.now.out }) m x
     (manages_noted (made.Close x.era) (place_of_number 64 me.0.passes) knows me' x.noted c.requires.manages) refl is

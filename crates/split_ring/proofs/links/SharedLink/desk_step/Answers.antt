@@ -1,4 +1,4 @@
-use Rattle.std.proofs.Common.{sym, ap, ◌∙◌, subst}
+use Rattle.std.proofs.Common.{sym, ap, ◌∙◌, subst, refl}
 use Rattle.lane_model.specs.declared.calls.Answer.{Answer}
 use Rattle.lane_model.specs.declared.calls.Progress.TheVariants as progress
 use Rattle.split_ring.specs.declared.calls.Phase.TheVariants as phase
@@ -27,3 +27,6 @@ returns-clause-step g c =
 
 pub returns-clause-alone : goal.returns-clause-alone
 returns-clause-alone g c = c.ask_desk.ensures.alone
+
+pub returns-clause-next : goal.returns-clause-next
+returns-clause-next g c = (refl, refl, tt, tt)

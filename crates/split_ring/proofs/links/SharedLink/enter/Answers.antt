@@ -1,14 +1,15 @@
-use Rattle.std.proofs.Common.{◌≡◌, ◌+◌, ◌-◌, List, refl, ap, ◌∙◌, arith}
+use Rattle.std.proofs.Common.{◌≡◌, ◌+◌, ◌-◌, ℕ, List, refl, ap, ◌∙◌, subst, arith}
 use lib.ListN.{get_elem?}
 use Rattle.link_words.specs.declared.rule.Pass.{Pass}
 use Rattle.link_words.specs.declared.rule.View.{View}
 use Rattle.link_words.specs.Layouts.{place_in}
 use Rattle.link_words.specs.Passes.{place_of_number}
-use Rattle.link_words.specs.Steps.{HasWord, turn_word_for}
+use Rattle.link_words.specs.Steps.{Begins, HasWord, turn_word_for}
 use Rattle.split_ring.specs.Focus.{seat_of}
 use Rattle.split_ring.specs.Seats.{pass_in}
 use Rattle.split_ring.proofs.AloneSteps.{turn_alone}
 use Rattle.split_ring.proofs.Focusing.{only_there, begins_alone, begins_on}
+use Rattle.split_ring.proofs.Outcomes.{turn_met}
 use Rattle.split_ring.proofs.Seats.{begins}
 use Rattle.split_ring.proofs.TurnSteps.{entered, refused}
 use Rattle.split_ring.proofs.links.SharedLink.enter.Goals as goal
@@ -65,3 +66,10 @@ returns-else-found-eq0-clause-busy g c =
     let told = turn_alone n me me' (pass_in f) who.end there q.rests.in_call who.end who.follows c.args.wish y c.take_turn-found.ensures.told in
     refused coded meaning who c.args.wish y (y - 1) f (seat_of n me') q.rests q.number told.0 busy is
     (begins coded meaning f (seat_of n me') place y n who.follows c.args.wish q.number (begins_alone coded meaning n who.follows c.args.wish me me' (HasWord place y) (pass_in f) there (told.2 busy) c.take_turn-found.ensures.step))
+
+pub returns-else-found-eq0-clause-met : goal.returns-else-found-eq0-clause-met
+returns-else-found-eq0-clause-met g c = λ m knows.
+    let who = c.args.who in let me = c.args.seat.now.me in let me' = c.take_turn-found.new.seat.me in let y = c.take_turn-found.result in let busy = c.if-found-eq0.false in
+    let is : y ≡ y - 1 + 1 = omega arith in
+    turn_met g.row.D.coded g.D.Desk.meaning who.number who.follows who.end c.args.wish me me' (y - 1) m
+    (subst (λ (n : ℕ). Begins g.row.D.coded g.D.Desk.meaning me (HasWord (place_in (turn_word_for who.end c.args.wish)) n) who.number who.follows c.args.wish me') is c.take_turn-found.ensures.step) knows

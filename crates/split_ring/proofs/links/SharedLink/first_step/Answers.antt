@@ -1,9 +1,14 @@
-use Rattle.std.proofs.Common.{sym, subst}
+use Rattle.std.proofs.Common.{◌≡◌, refl, sym, ap, ◌∙◌, subst}
 use Rattle.lane_model.specs.declared.calls.Answer.{Answer}
 use Rattle.lane_model.specs.declared.calls.Progress.TheVariants as progress
 use Rattle.lane_model.specs.declared.calls.Wish.{Wish}
 use Rattle.split_ring.specs.declared.calls.Phase.TheVariants as phase
-use Rattle.split_ring.specs.Calls.{Advances}
+use Rattle.split_ring.specs.Calls.{Advances, call_end}
+use Rattle.split_ring.specs.Phases.{holder_for}
+use Rattle.lane_model.specs.declared.calls.Outcome.TheVariants as outcome
+use Rattle.lane_model.specs.Links.{form_step}
+use Rattle.ring_core.specs.RingSteps.{ring_form}
+use Rattle.split_ring.proofs.Outcomes.{first_begun, first_refused, rests_user}
 use Rattle.split_ring.specs.Turns.{HasBegun}
 use Rattle.split_ring.proofs.CallEnds.{ask_fit, ask_still, call_begun, call_refused}
 use Rattle.split_ring.specs.Focus.{seat_of, StepsAlone}
@@ -63,3 +68,22 @@ pub returns-in-Err-clause-alone : goal.returns-in-Err-clause-alone
 returns-in-Err-clause-alone g c =
     let coded = g.row.D.coded in let meaning = g.D.Desk.meaning in let who = c.args.who in let n = who.number in let a = c.args.seat.now.me in let e = c.enter.new.seat.me in
     subst (λ (w : Wish). StepsAlone coded meaning n (Steps n who.follows (Some w)) a e) c.wish_of.ensures.wish c.enter.ensures.alone
+
+pub returns-in-Ok-clause-next : goal.returns-in-Ok-clause-next
+returns-in-Ok-clause-next g c = (refl, c.begun_call.ensures.next.0, c.begun_call.ensures.next.1, tt)
+
+pub returns-in-Err-clause-next : goal.returns-in-Err-clause-next
+returns-in-Err-clause-next g c = (refl, (c.in-Err.holder, c.busy_answer.ensures))
+
+pub returns-in-Ok-clause-said : goal.returns-in-Ok-clause-said
+returns-in-Ok-clause-said g c = λ m knows.
+    let coded = g.row.D.coded in let meaning = g.D.Desk.meaning in let who = c.args.who in let a = c.args.seat.now.me in let b = c.enter.new.seat.me in let shows = c.enter.ensures.alone.calls m knows in
+    subst (λ (w : Wish). outcome.At 1 ≡ (form_step (ring_form meaning) meaning m who.number who.follows (Some w)).outcome) c.wish_of.ensures.wish
+    (first_begun coded meaning who a b m c.requires.stands.0 shows.0 c.wish_of.result c.in-Ok.ensures.entered.0 shows.1)
+
+pub returns-in-Err-clause-said : goal.returns-in-Err-clause-said
+returns-in-Err-clause-said g c = λ m knows.
+    let coded = g.row.D.coded in let meaning = g.D.Desk.meaning in let who = c.args.who in let a = c.args.seat.now.me in let shows = c.enter.ensures.alone.calls m knows in let h = c.in-Err.holder in
+    ap (λ (x : Answer). outcome.Ended (call_end x)) c.busy_answer.ensures
+    ∙ first_refused coded meaning m who.end who.number who.follows c.args.ask h (rests_user coded meaning who.number who.end a m c.requires.stands.0 shows.0)
+    (subst (λ (w : Wish). holder_for who.end w m ≡ Some h) c.wish_of.ensures.wish (c.in-Err.ensures.met m knows))

@@ -1,4 +1,4 @@
-use Rattle.std.proofs.Common.{ℕ, ◌+◌, ◌∷◌, [], sym, subst}
+use Rattle.std.proofs.Common.{ℕ, ◌+◌, ◌∷◌, [], sym, subst, refl, ap}
 use Rattle.lane_model.specs.declared.calls.Answer.TheVariants as answer
 use Rattle.lane_model.specs.declared.calls.Progress.TheVariants as progress
 use Rattle.lane_model.specs.declared.stages.GiveStage.{GiveStage}
@@ -16,6 +16,7 @@ use Rattle.split_ring.proofs.CallEnds.{give_stored, give_done}
 use Rattle.lane_model.specs.declared.calls.CallEnd.TheVariants as end
 use Rattle.lane_model.specs.declared.recoveries.LaneTurn.TheVariants as lane_turn
 use Rattle.split_ring.specs.Focus.{seat_of}
+use Rattle.split_ring.specs.Phases.{give_steps}
 use Rattle.split_ring.proofs.links.SharedLink.give_step.Goals as goal
 
 pub store_given-back-requires-clause-seat : goal.store_given-back-requires-clause-seat
@@ -61,3 +62,9 @@ returns-in-Turn-clause-alone g c = c.store_given-back.ensures.alone
 
 pub returns-in-Entry-clause-alone : goal.returns-in-Entry-clause-alone
 returns-in-Entry-clause-alone g c = c.publish_given.ensures.alone
+
+pub returns-in-Turn-clause-next : goal.returns-in-Turn-clause-next
+returns-in-Turn-clause-next g c = (sym (ap (λ (s : GiveStage). give_steps s + 1) c.in-Turn.is), refl, tt, tt)
+
+pub returns-in-Entry-clause-next : goal.returns-in-Entry-clause-next
+returns-in-Entry-clause-next g c = (sym (ap (λ (s : GiveStage). give_steps s + 1) c.in-Entry.is), refl, tt, tt)

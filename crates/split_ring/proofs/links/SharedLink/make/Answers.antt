@@ -15,6 +15,7 @@ use Rattle.link_words.specs.Sides.{no_sides}
 use Rattle.link_words.specs.Words.{IsSized}
 use Rattle.split_ring.specs.Openings.{opened_words, IsOpenable}
 use Rattle.split_ring.proofs.Apart.{words_many}
+use Rattle.split_ring.proofs.CarriedMakes.{no_blocks}
 use Rattle.split_ring.proofs.Makes.{makes, code_is, has_entry, first_knows}
 use Rattle.split_ring.proofs.Focusing.{one_order}
 use Rattle.split_ring.proofs.links.SharedLink.make.Goals as goal
@@ -79,4 +80,16 @@ returns-in-Ok-clause-state g c =
       known = first_knows g.row.D.coded config desks c.args.host c.args.remote z c.in-Ok.seat.me.0 sized (ap (λ (s : SeatState). s.0) c.in-Ok.ensures.ok.4)
           (ap (λ (b : _). code_in b.views) c.of.ensures ∙ host_code) (ap (λ (b : _). code_in b.views) c.of-2.ensures ∙ remote_code);
       users = refl;
+    }
+
+pub returns-in-Ok-clause-carrier : goal.returns-in-Ok-clause-carrier
+returns-in-Ok-clause-carrier g c =
+    let ok = c.in-Ok.ensures.ok in let view = ap (λ (s : SeatState). s.0) ok.4 in record {
+      at_table = ok.2;
+      manages = subst Manages (sym view) (0, _, refl, refl);
+      rests = subst (λ (s : SeatState). ManagerAt s (Gathers no_sides no_sides)) (sym ok.4) (record { mover = record { place = 0; pass = _; here = refl }; here = refl; number = refl; in_call = refl });
+      knows = ap (λ (v : View). v.users) view;
+      told = ap (λ (v : View). v.sizes) view;
+      order = one_order c.in-Ok.seat.me.0 _ (ap (λ (v : View). v.passes) view);
+      blocks = no_blocks c.in-Ok.seat.me (ap (λ (s : SeatState). s.1) ok.4);
     }

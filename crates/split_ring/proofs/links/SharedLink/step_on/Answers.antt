@@ -1,4 +1,4 @@
-use Rattle.std.proofs.Common.{◌∷◌, [], sym, subst}
+use Rattle.std.proofs.Common.{◌≡◌, ◌∷◌, [], refl, sym, subst}
 use Rattle.rp_base.specs.declared.kinds.End.{End}
 use Rattle.lane_model.specs.declared.calls.Progress.TheVariants as progress
 use Rattle.lane_model.specs.declared.recoveries.LaneTurn.TheVariants as lane_turn
@@ -9,6 +9,11 @@ use Rattle.link_words.specs.Words.{other}
 use Rattle.split_ring.specs.declared.calls.Phase.{Phase}
 use Rattle.split_ring.specs.declared.calls.Phase.TheVariants as phase
 use Rattle.split_ring.specs.Calls.{IsInPhase, Advances, call_end, deed_of}
+use Rattle.lane_model.specs.declared.calls.Outcome.TheVariants as outcome
+use Rattle.lane_model.specs.Links.{form_step}
+use Rattle.ring_core.specs.RingSteps.{ring_form}
+use Rattle.split_ring.specs.Phases.{IsNext, outcome_said, wished_in}
+use Rattle.split_ring.proofs.Outcomes.{desk_on, give_on, later_said, receive_left, send_left, send_on, take_on}
 use Rattle.split_ring.specs.Seats.{IsAt}
 use Rattle.split_ring.specs.Turns.{IsLeaving}
 use Rattle.split_ring.specs.Walks.{same_hands, HasDone}
@@ -158,3 +163,58 @@ returns-in-LeavesSender-clause-alone g c = subst (λ (x : Phase). StepsAlone g.r
 
 pub returns-in-LeavesReceiver-clause-alone : goal.returns-in-LeavesReceiver-clause-alone
 returns-in-LeavesReceiver-clause-alone g c = subst (λ (x : Phase). StepsAlone g.row.D.coded g.D.Desk.meaning c.args.who.number (deed_of c.args.who x) c.args.seat.now.me c.leave-in-LeavesReceiver.new.seat.me) (sym c.in-LeavesReceiver.is) c.leave-in-LeavesReceiver.ensures.alone
+
+pub returns-in-Asked-clause-next : goal.returns-in-Asked-clause-next
+returns-in-Asked-clause-next g c = subst (λ (x : Phase). IsNext c.args.who.end x c.first_step.result.1 c.first_step.result.0) (sym c.in-Asked.is) c.first_step.ensures.next
+
+pub returns-in-Sends-clause-next : goal.returns-in-Sends-clause-next
+returns-in-Sends-clause-next g c = subst (λ (x : Phase). IsNext c.args.who.end x c.send_step.result.1 c.send_step.result.0) (sym c.in-Sends.is) c.send_step.ensures.next
+
+pub returns-in-Takes-clause-next : goal.returns-in-Takes-clause-next
+returns-in-Takes-clause-next g c = subst (λ (x : Phase). IsNext c.args.who.end x c.take_step.result.1 c.take_step.result.0) (sym c.in-Takes.is) c.take_step.ensures.next
+
+pub returns-in-Gives-clause-next : goal.returns-in-Gives-clause-next
+returns-in-Gives-clause-next g c = subst (λ (x : Phase). IsNext c.args.who.end x c.give_step.result.1 c.give_step.result.0) (sym c.in-Gives.is) c.give_step.ensures.next
+
+pub returns-in-Asks-clause-next : goal.returns-in-Asks-clause-next
+returns-in-Asks-clause-next g c = subst (λ (x : Phase). IsNext c.args.who.end x c.desk_step.result.1 c.desk_step.result.0) (sym c.in-Asks.is) c.desk_step.ensures.next
+
+pub returns-in-LeavesSender-clause-next : goal.returns-in-LeavesSender-clause-next
+returns-in-LeavesSender-clause-next g c = subst (λ (x : Phase). IsNext c.args.who.end x (progress.Done c.in-LeavesSender.answer) phase.Ended) (sym c.in-LeavesSender.is) (refl, refl)
+
+pub returns-in-LeavesReceiver-clause-next : goal.returns-in-LeavesReceiver-clause-next
+returns-in-LeavesReceiver-clause-next g c = subst (λ (x : Phase). IsNext c.args.who.end x (progress.Done c.in-LeavesReceiver.answer) phase.Ended) (sym c.in-LeavesReceiver.is) (refl, refl)
+
+pub returns-in-Asked-clause-said : goal.returns-in-Asked-clause-said
+returns-in-Asked-clause-said g c = λ m knows. let meaning = g.D.Desk.meaning in let who = c.args.who in
+    subst (λ (x : Phase). outcome_said c.first_step.result.1 ≡ (form_step (ring_form meaning) meaning m who.number who.follows (wished_in x)).outcome) (sym c.in-Asked.is) (c.first_step.ensures.said m knows)
+
+pub returns-in-Sends-clause-said : goal.returns-in-Sends-clause-said
+returns-in-Sends-clause-said g c = λ m knows. let coded = g.row.D.coded in let meaning = g.D.Desk.meaning in let who = c.args.who in let a = c.args.seat.now.me in let z = c.args.self.now.sizes in let s = c.send_step in let p = phase.Sends c.in-Sends.stage c.in-Sends.call c.in-Sends.message in
+    subst (λ (x : Phase). outcome_said s.result.1 ≡ (form_step (ring_form meaning) meaning m who.number who.follows (wished_in x)).outcome) (sym c.in-Sends.is)
+    (later_said coded meaning who.number who.follows a m (s.ensures.alone.calls m knows).0 (s.ensures.alone.sound m knows) z who p s.result.1 s.result.0 (subst (λ (x : Phase). IsInPhase z who x (seat_of who.number a)) c.in-Sends.is c.requires.stands) s.ensures.next (send_on c.in-Sends.stage))
+
+pub returns-in-Takes-clause-said : goal.returns-in-Takes-clause-said
+returns-in-Takes-clause-said g c = λ m knows. let coded = g.row.D.coded in let meaning = g.D.Desk.meaning in let who = c.args.who in let a = c.args.seat.now.me in let z = c.args.self.now.sizes in let s = c.take_step in let p = phase.Takes c.in-Takes.stage c.in-Takes.call c.in-Takes.buffer in
+    subst (λ (x : Phase). outcome_said s.result.1 ≡ (form_step (ring_form meaning) meaning m who.number who.follows (wished_in x)).outcome) (sym c.in-Takes.is)
+    (later_said coded meaning who.number who.follows a m (s.ensures.alone.calls m knows).0 (s.ensures.alone.sound m knows) z who p s.result.1 s.result.0 (subst (λ (x : Phase). IsInPhase z who x (seat_of who.number a)) c.in-Takes.is c.requires.stands) s.ensures.next (take_on c.in-Takes.stage))
+
+pub returns-in-Gives-clause-said : goal.returns-in-Gives-clause-said
+returns-in-Gives-clause-said g c = λ m knows. let coded = g.row.D.coded in let meaning = g.D.Desk.meaning in let who = c.args.who in let a = c.args.seat.now.me in let z = c.args.self.now.sizes in let s = c.give_step in let p = phase.Gives c.in-Gives.stage c.in-Gives.held c.in-Gives.returned in
+    subst (λ (x : Phase). outcome_said s.result.1 ≡ (form_step (ring_form meaning) meaning m who.number who.follows (wished_in x)).outcome) (sym c.in-Gives.is)
+    (later_said coded meaning who.number who.follows a m (s.ensures.alone.calls m knows).0 (s.ensures.alone.sound m knows) z who p s.result.1 s.result.0 (subst (λ (x : Phase). IsInPhase z who x (seat_of who.number a)) c.in-Gives.is c.requires.stands) s.ensures.next (give_on c.in-Gives.stage))
+
+pub returns-in-Asks-clause-said : goal.returns-in-Asks-clause-said
+returns-in-Asks-clause-said g c = λ m knows. let coded = g.row.D.coded in let meaning = g.D.Desk.meaning in let who = c.args.who in let a = c.args.seat.now.me in let z = c.args.self.now.sizes in let s = c.desk_step in let p = phase.Asks c.in-Asks.asked in
+    subst (λ (x : Phase). outcome_said s.result.1 ≡ (form_step (ring_form meaning) meaning m who.number who.follows (wished_in x)).outcome) (sym c.in-Asks.is)
+    (later_said coded meaning who.number who.follows a m (s.ensures.alone.calls m knows).0 (s.ensures.alone.sound m knows) z who p s.result.1 s.result.0 (subst (λ (x : Phase). IsInPhase z who x (seat_of who.number a)) c.in-Asks.is c.requires.stands) s.ensures.next (desk_on 1 refl))
+
+pub returns-in-LeavesSender-clause-said : goal.returns-in-LeavesSender-clause-said
+returns-in-LeavesSender-clause-said g c = λ m knows. let coded = g.row.D.coded in let meaning = g.D.Desk.meaning in let who = c.args.who in let a = c.args.seat.now.me in let z = c.args.self.now.sizes in let s = c.leave in let said = c.in-LeavesSender.answer in
+    subst (λ (x : Phase). outcome.Ended (call_end said) ≡ (form_step (ring_form meaning) meaning m who.number who.follows (wished_in x)).outcome) (sym c.in-LeavesSender.is)
+    (send_left coded meaning who.number who.follows a m (s.ensures.alone.calls m knows).0 (s.ensures.alone.sound m knows) z who said (subst (λ (x : Phase). IsInPhase z who x (seat_of who.number a)) c.in-LeavesSender.is c.requires.stands))
+
+pub returns-in-LeavesReceiver-clause-said : goal.returns-in-LeavesReceiver-clause-said
+returns-in-LeavesReceiver-clause-said g c = λ m knows. let coded = g.row.D.coded in let meaning = g.D.Desk.meaning in let who = c.args.who in let a = c.args.seat.now.me in let z = c.args.self.now.sizes in let s = c.leave-in-LeavesReceiver in let said = c.in-LeavesReceiver.answer in
+    subst (λ (x : Phase). outcome.Ended (call_end said) ≡ (form_step (ring_form meaning) meaning m who.number who.follows (wished_in x)).outcome) (sym c.in-LeavesReceiver.is)
+    (receive_left coded meaning who.number who.follows a m (s.ensures.alone.calls m knows).0 (s.ensures.alone.sound m knows) z who said (subst (λ (x : Phase). IsInPhase z who x (seat_of who.number a)) c.in-LeavesReceiver.is c.requires.stands))

@@ -1,4 +1,4 @@
-use Rattle.std.proofs.Common.{◌≡◌, sym, subst}
+use Rattle.std.proofs.Common.{subst, ◌≡◌, ◌+◌, refl, sym, ap}
 use Rattle.lane_model.specs.declared.calls.Answer.TheVariants as answer
 use Rattle.lane_model.specs.declared.calls.Progress.TheVariants as progress
 use Rattle.lane_model.specs.declared.stages.TakeStage.{TakeStage}
@@ -8,6 +8,7 @@ use Rattle.split_ring.specs.Calls.{TakeStands}
 use Rattle.split_ring.proofs.CallSteps.{take_by, take_live, take_dead, take_found, take_empty, take_buffer, take_late, take_handed, steps_by}
 use Rattle.split_ring.specs.declared.callers.CallerId.{CallerId}
 use Rattle.split_ring.specs.Focus.{seat_of}
+use Rattle.split_ring.specs.Phases.{take_steps}
 use Rattle.split_ring.proofs.links.SharedLink.take_step.Goals as goal
 
 pub find_take_era-requires-clause-seat : goal.find_take_era-requires-clause-seat
@@ -125,3 +126,24 @@ returns-in-Ok-hand_over-clause-alone g c = steps_by g.row.D.coded g.D.Desk.meani
 
 pub returns-in-Err-hand_over-clause-alone : goal.returns-in-Err-hand_over-clause-alone
 returns-in-Err-hand_over-clause-alone g c = steps_by g.row.D.coded g.D.Desk.meaning c.args.self.now.sizes c.args.who c.args.call.who c.args.seat.now.me c.hand_over.new.seat.me c.requires.stands.1 c.hand_over.ensures.alone
+
+pub returns-in-Ok-clause-next : goal.returns-in-Ok-clause-next
+returns-in-Ok-clause-next g c = (sym (ap (λ (s : TakeStage). take_steps s + 1) c.in-Turn.is), refl, tt, tt)
+
+pub returns-in-Err-clause-next : goal.returns-in-Err-clause-next
+returns-in-Err-clause-next g c = (sym (ap (λ (s : TakeStage). take_steps s + 1) c.in-Turn.is), refl, tt, tt)
+
+pub returns-in-Ok-look_for_message-clause-next : goal.returns-in-Ok-look_for_message-clause-next
+returns-in-Ok-look_for_message-clause-next g c = (sym (ap (λ (s : TakeStage). take_steps s + 1) c.in-Era.is), refl, tt, tt)
+
+pub returns-in-Err-look_for_message-clause-next : goal.returns-in-Err-look_for_message-clause-next
+returns-in-Err-look_for_message-clause-next g c = (sym (ap (λ (s : TakeStage). take_steps s + 1) c.in-Era.is), refl, tt, tt)
+
+pub returns-in-Look-clause-next : goal.returns-in-Look-clause-next
+returns-in-Look-clause-next g c = (sym (ap (λ (s : TakeStage). take_steps s + 1) c.in-Look.is), refl, tt, tt)
+
+pub returns-in-Ok-hand_over-clause-next : goal.returns-in-Ok-hand_over-clause-next
+returns-in-Ok-hand_over-clause-next g c = (sym (ap (λ (s : TakeStage). take_steps s + 1) c.in-Buffer.is), refl, tt, tt)
+
+pub returns-in-Err-hand_over-clause-next : goal.returns-in-Err-hand_over-clause-next
+returns-in-Err-hand_over-clause-next g c = (sym (ap (λ (s : TakeStage). take_steps s + 1) c.in-Buffer.is), refl, tt, tt)

@@ -1,0 +1,80 @@
+-- The calls that a manager carries: what is out with each, and where its caller stands in it (own).
+use Rattle.std.specs.Prelude.{◌≡◌, ◌≢◌, ◌≤◌, ◌<◌, ◌+◌, ℕ, zero, suc, List, [], ◌∷◌, ◌++◌, length, Some, true, slice_index}
+use mathlib.Core.Option.{some}
+use lib.ListN.{get_elem?}
+use Rattle.atomic_table.specs.Table.{turned}
+use Rattle.rp_base.specs.declared.kinds.End.{End}
+use Rattle.lane_model.specs.declared.calls.Progress.{Progress}
+use Rattle.lane_model.specs.declared.calls.Progress.TheVariants as progress
+use Rattle.lane_model.specs.Links.{end_of}
+use Rattle.link_words.specs.declared.rule.Call.TheVariants.{Gathers}
+use Rattle.link_words.specs.declared.rule.LinkSizes.{LinkSizes}
+use Rattle.link_words.specs.declared.rule.Pass.{Pass}
+use Rattle.link_words.specs.declared.rule.Slot.{Slot}
+use Rattle.link_words.specs.Calls.{SeatState, has_side}
+use Rattle.link_words.specs.Orderly.{IsOrderly}
+use Rattle.link_words.specs.Passes.{Manages}
+use Rattle.link_words.specs.Reopens.{ManagerAt}
+use Rattle.link_words.specs.Sides.{no_sides}
+use Rattle.split_ring.specs.Focus.{front, behind, seat_of}
+use Rattle.split_ring.specs.Phases.{IsUnderWay, side_of, slots_in}
+use Rattle.split_ring.specs.Reclaims.{StandsIn}
+use Rattle.split_ring.specs.Seats.{pass_in}
+use Rattle.split_ring.specs.declared.callers.CallerId.{CallerId}
+use Rattle.split_ring.specs.declared.callers.Manager.{Manager}
+use Rattle.split_ring.specs.declared.calls.Phase.{Phase}
+use Rattle.split_ring.specs.declared.calls.Phase.TheVariants as phase
+use Rattle.split_ring.specs.declared.links.SharedLink.{SharedLink}
+
+-- how many slots are out with the first so many side states, by how many are with each
+abbrev pub out_before : ℕ → List ℕ → ℕ
+out_before zero counts = 0
+out_before (suc n) [] = 0
+out_before (suc n) (c ∷ cs) = c + out_before n cs
+
+-- the first slots go behind the others, so many, one after the other
+abbrev pub turned_by : ℕ → List (ℕ × Slot) → List (ℕ × Slot)
+turned_by zero slots = slots
+turned_by (suc n) slots = turned_by n (turned slots)
+
+-- the slots with those of this side state in front
+abbrev pub turned_to : ℕ → List ℕ → List (ℕ × Slot) → List (ℕ × Slot)
+turned_to side counts slots = behind (out_before side counts) slots ++ front (out_before side counts) slots
+
+-- the seat as if it had the pass of this caller alone, with what is out with its call in this phase
+abbrev pub carried_at : CallerId → Phase → List ℕ → SeatState → SeatState
+carried_at who p counts me = seat_of who.number (me.0, turned_to (side_of who.end p) counts me.1)
+
+abbrev pub carried_seat : CallerId → Phase → Manager → SeatState
+carried_seat who p manager = carried_at who p manager.out manager.seat.me
+
+-- each slot that is out is one of a carried call, and they stand in the order of the side states with which they are out, with each so many
+pub record HasBlocks (counts : List ℕ) (me : SeatState) : Type 0 where
+  pub four : length counts ≡ 4
+  pub few : (slot : ℕ) → slice_index counts slot ≤ 2
+  pub all : out_before 4 counts ≡ length me.1
+  pub owned : (slot : ℕ) → slice_index counts slot ≢ 0 → (k : ℕ) × (p : Pass) × (get_elem? me.0.passes k ≡ some p) × (has_side slot p.call ≡ true)
+
+module _ {D : Type 0} where
+  -- the manager's seat is one of this link, has no turn itself, and knows who is in use; its passes are in order, and so are the slots that are out
+  pub record IsCarrierOf (link : SharedLink D) (manager : Manager) : Type 0 where
+    pub at_table : manager.seat.table_id ≡ link.table.shared.table_id
+    pub manages : Manages manager.seat.me.0
+    pub rests : ManagerAt manager.seat.me (Gathers no_sides no_sides)
+    pub knows : manager.seat.me.0.users ≡ manager.users
+    pub told : manager.seat.me.0.sizes ≡ link.sizes
+    pub order : IsOrderly manager.seat.me.0
+    pub blocks : HasBlocks manager.out manager.seat.me
+
+  -- the manager carries this caller, which is in this phase of its call, or in no call, where the call has ended
+  pub record Carries (link : SharedLink D) (manager : Manager) (who : CallerId) (p : Phase) : Type 0 where
+    pub user : end_of manager.users who.number ≡ Some who.end
+    pub low : who.number < 64
+    pub number : (pass_in (carried_seat who p manager)).number ≡ who.number
+    pub counted : slots_in p ≢ 0 → slice_index manager.out (side_of who.end p) ≡ slots_in p
+    pub stands : StandsIn link.sizes who p (carried_seat who p manager)
+
+  -- the same behind a step that said this
+  abbrev pub CarriesOn : SharedLink D → Manager → CallerId → Phase → Progress → Type 0
+  CarriesOn link manager who p (progress.At number) = Carries link manager who p × IsUnderWay p
+  CarriesOn link manager who p (progress.Done answer) = Carries link manager who phase.Ended

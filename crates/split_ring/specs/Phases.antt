@@ -1,0 +1,124 @@
+-- What a phase of a call tells: the side state that is out, how many slots are, how many steps are done, and what the next step says (own).
+use Rattle.std.specs.Prelude.{◌≡◌, ◌+◌, ℕ, Option, Some, None}
+use Rattle.rp_base.specs.declared.kinds.End.{End}
+use Rattle.lane_model.specs.declared.calls.Answer.{Answer}
+use Rattle.lane_model.specs.declared.calls.Ask.{Ask}
+use Rattle.lane_model.specs.declared.calls.Ask.TheVariants as ask
+use Rattle.lane_model.specs.declared.calls.Outcome.{Outcome}
+use Rattle.lane_model.specs.declared.calls.Outcome.TheVariants as outcome
+use Rattle.lane_model.specs.declared.calls.Progress.{Progress}
+use Rattle.lane_model.specs.declared.calls.Progress.TheVariants as progress
+use Rattle.lane_model.specs.declared.stages.GiveStage.{GiveStage}
+use Rattle.lane_model.specs.declared.stages.GiveStage.TheVariants as give_stage
+use Rattle.lane_model.specs.declared.stages.SendStage.{SendStage}
+use Rattle.lane_model.specs.declared.stages.SendStage.TheVariants as stage
+use Rattle.lane_model.specs.declared.stages.TakeStage.{TakeStage}
+use Rattle.lane_model.specs.declared.stages.TakeStage.TheVariants as take_stage
+use Rattle.lane_model.specs.declared.stages.Work.TheVariants as work
+use Rattle.lane_model.specs.declared.calls.Wish.{Wish}
+use Rattle.lane_model.specs.declared.calls.Wish.TheVariants as wish
+use Rattle.lane_model.specs.declared.lane_links.LaneLink.{LaneLink}
+use Rattle.lane_model.specs.Answers.{busy_answer, wish_of}
+use Rattle.lane_model.specs.Lanes.{holder}
+use Rattle.ring_core.specs.declared.states.RingState.{RingState}
+use Rattle.link_words.specs.Words.{lane_to, other, sender_slot, receiver_slot}
+use Rattle.split_ring.specs.Calls.{call_end}
+use Rattle.split_ring.specs.Focus.{send_count, work_count}
+use Rattle.split_ring.specs.declared.calls.Phase.{Phase}
+use Rattle.split_ring.specs.declared.calls.Phase.TheVariants as phase
+
+-- the slot of the side state that goes with the turn of a call; one that has done no step has none, and this is what it asks for
+abbrev pub asked_side : End → Ask → ℕ
+asked_side end (ask.Send message) = sender_slot (other end)
+asked_side end ask.Take = receiver_slot end
+asked_side end (ask.Give held) = receiver_slot end
+asked_side end (ask.Bind address) = receiver_slot end
+asked_side end (ask.Unbind address) = receiver_slot end
+
+abbrev pub side_of : End → Phase → ℕ
+side_of end (phase.Asked asked) = asked_side end asked
+side_of end (phase.Sends stage c message) = sender_slot (other end)
+side_of end (phase.Takes stage c buffer) = receiver_slot end
+side_of end (phase.Gives stage held returned) = receiver_slot end
+side_of end (phase.Asks asked) = receiver_slot end
+side_of end (phase.LeavesSender answer) = sender_slot (other end)
+side_of end (phase.LeavesReceiver answer) = receiver_slot end
+side_of end phase.Ended = receiver_slot end
+
+-- how many slots are out with a call in this phase
+abbrev pub slots_in : Phase → ℕ
+slots_in (phase.Asked asked) = 0
+slots_in (phase.Sends stage c message) = send_count stage
+slots_in (phase.Takes stage c buffer) = work_count (work.Take stage)
+slots_in (phase.Gives stage held returned) = 1
+slots_in (phase.Asks asked) = 1
+slots_in (phase.LeavesSender answer) = 1
+slots_in (phase.LeavesReceiver answer) = 1
+slots_in phase.Ended = 0
+
+-- a call has begun and not ended
+abbrev pub IsUnderWay : Phase → Type 0
+IsUnderWay phase.Ended = ⊥
+IsUnderWay other = Unit {0}
+
+-- how many steps a call in this phase has done, before its end is settled
+abbrev pub send_steps : SendStage → ℕ
+send_steps stage.Turn = 1
+send_steps stage.Era = 2
+send_steps stage.Look = 3
+send_steps stage.Buffer = 4
+send_steps stage.Entry = 5
+
+abbrev pub take_steps : TakeStage → ℕ
+take_steps take_stage.Turn = 1
+take_steps take_stage.Era = 2
+take_steps take_stage.Look = 3
+take_steps take_stage.Buffer = 4
+
+abbrev pub give_steps : GiveStage → ℕ
+give_steps give_stage.Turn = 1
+give_steps give_stage.Entry = 2
+
+abbrev pub steps_in : Phase → ℕ
+steps_in (phase.Sends stage c message) = send_steps stage
+steps_in (phase.Takes stage c buffer) = take_steps stage
+steps_in (phase.Gives stage held returned) = give_steps stage
+steps_in (phase.Asks asked) = 1
+steps_in other = 0
+
+-- the answer with which a step ends a call: the one that was settled; or at the first step that another has the turn
+abbrev pub IsEndOf : Phase → Answer → Type 0
+IsEndOf (phase.Asked asked) said = (holder : ℕ) × (said ≡ busy_answer holder (Some asked))
+IsEndOf (phase.LeavesSender answer) said = said ≡ answer
+IsEndOf (phase.LeavesReceiver answer) said = said ≡ answer
+IsEndOf other said = ⊥
+
+-- the end of a call in this phase is not settled yet
+abbrev pub IsUnsettled : Phase → Type 0
+IsUnsettled (phase.LeavesSender answer) = ⊥
+IsUnsettled (phase.LeavesReceiver answer) = ⊥
+IsUnsettled phase.Ended = ⊥
+IsUnsettled other = Unit {0}
+
+-- what the next step of a call of this end says: its number, with the same turn behind it; or the call's end
+abbrev pub IsNext : End → Phase → Progress → Phase → Type 0
+IsNext end before (progress.At number) after = (number ≡ steps_in before + 1) × (side_of end after ≡ side_of end before) × IsUnderWay after × IsUnsettled before
+IsNext end before (progress.Done said) after = (after ≡ phase.Ended) × IsEndOf before said
+
+-- what a caller wishes whose call has done no step
+abbrev pub wished_in : Phase → Option Wish
+wished_in (phase.Asked asked) = Some (wish_of asked)
+wished_in other = None
+
+-- who has the turn that a caller of this end needs for what it wishes
+abbrev pub holder_for : {D : Type 0} → End → Wish → LaneLink (RingState D) → Option ℕ
+holder_for end (wish.Send message) m = holder (lane_to m (other end)).lane.sender
+holder_for end wish.Take m = holder (lane_to m end).lane.receiver
+holder_for end (wish.Give number) m = holder (lane_to m end).lane.receiver
+holder_for end (wish.Bind address) m = holder (lane_to m end).lane.receiver
+holder_for end (wish.Unbind address) m = holder (lane_to m end).lane.receiver
+
+-- what a step came to, by what it says
+abbrev pub outcome_said : Progress → Outcome
+outcome_said (progress.At number) = outcome.At number
+outcome_said (progress.Done answer) = outcome.Ended (call_end answer)
