@@ -4,6 +4,7 @@ use mathlib.Core.Option.{some}
 use lib.ListN.{get_elem?}
 use Rattle.atomic_table.specs.Table.{turned}
 use Rattle.rp_base.specs.declared.kinds.End.{End}
+use Rattle.lane_model.specs.declared.calls.Ask.{Ask}
 use Rattle.lane_model.specs.declared.calls.Progress.{Progress}
 use Rattle.lane_model.specs.declared.calls.Progress.TheVariants as progress
 use Rattle.lane_model.specs.Links.{end_of}
@@ -16,6 +17,7 @@ use Rattle.link_words.specs.Orderly.{IsOrderly}
 use Rattle.link_words.specs.Passes.{Manages}
 use Rattle.link_words.specs.Reopens.{ManagerAt}
 use Rattle.link_words.specs.Sides.{no_sides}
+use Rattle.split_ring.specs.Calls.{IsOwnAsk}
 use Rattle.split_ring.specs.Focus.{front, behind, seat_of}
 use Rattle.split_ring.specs.Phases.{IsUnderWay, side_of, slots_in}
 use Rattle.split_ring.specs.Reclaims.{StandsIn}
@@ -24,6 +26,7 @@ use Rattle.split_ring.specs.declared.callers.CallerId.{CallerId}
 use Rattle.split_ring.specs.declared.callers.Manager.{Manager}
 use Rattle.split_ring.specs.declared.calls.Phase.{Phase}
 use Rattle.split_ring.specs.declared.calls.Phase.TheVariants as phase
+use Rattle.split_ring.specs.declared.calls.RingCall.{RingCall}
 use Rattle.split_ring.specs.declared.links.SharedLink.{SharedLink}
 
 -- how many slots are out with the first so many side states, by how many are with each
@@ -74,7 +77,18 @@ module _ {D : Type 0} where
     pub counted : slots_in p ≢ 0 → slice_index manager.out (side_of who.end p) ≡ slots_in p
     pub stands : StandsIn link.sizes who p (carried_seat who p manager)
 
+  -- it is in no call, and may ask this
+  abbrev pub CarriesIdle : SharedLink D → Manager → CallerId → Type 0
+  CarriesIdle link manager who = Carries link manager who phase.Ended
+
+  abbrev pub MayAskBy : SharedLink D → Manager → CallerId → Ask → Type 0
+  MayAskBy link manager who asked = CarriesIdle link manager who × IsOwnAsk who asked (carried_seat who phase.Ended manager)
+
+  -- or it is in this call, which has not ended
+  abbrev pub MayAdvanceBy : SharedLink D → Manager → CallerId → RingCall D → Type 0
+  MayAdvanceBy link manager who call = Carries link manager who call.phase × IsUnderWay call.phase
+
   -- the same behind a step that said this
   abbrev pub CarriesOn : SharedLink D → Manager → CallerId → Phase → Progress → Type 0
   CarriesOn link manager who p (progress.At number) = Carries link manager who p × IsUnderWay p
-  CarriesOn link manager who p (progress.Done answer) = Carries link manager who phase.Ended
+  CarriesOn link manager who p (progress.Done answer) = CarriesIdle link manager who

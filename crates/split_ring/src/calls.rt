@@ -14,7 +14,7 @@ ghost use Rattle.split_ring.specs.Calls.{deed_of, send_answer, desk_said, hands_
 ghost use Rattle.split_ring.specs.Callers.{IsAdvanced, MayAdvance, StepNotBelow, TakesStep};
 ghost use Rattle.split_ring.specs.declared.callers.CallerId.{CallerId};
 ghost use Rattle.split_ring.specs.declared.callers.Manager.{Manager};
-ghost use Rattle.split_ring.specs.Carried.{Carries, carried_seat};
+ghost use Rattle.split_ring.specs.Carried.{MayAdvanceBy, MayAskBy};
 ghost use Rattle.split_ring.specs.Focus.{IsOrderlySeat, StaysAlone, StepsAlone, seat_of};
 ghost use Rattle.split_ring.specs.Phases.{IsNext, IsUnderWay, asked_side, outcome_said, side_of, wished_in};
 ghost use Rattle.split_ring.specs.Seats.{pass_in};
@@ -116,7 +116,7 @@ impl<D: Desk> SharedLink<D> {
     /// A call that asks this, which has done no step yet. It follows the incarnation that its caller follows.
     pub fn begin_call(&self, ask: Ask) -> RingCall<D>
         ensures asked { result.phase ≡ phase.Asked ask }
-        ensures carried { (manager : Manager) (who : CallerId) → Carries self.now manager who phase.Ended → IsOwnAsk who ask (carried_seat who phase.Ended manager) → Carries self.now manager who result.phase × IsUnderWay result.phase }
+        ensures carried { (manager : Manager) (who : CallerId) → MayAskBy self.now manager who ask → MayAdvanceBy self.now manager who result }
     {
         RingCall {
             phase: Phase::Asked(ask),

@@ -10,11 +10,10 @@ ghost use Rattle.link_words.specs.Passes.{with_new_caller};
 ghost use Rattle.link_words.specs.PlacedDesks.{table_at};
 ghost use Rattle.link_words.specs.Words.{lane_to};
 ghost use Rattle.split_ring.specs.Callers.{IsManagerOf, IsStateOf};
-ghost use Rattle.split_ring.specs.Carried.{Carries, IsCarrierOf};
+ghost use Rattle.split_ring.specs.Carried.{Carries, CarriesIdle, IsCarrierOf};
 ghost use Rattle.split_ring.specs.Gathers.{IsHolderIn};
 ghost use Rattle.split_ring.specs.declared.callers.CallerId.{CallerId};
 ghost use Rattle.split_ring.specs.declared.calls.Phase.{Phase};
-ghost use Rattle.split_ring.specs.declared.calls.Phase.TheVariants as phase;
 ghost use Rattle.std.specs.Fn.{FnOnceReturnsAt};
 
 use crate::callers::{Manager, least_free};
@@ -32,7 +31,7 @@ impl<D: Desk> SharedLink<D> {
         ensures manager { IsCarrierOf self.now manager.new }
         ensures bare { IsManagerOf self.now manager.old → IsManagerOf self.now manager.new }
         ensures number { result ≡ free_number manager.old.users }
-        ensures carried { IfSome result (λ number. (follows : ℕ) → Carries self.now manager.new (record { number = number; end = end; follows = follows }) phase.Ended) }
+        ensures carried { IfSome result (λ number. (follows : ℕ) → CarriesIdle self.now manager.new (record { number = number; end = end; follows = follows })) }
         ensures others { (who : CallerId) (p : Phase) → Carries self.now manager.old who p → Carries self.now manager.new who p }
         ensures view { IfSome result (λ _. manager.new.seat.me ≡ (with_new_caller end manager.old.seat.me.0 manager.new.seat.me.0.copy, manager.old.seat.me.1)) }
         ensures users { IfSome result (λ number. manager.new.users ≡ slice_set manager.old.users number (Some end)) }
