@@ -1,7 +1,6 @@
 -- The manager behind a step of a call that it carries: it is a carrier still, and each call that it carries is where it was or where the step left it.
 use Rattle.std.proofs.Common.{◌≡◌, ◌≢◌, ◌+◌, ◌-◌, ◌<◌, ◌≤◌, ℕ, zero, suc, length, get_or, List, [], ◌∷◌, refl, sym, ap, ◌∙◌, subst, arith}
 use Rattle.std.specs.Prelude.{Option, Some, None, slice_index, slice_set}
-use mathlib.Core.Option.{some}
 use lib.ListN.{get_elem?}
 use base.Stored.{Coded}
 use Rattle.atomic_table.specs.Seated.{TableId}
@@ -17,10 +16,9 @@ use Rattle.lane_model.specs.Lanes.{Stepped}
 use Rattle.lane_model.specs.Links.{Lanes, end_of, on_lanes}
 use Rattle.ring_core.specs.declared.states.RingState.{RingState}
 use Rattle.link_words.specs.declared.rule.Call.TheVariants.{Gathers}
-use Rattle.link_words.specs.declared.rule.Pass.{Pass}
 use Rattle.link_words.specs.declared.rule.View.{View}
 use Rattle.link_words.specs.Calls.{SeatState}
-use Rattle.link_words.specs.Deeds.{Deed, Steps, after_deed}
+use Rattle.link_words.specs.Deeds.{Steps, after_deed}
 use Rattle.link_words.specs.Orderly.{IsOrderly}
 use Rattle.link_words.specs.Passes.{Manages, place_of_number}
 use Rattle.link_words.specs.PlacedLinks.{KnowsState}
@@ -39,7 +37,7 @@ use Rattle.split_ring.specs.Phases.{IsNext, side_of, slots_in}
 use Rattle.split_ring.specs.Reclaims.{StandsIn}
 use Rattle.split_ring.specs.Seats.{pass_in}
 use Rattle.split_ring.proofs.Carrying.{place_same, side_low, stands_next}
-use Rattle.split_ring.proofs.CarriedSteps.{IsCarriedStep, blocks_next, counted_beside, counted_next, keeps, next_block, next_out, number_beside, passes, seat_next, seat_now, stands_beside, stays_there, turned_now}
+use Rattle.split_ring.proofs.CarriedSteps.{IsCarriedStep, blocks_next, counted_beside, counted_next, keeps, next_block, number_beside, passes, seat_next, seat_now, stands_beside, stays_there, turned_now}
 use Rattle.split_ring.proofs.Focusing.{found_number, same_carrier}
 use Rattle.split_ring.proofs.Turning.{before_grows, before_same, turned_is}
 

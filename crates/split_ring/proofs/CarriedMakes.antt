@@ -1,5 +1,5 @@
 -- A caller that the manager makes and carries, beside the calls that it carries already.
-use Rattle.std.proofs.Common.{◌≡◌, ◌≢◌, ◌<◌, ℕ, zero, suc, Bool, true, false, eqb, eq-eqb, cond, length, List, [], ◌∷◌, ◌++◌, refl, sym, ap, ◌∙◌, subst, arith}
+use Rattle.std.proofs.Common.{◌≡◌, ◌<◌, ℕ, zero, suc, Bool, true, false, eqb, eq-eqb, cond, length, List, [], ◌∷◌, ◌++◌, refl, sym, ap, ◌∙◌, subst, arith}
 use Rattle.std.specs.Prelude.{Option, Some, None, slice_index, slice_set}
 use Rattle.std.proofs.lemmas.Bool.{eqb-true}
 use mathlib.Core.Option.{some, some-injective, some-ne-none}
@@ -8,7 +8,7 @@ use Rattle.atomic_table.proofs.Lists.{at_longer}
 use Rattle.rp_base.specs.declared.kinds.End.{End}
 use Rattle.lane_model.specs.Links.{end_of, free_number}
 use Rattle.link_words.specs.declared.copies.LinkCopy.{LinkCopy}
-use Rattle.link_words.specs.declared.rule.Call.TheVariants.{Gathers, Rests}
+use Rattle.link_words.specs.declared.rule.Call.TheVariants.{Gathers}
 use Rattle.link_words.specs.declared.rule.Pass.{Pass}
 use Rattle.link_words.specs.declared.rule.Slot.{Slot}
 use Rattle.link_words.specs.declared.rule.View.{View}
@@ -28,9 +28,9 @@ use Rattle.split_ring.specs.Callers.{IsManagerOf}
 use Rattle.split_ring.specs.Calls.{IsOwnAsk}
 use Rattle.split_ring.specs.Carried.{Carries, HasBlocks, IsCarrierOf, carried_at, carried_seat, turned_to}
 use Rattle.split_ring.specs.Focus.{count_of, front, seat_of, slot_count}
-use Rattle.split_ring.specs.Phases.{side_of, slots_in}
+use Rattle.split_ring.specs.Phases.{side_of}
 use Rattle.split_ring.specs.Reclaims.{StandsIn}
-use Rattle.split_ring.specs.Seats.{IsAt, first_pass, pass_in}
+use Rattle.split_ring.specs.Seats.{first_pass, pass_in}
 use Rattle.split_ring.proofs.Carrying.{own_same, phase_at, stands_same}
 use Rattle.split_ring.proofs.CarriedSteps.{count_there, pass_there}
 use Rattle.split_ring.proofs.Enlisting.{place_longer}

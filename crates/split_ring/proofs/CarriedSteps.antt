@@ -1,13 +1,11 @@
 -- A step of a call that a manager carries: which slots are out with it then, and that the other calls stay where they were.
-use Rattle.std.proofs.Common.{◌≡◌, ◌≢◌, ◌⊎◌, inl, inr, ⊎_elim, ◌<◌, ◌≤◌, ◌+◌, ◌-◌, ℕ, zero, suc, true, length, List, [], ◌∷◌, ◌++◌, refl, sym, ap, ◌∙◌, subst, arith}
+use Rattle.std.proofs.Common.{◌≡◌, ◌≢◌, ◌⊎◌, inl, inr, ⊎_elim, ◌<◌, ◌≤◌, ◌+◌, ◌-◌, ℕ, zero, suc, true, length, List, ◌++◌, refl, sym, ap, ◌∙◌, subst, arith}
 use Rattle.std.proofs.lemmas.Bool.{cases_eq}
 use Rattle.std.specs.Prelude.{slice_index, slice_set}
 use mathlib.Core.Option.{some, some-injective}
 use lib.ListN.{get_elem?}
-use Rattle.link_words.specs.declared.rule.Call.{Call}
 use Rattle.link_words.specs.declared.rule.LinkSizes.{LinkSizes}
 use Rattle.link_words.specs.declared.rule.Pass.{Pass}
-use Rattle.link_words.specs.declared.rule.Slot.{Slot}
 use Rattle.link_words.specs.declared.rule.View.{View}
 use Rattle.link_words.specs.Calls.{SeatState, call_at, has_side, with_pass_at}
 use Rattle.link_words.specs.Orderly.{IsOrderly}
@@ -15,7 +13,7 @@ use Rattle.link_words.specs.Passes.{only_pass, place_of_number}
 use Rattle.split_ring.specs.declared.callers.CallerId.{CallerId}
 use Rattle.split_ring.specs.declared.calls.Phase.{Phase}
 use Rattle.split_ring.specs.Carried.{HasBlocks, carried_at, out_before, turned_by, turned_to}
-use Rattle.split_ring.specs.Focus.{LeavesOthers, behind, count_of, front, others_of, seat_of, slot_count}
+use Rattle.split_ring.specs.Focus.{LeavesOthers, behind, count_of, front, seat_of, slot_count}
 use Rattle.split_ring.specs.Phases.{side_of, slots_in}
 use Rattle.split_ring.specs.Reclaims.{StandsIn}
 use Rattle.split_ring.specs.Seats.{first_pass, pass_in}

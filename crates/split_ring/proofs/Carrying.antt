@@ -1,8 +1,7 @@
 -- A step of a call that a manager carries: which slots are out with it then, and that the other calls stay where they were.
-use Rattle.std.proofs.Common.{◌≡◌, ◌≢◌, ◌⊎◌, inl, inr, ⊎_elim, ◌<◌, ◌≤◌, ◌+◌, ◌-◌, ℕ, zero, suc, Bool, true, false, cond, eqb, eq-eqb, length, List, [], ◌∷◌, ◌++◌, refl, sym, ap, ◌∙◌, subst, arith}
-use Rattle.std.proofs.lemmas.Bool.{cases_eq, eqb-true}
-use Rattle.std.specs.Prelude.{Some, None, slice_index, slice_set}
-use mathlib.Core.Option.{some, some-injective}
+use Rattle.std.proofs.Common.{◌≡◌, ◌≢◌, ◌<◌, ◌≤◌, ℕ, zero, suc, true, cond, eqb, eq-eqb, length, List, [], ◌∷◌, refl, sym, ap, ◌∙◌, subst, arith}
+use Rattle.std.proofs.lemmas.Bool.{eqb-true}
+use mathlib.Core.Option.{some}
 use lib.ListN.{get_elem?}
 use Rattle.rp_base.specs.declared.kinds.End.{End}
 use Rattle.rp_base.specs.declared.kinds.End.TheVariants as side
@@ -22,9 +21,7 @@ use Rattle.link_words.specs.declared.rule.Pass.{Pass}
 use Rattle.link_words.specs.declared.rule.ReceiverSide.{ReceiverSide}
 use Rattle.link_words.specs.declared.rule.SenderSide.{SenderSide}
 use Rattle.link_words.specs.declared.rule.Slot.{Slot}
-use Rattle.link_words.specs.declared.rule.View.{View}
-use Rattle.link_words.specs.Calls.{SeatState, call_at, has_side, with_pass_at}
-use Rattle.link_words.specs.Orderly.{IsOrderly}
+use Rattle.link_words.specs.Calls.{SeatState, has_side, with_pass_at}
 use Rattle.link_words.specs.Passes.{HasNumber, only_pass, place_of_number}
 use Rattle.link_words.specs.Words.{other, sender_slot, receiver_slot}
 use Rattle.split_ring.specs.declared.binds.DeskAsk.TheVariants as asks
@@ -34,13 +31,12 @@ use Rattle.split_ring.specs.declared.calls.Phase.TheVariants as phase
 use Rattle.lane_model.specs.declared.calls.Ask.{Ask}
 use Rattle.lane_model.specs.declared.calls.Ask.TheVariants as ask
 use Rattle.split_ring.specs.Calls.{IsInPhase, IsOwnAsk, StandsAt}
-use Rattle.split_ring.specs.Carried.{HasBlocks, carried_at, out_before, turned_by, turned_to}
-use Rattle.split_ring.specs.Focus.{LeavesOthers, behind, count_of, front, others_of, seat_of, slot_count}
-use Rattle.split_ring.specs.Phases.{IsNext, IsUnderWay, asked_side, side_of, slots_in}
-use Rattle.split_ring.specs.Receives.{HasBufferOut, IsGiveAt, IsHeldBy, IsTakeAt}
+use Rattle.split_ring.specs.Focus.{slot_count}
+use Rattle.split_ring.specs.Phases.{IsNext, IsUnderWay, side_of, slots_in}
+use Rattle.split_ring.specs.Receives.{IsHeldBy}
 use Rattle.split_ring.specs.Reclaims.{StandsIn}
-use Rattle.split_ring.specs.Seats.{IsAt, first_pass, pass_in}
-use Rattle.split_ring.proofs.Focusing.{call_there, changed_there, false-true, found_number, only_there}
+use Rattle.split_ring.specs.Seats.{IsAt, first_pass}
+use Rattle.split_ring.proofs.Focusing.{false-true}
 
 -- in which call a seat is, with which slots, by the phase
 pub record IsPhaseAt (who : CallerId) (p : Phase) (me : SeatState) : Type 0 where

@@ -1,5 +1,5 @@
 -- What a step of a call says, by the state of the ring form that its manager knows.
-use Rattle.std.proofs.Common.{◌≡◌, ◌≢◌, ◌+◌, ℕ, Bool, true, false, cond, eqb, eq-eqb, List, [], ◌∷◌, refl, sym, ap, ◌∙◌, subst, arith}
+use Rattle.std.proofs.Common.{◌≡◌, ◌≢◌, ◌+◌, ℕ, Bool, true, false, cond, eq-eqb, List, [], refl, sym, ap, ◌∙◌, subst, arith}
 use Rattle.std.specs.Prelude.{Option, Some, None, slice_index}
 use base.Stored.{Coded}
 use Rattle.rp_base.specs.declared.kinds.End.{End}
@@ -37,7 +37,6 @@ use Rattle.lane_model.specs.Sends.{send_step}
 use Rattle.ring_core.specs.declared.states.RingState.{RingState}
 use Rattle.ring_core.specs.RingSteps.{ring_form}
 use Rattle.link_words.specs.declared.codes.DeskTables.{DeskTables}
-use mathlib.Core.Option.{some}
 use lib.ListN.{get_elem?}
 use Rattle.link_words.specs.declared.rule.Call.{Call}
 use Rattle.link_words.specs.declared.rule.Call.TheVariants.{Receives, Rests, Sends}
@@ -47,7 +46,7 @@ use Rattle.link_words.specs.declared.rule.ReceiverSide.{ReceiverSide}
 use Rattle.link_words.specs.declared.rule.SenderSide.{SenderSide}
 use Rattle.link_words.specs.declared.rule.Slot.{Slot}
 use Rattle.link_words.specs.Calls.{SeatState, call_at}
-use Rattle.link_words.specs.Deeds.{Deed, IsSoundState, Steps, after_deed}
+use Rattle.link_words.specs.Deeds.{IsSoundState, Steps, after_deed}
 use Rattle.link_words.specs.Passes.{place_of_number}
 use Rattle.link_words.specs.Layouts.{layout, place_in}
 use Rattle.link_words.specs.PlacedDesks.{PlacedDesk, placed_meaning}
@@ -61,7 +60,7 @@ use Rattle.split_ring.specs.declared.callers.CallerId.{CallerId}
 use Rattle.split_ring.specs.declared.calls.Phase.{Phase}
 use Rattle.split_ring.specs.declared.calls.Phase.TheVariants as phase
 use Rattle.split_ring.specs.Calls.{IsInPhase, call_end}
-use Rattle.split_ring.specs.Focus.{ShowsCall, StepsAlone, seat_of}
+use Rattle.split_ring.specs.Focus.{ShowsCall, seat_of}
 use Rattle.split_ring.specs.Phases.{IsEndOf, IsNext, give_steps, holder_for, outcome_said, send_steps, steps_in, take_steps}
 use Rattle.split_ring.specs.Seats.{IsAt, pass_in}
 use Rattle.split_ring.specs.Turns.{HasBegun}

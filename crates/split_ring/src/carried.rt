@@ -1,5 +1,5 @@
 //! The calls of the callers that a manager carries, which are taken step by step.
-ghost use Rattle.std.specs.Prelude.{◌≡◌, ◌≢◌, ◌+◌, ◌<◌, ◌≤◌, ℕ, Some, slice_index};
+ghost use Rattle.std.specs.Prelude.{◌≡◌, ◌≢◌, ◌<◌, ◌≤◌, ℕ, Some, slice_index};
 ghost use Rattle.lane_model.specs.declared.lane_links.LaneLink.{LaneLink};
 ghost use Rattle.lane_model.specs.Links.{end_of, form_step};
 ghost use Rattle.ring_core.specs.declared.states.RingState.{RingState};
