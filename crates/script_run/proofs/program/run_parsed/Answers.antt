@@ -6,4 +6,4 @@ use Rattle.script_run.proofs.program.run_parsed.Goals as goal
 
 pub run_commands-requires-clause-runnable : goal.run_commands-requires-clause-runnable
 run_commands-requires-clause-runnable g c =
-    subst (λ (commands : List Command). AreRunnable commands) (sym c.as_slice.ensures.value) (are_runnable c.args.script.now.commands.items c.requires.script)
+    subst (λ (commands : List Command). AreRunnable commands) (sym c.as_slice-commands.ensures.value) (are_runnable c.args.script.now.commands.items c.requires.script)
