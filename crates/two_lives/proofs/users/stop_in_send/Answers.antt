@@ -9,8 +9,8 @@ use Rattle.two_lives.proofs.users.stop_in_send.Goals as goal
 pub loop-step-init : goal.loop-step-init
 loop-step-init g c = let q = c.requires.rests in let a = c.args.caller in let z = c.args.link.now.sizes in record {
   id = refl;
-  may = record { seat = q.seat; number = q.number; low = q.low; stands = subst (λ (p : Phase). IsInPhase z a.id p a.seat.me) (sym c.begin_call-call.ensures) (q.rests, tt) };
-  sends = begun g.row.D.coded g.D.Desk.meaning z a.id c.args.message a.seat.me c.begin_call-call.result.phase c.begin_call-call.ensures;
+  may = record { seat = q.seat; number = q.number; low = q.low; stands = subst (λ (p : Phase). IsInPhase z a.id p a.seat.me) (sym c.begin_call-call.ensures.asked) (q.rests, tt) };
+  sends = begun g.row.D.coded g.D.Desk.meaning z a.id c.args.message a.seat.me c.begin_call-call.result.phase c.begin_call-call.ensures.asked;
 }
 
 pub loop-step-preserved : goal.loop-step-preserved
