@@ -9,8 +9,8 @@ ghost use Rattle.split_ring.specs.declared.callers.CallerId.{CallerId};
 ghost use Rattle.split_ring.specs.declared.calls.Phase.{Phase};
 ghost use Rattle.split_ring.specs.Callers.{IsStateOf};
 ghost use Rattle.split_ring.specs.Calls.{Advances, deed_of};
-ghost use Rattle.split_ring.specs.Carried.{Carries, CarriesOn, IsCarrierOf, MayAdvanceBy, carried_seat, out_before, turned_by};
-ghost use Rattle.split_ring.specs.Phases.{outcome_said, side_of, slots_in, wished_in};
+ghost use Rattle.split_ring.specs.Carried.{Carries, CarriesOn, IsCarrierOf, carried_seat, out_before, turned_by};
+ghost use Rattle.split_ring.specs.Phases.{IsUnderWay, outcome_said, side_of, slots_in, wished_in};
 
 use crate::callers::{CallerId, Manager};
 use crate::calls::{Phase, RingCall};
@@ -94,7 +94,7 @@ impl<D: Desk> SharedLink<D> {
         call: &mut RingCall<D>,
     ) -> Progress
         requires manager { IsCarrierOf self.now manager.old }
-        requires call { (end : End) × MayAdvanceBy self.now manager.old (record { number = caller; end = end; follows = inc }) call.old }
+        requires call { (end : End) × Carries self.now manager.old (record { number = caller; end = end; follows = inc }) call.old.phase × IsUnderWay call.old.phase }
         ensures manager { IsCarrierOf self.now manager.new × (manager.new.users ≡ manager.old.users) }
         ensures call { (end : End) → end_of manager.old.users caller ≡ Some end → CarriesOn self.now manager.new (record { number = caller; end = end; follows = inc }) call.new.phase result }
         ensures others { (who : CallerId) (p : Phase) → who.number ≢ caller → Carries self.now manager.old who p → Carries self.now manager.new who p }
