@@ -2,12 +2,9 @@
 // that takes.
 #![tactic(auto)]
 
-mod carried;
-
 ghost use Rattle.split_ring.specs.Callers.{IsCallerOf, IsManagerOf};
 ghost use Rattle.split_ring.specs.Carried.{IsCarrierOf};
 
-use carried::can_carry;
 use channel_bus::Side;
 use lane_model::LinkConfig;
 use rp_base::{End, Message, NoMemory};
@@ -38,9 +35,6 @@ fn run(alloc: Global) -> Result<u64, NoMemory> {
     let remote = Side::new(alloc, false, Vec::new(alloc))?;
     let (link, mut manager) = SharedLink::make(alloc, config, host, remote)?;
     if !can_manage(&link, &mut manager) || !shows_words(alloc, &link, &mut manager) {
-        return Ok(0);
-    }
-    if !can_carry(alloc)? {
         return Ok(0);
     }
     let Some(mut sender) = link.caller(&mut manager, End::Remote) else {

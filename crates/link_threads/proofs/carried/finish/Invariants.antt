@@ -4,7 +4,7 @@ use Rattle.split_ring.specs.declared.callers.CallerId.{CallerId}
 use Rattle.split_ring.specs.declared.calls.Phase.{Phase}
 use Rattle.split_ring.specs.Carried.{Carries, IsCarrierOf}
 use Rattle.split_ring.specs.Phases.{IsUnderWay}
-use Rattle.link_speed.proofs.carried.finish.Given as goal
+use Rattle.link_threads.proofs.carried.finish.Given as goal
 
 -- the manager is a carrier of the link, the call goes on, and the other callers are where they were
 abbrev pub invariant-loop : goal.invariant-loop

@@ -4,7 +4,7 @@ use Rattle.lane_model.specs.declared.calls.Progress.{Progress}
 use Rattle.split_ring.specs.declared.callers.CallerId.{CallerId}
 use Rattle.split_ring.specs.declared.calls.Phase.TheVariants as phase
 use Rattle.split_ring.specs.Carried.{CarriesOn}
-use Rattle.link_speed.proofs.carried.passes_message.Goals as goal
+use Rattle.link_threads.proofs.carried.passes_message.Goals as goal
 
 pub advance_by-requires-clause-call : goal.advance_by-requires-clause-call
 advance_by-requires-clause-call c =

@@ -1,7 +1,7 @@
 use Rattle.std.proofs.Common.{subst}
 use Rattle.lane_model.specs.declared.calls.Progress.{Progress}
 use Rattle.split_ring.specs.Carried.{CarriesOn}
-use Rattle.link_speed.proofs.carried.finish.Goals as goal
+use Rattle.link_threads.proofs.carried.finish.Goals as goal
 
 pub loop-init : goal.loop-init
 loop-init c = (c.requires.manager, c.requires.call, λ who p differs carries. carries)

@@ -16,8 +16,8 @@ use std::alloc::Global;
 /// waits in the midst of its call until the send has ended.
 pub fn can_carry(alloc: Global) -> Result<bool, NoMemory> {
     let config = LinkConfig {
-        num0: 256,
-        num1: 256,
+        num0: 64,
+        num1: 64,
         book: 4,
         first: 1,
         base: 0,
