@@ -9,7 +9,7 @@ use Rattle.lane_model.specs.declared.calls.Wish.TheVariants as wish
 use Rattle.lane_model.specs.declared.recoveries.ReclaimRefusal.{ReclaimRefusal}
 use Rattle.lane_model.specs.Conditions.{MayStep, is_holding}
 use Rattle.lane_model.specs.Links.{LinkState, end_of, free_number, with_caller}
-use Rattle.lane_model.specs.Recoveries.{unreclaimed_by}
+use Rattle.lane_model.specs.Recoveries.{link_reclaim_refusal}
 use Rattle.channel_bus.specs.Sides.{EndState}
 use Rattle.link_bench.specs.declared.acts.ActAnswer.{ActAnswer}
 use Rattle.link_bench.specs.declared.acts.ActAnswer.TheVariants as answer
@@ -168,7 +168,7 @@ FitSends (act.Reclaim caller) = Unit {0}
 -- what a bench allows: the next step of the call that a caller is in, and reclaims in a closed era alone
 pub record MayAct (bench : BenchState) : Type 0 where
   pub go : (caller : ℕ) → is_in_call bench caller ≡ true → MayGo bench caller (begun_call_of bench caller)
-  pub shut : (caller : ℕ) → unreclaimed_by (link_in bench) caller ≡ None → (link_in bench).era.is_live ≡ false
+  pub shut : (caller : ℕ) → link_reclaim_refusal (link_in bench) caller ≡ None → (link_in bench).era.is_live ≡ false
 
 module _ {W : Type 0} (sees : Seeing W) (bench : BenchState) (watcher : W) (steps : ℕ) (may : MayAct bench) where
   made_lands : (caller : ℕ) (made : How) (wanted : Wish) → begin_fault bench caller wanted ≡ None → IsSendable wanted
@@ -204,7 +204,7 @@ module _ {W : Type 0} (sees : Seeing W) (bench : BenchState) (watcher : W) (step
     takes = λ other. refl;
   }
 
-  reclaim_lands : (caller : ℕ) (found : Option End) (why : Option ReclaimRefusal) → unreclaimed_by (link_in bench) caller ≡ why
+  reclaim_lands : (caller : ℕ) (found : Option End) (why : Option ReclaimRefusal) → link_reclaim_refusal (link_in bench) caller ≡ why
       → LandsAt bench (reclaim_deeds caller found why) (reclaim_leaves_at bench caller found why)
   reclaim_lands caller (Some end) None none = record { whole = (tt, tt); may = (may.shut caller none, tt); leads = refl; takes = λ other. refl }
   reclaim_lands caller (Some end) (Some why) found = stays bench
@@ -215,7 +215,7 @@ module _ {W : Type 0} (sees : Seeing W) (bench : BenchState) (watcher : W) (step
   free_lands (act.Call caller made wanted) fit = call_lands caller made wanted (fit bench)
   free_lands (act.Step caller more) fit = step_lands caller more
   free_lands (act.Pump sender receiver count) fit = pump_act_lands sender receiver count fit
-  free_lands (act.Reclaim caller) fit = reclaim_lands caller (end_of (link_in bench).callers caller) (unreclaimed_by (link_in bench) caller) refl
+  free_lands (act.Reclaim caller) fit = reclaim_lands caller (end_of (link_in bench).callers caller) (link_reclaim_refusal (link_in bench) caller) refl
 
   own_lands : (found : Option ℕ) (deeds : Deeds) (acted : Acted W) → LandsAt bench deeds acted.bench → LandsAt bench (unless_told found deeds) (unless_own bench watcher steps found acted).bench
   own_lands None deeds acted rest = rest

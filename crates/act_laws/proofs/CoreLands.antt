@@ -12,7 +12,7 @@ use Rattle.lane_model.specs.declared.calls.Wish.{Wish}
 use Rattle.lane_model.specs.declared.recoveries.ReclaimRefusal.{ReclaimRefusal}
 use Rattle.lane_model.specs.Lanes.{holder, is_live_in}
 use Rattle.lane_model.specs.Links.{LinkState, end_of, free_number, with_caller}
-use Rattle.lane_model.specs.Recoveries.{link_after_close, unreclaimed_by}
+use Rattle.lane_model.specs.Recoveries.{link_after_close, link_reclaim_refusal}
 use Rattle.lane_laws.specs.Moves.{Close, Enlist, Reclaim}
 use Rattle.lane_laws.proofs.LinkRuns.{move_shut}
 use Rattle.channel_bus.specs.Sides.{EndState, side_meaning}
@@ -114,7 +114,7 @@ crash_lands bench =
 
 -- ---- a recovery
 
-renewed_lands : (bench : BenchState) (why : Option ReclaimRefusal) → unreclaimed_by (link_in bench) 0 ≡ why → LandsAt bench (renewed_deeds why) (with_new_host_unless bench why)
+renewed_lands : (bench : BenchState) (why : Option ReclaimRefusal) → link_reclaim_refusal (link_in bench) 0 ≡ why → LandsAt bench (renewed_deeds why) (with_new_host_unless bench why)
 renewed_lands bench None none =
     let gone = reclaim_at bench 0 (unreclaimed_shut (link_in bench) 0 none) in
     then_at bench (one_move (Reclaim 0)) (after_reclaim bench 0) (one_move (Enlist side.Host)) (with_fresh_caller (after_reclaim bench 0) side.Host) gone
@@ -122,7 +122,7 @@ renewed_lands bench None none =
 renewed_lands bench (Some why) found = stays bench
 
 pub ready_lands : (bench : BenchState) → LandsAt bench (ready_deeds bench) (bench_to_reopen bench)
-ready_lands bench = renewed_lands bench (unreclaimed_by (link_in bench) 0) refl
+ready_lands bench = renewed_lands bench (link_reclaim_refusal (link_in bench) 0) refl
 
 -- ---- what a core has of a link
 

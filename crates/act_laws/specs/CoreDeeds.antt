@@ -6,7 +6,7 @@ use Rattle.lane_model.specs.declared.calls.Wish.{Wish}
 use Rattle.lane_model.specs.declared.recoveries.ReclaimRefusal.{ReclaimRefusal}
 use Rattle.lane_model.specs.Lanes.{holder}
 use Rattle.lane_model.specs.Links.{end_of}
-use Rattle.lane_model.specs.Recoveries.{unreclaimed_by}
+use Rattle.lane_model.specs.Recoveries.{link_reclaim_refusal}
 use Rattle.lane_laws.specs.Moves.{Close, Enlist, Reclaim}
 use Rattle.link_bench.specs.BenchCrashes.{after_close}
 use Rattle.link_bench.specs.BenchEnds.{is_first, is_remote, without_one, without_other}
@@ -66,7 +66,7 @@ renewed_deeds None = deeds_then (one_move (Reclaim 0)) (one_move (Enlist side.Ho
 renewed_deeds (Some why) = no_deeds
 
 abbrev pub ready_deeds : BenchState → Deeds
-ready_deeds bench = renewed_deeds (unreclaimed_by (link_in bench) 0)
+ready_deeds bench = renewed_deeds (link_reclaim_refusal (link_in bench) 0)
 
 -- ---- steps of the actors
 

@@ -6,7 +6,7 @@ use Rattle.lane_model.specs.declared.calls.Wish.{Wish}
 use Rattle.lane_model.specs.declared.calls.Wish.TheVariants as wish
 use Rattle.lane_model.specs.declared.recoveries.ReclaimRefusal.{ReclaimRefusal}
 use Rattle.lane_model.specs.Links.{LinkState, end_of, free_number}
-use Rattle.lane_model.specs.Recoveries.{unreclaimed_by}
+use Rattle.lane_model.specs.Recoveries.{link_reclaim_refusal}
 use Rattle.lane_laws.specs.Handings.{Handing}
 use Rattle.lane_laws.specs.Moves.{Move, Enlist, Step, Reclaim}
 use Rattle.lane_laws.specs.Takes.{step_takes}
@@ -132,7 +132,7 @@ free_deeds sees bench watcher steps (act.Step caller more) =
     unless_told (step_fault bench caller) (advance_deeds bench more steps caller (begun_call_of bench caller))
 free_deeds sees bench watcher steps (act.Pump sender receiver count) =
     unless_told (pump_refusal bench sender receiver) (pump_deeds sees count 0 sender receiver bench watcher steps)
-free_deeds sees bench watcher steps (act.Reclaim caller) = reclaim_deeds caller (end_of (link_in bench).callers caller) (unreclaimed_by (link_in bench) caller)
+free_deeds sees bench watcher steps (act.Reclaim caller) = reclaim_deeds caller (end_of (link_in bench).callers caller) (link_reclaim_refusal (link_in bench) caller)
 
 -- an act on a link with so many own callers, for whom nothing is done
 unfoldable pub act_deeds : {W : Type 0} → Seeing W → ℕ → BenchState → W → ℕ → LinkAct (List ℕ) → Deeds

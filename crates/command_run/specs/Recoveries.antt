@@ -4,7 +4,7 @@ use Rattle.rp_base.specs.declared.limits.TheConstants.{STEPS_MOST}
 use Rattle.rp_base.specs.declared.kinds.Era.{Era}
 use Rattle.lane_model.specs.declared.recoveries.ReopenFault.{ReopenFault}
 use Rattle.lane_model.specs.declared.recoveries.ReopenFault.TheVariants as reopen_fault
-use Rattle.lane_model.specs.Recoveries.{unclosed_by, unopened_by}
+use Rattle.lane_model.specs.Recoveries.{link_close_refusal, link_reopen_refusal}
 use Rattle.journal.specs.declared.events.Event.{Event}
 use Rattle.journal.specs.declared.events.Event.TheVariants as event
 use Rattle.command_run.specs.declared.stops.Stop.TheVariants as stop
@@ -21,7 +21,7 @@ close_event name era (Some found) = event.Already name found
 unfoldable pub close_effect : List ℕ → BenchState → ℕ → Effect
 close_effect name bench steps =
     if steps == STEPS_MOST then record { bench = bench; steps = steps; events = []; ending = Some stop.StepLimit }
-    else tells (after_close bench) (steps + 1) (close_event name (link_in bench).era (unclosed_by (link_in bench).era (link_in bench).era.inc))
+    else tells (after_close bench) (steps + 1) (close_event name (link_in bench).era (link_close_refusal (link_in bench).era (link_in bench).era.inc))
 
 -- why a link isn't opened again (want of memory isn't the link's refusal, and ends the run)
 abbrev pub reopen_events : List ℕ → ReopenFault → List Event
@@ -38,4 +38,4 @@ opened_effect name bench steps (Some why) = tells_all bench steps (reopen_events
 
 -- `reopen X`: no step
 unfoldable pub reopen_effect : List ℕ → BenchState → ℕ → Effect
-reopen_effect name bench steps = opened_effect name bench steps (unopened_by (link_in bench))
+reopen_effect name bench steps = opened_effect name bench steps (link_reopen_refusal (link_in bench))

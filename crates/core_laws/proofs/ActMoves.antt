@@ -7,7 +7,7 @@ use Rattle.lane_model.specs.declared.calls.Wish.{Wish}
 use Rattle.lane_model.specs.declared.recoveries.ReclaimRefusal.{ReclaimRefusal}
 use Rattle.lane_model.specs.Conditions.{is_calling}
 use Rattle.lane_model.specs.Links.{LinkState, end_of}
-use Rattle.lane_model.specs.Recoveries.{unreclaimed_by}
+use Rattle.lane_model.specs.Recoveries.{link_reclaim_refusal}
 use Rattle.lane_laws.specs.Moves.{Enlist, Move, Recorded, after_move, after_moves, no_handings}
 use Rattle.lane_laws.proofs.LinkRuns.{move_shut, moves_hand_none}
 use Rattle.channel_bus.specs.Sides.{EndState, side_meaning}
@@ -44,7 +44,7 @@ comes_call : (bench : BenchState) (steps caller : ℕ) (wanted : Wish) → begin
 comes_call bench steps caller wanted ready sendable =
     (call_leaves 6 steps bench.rings caller (link_in bench).era.inc wanted (begin_may bench caller wanted sendable ready)).came
 
-comes_tried : (bench : BenchState) (caller : ℕ) (end : Option End) (why : Option ReclaimRefusal) → unreclaimed_by (link_in bench) caller ≡ why
+comes_tried : (bench : BenchState) (caller : ℕ) (end : Option End) (why : Option ReclaimRefusal) → link_reclaim_refusal (link_in bench) caller ≡ why
     → ComesBy side_meaning (link_in bench) (link_in (reclaim_leaves_at bench caller end why))
 comes_tried bench caller (Some end) None none = comes_reclaim bench caller (unreclaimed_shut (link_in bench) caller none)
 comes_tried bench caller (Some end) (Some why) none = comes_none side_meaning (link_in bench)
@@ -68,7 +68,7 @@ module _ (start : LinkState EndState) where
     advanced = λ bench watcher more steps caller other in_call is.
         on bench _ is (advanced bench more steps caller is.reached in_call) (comes_advance bench more steps caller (begun_call_of bench caller) refl in_call is.reached);
     reclaimed = λ bench watcher caller other is.
-        on bench _ is (reclaim_tried bench caller is.reached) (comes_tried bench caller (end_of (link_in bench).callers caller) (unreclaimed_by (link_in bench) caller) refl);
+        on bench _ is (reclaim_tried bench caller is.reached) (comes_tried bench caller (end_of (link_in bench).callers caller) (link_reclaim_refusal (link_in bench) caller) refl);
     seen = λ bench watcher caller end is. is;
   }
 

@@ -11,7 +11,7 @@ use Rattle.lane_model.specs.Desks.{IsFreshDesk}
 use Rattle.lane_model.specs.Forms.{list_form}
 use Rattle.lane_model.specs.Links.{LinkState, end_of, free_number, lanes_of, opened_link}
 use Rattle.lane_model.specs.Conditions.{MayStep, MayEndStep, is_calling, is_in_call as is_in_call_on}
-use Rattle.lane_model.specs.Recoveries.{unopened_by, unreclaimed_by, link_after_reopen}
+use Rattle.lane_model.specs.Recoveries.{link_reopen_refusal, link_reclaim_refusal, link_after_reopen}
 use Rattle.lane_laws.specs.Moves.{Enlist, Close, Reclaim}
 use Rattle.lane_model.proofs.Others.{caller_may}
 use Rattle.lane_laws.proofs.LinkRuns.{opened_new, reopened_new}
@@ -144,20 +144,20 @@ shut_at : (live : Bool) (why : ReclaimRefusal) (other : Option ReclaimRefusal) �
 shut_at true why other none = absurd (true≢false (ap is_some none))
 shut_at false why other none = refl
 
-pub unreclaimed_shut : (link : LinkState EndState) (caller : ℕ) → unreclaimed_by link caller ≡ None → link.era.is_live ≡ false
+pub unreclaimed_shut : (link : LinkState EndState) (caller : ℕ) → link_reclaim_refusal link caller ≡ None → link.era.is_live ≡ false
 unreclaimed_shut link caller none = shut_at link.era.is_live _ _ none
 
-reclaim_at : (bench : BenchState) (caller : ℕ) (end : Option End) (why : Option ReclaimRefusal) → unreclaimed_by (link_in bench) caller ≡ why
+reclaim_at : (bench : BenchState) (caller : ℕ) (end : Option End) (why : Option ReclaimRefusal) → link_reclaim_refusal (link_in bench) caller ≡ why
     → IsReachedBench bench → IsReachedBench (reclaim_leaves_at bench caller end why)
 reclaim_at bench caller (Some end) None none reached = reclaimed bench caller (unreclaimed_shut (link_in bench) caller none) reached
 reclaim_at bench caller (Some end) (Some why) none reached = reached
 reclaim_at bench caller None why none reached = reached
 
-pub reclaim_tried : (bench : BenchState) (caller : ℕ) → IsReachedBench bench → IsReachedBench (reclaim_leaves bench caller (unreclaimed_by (link_in bench) caller))
-reclaim_tried bench caller reached = reclaim_at bench caller (end_of (link_in bench).callers caller) (unreclaimed_by (link_in bench) caller) refl reached
+pub reclaim_tried : (bench : BenchState) (caller : ℕ) → IsReachedBench bench → IsReachedBench (reclaim_leaves bench caller (link_reclaim_refusal (link_in bench) caller))
+reclaim_tried bench caller reached = reclaim_at bench caller (end_of (link_in bench).callers caller) (link_reclaim_refusal (link_in bench) caller) refl reached
 
 -- a reopening is a new start
-pub reopened : (bench : BenchState) → IsReachedBench bench → unopened_by (link_in bench) ≡ None → IsReachedBench (after_reopen bench)
+pub reopened : (bench : BenchState) → IsReachedBench bench → link_reopen_refusal (link_in bench) ≡ None → IsReachedBench (after_reopen bench)
 reopened bench reached clear = record {
   link = record {
     start = link_after_reopen (list_form side_meaning) (link_in bench);

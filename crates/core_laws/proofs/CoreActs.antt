@@ -7,7 +7,7 @@ use Rattle.rp_base.specs.declared.limits.TheConstants.{STEPS_MOST}
 use Rattle.lane_model.specs.declared.calls.Wish.{Wish}
 use Rattle.lane_model.specs.declared.recoveries.ReclaimRefusal.{ReclaimRefusal}
 use Rattle.lane_model.specs.Links.{end_of}
-use Rattle.lane_model.specs.Recoveries.{unreclaimed_by}
+use Rattle.lane_model.specs.Recoveries.{link_reclaim_refusal}
 use Rattle.proc_state.specs.Lives.{CoreLife, is_up}
 use Rattle.link_bench.specs.declared.acts.LinkAct.{LinkAct}
 use Rattle.link_bench.specs.declared.acts.LinkAct.TheVariants as act
@@ -161,7 +161,7 @@ ready_steps state = record {
   };
   reclaimed = λ bench actors caller other is. record {
     reached = reclaim_tried bench caller is.reached;
-    begun = reclaim_none bench caller (end_of (link_in bench).callers caller) (unreclaimed_by (link_in bench) caller) is.begun;
+    begun = reclaim_none bench caller (end_of (link_in bench).callers caller) (link_reclaim_refusal (link_in bench) caller) is.begun;
     calls = λ running. (reclaim_ready actors bench caller (omega (arith, other)) is.begun (is.calls running)).1;
   };
   seen = λ bench actors caller end is. record {

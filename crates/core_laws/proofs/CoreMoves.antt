@@ -12,7 +12,7 @@ use Rattle.lane_model.specs.declared.recoveries.ReopenFault.{ReopenFault}
 use Rattle.lane_model.specs.Lanes.{holder, is_live_in}
 use Rattle.lane_model.specs.Forms.{list_form}
 use Rattle.lane_model.specs.Links.{LinkState, end_of}
-use Rattle.lane_model.specs.Recoveries.{link_after_close, unopened_by, unreclaimed_by, without_caller}
+use Rattle.lane_model.specs.Recoveries.{link_after_close, link_reopen_refusal, link_reclaim_refusal, without_caller}
 use Rattle.channel_bus.specs.Sides.{EndState, side_meaning}
 use Rattle.fw_load.specs.declared.rings.RingPair.{RingPair}
 use Rattle.core_actors.specs.declared.actors.Actor.{Actor}
@@ -109,17 +109,17 @@ map_reached (Some bench) f each is = each bench is
 
 -- ---- a recovery
 
-ready_at : (bench : BenchState) (why : Option ReclaimRefusal) → unreclaimed_by (link_in bench) 0 ≡ why → IsReachedBench bench → IsReachedBench (with_new_host_unless bench why)
+ready_at : (bench : BenchState) (why : Option ReclaimRefusal) → link_reclaim_refusal (link_in bench) 0 ≡ why → IsReachedBench bench → IsReachedBench (with_new_host_unless bench why)
 ready_at bench None none reached = enlisted (after_reclaim bench 0) side.Host (reclaimed bench 0 (unreclaimed_shut (link_in bench) 0 none) reached)
 ready_at bench (Some why) is reached = reached
 
 pub readied : (bench : BenchState) → IsReachedBench bench → IsReachedBench (bench_to_reopen bench)
-readied bench reached = ready_at bench (unreclaimed_by (link_in bench) 0) refl reached
+readied bench reached = ready_at bench (link_reclaim_refusal (link_in bench) 0) refl reached
 
 pub core_readied : (core : CoreState) → IsReachedCore core → IsReachedCore (core_to_reopen core)
 core_readied core is = record { bench = map_reached core.bench bench_to_reopen readied is.bench; calls = is.calls }
 
-clear_at : (bench : BenchState) (why : Option ReclaimRefusal) → reopen_refusal_by bench why ≡ None → unopened_by (link_in (with_new_host_unless bench why)) ≡ None
+clear_at : (bench : BenchState) (why : Option ReclaimRefusal) → reopen_refusal_by bench why ≡ None → link_reopen_refusal (link_in (with_new_host_unless bench why)) ≡ None
 clear_at bench None clear = clear
 clear_at bench (Some why) clear = absurd (true≢false (ap is_some clear))
 
@@ -130,7 +130,7 @@ first_none (Some why) later none = absurd (true≢false (ap is_some none))
 bench_reopened : (bench : BenchState) (is_spent : Bool) → link_fault bench is_spent ≡ None → IsReachedBench bench → IsReachedBench (after_reopen (bench_to_reopen bench))
 bench_reopened bench is_spent none reached =
     reopened (bench_to_reopen bench) (readied bench reached)
-    (clear_at bench (unreclaimed_by (link_in bench) 0) (first_none (reopen_refusal_of bench) (spent_fault is_spent) none))
+    (clear_at bench (link_reclaim_refusal (link_in bench) 0) (first_none (reopen_refusal_of bench) (spent_fault is_spent) none))
 
 found_reopened : (found : Option BenchState) (is_spent : Bool) → fault_with found is_spent ≡ None → IfSome found IsReachedBench
     → IfSome (option_map (λ bench. after_reopen (bench_to_reopen bench)) found) IsReachedBench

@@ -6,7 +6,7 @@ use Rattle.rp_base.specs.declared.kinds.End.{End}
 use Rattle.rp_base.specs.declared.limits.TheConstants.{PAYLOAD_MOST}
 use Rattle.rpmsg_header.specs.Headers.{header_bytes}
 use Rattle.lane_model.specs.declared.calls.CallEnd.{CallEnd}
-use Rattle.lane_model.specs.Recoveries.{unreclaimed_by}
+use Rattle.lane_model.specs.Recoveries.{link_reclaim_refusal}
 use Rattle.link_bench.specs.BenchCrashes.{reclaim_leaves}
 use Rattle.lane_model.specs.declared.calls.Wish.{Wish}
 use Rattle.lane_model.specs.declared.calls.Wish.TheVariants as wish
@@ -107,7 +107,7 @@ pub record AreKeptSteps {W : Type 0} (sees : Seeing W) (own : ℕ) (Fits : Wish 
       → P bench watcher → P (call_walk bench steps caller wanted).bench watcher
   pub advanced : (bench : BenchState) (watcher : W) (more steps caller : ℕ) → own ≤ caller → is_in_call bench caller ≡ true
       → P bench watcher → P (advance_walk bench more steps caller).bench watcher
-  pub reclaimed : (bench : BenchState) (watcher : W) (caller : ℕ) → own ≤ caller → P bench watcher → P (reclaim_leaves bench caller (unreclaimed_by (link_in bench) caller)) watcher
+  pub reclaimed : (bench : BenchState) (watcher : W) (caller : ℕ) → own ≤ caller → P bench watcher → P (reclaim_leaves bench caller (link_reclaim_refusal (link_in bench) caller)) watcher
   pub seen : (bench : BenchState) (watcher : W) (caller : ℕ) (end : CallEnd) → P bench watcher → P bench (sees bench caller end watcher)
 
 -- this is known of what the calls of an act wish

@@ -12,7 +12,7 @@ use Rattle.fw_load.specs.declared.rings.RingPair.{RingPair}
 use Rattle.lane_model.specs.declared.calls.Wish.{Wish}
 use Rattle.lane_model.specs.declared.recoveries.ReclaimRefusal.{ReclaimRefusal}
 use Rattle.lane_model.specs.Links.{end_of, free_number}
-use Rattle.lane_model.specs.Recoveries.{unreclaimed_by}
+use Rattle.lane_model.specs.Recoveries.{link_reclaim_refusal}
 use Rattle.lane_model.proofs.Others.{stays_in_use}
 use Rattle.core_actors.specs.declared.actors.Actor.{Actor}
 use Rattle.core_actors.specs.declared.actors.Actor.TheVariants as actor
@@ -54,8 +54,8 @@ reclaim_at life bench caller None why other is = is
 
 -- a reclaim of another caller than the core's own
 pub reclaim_kept : (life : CoreLife) (bench : BenchState) (caller : ℕ) → 1 < caller → IsKeptBench life bench
-    → IsKeptBench life (reclaim_leaves bench caller (unreclaimed_by (link_in bench) caller))
-reclaim_kept life bench caller other is = reclaim_at life bench caller (end_of (link_in bench).callers caller) (unreclaimed_by (link_in bench) caller) other is
+    → IsKeptBench life (reclaim_leaves bench caller (link_reclaim_refusal (link_in bench) caller))
+reclaim_kept life bench caller other is = reclaim_at life bench caller (end_of (link_in bench).callers caller) (link_reclaim_refusal (link_in bench) caller) other is
 
 -- ---- boots and shutdowns
 
@@ -93,7 +93,7 @@ ready_at life bench None is = host_renewed life bench is
 ready_at life bench (Some why) is = is
 
 readied : (life : CoreLife) (bench : BenchState) → IsKeptBench life bench → IsKeptBench life (bench_to_reopen bench)
-readied life bench is = ready_at life bench (unreclaimed_by (link_in bench) 0) is
+readied life bench is = ready_at life bench (link_reclaim_refusal (link_in bench) 0) is
 
 pub core_readied : (core : CoreState) → IsKeptCore core → IsKeptCore (core_to_reopen core)
 core_readied core is = map_kept core.life core.life core.bench bench_to_reopen (readied core.life) is

@@ -15,7 +15,7 @@ use Rattle.lane_model.specs.Forms.{list_form}
 use Rattle.lane_model.specs.Lanes.{has_call, holder, is_live_in}
 use Rattle.lane_model.specs.Links.{LinkState, end_of, free_number, lanes_of, with_caller}
 use Rattle.lane_laws.specs.Moves.{no_handings}
-use Rattle.lane_model.specs.Recoveries.{link_after_close, unreclaimed_by, without_caller}
+use Rattle.lane_model.specs.Recoveries.{link_after_close, link_reclaim_refusal, without_caller}
 use Rattle.lane_model.specs.Soundness.{IsSoundTurn, SoundLink}
 use Rattle.lane_laws.proofs.CrashLaws.{close_sound}
 use Rattle.lane_model.proofs.CrashMay.{freed}
@@ -196,7 +196,7 @@ unrefused_at link false (Some side.Host) caller shut remote none = absurd (false
 unrefused_at link false None caller shut remote none = no_end side.Remote remote
 
 unrefused : (link : LinkState EndState) (caller : ℕ) → link.era.is_live ≡ false → end_of link.callers caller ≡ Some side.Remote → other_holder link.to_remote.receiver caller ≡ None
-    → unreclaimed_by link caller ≡ None
+    → link_reclaim_refusal link caller ≡ None
 unrefused link caller shut remote none = unrefused_at link link.era.is_live (end_of link.callers caller) caller shut remote (unneeded link.to_remote caller none)
 
 ended_free : (now : Turn Receiving) (caller : ℕ) → holder now ≡ None → holder (ended_turn now caller) ≡ None
@@ -316,7 +316,7 @@ module _ (bench : BenchState) (reached : IsReached (link_in bench)) (unmanaged :
   own_other now caller has = cond_both (has_call now caller) None (holder now) (λ (found : Option ℕ). found ≡ None) (λ _. refl) (λ other. absurd (true≢false (sym has ∙ other)))
 
   pub first_unrefused : (caller : ℕ) → holder (link_in (after_close bench)).to_remote.receiver ≡ Some caller
-      → (end_of (link_in (after_close bench)).callers caller ≡ Some side.Remote) × (unreclaimed_by (link_in (after_close bench)) caller ≡ None)
+      → (end_of (link_in (after_close bench)).callers caller ≡ Some side.Remote) × (link_reclaim_refusal (link_in (after_close bench)) caller ≡ None)
   first_unrefused caller held =
       let turn_of = closed_turn caller held in
       (turn_of.user, unrefused (link_in (after_close bench)) caller (close_shut bench.rings) turn_of.user (own_other (link_in (after_close bench)).to_remote.receiver caller turn_of.has))
@@ -325,7 +325,7 @@ module _ (bench : BenchState) (reached : IsReached (link_in bench)) (unmanaged :
   first_quiet None none = record { shut = close_shut bench.rings; free = none }
   first_quiet (Some caller) held = let turn_of = closed_turn caller held in mine_quiet (after_close bench) caller (close_shut bench.rings) turn_of.user turn_of.has
 
-  pub other_unrefused : (caller : ℕ) → end_of (link_in (crash_reaches bench caller)).callers caller ≡ Some side.Remote → unreclaimed_by (link_in (crash_reaches bench caller)) caller ≡ None
+  pub other_unrefused : (caller : ℕ) → end_of (link_in (crash_reaches bench caller)).callers caller ≡ Some side.Remote → link_reclaim_refusal (link_in (crash_reaches bench caller)) caller ≡ None
   other_unrefused caller remote =
       let first = holder (link_in (after_close bench)).to_remote.receiver in
       let quiet = others_quiet first (without_one (after_close bench) first) 0 caller (first_quiet first refl) in

@@ -23,7 +23,7 @@ use Rattle.lane_model.specs.Crashes.{after_receive_end, after_send_end}
 use Rattle.lane_model.specs.Forms.{list_form}
 use Rattle.lane_model.specs.Lanes.{has_call}
 use Rattle.lane_model.specs.Links.{LinkState, Lanes, end_of, free_number, lanes_of}
-use Rattle.lane_model.specs.Recoveries.{unreclaimed_by, without_caller}
+use Rattle.lane_model.specs.Recoveries.{link_reclaim_refusal, without_caller}
 use Rattle.lane_model.proofs.CrashSteps.{others_still_hold}
 use Rattle.lane_model.proofs.Steps.{no_other}
 use Rattle.channel_bus.specs.Sides.{EndState, side_meaning}
@@ -170,8 +170,8 @@ module _ (actors : ActorsState) (bench : BenchState) (caller : ℕ) (other : 1 <
   reclaim_at (Some end) (Some why) = (begun, ready)
   reclaim_at None why = (begun, ready)
 
-  pub reclaim_ready : HasNoneBegun (reclaim_leaves bench caller (unreclaimed_by (link_in bench) caller)) × IsReadyBench actors (reclaim_leaves bench caller (unreclaimed_by (link_in bench) caller))
-  reclaim_ready = reclaim_at (end_of (link_in bench).callers caller) (unreclaimed_by (link_in bench) caller)
+  pub reclaim_ready : HasNoneBegun (reclaim_leaves bench caller (link_reclaim_refusal (link_in bench) caller)) × IsReadyBench actors (reclaim_leaves bench caller (link_reclaim_refusal (link_in bench) caller))
+  reclaim_ready = reclaim_at (end_of (link_in bench).callers caller) (link_reclaim_refusal (link_in bench) caller)
 
 -- a new caller
 pub caller_ready : (actors : ActorsState) (bench : BenchState) (end : End) → HasNoneBegun bench → IsReadyBench actors bench
@@ -268,7 +268,7 @@ stopped Detached life may = refl
 
 pub readied_ready : (core : CoreState) → recovery_fault core.life ≡ None → IsReadyCore core → IsReadyCore (core_to_reopen core)
 readied_ready core may is = record {
-  begun = map_begun core.bench bench_to_reopen (λ bench one. renewed_begun bench (unreclaimed_by (link_in bench) 0) one) is.begun;
+  begun = map_begun core.bench bench_to_reopen (λ bench one. renewed_begun bench (link_reclaim_refusal (link_in bench) 0) one) is.begun;
   calls = λ running. absurd (false≢true (sym (stopped core.life.state core.life may) ∙ running));
 }
 
@@ -283,7 +283,7 @@ reopened_calls actors (Some bench) none_host none_worker = record {
 pub recovery_ready : (core : CoreState) (given : LoadState) → IsReadyCore core → IsReadyCore (after_recovery core given)
 recovery_ready core given is = record {
   begun = map_begun core.bench (λ bench. after_reopen (bench_to_reopen bench))
-      (λ bench one. let renewed = renewed_begun bench (unreclaimed_by (link_in bench) 0) one in record { host = renewed.host; worker = renewed.worker }) is.begun;
+      (λ bench one. let renewed = renewed_begun bench (link_reclaim_refusal (link_in bench) 0) one in record { host = renewed.host; worker = renewed.worker }) is.begun;
   calls = λ _. reopened_calls (after_recovery core given).actors core.bench refl refl;
 }
 

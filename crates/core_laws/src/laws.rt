@@ -7,7 +7,7 @@ ghost use Rattle.lane_model.specs.declared.calls.Wish.{Wish};
 ghost use Rattle.lane_model.specs.Desks.{IsFreshDesk};
 ghost use Rattle.lane_model.specs.Lanes.{holder};
 ghost use Rattle.lane_model.specs.Links.{LinkState, end_of, free_number};
-ghost use Rattle.lane_model.specs.Recoveries.{unopened_by, unreclaimed_by};
+ghost use Rattle.lane_model.specs.Recoveries.{link_reopen_refusal, link_reclaim_refusal};
 ghost use Rattle.lane_model.specs.Soundness.{SoundLink};
 ghost use Rattle.channel_bus.specs.Sides.{EndState, side_meaning};
 ghost use Rattle.link_bench.specs.declared.benches.BegunCall.{BegunCall};
@@ -71,10 +71,10 @@ pub fn bench_reached()
         → IsReachedBench (link_act nobody_sees own bench (tt {0}) steps act).bench }
     ensures close { (bench : BenchState) → IsReachedBench bench → IsReachedBench (after_close bench) }
     ensures reclaim { (bench : BenchState) (caller : ℕ) → IsReachedBench bench
-        → IsReachedBench (reclaim_leaves bench caller (unreclaimed_by (link_in bench) caller)) }
+        → IsReachedBench (reclaim_leaves bench caller (link_reclaim_refusal (link_in bench) caller)) }
     ensures end_caller { (bench : BenchState) (caller : ℕ) → IsReachedBench bench → (link_in bench).era.is_live ≡ false
         → IsReachedBench (after_reclaim bench caller) }
-    ensures reopen { (bench : BenchState) → IsReachedBench bench → unopened_by (link_in bench) ≡ None → IsReachedBench (after_reopen bench) }
+    ensures reopen { (bench : BenchState) → IsReachedBench bench → link_reopen_refusal (link_in bench) ≡ None → IsReachedBench (after_reopen bench) }
 {}
 
 /// What an act for callers does to a link, as a command of a script asks it, are moves of the link, one after the other. So in a closed incarnation no act
@@ -184,7 +184,7 @@ pub fn link_kept()
     ensures start { (life : CoreLife) (bench : BenchState) (steps caller : ℕ) (wanted : Wish) → IsKeptBench life bench
         → IsKeptBench life (start_walk bench steps caller wanted).bench }
     ensures reclaim { (life : CoreLife) (bench : BenchState) (caller : ℕ) → 1 < caller → IsKeptBench life bench
-        → IsKeptBench life (reclaim_leaves bench caller (unreclaimed_by (link_in bench) caller)) }
+        → IsKeptBench life (reclaim_leaves bench caller (link_reclaim_refusal (link_in bench) caller)) }
 {}
 
 /// Nothing refuses a reclaim that a crash report makes: not that of who has the receiver's turn of the remote end, who is a remote caller, nor
@@ -192,9 +192,9 @@ pub fn link_kept()
 pub fn crash_reclaims()
     ensures first { (bench : BenchState) (caller : ℕ) → IsReached (link_in bench) → IsUnmanaged (link_in bench)
         → holder (link_in (after_close bench)).to_remote.receiver ≡ Some caller
-        → (end_of (link_in (after_close bench)).callers caller ≡ Some side.Remote) × (unreclaimed_by (link_in (after_close bench)) caller ≡ None) }
+        → (end_of (link_in (after_close bench)).callers caller ≡ Some side.Remote) × (link_reclaim_refusal (link_in (after_close bench)) caller ≡ None) }
     ensures others { (bench : BenchState) (caller : ℕ) → IsReached (link_in bench) → IsUnmanaged (link_in bench)
-        → end_of (link_in (crash_reaches bench caller)).callers caller ≡ Some side.Remote → unreclaimed_by (link_in (crash_reaches bench caller)) caller ≡ None }
+        → end_of (link_in (crash_reaches bench caller)).callers caller ≡ Some side.Remote → link_reclaim_refusal (link_in (crash_reaches bench caller)) caller ≡ None }
     ensures all { (bench : BenchState) → crashed_bench bench ≡ crash_reaches bench 64 }
     ensures callers { (bench : BenchState) (caller : ℕ) → AreOwnUsed (link_in bench).callers → caller < 64
         → end_of (link_in (crashed_bench bench)).callers caller ≡ end_after_crash caller (end_of (link_in bench).callers caller) }
@@ -240,5 +240,5 @@ pub fn link_ready()
         → begin_fault bench caller wanted ≡ None → IsSendable wanted
         → let after = (start_walk bench steps caller wanted).bench in HasNoneBegun after × IsReadyBench actors after }
     ensures reclaim { (actors : ActorsState) (bench : BenchState) (caller : ℕ) → 1 < caller → HasNoneBegun bench → IsReadyBench actors bench
-        → let after = reclaim_leaves bench caller (unreclaimed_by (link_in bench) caller) in HasNoneBegun after × IsReadyBench actors after }
+        → let after = reclaim_leaves bench caller (link_reclaim_refusal (link_in bench) caller) in HasNoneBegun after × IsReadyBench actors after }
 {}

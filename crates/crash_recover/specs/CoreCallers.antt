@@ -8,7 +8,7 @@ use Rattle.fw_load.specs.declared.rings.RingPair.{RingPair}
 use Rattle.lane_model.specs.declared.calls.Wish.{Wish}
 use Rattle.lane_model.specs.Lanes.{holder}
 use Rattle.lane_model.specs.Links.{end_of, free_number}
-use Rattle.lane_model.specs.Recoveries.{unreclaimed_by}
+use Rattle.lane_model.specs.Recoveries.{link_reclaim_refusal}
 use Rattle.link_bench.specs.declared.bench_crashes.Reclaim.{Reclaim}
 use Rattle.link_bench.specs.declared.benches.BenchFault.{BenchFault}
 use Rattle.link_bench.specs.declared.benches.BenchFault.TheVariants as fault
@@ -94,11 +94,11 @@ core_step core caller = core_step_on core caller core.bench
 abbrev pub core_reclaim_answer : ℕ → Option BenchState → Result Reclaim BenchFault
 core_reclaim_answer caller None = Err fault.NoCaller
 core_reclaim_answer caller (Some bench) =
-    if is_own caller then Err fault.NoCaller else reclaim_answer (end_of (link_in bench).callers caller) (unreclaimed_by (link_in bench) caller)
+    if is_own caller then Err fault.NoCaller else reclaim_answer (end_of (link_in bench).callers caller) (link_reclaim_refusal (link_in bench) caller)
 
 -- the link then
 abbrev pub bench_after_reclaim : ℕ → BenchState → BenchState
-bench_after_reclaim caller bench = if is_own caller then bench else reclaim_leaves bench caller (unreclaimed_by (link_in bench) caller)
+bench_after_reclaim caller bench = if is_own caller then bench else reclaim_leaves bench caller (link_reclaim_refusal (link_in bench) caller)
 
 -- the core then
 abbrev pub after_core_reclaim : CoreState → ℕ → CoreState

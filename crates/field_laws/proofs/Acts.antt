@@ -21,7 +21,7 @@ use Rattle.lane_model.specs.Conditions.{MayEndStep, is_holding}
 use Rattle.lane_model.specs.Crashes.{has_held, needed_holder, other_holder}
 use Rattle.lane_model.specs.Lanes.{has_call, holder, holds}
 use Rattle.lane_model.specs.Links.{LinkState, end_of, free_number, lanes_of}
-use Rattle.lane_model.specs.Recoveries.{unreclaimed_by}
+use Rattle.lane_model.specs.Recoveries.{link_reclaim_refusal}
 use Rattle.lane_model.specs.Soundness.{AreHandedOnce, IsSoundTurn, SoundLink}
 use Rattle.channel_bus.specs.Sides.{EndState}
 use Rattle.link_bench.specs.declared.acts.ActAnswer.{ActAnswer}
@@ -230,7 +230,7 @@ needed_at link None caller sound is = tt
 needed_at link (Some side.Host) caller sound is = needed_small link.to_host link.callers side.Host caller is.callers sound.to_host.receiver
 needed_at link (Some side.Remote) caller sound is = needed_small link.to_remote link.callers side.Remote caller is.callers sound.to_remote.receiver
 
-pub refusal_fields : (link : LinkState EndState) (caller : ℕ) → SoundLink link → IsFieldLink link → IfSome (unreclaimed_by link caller) IsFieldRefusal
+pub refusal_fields : (link : LinkState EndState) (caller : ℕ) → SoundLink link → IsFieldLink link → IfSome (link_reclaim_refusal link caller) IsFieldRefusal
 refusal_fields link caller sound is =
     cond_both link.era.is_live (Some (refusal.StillOpen link.era)) (option_map refusal.Busy (option_and_then (λ end. needed_holder (lanes_of link end).incoming caller) (end_of link.callers caller)))
     (λ (found : Option ReclaimRefusal). IfSome found IsFieldRefusal) (λ _. is.inc)
@@ -442,7 +442,7 @@ module _ {W : Type 0} (sees : Seeing W) where
       let receives = fit.1 in
       pump_told bench watcher steps sender receiver count is (omega (arith, sends)) (omega (arith, receives)) fit.2 (λ number. (calls_sendable (act.Pump sender receiver count) fit number).0)
   free_told bench watcher steps (act.Reclaim caller) fit fields is =
-      came_at caller (end_of (link_in bench).callers caller) (unreclaimed_by (link_in bench) caller) (omega (arith, fit))
+      came_at caller (end_of (link_in bench).callers caller) (link_reclaim_refusal (link_in bench) caller) (omega (arith, fit))
       (refusal_fields (link_in bench) caller (reached_sound (link_in bench) is.reached.link) is.fields.link)
 
   own_told : (own : ℕ) (bench : BenchState) (watcher : W) (steps : ℕ) (found : Option ℕ) (acted : Acted W) → IfSome found IsNumber → IsFieldActed acted.answer
@@ -485,7 +485,7 @@ bench_steps sees own = record {
   called = λ bench watcher steps caller wanted other ready fit is. call_holds bench steps caller wanted is ready fit;
   advanced = λ bench watcher more steps caller other in_call is.
       record { reached = advanced bench more steps caller is.reached in_call; fields = (advance_fields bench more steps caller in_call is.reached is.fields).bench };
-  reclaimed = λ bench watcher caller other is. record { reached = reclaim_tried bench caller is.reached; fields = tried_fields bench caller (unreclaimed_by (link_in bench) caller) is.fields };
+  reclaimed = λ bench watcher caller other is. record { reached = reclaim_tried bench caller is.reached; fields = tried_fields bench caller (link_reclaim_refusal (link_in bench) caller) is.fields };
   seen = λ bench watcher caller end is. is;
 }
 

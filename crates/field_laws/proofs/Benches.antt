@@ -25,7 +25,7 @@ use Rattle.lane_model.specs.Crashes.{after_receive_end, after_send_end, ended_tu
 use Rattle.lane_model.specs.Forms.{list_form}
 use Rattle.lane_model.specs.Lanes.{has_call, is_live_in}
 use Rattle.lane_model.specs.Links.{LinkState, caller_step, end_of, free_number, with_caller}
-use Rattle.lane_model.specs.Recoveries.{unopened_by, unreclaimed_by, without_caller}
+use Rattle.lane_model.specs.Recoveries.{link_reopen_refusal, link_reclaim_refusal, without_caller}
 use Rattle.lane_model.specs.Soundness.{SoundLink}
 use Rattle.lane_model.specs.WholeCalls.{WhereOn}
 use Rattle.lane_laws.specs.Moves.{Step}
@@ -234,7 +234,7 @@ unspent None None (Some three) inc spent is none = absurd (true≢false (ap is_s
 unspent None None None inc true is none = absurd (true≢false (ap is_some none))
 unspent None None None inc false is none = is
 
-next_small : (link : LinkState EndState) → IsFieldLink link → unopened_by link ≡ None → link.era.inc + 1 < 2 ^ 32
+next_small : (link : LinkState EndState) → IsFieldLink link → link_reopen_refusal link ≡ None → link.era.inc + 1 < 2 ^ 32
 next_small link is clear =
     let spent = unspent (cond link.era.is_live (Some (reopen_fault.StillOpen link.era)) None) (option_map reopen_fault.StillTurn (option_or (turn_out link.to_host) (turn_out link.to_remote)))
     (option_map (λ (h : Holding). reopen_fault.StillHeld h.caller h.number) (option_or (least_held link.to_host.lane.held) (least_held link.to_remote.lane.held)))
@@ -243,7 +243,7 @@ next_small link is clear =
     let small = is.inc in
     omega (arith, small, other)
 
-pub reopen_fields : (bench : BenchState) → unopened_by (link_in bench) ≡ None → IsFieldBench bench → IsFieldBench (after_reopen bench)
+pub reopen_fields : (bench : BenchState) → link_reopen_refusal (link_in bench) ≡ None → IsFieldBench bench → IsFieldBench (after_reopen bench)
 reopen_fields bench clear is = record {
   link = record {
     inc = next_small (link_in bench) is.link clear;
@@ -296,4 +296,4 @@ renewed_fields bench None is = fresh_caller (after_reclaim bench 0) side.Host (r
 renewed_fields bench (Some why) is = is
 
 pub ready_fields : (bench : BenchState) → IsFieldBench bench → IsFieldBench (bench_to_reopen bench)
-ready_fields bench is = renewed_fields bench (unreclaimed_by (link_in bench) 0) is
+ready_fields bench is = renewed_fields bench (link_reclaim_refusal (link_in bench) 0) is

@@ -36,7 +36,7 @@ use Rattle.lane_model.specs.declared.states.LaneState.{LaneState}
 use Rattle.lane_model.specs.Crashes.{least_held, lesser, turn_out}
 use Rattle.lane_model.specs.Lanes.{holder}
 use Rattle.lane_model.specs.Links.{LinkState}
-use Rattle.lane_model.specs.Recoveries.{unopened_by, unreclaimed_by}
+use Rattle.lane_model.specs.Recoveries.{link_reopen_refusal, link_reclaim_refusal}
 use Rattle.lane_model.specs.Soundness.{AreHandedOnce, AreUsers, IsSoundTurn, SoundLink}
 use Rattle.channel_bus.specs.Sides.{EndState}
 use Rattle.link_bench.specs.BenchCrashes.{after_reopen}
@@ -238,7 +238,7 @@ lane_turn : (state : LaneState EndState) (callers : List (Option End)) (sends re
 lane_turn state callers sends receives len sender receiver =
     or_has IsSmall (holder state.sender) (holder state.receiver) (holder_small callers sends state.sender len sender) (holder_small callers receives state.receiver len receiver)
 
-pub unopened_fields : (link : LinkState EndState) → SoundLink link → IsFieldLink link → IfSome (unopened_by link) IsFieldReopen
+pub unopened_fields : (link : LinkState EndState) → SoundLink link → IsFieldLink link → IfSome (link_reopen_refusal link) IsFieldReopen
 unopened_fields link sound is =
     let turns = or_has IsSmall (turn_out link.to_host) (turn_out link.to_remote) (lane_turn link.to_host link.callers side.Remote side.Host is.callers sound.to_host.sender sound.to_host.receiver)
     (lane_turn link.to_remote link.callers side.Host side.Remote is.callers sound.to_remote.sender sound.to_remote.receiver) in
@@ -374,7 +374,7 @@ handover_fields core name found called are sound is =
 
 -- ---- recoveries
 
-refused_reopen : (bench : BenchState) (why : Option ReclaimRefusal) → unreclaimed_by (link_in bench) 0 ≡ why → IfSome why IsFieldRefusal → IsReachedBench (bench_to_reopen bench) → IsFieldBench (bench_to_reopen bench)
+refused_reopen : (bench : BenchState) (why : Option ReclaimRefusal) → link_reclaim_refusal (link_in bench) 0 ≡ why → IfSome why IsFieldRefusal → IsReachedBench (bench_to_reopen bench) → IsFieldBench (bench_to_reopen bench)
     → IfSome (reopen_refusal_by bench why) IsFieldReopen
 refused_reopen bench None is fields reached ready =
     let came = subst (λ (w : Option ReclaimRefusal). IsReachedBench (with_new_host_unless bench w)) is reached in
@@ -385,7 +385,7 @@ refused_reopen bench (Some (refusal.Busy held)) is fields reached ready = fields
 
 reopen_refusal_fields : (bench : BenchState) → IsReachedBench bench → IsFieldBench bench → IfSome (reopen_refusal_of bench) IsFieldReopen
 reopen_refusal_fields bench reached is =
-    refused_reopen bench (unreclaimed_by (link_in bench) 0) refl (refusal_fields (link_in bench) 0 (reached_sound (link_in bench) reached.link) is.link) (readied bench reached) (ready_fields bench is)
+    refused_reopen bench (link_reclaim_refusal (link_in bench) 0) refl (refusal_fields (link_in bench) 0 (reached_sound (link_in bench) reached.link) is.link) (readied bench reached) (ready_fields bench is)
 
 reopen_map : (found : Option ReopenFault) → IfSome found IsFieldReopen → IfSome (option_map fault.Reopen found) IsFieldCoreFault
 reopen_map None is = tt
@@ -412,7 +412,7 @@ map_fields (Some bench) f each is = each bench is
 readied_fields : (core : CoreState) → IsFieldCore core → IsFieldCore (core_to_reopen core)
 readied_fields core is = record { book = is.book; life = is.life; image = is.image; loaded = is.loaded; placed = is.placed; rest = is.rest; bench = map_fields core.bench bench_to_reopen ready_fields is.bench; calls = is.calls }
 
-clear_at : (bench : BenchState) (why : Option ReclaimRefusal) → reopen_refusal_by bench why ≡ None → unopened_by (link_in (with_new_host_unless bench why)) ≡ None
+clear_at : (bench : BenchState) (why : Option ReclaimRefusal) → reopen_refusal_by bench why ≡ None → link_reopen_refusal (link_in (with_new_host_unless bench why)) ≡ None
 clear_at bench None clear = clear
 clear_at bench (Some why) clear = absurd (true≢false (ap is_some clear))
 
@@ -427,7 +427,7 @@ image_none (Some why) later none = absurd (true≢false (ap is_some none))
 found_reopened : (found : Option BenchState) (is_spent : Bool) → fault_with found is_spent ≡ None → IfSome found IsFieldBench → IfSome (option_map (λ bench. after_reopen (bench_to_reopen bench)) found) IsFieldBench
 found_reopened None is_spent none is = is
 found_reopened (Some bench) is_spent none is =
-    reopen_fields (bench_to_reopen bench) (clear_at bench (unreclaimed_by (link_in bench) 0) (first_none (reopen_refusal_of bench) (spent_fault is_spent) none)) (ready_fields bench is)
+    reopen_fields (bench_to_reopen bench) (clear_at bench (link_reclaim_refusal (link_in bench) 0) (first_none (reopen_refusal_of bench) (spent_fault is_spent) none)) (ready_fields bench is)
 
 pub recovery_fields : (core : CoreState) (found : Found) → IfOk found AreBytes → SoundRegions core.regions → IsReachedCore core → IsFieldCore core → HoldsOut IsFieldStart (recovery_of core found)
 unfolding recovery_of

@@ -7,7 +7,7 @@ use Rattle.remote_core.specs.declared.workers.Work.TheVariants as work
 use Rattle.remote_core.specs.Works.{work_of}
 use Rattle.lane_model.specs.declared.calls.Wish.{Wish}
 use Rattle.lane_model.specs.Links.{free_number}
-use Rattle.lane_model.specs.Recoveries.{unreclaimed_by}
+use Rattle.lane_model.specs.Recoveries.{link_reclaim_refusal}
 use Rattle.link_bench.specs.declared.acts.LinkAct.{LinkAct}
 use Rattle.link_bench.specs.declared.benches.BenchFault.{BenchFault}
 use Rattle.link_bench.specs.declared.benches.Reach.{Reach}
@@ -170,7 +170,7 @@ both_steps = record {
     calls = is.calls;
   };
   reclaimed = λ bench actors caller other is.
-      record { holds = record { reached = reclaim_tried bench caller is.holds.reached; fields = tried_fields bench caller (unreclaimed_by (link_in bench) caller) is.holds.fields }; calls = is.calls };
+      record { holds = record { reached = reclaim_tried bench caller is.holds.reached; fields = tried_fields bench caller (link_reclaim_refusal (link_in bench) caller) is.holds.fields }; calls = is.calls };
   seen = λ bench actors caller end is. record { holds = is.holds; calls = seen_fields actors bench caller end is.holds.fields.link is.calls };
 }
 

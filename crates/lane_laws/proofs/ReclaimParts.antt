@@ -17,7 +17,7 @@ use Rattle.lane_model.specs.Crashes.{ended_turn, held_by_others, has_held, after
 use Rattle.lane_model.specs.Forms.{list_form}
 use Rattle.lane_model.specs.Links.{LinkState, Lanes, lanes_of, with_lanes, end_of}
 use Rattle.lane_model.specs.Conditions.{is_in_call}
-use Rattle.lane_model.specs.Recoveries.{unreclaimed_by, ended_lanes, without_caller, link_after_reclaim}
+use Rattle.lane_model.specs.Recoveries.{link_reclaim_refusal, ended_lanes, without_caller, link_after_reclaim}
 use Rattle.lane_model.proofs.CrashSteps.{others_have}
 use Rattle.lane_laws.specs.Parts.{manager_takes, lanes_part, callers_part, part_done, MayPart, needs_turn, reclaim_parts}
 use Rattle.lane_laws.specs.Moves.{Part, MayMoves, reclaim_moves}
@@ -194,7 +194,7 @@ pub record IsUnrefused {D : Type 0} (link : LinkState D) (end : End) (caller : �
   pub shut : link.era.is_live ≡ false
   pub clear : needed_holder (lanes_of link end).incoming caller ≡ None
 
-pub unrefused : {D : Type 0} (link : LinkState D) (end : End) (caller : ℕ) → end_of link.callers caller ≡ Some end → unreclaimed_by link caller ≡ None → IsUnrefused link end caller
+pub unrefused : {D : Type 0} (link : LinkState D) (end : End) (caller : ℕ) → end_of link.callers caller ≡ Some end → link_reclaim_refusal link caller ≡ None → IsUnrefused link end caller
 unrefused link end caller used none =
     by link.era.is_live refl (ap (λ found. cond link.era.is_live (Some (refusal.StillOpen link.era)) (option_map refusal.Busy (option_and_then (λ end. needed_holder (lanes_of link end).incoming caller) found))) (sym used) ∙ none)
   where
@@ -213,7 +213,7 @@ callers_by callers caller true false = refl
 callers_by callers caller false true = refl
 callers_by callers caller false false = refl
 
-pub reclaim_may : {D : Type 0} (desk : DeskMeaning D) (link : LinkState D) (end : End) (caller : ℕ) → end_of link.callers caller ≡ Some end → unreclaimed_by link caller ≡ None
+pub reclaim_may : {D : Type 0} (desk : DeskMeaning D) (link : LinkState D) (end : End) (caller : ℕ) → end_of link.callers caller ≡ Some end → link_reclaim_refusal link caller ≡ None
     → MayMoves desk link (reclaim_moves link end caller)
 reclaim_may desk link end caller used none =
     let is = unrefused link end caller used none in
@@ -221,7 +221,7 @@ reclaim_may desk link end caller used none =
     link_may desk link end caller (reclaim_parts lanes caller) is.shut used
     (parts_may desk lanes caller (needs_turn lanes.incoming caller) (is_in_call lanes caller) refl refl is.clear)
 
-pub reclaim_whole : {D : Type 0} (desk : DeskMeaning D) (link : LinkState D) (end : End) (caller : ℕ) → end_of link.callers caller ≡ Some end → unreclaimed_by link caller ≡ None
+pub reclaim_whole : {D : Type 0} (desk : DeskMeaning D) (link : LinkState D) (end : End) (caller : ℕ) → end_of link.callers caller ≡ Some end → link_reclaim_refusal link caller ≡ None
     → link_after_moves desk link (reclaim_moves link end caller) ≡ link_after_reclaim (list_form desk) link caller
 reclaim_whole {D} desk link end caller used none =
     let is = unrefused link end caller used none in

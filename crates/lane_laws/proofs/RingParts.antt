@@ -17,7 +17,7 @@ use Rattle.lane_model.specs.Lanes.{OfCall, has_call}
 use Rattle.lane_model.specs.Crashes.{has_held, needed_holder}
 use Rattle.lane_model.specs.Links.{Lanes, lanes_of, with_lanes, end_of, link_of}
 use Rattle.lane_model.specs.Conditions.{is_in_call, IsFitReceiver}
-use Rattle.lane_model.specs.Recoveries.{unreclaimed_by, ended_lanes, without_caller, link_after_reclaim}
+use Rattle.lane_model.specs.Recoveries.{link_reclaim_refusal, ended_lanes, without_caller, link_after_reclaim}
 use Rattle.ring_core.specs.declared.states.Hand.{Hand}
 use Rattle.ring_core.specs.declared.states.RingState.{RingState}
 use Rattle.ring_core.specs.RingSteps.{ring_form, holding_of, hands_of_others, buffers_of}
@@ -212,7 +212,7 @@ holdings_at link side.Host sound = sound.to_host.holdings
 holdings_at link side.Remote sound = sound.to_remote.holdings
 
 pub parts_whole : {D : Type 0} (desk : DeskMeaning D) (link : LaneLink (RingState D)) (end : End) (caller : ℕ) → HasSoundRings link → end_of link.callers caller ≡ Some end
-    → unreclaimed_by (link_of (ring_form desk) link) caller ≡ None
+    → link_reclaim_refusal (link_of (ring_form desk) link) caller ≡ None
     → ring_parts_done desk link end caller (reclaim_parts (lanes_of (link_of (ring_form desk) link) end) caller) ≡ link_after_reclaim (ring_form desk) link caller
 unfolding lists_of
 parts_whole {D} desk link end caller sound used none =

@@ -10,7 +10,7 @@ ghost use Rattle.lane_model.specs.declared.recoveries.LaneTurn.{LaneTurn};
 ghost use Rattle.lane_laws.specs.Parts.{part_done, MayPart, with_manager, without_manager};
 ghost use Rattle.lane_model.specs.Links.{lanes_of, end_of, LinkState, caller_step, opened_link, with_caller, free_number};
 ghost use Rattle.lane_model.specs.Forms.{list_form};
-ghost use Rattle.lane_model.specs.Recoveries.{link_after_close, link_after_reclaim, link_after_reopen, unopened_by, unreclaimed_by};
+ghost use Rattle.lane_model.specs.Recoveries.{link_after_close, link_after_reclaim, link_after_reopen, link_reopen_refusal, link_reclaim_refusal};
 ghost use Rattle.lane_laws.specs.Moves.{IsEmptyLane, HandsNone, Move, MayMoves, reclaim_moves, Recorded, no_handings, after_moves, lane_to, handings_to, IsNewLink, WasBound};
 ghost use Rattle.lane_laws.specs.Ways.{link_after_moves};
 ghost use Rattle.lane_model.specs.Conditions.{MayStep};
@@ -44,7 +44,7 @@ pub fn others_may<D: Desk>()
     ensures close { (link : LinkState D) (inc other : ℕ) (next : Option Wish) → MayStep link other next → MayStep (link_after_close link inc) other next }
     ensures reclaim { (link : LinkState D) (caller other : ℕ) (next : Option Wish) → caller ≢ other → MayStep link other next
         → MayStep (link_after_reclaim (list_form D.meaning) link caller) other next }
-    ensures reopen { (link : LinkState D) (other : ℕ) (next : Wish) → unopened_by link ≡ None → MayStep link other (Some next)
+    ensures reopen { (link : LinkState D) (other : ℕ) (next : Wish) → link_reopen_refusal link ≡ None → MayStep link other (Some next)
         → MayStep (link_after_reopen (list_form D.meaning) link) other (Some next) }
 {}
 
@@ -74,9 +74,9 @@ pub fn sound_kept<D: Desk>()
 /// Where nothing refuses the reclaim of a caller, its parts may be done in their order, and with nothing between they leave what the whole
 /// reclaim leaves.
 pub fn parts_make_reclaim<D: Desk>()
-    ensures may { (link : LinkState D) (end : End) (caller : ℕ) → end_of link.callers caller ≡ Some end → unreclaimed_by link caller ≡ None
+    ensures may { (link : LinkState D) (end : End) (caller : ℕ) → end_of link.callers caller ≡ Some end → link_reclaim_refusal link caller ≡ None
         → MayMoves D.meaning link (reclaim_moves link end caller) }
-    ensures whole { (link : LinkState D) (end : End) (caller : ℕ) → end_of link.callers caller ≡ Some end → unreclaimed_by link caller ≡ None
+    ensures whole { (link : LinkState D) (end : End) (caller : ℕ) → end_of link.callers caller ≡ Some end → link_reclaim_refusal link caller ≡ None
         → link_after_moves D.meaning link (reclaim_moves link end caller) ≡ link_after_reclaim (list_form D.meaning) link caller }
 {}
 

@@ -7,7 +7,7 @@ ghost use Rattle.lane_model.specs.declared.calls.LinkConfig.{LinkConfig};
 ghost use Rattle.lane_model.specs.declared.calls.Wish.{Wish};
 ghost use Rattle.lane_model.specs.declared.lane_links.LaneLink.{LaneLink};
 ghost use Rattle.lane_model.specs.Links.{end_of, form_step, lanes_of, link_of};
-ghost use Rattle.lane_model.specs.Recoveries.{link_after_close, link_after_reclaim, link_after_reopen, unreclaimed_by};
+ghost use Rattle.lane_model.specs.Recoveries.{link_after_close, link_after_reclaim, link_after_reopen, link_reclaim_refusal};
 ghost use Rattle.lane_model.specs.Conditions.{IsConfig, MayStep};
 ghost use Rattle.lane_model.specs.Soundness.{SoundLink};
 ghost use Rattle.ring_core.specs.declared.states.RingState.{RingState};
@@ -61,7 +61,7 @@ pub fn parts_make_reclaim<D: Desk>()
         → MayPart (lanes_of (link_of (ring_form D.meaning) link) end) caller which → HasSoundRings link
         → HasSoundRings (ring_part_done D.meaning link end caller which) }
     ensures whole { (link : LaneLink (RingState D)) (end : End) (caller : ℕ) → let lists = link_of (ring_form D.meaning) link in
-        HasSoundRings link → end_of link.callers caller ≡ Some end → unreclaimed_by lists caller ≡ None
+        HasSoundRings link → end_of link.callers caller ≡ Some end → link_reclaim_refusal lists caller ≡ None
         → ring_parts_done D.meaning link end caller (reclaim_parts (lanes_of lists end) caller) ≡ link_after_reclaim (ring_form D.meaning) link caller }
 {}
 

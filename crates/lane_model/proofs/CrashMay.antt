@@ -17,7 +17,7 @@ use Rattle.lane_model.specs.Lanes.{has_call, is_live_in}
 use Rattle.lane_model.specs.Crashes.{ended_turn, least_held, lesser, after_receive_end, after_send_end, turn_out}
 use Rattle.lane_model.specs.Forms.{list_form}
 use Rattle.lane_model.specs.Links.{LinkState, lanes_of, end_of}
-use Rattle.lane_model.specs.Recoveries.{link_after_close, link_after_reclaim, link_after_reopen, unopened_by, without_caller}
+use Rattle.lane_model.specs.Recoveries.{link_after_close, link_after_reclaim, link_after_reopen, link_reopen_refusal, without_caller}
 use Rattle.lane_model.specs.Conditions.{IsFitWish, MayEndStep, MayStep}
 use Rattle.lane_model.proofs.Others.{KeepsOther, may_stays}
 use Rattle.lane_model.proofs.CrashSteps.{others_still_hold}
@@ -114,7 +114,7 @@ map_none f None none = refl
 map_none f (Some one) none = absurd (false≢true none)
 
 -- on a link that is reopened nothing is held
-pub reopen_unheld : {D : Type 0} (link : LinkState D) → unopened_by link ≡ None → (link.to_host.lane.held ≡ []) × (link.to_remote.lane.held ≡ [])
+pub reopen_unheld : {D : Type 0} (link : LinkState D) → link_reopen_refusal link ≡ None → (link.to_host.lane.held ≡ []) × (link.to_remote.lane.held ≡ [])
 reopen_unheld {D} link clear =
     let live : Option ReopenFault = if link.era.is_live then Some (reopen_fault.StillOpen link.era) else None in
     let turned : Option ReopenFault = option_map reopen_fault.StillTurn (option_or (turn_out link.to_host) (turn_out link.to_remote)) in
@@ -137,6 +137,6 @@ first_may desk link (Some side.Remote) caller wanted none may = (refl, wish_fits
 first_may desk link None caller wanted none may = absurd may
 
 -- a reopening leaves the first step of each call that is begun possible
-pub reopen_may : {D : Type 0} (desk : DeskMeaning D) (link : LinkState D) (caller : ℕ) (wanted : Wish) → unopened_by link ≡ None
+pub reopen_may : {D : Type 0} (desk : DeskMeaning D) (link : LinkState D) (caller : ℕ) (wanted : Wish) → link_reopen_refusal link ≡ None
     → MayStep link caller (Some wanted) → MayStep (link_after_reopen (list_form desk) link) caller (Some wanted)
 reopen_may desk link caller wanted clear may = record { may = first_may desk link (end_of link.callers caller) caller wanted (reopen_unheld link clear) may.may }

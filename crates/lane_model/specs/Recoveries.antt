@@ -22,12 +22,12 @@ abbrev pub link_after_close : {L : Type 0} → LaneLink L → ℕ → LaneLink L
 link_after_close link inc = if is_live_in link.era inc then record link { era = record { inc = inc; is_live = false } } else link
 
 -- the era that keeps a close from changing anything: another one, or closed
-abbrev pub unclosed_by : Era → ℕ → Option Era
-unclosed_by era inc = if is_live_in era inc then None else Some era
+abbrev pub link_close_refusal : Era → ℕ → Option Era
+link_close_refusal era inc = if is_live_in era inc then None else Some era
 
 -- why this caller is not reclaimed: the era is live, or another has the turn that is needed
-abbrev pub unreclaimed_by : {D : Type 0} → LinkState D → ℕ → Option ReclaimRefusal
-unreclaimed_by link caller =
+abbrev pub link_reclaim_refusal : {D : Type 0} → LinkState D → ℕ → Option ReclaimRefusal
+link_reclaim_refusal link caller =
     if link.era.is_live then Some (reclaim_refusal.StillOpen link.era)
     else option_map reclaim_refusal.Busy (option_and_then (λ end. needed_holder (lanes_of link end).incoming caller) (end_of link.callers caller))
 
@@ -51,8 +51,8 @@ abbrev pub link_after_reclaim : {L D : Type 0} → FormMeaning L D → LaneLink 
 link_after_reclaim form link caller = without_caller form link (end_of link.callers caller) caller
 
 -- why the link is not reopened: the era is live, a turn is out, a buffer is held, or no incarnation is left
-abbrev pub unopened_by : {D : Type 0} → LinkState D → Option ReopenFault
-unopened_by link =
+abbrev pub link_reopen_refusal : {D : Type 0} → LinkState D → Option ReopenFault
+link_reopen_refusal link =
     option_or (if link.era.is_live then Some (reopen_fault.StillOpen link.era) else None)
     (option_or (option_map reopen_fault.StillTurn (option_or (turn_out link.to_host) (turn_out link.to_remote)))
     (option_or (option_map (λ h. reopen_fault.StillHeld h.caller h.number) (option_or (least_held link.to_host.lane.held) (least_held link.to_remote.lane.held)))

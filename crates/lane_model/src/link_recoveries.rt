@@ -1,7 +1,7 @@
 ghost use Rattle.std.specs.Prelude.{◌≡◌, ◌⊎◌, length, Some, None, IfOk, IfErr};
 ghost use Rattle.std.specs.Option.{option_map, option_or};
 ghost use Rattle.lane_model.specs.declared.recoveries.ReopenFault.TheVariants as reopen_fault;
-ghost use Rattle.lane_model.specs.Recoveries.{link_after_close, unclosed_by, unreclaimed_by, handed_back, link_after_reclaim, unopened_by, link_after_reopen};
+ghost use Rattle.lane_model.specs.Recoveries.{link_after_close, link_close_refusal, link_reclaim_refusal, handed_back, link_after_reclaim, link_reopen_refusal, link_after_reopen};
 
 use crate::helds::Held;
 use crate::lane_forms::LaneForm;
@@ -19,8 +19,8 @@ impl<L: LaneForm> LaneLink<L> {
     pub fn close(&mut self, inc: Inc) -> Result<(), Already>
         ensures whole { self.new ≡ link_after_close self.old inc }
         ensures left { link_of L.form self.new ≡ link_after_close (link_of L.form self.old) inc }
-        ensures done { IfOk result (λ _. unclosed_by self.old.era inc ≡ None) }
-        ensures refused { IfErr result (λ already. unclosed_by self.old.era inc ≡ Some already.0) }
+        ensures done { IfOk result (λ _. link_close_refusal self.old.era inc ≡ None) }
+        ensures refused { IfErr result (λ already. link_close_refusal self.old.era inc ≡ Some already.0) }
     {
         if !(self.era.inc == inc && self.era.is_live) {
             return Err(Already(self.era));
@@ -34,7 +34,7 @@ impl<L: LaneForm> LaneLink<L> {
 
     /// Why this caller is not reclaimed now, if something refuses it.
     pub fn reclaim_refusal(&self, caller: CallerNo) -> Option<ReclaimRefusal>
-        ensures { result ≡ unreclaimed_by (link_of L.form self.now) caller }
+        ensures { result ≡ link_reclaim_refusal (link_of L.form self.now) caller }
     {
         if self.era.is_live {
             return Some(ReclaimRefusal::StillOpen(self.era));
@@ -78,10 +78,10 @@ impl<L: LaneForm> LaneLink<L> {
         call: Option<LinkCall>,
         held: Vec<Held>,
     ) -> Result<(), ReclaimByFault<LinkCall>>
-        ensures done { IfOk result (λ _. (unreclaimed_by (link_of L.form self.old) caller ≡ None) × (self.new ≡ link_after_reclaim L.form self.old caller)) }
+        ensures done { IfOk result (λ _. (link_reclaim_refusal (link_of L.form self.old) caller ≡ None) × (self.new ≡ link_after_reclaim L.form self.old caller)) }
         ensures left { IfOk result (λ _. link_of L.form self.new ≡ link_after_reclaim (list_form L.Desk.meaning) (link_of L.form self.old) caller) }
         ensures refused { IfErr result (λ fault. (self.new ≡ self.old)
-            × (option_map (λ why. handed_back call held why) (unreclaimed_by (link_of L.form self.old) caller) ≡ Some fault)) }
+            × (option_map (λ why. handed_back call held why) (link_reclaim_refusal (link_of L.form self.old) caller) ≡ Some fault)) }
     {
         match self.reclaim_refusal(caller) {
             Some(ReclaimRefusal::StillOpen(era)) => {
@@ -97,7 +97,7 @@ impl<L: LaneForm> LaneLink<L> {
 
     /// Why the link is not reopened now, if something refuses it.
     pub fn reopen_refusal(&self) -> Option<ReopenFault>
-        ensures { result ≡ unopened_by (link_of L.form self.now) }
+        ensures { result ≡ link_reopen_refusal (link_of L.form self.now) }
     {
         if self.era.is_live {
             return Some(ReopenFault::StillOpen(self.era));
@@ -117,9 +117,9 @@ impl<L: LaneForm> LaneLink<L> {
     /// Begins the next incarnation, live, with empty lanes and fresh desks. Its room is taken before
     /// anything changes. Answers the books of the incarnation before.
     pub fn reopen(&mut self, alloc: Global) -> Result<Books, ReopenFault>
-        ensures refused { IfErr result (λ fault. (self.new ≡ self.old) × ((unopened_by (link_of L.form self.old) ≡ Some fault)
-            ⊎ ((fault ≡ reopen_fault.NoMemory) × (unopened_by (link_of L.form self.old) ≡ None)))) }
-        ensures open { IfOk result (λ _. unopened_by (link_of L.form self.old) ≡ None) }
+        ensures refused { IfErr result (λ fault. (self.new ≡ self.old) × ((link_reopen_refusal (link_of L.form self.old) ≡ Some fault)
+            ⊎ ((fault ≡ reopen_fault.NoMemory) × (link_reopen_refusal (link_of L.form self.old) ≡ None)))) }
+        ensures open { IfOk result (λ _. link_reopen_refusal (link_of L.form self.old) ≡ None) }
         ensures whole { IfOk result (λ _. self.new ≡ link_after_reopen L.form self.old) }
         ensures left { IfOk result (λ _. link_of L.form self.new ≡ link_after_reopen (list_form L.Desk.meaning) (link_of L.form self.old)) }
         ensures inc { IfOk result (λ books. books.inc ≡ self.old.era.inc) }

@@ -23,7 +23,7 @@ use Rattle.lane_model.specs.declared.recoveries.ReopenFault.TheVariants as reope
 use Rattle.lane_model.specs.declared.states.LaneState.{LaneState}
 use Rattle.lane_model.specs.Lanes.{holder, is_live_in}
 use Rattle.lane_model.specs.Links.{LinkState, end_of}
-use Rattle.lane_model.specs.Recoveries.{unclosed_by, unopened_by}
+use Rattle.lane_model.specs.Recoveries.{link_close_refusal, link_reopen_refusal}
 use Rattle.lane_model.specs.Soundness.{IsSoundLane, SoundLink}
 use Rattle.lane_laws.specs.SoundRingLinks.{HasSoundRings}
 use Rattle.name_service.specs.declared.channels.Channel.{Channel}
@@ -252,17 +252,17 @@ module _ (name : List ℕ) (named : IsName name) where
   close_told era None small is = ((named, (omega (arith, small), tt)), tt)
   close_told era (Some found) small is = ((named, (omega (arith, is), (tt, tt))), is)
 
-  closed_era : (era : Era) (inc : ℕ) → era.inc < 2 ^ 32 → IfSome (unclosed_by era inc) (λ (other : Era). other.inc < 2 ^ 32)
+  closed_era : (era : Era) (inc : ℕ) → era.inc < 2 ^ 32 → IfSome (link_close_refusal era inc) (λ (other : Era). other.inc < 2 ^ 32)
   closed_era era inc small = cond_both (is_live_in era inc) None (Some era) (λ (found : Option Era). IfSome found (λ (other : Era). other.inc < 2 ^ 32)) (λ _. tt) (λ _. small)
 
   close_spelled : (bench : BenchState) (steps : ℕ) → IsFieldBench bench → LeavesSpelledLink (close_effect name bench steps)
   unfolding close_effect
   close_spelled bench steps is =
-      let told = close_event name (link_in bench).era (unclosed_by (link_in bench).era (link_in bench).era.inc) in
+      let told = close_event name (link_in bench).era (link_close_refusal (link_in bench).era (link_in bench).era.inc) in
       cond_both (steps == STEPS_MOST) _ (tells (after_close bench) (steps + 1) told) LeavesSpelledLink (λ _. record { bench = is; events = none })
       (λ _. record {
         bench = close_fields bench is;
-        events = one told (close_told (link_in bench).era (unclosed_by (link_in bench).era (link_in bench).era.inc) is.link.inc (closed_era (link_in bench).era (link_in bench).era.inc is.link.inc));
+        events = one told (close_told (link_in bench).era (link_close_refusal (link_in bench).era (link_in bench).era.inc) is.link.inc (closed_era (link_in bench).era (link_in bench).era.inc is.link.inc));
       })
 
   pub reopen_told : (why : ReopenFault) → IsFieldReopen why → All IsSpelled (reopen_events name why)
@@ -272,7 +272,7 @@ module _ (name : List ℕ) (named : IsName name) where
   reopen_told reopen_fault.IncarnationsSpent is = one (event.IncarnationsSpent name) (((named, tt), tt))
   reopen_told reopen_fault.NoMemory is = none
 
-  opened_spelled : (bench : BenchState) (steps : ℕ) (why : Option ReopenFault) → unopened_by (link_in bench) ≡ why → IsFieldBench bench → IfSome why IsFieldReopen → LeavesSpelledLink (opened_effect name bench steps why)
+  opened_spelled : (bench : BenchState) (steps : ℕ) (why : Option ReopenFault) → link_reopen_refusal (link_in bench) ≡ why → IsFieldBench bench → IfSome why IsFieldReopen → LeavesSpelledLink (opened_effect name bench steps why)
   opened_spelled bench steps None clear is fields =
       let left = reopen_fields bench clear is in
       let inc = left.link.inc in
@@ -281,7 +281,7 @@ module _ (name : List ℕ) (named : IsName name) where
 
   reopen_spelled : (bench : BenchState) (steps : ℕ) → SoundLink (link_in bench) → IsFieldBench bench → LeavesSpelledLink (reopen_effect name bench steps)
   unfolding reopen_effect
-  reopen_spelled bench steps sound is = opened_spelled bench steps (unopened_by (link_in bench)) refl is (unopened_fields (link_in bench) sound is.link)
+  reopen_spelled bench steps sound is = opened_spelled bench steps (link_reopen_refusal (link_in bench)) refl is (unopened_fields (link_in bench) sound is.link)
 
   pub managed_spelled : (bench : BenchState) (steps : ℕ) (wanted : ManagerAct) → SoundLink (link_in bench) → IsFieldBench bench → LeavesSpelledLink (manager_effect name bench steps wanted)
   managed_spelled bench steps manager.Close sound is = close_spelled bench steps is

@@ -9,7 +9,7 @@ use Rattle.lane_model.specs.declared.calls.Wish.{Wish}
 use Rattle.lane_model.specs.declared.calls.Wish.TheVariants as wish
 use Rattle.lane_model.specs.Links.{end_of, free_number}
 use Rattle.lane_model.specs.Conditions.{is_holding}
-use Rattle.lane_model.specs.Recoveries.{unreclaimed_by}
+use Rattle.lane_model.specs.Recoveries.{link_reclaim_refusal}
 use Rattle.link_bench.specs.declared.acts.How.{How}
 use Rattle.link_bench.specs.declared.acts.How.TheVariants as how
 use Rattle.link_bench.specs.declared.acts.CallWish.{CallWish}
@@ -158,7 +158,7 @@ answer_of_reclaim caller (Err why) = answer.Refused caller why
 -- a reclaim of a caller
 abbrev pub reclaim_act : {W : Type 0} → BenchState → W → ℕ → ℕ → Acted W
 reclaim_act bench watcher steps caller =
-    let why = unreclaimed_by (link_in bench) caller in
+    let why = link_reclaim_refusal (link_in bench) caller in
     answers (reclaim_leaves bench caller why) watcher steps (answer_of_reclaim caller (reclaim_answer (end_of (link_in bench).callers caller) why))
 
 -- a new caller at an end, under the least free number

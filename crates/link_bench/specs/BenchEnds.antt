@@ -5,7 +5,7 @@ use Rattle.rp_base.specs.declared.kinds.End.{End}
 use Rattle.rp_base.specs.declared.kinds.End.TheVariants as side
 use Rattle.lane_model.specs.Lanes.{holder}
 use Rattle.lane_model.specs.Links.{end_of, free_number}
-use Rattle.lane_model.specs.Recoveries.{unopened_by, unreclaimed_by}
+use Rattle.lane_model.specs.Recoveries.{link_reopen_refusal, link_reclaim_refusal}
 use Rattle.lane_model.specs.declared.recoveries.ReclaimRefusal.{ReclaimRefusal}
 use Rattle.lane_model.specs.declared.recoveries.ReclaimRefusal.TheVariants as refusal
 use Rattle.lane_model.specs.declared.recoveries.ReopenFault.{ReopenFault}
@@ -72,12 +72,12 @@ with_new_host_unless bench (Some why) = bench
 
 -- the bench that a reopening finds
 abbrev pub bench_to_reopen : BenchState → BenchState
-bench_to_reopen bench = with_new_host_unless bench (unreclaimed_by (link_in bench) 0)
+bench_to_reopen bench = with_new_host_unless bench (link_reclaim_refusal (link_in bench) 0)
 
 -- why a bench is not reopened: caller 0 is not reclaimed, or the link behind it is not reopened
 abbrev pub reopen_refusal_by : BenchState → Option ReclaimRefusal → Option ReopenFault
-reopen_refusal_by bench None = unopened_by (link_in (with_new_host bench))
+reopen_refusal_by bench None = link_reopen_refusal (link_in (with_new_host bench))
 reopen_refusal_by bench (Some why) = Some (unready_for why)
 
 abbrev pub reopen_refusal_of : BenchState → Option ReopenFault
-reopen_refusal_of bench = reopen_refusal_by bench (unreclaimed_by (link_in bench) 0)
+reopen_refusal_of bench = reopen_refusal_by bench (link_reclaim_refusal (link_in bench) 0)

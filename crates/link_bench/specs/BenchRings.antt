@@ -5,6 +5,7 @@ use Rattle.vring_layout.specs.declared.snapshots.SnapshotFault.{SnapshotFault}
 use Rattle.vring_layout.specs.declared.snapshots.SnapshotFault.TheVariants as snapshot_fault
 use Rattle.vring_layout.specs.declared.words.RingWords.{RingWords}
 use Rattle.vring_layout.specs.Rings.{ring_layout}
+use Rattle.rp_base.specs.declared.limits.TheConstants.{MESSAGE_MOST}
 use Rattle.channel_bus.specs.Sides.{EndState}
 use Rattle.lane_model.specs.Lanes.{holder}
 use Rattle.lane_model.specs.Links.{LinkState}
@@ -13,7 +14,7 @@ use Rattle.link_bench.specs.Benches.{BenchState, RingsState, link_in}
 
 -- where the buffers of a lane begin: those of lane 0, so many of 512 bytes, at the base, and those of lane 1 behind them
 abbrev pub lane_base : ℕ → ℕ → ℕ → ℕ
-lane_base base capacity lane = if lane == 0 then base else base + 512 * capacity
+lane_base base capacity lane = if lane == 0 then base else base + MESSAGE_MOST * capacity
 
 -- the words of a lane's rings over buffers that begin at an address
 abbrev pub lane_words : RingsState → ℕ → ℕ → RingWords

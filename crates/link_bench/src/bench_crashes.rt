@@ -1,6 +1,6 @@
 ghost use Rattle.std.specs.Prelude.{◌≡◌, ◌⊎◌, ◌<◌, IfOk, IfErr, None, Some, length};
 ghost use Rattle.lane_model.specs.declared.recoveries.ReopenFault.TheVariants as reopen_fault;
-ghost use Rattle.lane_model.specs.Recoveries.{unclosed_by, unopened_by, unreclaimed_by};
+ghost use Rattle.lane_model.specs.Recoveries.{link_close_refusal, link_reopen_refusal, link_reclaim_refusal};
 ghost use Rattle.lane_model.specs.Links.{end_of};
 ghost use Rattle.link_bench.specs.Benches.{link_in};
 ghost use Rattle.link_bench.specs.BenchCrashes.{after_close, after_reclaim, after_reopen, reclaim_answer, reclaim_leaves};
@@ -34,8 +34,8 @@ impl Bench {
     /// Errors: [`Already`] exactly where it is closed. Nothing changes then.
     pub fn close(&mut self) -> Result<(), Already>
         ensures left { self.new ≡ after_close self.old }
-        ensures done { IfOk result (λ _. unclosed_by (link_in self.old).era (link_in self.old).era.inc ≡ None) }
-        ensures refused { IfErr result (λ already. unclosed_by (link_in self.old).era (link_in self.old).era.inc ≡ Some already.0) }
+        ensures done { IfOk result (λ _. link_close_refusal (link_in self.old).era (link_in self.old).era.inc ≡ None) }
+        ensures refused { IfErr result (λ already. link_close_refusal (link_in self.old).era (link_in self.old).era.inc ≡ Some already.0) }
     {
         let inc = self.link.era.inc;
         self.link.close(inc)
@@ -45,8 +45,8 @@ impl Bench {
     ///
     /// Errors: [`BenchFault::NoCaller`] exactly where the caller isn't in use.
     pub fn reclaim(&mut self, caller: CallerNo) -> Result<Reclaim, BenchFault>
-        ensures answer { result ≡ reclaim_answer (end_of (link_in self.old).callers caller) (unreclaimed_by (link_in self.old) caller) }
-        ensures left { self.new ≡ reclaim_leaves self.old caller (unreclaimed_by (link_in self.old) caller) }
+        ensures answer { result ≡ reclaim_answer (end_of (link_in self.old).callers caller) (link_reclaim_refusal (link_in self.old) caller) }
+        ensures left { self.new ≡ reclaim_leaves self.old caller (link_reclaim_refusal (link_in self.old) caller) }
     {
         let Some(_) = self.end_of(caller) else {
             return Err(BenchFault::NoCaller);
@@ -77,9 +77,9 @@ impl Bench {
     /// Errors: [`ReopenFault::StillOpen`], then `StillTurn`, `StillHeld` and `IncarnationsSpent`, or
     /// want of memory. Nothing changes then.
     pub fn reopen(&mut self, alloc: Global) -> Result<Books, ReopenFault>
-        ensures refused { IfErr result (λ fault. (self.new ≡ self.old) × ((unopened_by (link_in self.old) ≡ Some fault)
-            ⊎ ((fault ≡ reopen_fault.NoMemory) × (unopened_by (link_in self.old) ≡ None)))) }
-        ensures open { IfOk result (λ _. unopened_by (link_in self.old) ≡ None) }
+        ensures refused { IfErr result (λ fault. (self.new ≡ self.old) × ((link_reopen_refusal (link_in self.old) ≡ Some fault)
+            ⊎ ((fault ≡ reopen_fault.NoMemory) × (link_reopen_refusal (link_in self.old) ≡ None)))) }
+        ensures open { IfOk result (λ _. link_reopen_refusal (link_in self.old) ≡ None) }
         ensures left { IfOk result (λ _. self.new ≡ after_reopen self.old) }
         ensures inc { IfOk result (λ books. books.inc ≡ (link_in self.old).era.inc) }
         ensures to_host { IfOk result (λ books. (books.to_host.entries ≡ (link_in self.old).to_host.lane.accepted)

@@ -1,5 +1,5 @@
 ghost use Rattle.std.specs.Prelude.{◌≡◌, None, IfNone};
-ghost use Rattle.lane_model.specs.Recoveries.{unopened_by};
+ghost use Rattle.lane_model.specs.Recoveries.{link_reopen_refusal};
 ghost use Rattle.link_bench.specs.Benches.{link_in};
 ghost use Rattle.link_bench.specs.BenchEnds.{reopen_refusal_of, bench_to_reopen, crashed_bench, without_other, without_remote, without_remotes};
 
@@ -58,7 +58,7 @@ impl Bench {
     pub fn renew_host(&mut self) -> Option<ReopenFault>
         ensures refused { result ≡ reopen_refusal_of self.old }
         ensures left { self.new ≡ bench_to_reopen self.old }
-        ensures open { IfNone result (unopened_by (link_in self.new) ≡ None) }
+        ensures open { IfNone result (link_reopen_refusal (link_in self.new) ≡ None) }
     {
         match self.link.reclaim_refusal(0) {
             Some(ReclaimRefusal::StillOpen(era)) => return Some(ReopenFault::StillOpen(era)),

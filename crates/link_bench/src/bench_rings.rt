@@ -3,13 +3,14 @@ ghost use Rattle.std.specs.Option.{option_map};
 ghost use Rattle.lane_model.specs.Lanes.{holder};
 ghost use Rattle.vring_layout.specs.declared.snapshots.SnapshotFault.TheVariants as snapshot_fault;
 ghost use Rattle.vring_layout.specs.Sizes.{IsRingAlign};
+ghost use Rattle.rp_base.specs.declared.limits.TheConstants.{MESSAGE_MOST};
 ghost use Rattle.rp_base.specs.Limits.{IsRingSize, ring_capacity};
 ghost use Rattle.link_bench.specs.Benches.{link_in};
 ghost use Rattle.link_bench.specs.BenchRings.{IsSnapshotFault, bench_snapshot, lane_base, lane_bytes, lane_words, placed_bytes, snapshot_at, turn_holder};
 
 use crate::benches::Bench;
 use name_service::Channel;
-use rp_base::{CallerNo, Da, NoMemory};
+use rp_base::{CallerNo, Da, MESSAGE_MOST, NoMemory};
 use std::alloc::Global;
 use vring_layout::{RingWords, Snapshot, SnapshotFault, ring_bytes, vring_size};
 
@@ -66,7 +67,7 @@ impl Bench {
         base: Da,
         capacity: u16,
     ) -> Result<Snapshot, SnapshotFault>
-        requires { base + 512 * capacity < 2 ^ 32 }
+        requires { base + MESSAGE_MOST * capacity < 2 ^ 32 }
         ensures free { OnOk result (turn_holder (link_in self.now) ≡ None) }
         ensures words { IfOk result (λ snapshot. snapshot ≡ snapshot_at self.now base capacity) }
         ensures refused { IfErr result (IsSnapshotFault (turn_holder (link_in self.now))) }
@@ -124,11 +125,11 @@ impl Bench {
 
 /// Where a lane's buffers begin: `capacity` of 512 bytes of lane 0 at the base, lane 1's behind.
 pub fn lane_base(base: Da, capacity: u16, lane: u64) -> Da
-    requires { base + 512 * capacity < 2 ^ 32 }
+    requires { base + MESSAGE_MOST * capacity < 2 ^ 32 }
     ensures { result ≡ lane_base base capacity lane }
 {
     if lane == 0 {
         return base;
     }
-    base + 512 * u32::from(capacity)
+    base + MESSAGE_MOST as u32 * u32::from(capacity)
 }

@@ -112,7 +112,7 @@ impl Bench {
         ensures within { steps.new ≤ STEPS_MOST }
     {
         let mut end = CallEnd::Empty(0);
-        match self.turn_take(receiver, steps, &mut end, ended) {
+        match self.turn_call(receiver, &Wish::Take, steps, &mut end, ended) {
             Some(number) => {
                 watcher.see(self, receiver, &end)?;
                 self.give_turn(receiver, number, steps, ended);
@@ -131,7 +131,8 @@ impl Bench {
         ensures ended { ended.new ≡ turn_end_of (turn_call self.old steps.old receiver (wish.Give number)).number }
         ensures within { steps.new ≤ STEPS_MOST }
     {
-        let given = self.turn_call(receiver, &Wish::Give(number), steps, ended);
+        let mut end = CallEnd::Empty(0);
+        let given = self.turn_call(receiver, &Wish::Give(number), steps, &mut end, ended);
         if given.is_some() {
             *ended = TurnEnd::Whole;
         }
@@ -164,13 +165,14 @@ impl Bench {
         reach_number(sender, progress, &end, ended)
     }
 
-    /// A call of a turn, with each call's tests: its message's number, or in `ended` how it ended.
+    /// A call of a turn, with the tests that each call has: the number of its message, with its end. Where it doesn't end well, `ended` says how.
     #[tactic(auto, unfolding(crate::specs::Turns::turn_call))]
     fn turn_call(
         &mut self,
         caller: CallerNo,
         wished: &Wish,
         steps: &mut u64,
+        end: &mut CallEnd,
         ended: &mut TurnEnd,
     ) -> Option<u64>
         requires caller { caller < 64 }
@@ -178,41 +180,15 @@ impl Bench {
         ensures bench { self.new ≡ (turn_call self.old steps.old caller wished.now).bench }
         ensures steps { steps.new ≡ (turn_call self.old steps.old caller wished.now).steps }
         ensures number { number_of result ended.new ≡ (turn_call self.old steps.old caller wished.now).number }
+        ensures end { IfSome result (λ _. (call_walk self.old steps.old caller wished.now).reach ≡ reach.Ended end.new) }
         ensures within { steps.new ≤ STEPS_MOST }
     {
         if let Some(fault) = self.begin_fault(caller, wished) {
             *ended = TurnEnd::Fault(caller, fault);
             return None;
         }
-        let mut end = CallEnd::Empty(0);
-        let progress = self.call(caller, wished, steps, &mut end);
-        reach_number(caller, progress, &end, ended)
-    }
-
-    /// The take of a turn, with the tests that each call has: the number of its message, with its end.
-    /// Where it doesn't end well, `ended` says how.
-    #[tactic(auto, unfolding(crate::specs::Turns::turn_call))]
-    fn turn_take(
-        &mut self,
-        receiver: CallerNo,
-        steps: &mut u64,
-        end: &mut CallEnd,
-        ended: &mut TurnEnd,
-    ) -> Option<u64>
-        requires receiver { receiver < 64 }
-        requires steps { steps.old ≤ STEPS_MOST }
-        ensures bench { self.new ≡ (turn_call self.old steps.old receiver wish.Take).bench }
-        ensures steps { steps.new ≡ (turn_call self.old steps.old receiver wish.Take).steps }
-        ensures number { number_of result ended.new ≡ (turn_call self.old steps.old receiver wish.Take).number }
-        ensures end { IfSome result (λ _. (call_walk self.old steps.old receiver wish.Take).reach ≡ reach.Ended end.new) }
-        ensures within { steps.new ≤ STEPS_MOST }
-    {
-        if let Some(fault) = self.begin_fault(receiver, &Wish::Take) {
-            *ended = TurnEnd::Fault(receiver, fault);
-            return None;
-        }
-        let progress = self.call(receiver, &Wish::Take, steps, end);
-        reach_number(receiver, progress, end, ended)
+        let progress = self.call(caller, wished, steps, end);
+        reach_number(caller, progress, end, ended)
     }
 }
 

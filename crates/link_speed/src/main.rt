@@ -3,7 +3,6 @@
 #![tactic(auto)]
 
 ghost use Rattle.split_ring.specs.Callers.{IsCallerOf, IsManagerOf};
-ghost use Rattle.split_ring.specs.Carried.{IsCarrierOf};
 
 use channel_bus::Side;
 use lane_model::LinkConfig;
@@ -51,8 +50,7 @@ fn run(alloc: Global) -> Result<u64, NoMemory> {
 
 /// Whether the manager carries a caller of its own then, and sees that the host's desk knows no channel.
 fn can_manage(link: &SharedLink<Side>, manager: &mut Manager) -> bool
-    requires carrier { IsCarrierOf link.now manager.old }
-    requires bare { IsManagerOf link.now manager.old }
+    requires { IsManagerOf link.now manager.old }
     ensures { IsManagerOf link.now manager.new }
 {
     let carried = link.enlist(manager, End::Host);

@@ -2,12 +2,14 @@
 ghost use Rattle.std.specs.Prelude.{◌≡◌, ◌≢◌, Some, IfSome};
 ghost use Rattle.rp_base.specs.declared.kinds.End.{End};
 ghost use Rattle.split_ring.specs.declared.callers.CallerId.{CallerId};
-ghost use Rattle.split_ring.specs.Carried.{Carries, IsCarrierOf};
+ghost use Rattle.split_ring.specs.Carried.{Carries};
+ghost use Rattle.split_ring.specs.Callers.{IsManagerOf};
 ghost use Rattle.split_ring.specs.Phases.{IsUnderWay};
 ghost use Rattle.split_ring.specs.declared.calls.Phase.{Phase};
 
+use crate::small_links::small_link;
 use channel_bus::Side;
-use lane_model::{Answer, Ask, LinkConfig, Progress};
+use lane_model::{Answer, Ask, Progress};
 use rp_base::{CallerNo, End, Message, NoMemory};
 use split_ring::{Manager, RingCall, SharedLink};
 use std::alloc::Global;
@@ -15,22 +17,13 @@ use std::alloc::Global;
 /// Whether a message is sent and taken on a link whose manager carries both callers: the take begins, and
 /// waits in the midst of its call until the send has ended.
 pub fn can_carry(alloc: Global) -> Result<bool, NoMemory> {
-    let config = LinkConfig {
-        num0: 64,
-        num1: 64,
-        book: 4,
-        first: 1,
-        base: 0,
-    };
-    let host = Side::new(alloc, false, Vec::new(alloc))?;
-    let remote = Side::new(alloc, false, Vec::new(alloc))?;
-    let (link, mut manager) = SharedLink::make(alloc, config, host, remote)?;
+    let (link, mut manager) = small_link(alloc)?;
     Ok(passes_message(&link, &mut manager))
 }
 
 /// Whether one message goes from a remote caller to a host caller.
 fn passes_message(link: &SharedLink<Side>, manager: &mut Manager) -> bool
-    requires { IsCarrierOf link.now manager.old }
+    requires { IsManagerOf link.now manager.old }
 {
     let Some(sender) = link.enlist(manager, End::Remote) else {
         return false;
@@ -62,9 +55,9 @@ fn finish(
     caller: CallerNo,
     call: RingCall<Side>,
 ) -> Option<Answer>
-    requires manager { IsCarrierOf link.now manager.old }
+    requires manager { IsManagerOf link.now manager.old }
     requires call { (end : End) × Carries link.now manager.old (record { number = caller; end = end; follows = 1 }) call.phase × IsUnderWay call.phase }
-    ensures manager { IsCarrierOf link.now manager.new }
+    ensures manager { IsManagerOf link.now manager.new }
     ensures others { (who : CallerId) (p : Phase) → who.number ≢ caller → Carries link.now manager.old who p → Carries link.now manager.new who p }
 {
     let mut call = call;

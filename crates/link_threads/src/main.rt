@@ -1,18 +1,21 @@
 // Eight callers of one link, four on each end, each on a thread of its own: each sends and takes its messages, and each number that was
-// handed over is compared with the book of its lane. Then two senders of another link take the steps of their calls in turns, and a manager has a
-// message go between two callers that it carries.
+// handed over is compared with the book of its lane. Then two senders of another link take the steps of their calls in turns, a manager has a
+// message go between two callers that it carries, and another reclaims a caller that stopped in a send.
 #![tactic(auto)]
 
 ghost use Rattle.split_ring.specs.Callers.{IsCallerOf};
 
 mod books;
 mod carried;
+mod small_links;
+mod stopped;
 mod threads;
 mod turns;
 mod workers;
 
 use crate::books::Book;
 use crate::carried::can_carry;
+use crate::stopped::can_reclaim;
 use crate::workers::{Log, MESSAGES, Worker, workers};
 use channel_bus::Side;
 use lane_model::LinkConfig;
@@ -42,7 +45,11 @@ fn main(rt: HostRuntime) -> io::Result<()> {
     match can_carry(rt.alloc()) {
         Ok(passed) => println!(rt;
             "a message between two callers that the manager carries: {passed}"
-        ),
+        )?,
+        Err(_) => println!(rt; "no memory")?,
+    }
+    match can_reclaim(rt.alloc()) {
+        Ok(gone) => println!(rt; "a caller that stopped in a send is reclaimed: {gone}"),
         Err(_) => println!(rt; "no memory"),
     }
 }

@@ -1,6 +1,6 @@
 -- The numbers of buffers keep to 32 bits, whatever is done to a link.
-use Rattle.std.proofs.Common.{◌≡◌, ◌<◌, ◌≤◌, ◌+◌, ◌-◌, ◌%◌, ℕ, zero, suc, Bool, true, false, cond, eqb, not, List, [], ◌∷◌, ◌++◌, map, length, get_or, replicate, refl, sym, subst, arith}
-use Rattle.std.specs.Prelude.{Option, Some, None, find, nat_lt, filter}
+use Rattle.std.proofs.Common.{◌≡◌, ◌<◌, ◌-◌, ◌%◌, ℕ, zero, suc, Bool, true, false, cond, eqb, not, List, [], ◌∷◌, ◌++◌, map, length, get_or, replicate, refl, sym, subst, arith}
+use Rattle.std.specs.Prelude.{Option, Some, None, find, nat_lt}
 use Rattle.std.specs.List.{All, range_with_len}
 use Rattle.std.specs.Option.{option_map_or}
 use Rattle.std.proofs.lemmas.List.Elements.{All-nil, All-head, All-tail, All-replicate, All-append, All-set, All-push, All-map, All-filter, All-from_get_or}
@@ -14,7 +14,6 @@ use Rattle.lane_model.specs.declared.calls.LinkConfig.{LinkConfig}
 use Rattle.lane_model.specs.declared.calls.Wish.{Wish}
 use Rattle.lane_model.specs.declared.calls.Wish.TheVariants as wish
 use Rattle.lane_model.specs.declared.lane_links.LaneLink.{LaneLink}
-use Rattle.lane_model.specs.declared.recoveries.LaneTurn.TheVariants as lane_turn
 use Rattle.lane_model.specs.declared.stages.GiveStage.{GiveStage}
 use Rattle.lane_model.specs.declared.stages.GiveStage.TheVariants as give_stage
 use Rattle.lane_model.specs.declared.stages.SendStage.{SendStage}
@@ -35,7 +34,7 @@ use Rattle.ring_core.specs.declared.states.RingState.{RingState}
 use Rattle.rp_base.specs.Limits.{ring_capacity}
 use Rattle.ring_core.specs.Rings.{buffer_at, entry_of, opened_rings, sizes_of, source_buffer}
 use Rattle.ring_core.specs.RingLinks.{opened_ring_link}
-use Rattle.ring_core.specs.RingSteps.{buffers_of, by_call, give_leaves, hands_of_others, hands_without, held_buffer, receive_leaves, ring_form, send_leaves, take_leaves}
+use Rattle.ring_core.specs.RingSteps.{buffers_of, by_call, give_leaves, hands_of_others, held_buffer, receive_leaves, ring_form, send_leaves, take_leaves}
 use Rattle.atomic_table.specs.Table.{State}
 use base.Stored.{Coded}
 use Rattle.link_words.specs.declared.codes.DeskTables.{DeskTables}

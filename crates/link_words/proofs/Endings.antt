@@ -26,10 +26,10 @@ use Rattle.link_words.specs.declared.rule.LinkSizes.{LinkSizes}
 use Rattle.link_words.specs.declared.rule.Call.TheVariants.{Rests}
 use Rattle.link_words.specs.declared.rule.Pass.{Pass}
 use Rattle.link_words.specs.declared.rule.View.{View}
-use Rattle.link_words.specs.Words.{era_word, other, lane_to}
+use Rattle.link_words.specs.Words.{other, lane_to}
 use Rattle.link_words.specs.Passes.{PassAt, HasNumber, Manages, Mover, numbers_of, spent_view, without_pass, after_end_at, callers_without, after_end_with, only_pass}
 use Rattle.link_words.specs.Deeds.{Frees, MayDo}
-use Rattle.link_words.specs.Steps.{IsEndingOf}
+use Rattle.link_words.specs.Steps.{IsEndingOf, IsLookAt}
 use Rattle.link_words.proofs.Parts.{state_in}
 use Rattle.link_words.specs.Rule.{HasCall, IsCallOf, HistoryOf, HandsOf, Shows, WordsRule, LatestOf}
 use Rattle.link_words.specs.Parts.{Knows, ManagerKnows}
@@ -50,7 +50,7 @@ use prog.Atomic.{either}
 use Rattle.atomic_table.proofs.Lists.{exchanged}
 use Rattle.std.proofs.Common.{eqb}
 use Rattle.link_words.specs.Passes.{place_of_number}
-use Rattle.link_words.specs.Seats.{with_era, EndsCaller, LearnsEra, FindsEraOfCopy}
+use Rattle.link_words.specs.Seats.{with_era, EndsCaller, LearnsEra}
 use Rattle.link_words.proofs.Moving.{with_views, rebuilt, recast}
 use Rattle.link_words.proofs.Users.{end_else, call_with, history_with, hands_with}
 
@@ -224,7 +224,7 @@ module _ {B : Type 0} {kc : Coded B} {kz : DeskTables} (cd : Coded (PlacedDesk k
   shut_is true is = absurd (false-true is)
   shut_is false is = refl
 
-  pub learns_shut : (slots id : ℕ) (me : SeatState) → Manages me.0 → Allows (WordsRule cd desk z) slots id me 1 (λ y. y) (λ y me'. LearnsEra me y me' × FindsEraOfCopy me y)
+  pub learns_shut : (slots id : ℕ) (me : SeatState) → Manages me.0 → Allows (WordsRule cd desk z) slots id me 1 (λ y. y) (λ y me'. LearnsEra me y me' × IsLookAt cd desk y me)
   learns_shut slots id me manages st (m, p, r) wide at _ =
       let u = with_era me.0 m.era in let views = set st.views id u in let known = r.numbers.manager id me.0 at manages in
       let before : (j l : ℕ) (a : Pass) → PassAt views j l a → PassAt st.views j l a = λ j l a here. ⊎_elim
@@ -249,7 +249,12 @@ module _ {B : Type 0} {kc : Coded B} {kz : DeskTables} (cd : Coded (PlacedDesk k
             (at_set st.views id i u y ey))),
         (
           (m.era, ap (λ (ws : List ℕ). get_or ws 1 0) r.words_are, r.numbers.short, refl, sym known.inc, known.closed),
-          λ k none_out was. ap (λ (ws : List ℕ). get_or ws 1 0) r.words_are ∙ ap (λ (c : LinkCopy). era_word c.state.era) (sym (known.copy k was none_out)),
+          record {
+            state = m;
+            sound = state_in r;
+            found = ap (λ (ws : List ℕ). get_or ws 1 0) r.words_are;
+            copy = λ k none_out was. known.copy k was none_out;
+          },
         ),
       )
 

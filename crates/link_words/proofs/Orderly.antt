@@ -1,5 +1,5 @@
 -- In one view no two passes have one number, and no two calls have one side state: so a number and a side state tell the pass.
-use Rattle.std.proofs.Common.{◌≡◌, ◌⊎◌, ℕ, zero, suc, Bool, true, false, eqb, eq-eqb, List, [], ◌∷◌, set, get_or, unwrap_or, refl, sym, ap, ◌∙◌, subst, inl, inr, ⊎_elim, arith}
+use Rattle.std.proofs.Common.{◌≡◌, ◌≢◌, ◌⊎◌, ℕ, zero, suc, Bool, true, false, eqb, eq-eqb, List, [], ◌∷◌, ◌++◌, set, get_or, unwrap_or, refl, sym, ap, ◌∙◌, subst, inl, inr, ⊎_elim, arith}
 use Rattle.std.proofs.lemmas.Bool.{eqb-true}
 use Rattle.std.specs.Prelude.{Option, Some, None, ◌&&◌, ◌||◌}
 use mathlib.Core.Option.{some, some-ne-none}
@@ -8,9 +8,20 @@ use lib.ListN.{get_elem?}
 use base.Stored.{Coded}
 use Rattle.rp_base.specs.declared.kinds.End.{End}
 use Rattle.rp_base.specs.declared.kinds.End.TheVariants as side
+use Rattle.lane_model.specs.declared.lane_links.LaneLink.{LaneLink}
+use Rattle.lane_model.specs.declared.stages.Receiving.{Receiving}
+use Rattle.lane_model.specs.declared.stages.Sending.{Sending}
+use Rattle.lane_model.specs.declared.stages.Turn.{Turn}
 use Rattle.lane_model.specs.declared.stages.Turn.TheVariants as turn
 use Rattle.lane_model.specs.Desks.{DeskMeaning}
-use Rattle.lane_model.specs.Lanes.{holder}
+use Rattle.lane_model.specs.Lanes.{has_call, holder}
+use Rattle.lane_model.specs.Links.{end_of, link_of}
+use Rattle.lane_model.specs.Soundness.{SoundLink}
+use Rattle.ring_core.specs.declared.states.RingState.{RingState}
+use Rattle.ring_core.specs.RingSteps.{ring_form}
+use Rattle.link_words.specs.declared.copies.LinkCopy.{LinkCopy}
+use Rattle.link_words.specs.Codes.{copied}
+use Rattle.link_words.specs.Histories.{HasHands, books_of, hands_of}
 use Rattle.link_words.specs.declared.codes.DeskTables.{DeskTables}
 use Rattle.link_words.specs.declared.rule.Call.{Call}
 use Rattle.link_words.specs.declared.rule.Call.TheVariants.{Idle, Sends, Rests, Reclaims, EndsHeld, Receives, EndsReceive, EndsSend, EndsBoth, Reopens, Gathers}
@@ -27,8 +38,8 @@ use Rattle.link_words.specs.PlacedDesks.{PlacedDesk}
 use Rattle.link_words.specs.Rule.{WordsRule, PlacedRule}
 use Rattle.link_words.specs.Sides.{has_slot, is_there}
 use Rattle.link_words.specs.Turns.{LinkTurns, is_manager, turns_in}
-use Rattle.link_words.specs.Words.{other, receiver_slot, sender_slot}
-use Rattle.link_words.specs.Orderly.{IsOrderly}
+use Rattle.link_words.specs.Words.{lane_to, other, receiver_slot, sender_slot}
+use Rattle.link_words.specs.Orderly.{ArePassesIn, IsOrderly, IsPassIn, has_receive, has_send}
 
 false-true : false ≡ true → ⊥
 false-true e = absurd (cc)
@@ -128,6 +139,89 @@ one_end side.Remote side.Remote is = refl
 some_number : (a b : ℕ) → Path (Option ℕ) (Some a) (Some b) → a ≡ b
 some_number a b is = ap (λ o. unwrap_or o a) is
 
+-- the turn that a call has is its caller's
+caller_has : {C : Type 0} (t : Turn C) (n : ℕ) → holder t ≡ Some n → n ≢ 64 → has_call t n ≡ true
+caller_has turn.Free n is own = absurd (cc)
+caller_has (turn.Taken caller call) n is own = eq-eqb caller n (some_number caller n is)
+caller_has (turn.Leaving caller ended) n is own = eq-eqb caller n (some_number caller n is)
+caller_has turn.Manager n is own = absurd (own (sym (some_number 64 n is)))
+
+other_twice : (e : End) → other (other e) ≡ e
+other_twice side.Host = refl
+other_twice side.Remote = refl
+
+-- a pass is that of its caller in the state of the rule
+module _ {B : Type 0} {kc : Coded B} {kz : DeskTables} (cd : Coded (PlacedDesk kc kz)) (desk : DeskMeaning (PlacedDesk kc kz)) (m : LaneLink (RingState (PlacedDesk kc kz))) (p n : ℕ) (sound : SoundLink (link_of (ring_form desk) m)) (own : n ≢ 64) where
+  abbrev sender_of : End → Turn Sending
+  sender_of e = (lane_to m e).lane.sender
+
+  abbrev receiver_of : End → Turn Receiving
+  receiver_of e = (lane_to m e).lane.receiver
+
+  -- no caller sends that has the receiver's turn
+  sends_alone : (e : End) → has_call (sender_of (other e)) n ≡ true → has_call (receiver_of e) n ≡ false
+  sends_alone side.Host has = sound.hosts n has
+  sends_alone side.Remote has = sound.remotes n has
+
+  receives_alone : (e : End) → has_call (receiver_of e) n ≡ true → has_call (sender_of (other e)) n ≡ false
+  receives_alone e has = go (has_call (sender_of (other e)) n) refl
+    where
+      go : (b : Bool) → has_call (sender_of (other e)) n ≡ b → has_call (sender_of (other e)) n ≡ false
+      go true is = absurd (false-true (sym (sends_alone e is) ∙ has))
+      go false is = is
+
+  abbrev HasTurns : End → Call → Type 0
+  HasTurns e call = (has_call (sender_of (other e)) n ≡ has_send call) × (has_call (receiver_of e) n ≡ has_receive call)
+
+  one_user : (e i : End) → end_of m.callers n ≡ Some e → end_of m.callers n ≡ Some i → e ≡ i
+  one_user e i a b = some_end e i (sym a ∙ b)
+    where
+      some_end : (e i : End) → Path (Option End) (Some e) (Some i) → e ≡ i
+      some_end e i same = cc
+
+  sending : (e : End) (call : Call) → has_call (sender_of e) n ≡ true → has_send call ≡ true → has_receive call ≡ false → HasTurns (other e) call
+  sending e call has sends none = let here : has_call (sender_of (other (other e))) n ≡ true = ap (λ (i : End). has_call (sender_of i) n) (other_twice e) ∙ has in
+      (here ∙ sym sends, sends_alone (other e) here ∙ sym none)
+
+  turns_by : (call : Call) → IsCallAt (turns_in m) p n call → (e : End) → end_of m.callers n ≡ Some e → HasTurns e call
+  turns_by Idle at e user = absurd (own at)
+  turns_by (Rests i) at e user = subst (λ (x : End). HasTurns x (Rests i)) (one_user i e at.0 user) (at.1, at.2)
+  turns_by (Sends i u x b) at e user = subst (λ (y : End). HasTurns y (Sends i u x b)) (one_user (other i) e at.0 user)
+      (sending i (Sends i u x b) (caller_has (sender_of i) n (ap holder at.1.0 ∙ at.1.1) own) refl refl)
+  turns_by (EndsSend i u x b) at e user = subst (λ (y : End). HasTurns y (EndsSend i u x b)) (one_user (other i) e at.0 user)
+      (sending i (EndsSend i u x b) (caller_has (sender_of i) n (ap holder at.1.0 ∙ at.1.1) own) refl refl)
+  turns_by (EndsBoth i u x b y) at e user = subst (λ (w : End). HasTurns w (EndsBoth i u x b y)) (one_user (other i) e at.0 user)
+      (sending i (EndsBoth i u x b y) (caller_has (sender_of i) n (ap holder at.1.0 ∙ at.1.1) own) refl refl)
+  turns_by (Receives i u x b message) at e user = let has = caller_has (receiver_of i) n (ap holder at.1.0 ∙ at.1.1) own in
+      subst (λ (y : End). HasTurns y (Receives i u x b message)) (one_user i e at.0 user) (receives_alone i has, has)
+  turns_by (EndsReceive i u x b message) at e user = let has = caller_has (receiver_of i) n (ap holder at.1.0 ∙ at.1.1) own in
+      subst (λ (y : End). HasTurns y (EndsReceive i u x b message)) (one_user i e at.0 user) (receives_alone i has, has)
+  turns_by (Reclaims i x) at e user = subst (λ (y : End). HasTurns y (Reclaims i x)) (one_user i e at.0 user) (at.4, ap (λ (t : Turn Receiving). has_call t n) at.1)
+  turns_by (EndsHeld i x) at e user = subst (λ (y : End). HasTurns y (EndsHeld i x)) (one_user i e at.0 user) (at.5, ap (λ (t : Turn Receiving). has_call t n) at.1)
+  turns_by (Reopens q inc a b) at e user = absurd (own at.0)
+  turns_by (Gathers a b) at e user = absurd (own at.0)
+
+  -- and so it is in the copy of that state
+  sender_copied : (e : End) → (lane_to (copied cd m).state e).lane.sender ≡ sender_of e
+  sender_copied side.Host = refl
+  sender_copied side.Remote = refl
+
+  receiver_copied : (e : End) → (lane_to (copied cd m).state e).lane.receiver ≡ receiver_of e
+  receiver_copied side.Host = refl
+  receiver_copied side.Remote = refl
+
+  held_copied : (e : End) → (books_of (lane_to (copied cd m).state e)).held ≡ (books_of (lane_to m e)).held
+  held_copied side.Host = refl
+  held_copied side.Remote = refl
+
+  pass_copied : (q : Pass) → q.number ≡ n → IsCallAt (turns_in m) p q.number q.call → HasHands m.callers (λ e. books_of (lane_to m e)) q.number q.hands → IsPassIn (copied cd m) q
+  pass_copied q same at hands =
+      let by_number = λ (e : End) (user : end_of m.callers q.number ≡ Some e). turns_by q.call (subst (λ (k : ℕ). IsCallAt (turns_in m) p k q.call) same at) e (ap (end_of m.callers) (sym same) ∙ user) in record {
+        sends = λ e user. (λ i. has_call (sender_copied (other e) i) (same i)) ∙ (by_number e user).0;
+        receives = λ e user. (λ i. has_call (receiver_copied e i) (same i)) ∙ (by_number e user).1;
+        hands = λ e user. ap (hands_of q.number) (held_copied e) ∙ hands e user;
+      }
+
 module _ {B : Type 0} {kc : Coded B} {kz : DeskTables} (cd : Coded (PlacedDesk kc kz)) (desk : DeskMeaning (PlacedDesk kc kz)) (z : LinkSizes) where
   -- any view of the table is in order
   pub orderly : (st : State Slot View) → WordsRule cd desk z st → (id : ℕ) (v : View) → get_elem? st.views id ≡ some v → IsOrderly v
@@ -144,6 +238,8 @@ module _ {B : Type 0} {kc : Coded B} {kz : DeskTables} (cd : Coded (PlacedDesk k
         (λ (y : (e : End) × (slot ≡ receiver_slot e) × (has_for_manager e b.call ≡ true) × (kept_at (turns_in m) slot ≡ true)).
         r.turns.keepers x.0 id k id l a b (v, at, ha) (v, at, hb) x.2 (subst (λ (e : End). has_for_manager e b.call ≡ true) (one_end y.0 x.0 (sym y.1 ∙ x.1)) y.2)) two) one in
         (r.numbers.places id k id l a b (v, at, ha) (v, at, hb) same).1;
+    known = λ manages out k was place q there own. subst (λ (c : LinkCopy). IsPassIn c q) (sym ((r.numbers.manager id v at manages).copy k was out))
+        (pass_copied cd desk m p q.number r.sound own q refl (r.turns.calls id place q (v, at, there)) (r.histories.hands id place q (v, at, there)));
   }
 
   now_here : (views : List View) (id : ℕ) (v w : View) → get_elem? views id ≡ some v → get_elem? (set views id w) id ≡ some w
@@ -157,10 +253,11 @@ module _ {B : Type 0} {kc : Coded B} {kz : DeskTables} (cd : Coded (PlacedDesk k
       (a.0, a.1, a.2, a.3, (a.4, orderly (record (stepped st i (f (get_or st.words i 0)) id me.1 a.0 a.1) { words = a.3.0 }) a.3.2 id a.0 (now_here st.views id me.0 a.0 at)))
 
 -- passes of a view in order alone are in order
-pub order_within : (v w : View) → ((k : ℕ) (p : Pass) → get_elem? w.passes k ≡ some p → get_elem? v.passes k ≡ some p) → IsOrderly v → IsOrderly w
-order_within v w within order = record {
+pub order_within : (v w : View) → ((k : ℕ) (p : Pass) → get_elem? w.passes k ≡ some p → get_elem? v.passes k ≡ some p) → ArePassesIn w → IsOrderly v → IsOrderly w
+order_within v w within known order = record {
   numbers = λ k l p q hp hq same. order.numbers k l p q (within k p hp) (within l q hq) same;
   sides = λ slot k l p q hp hq sp sq. order.sides slot k l p q (within k p hp) (within l q hq) sp sq;
+  known = known;
 }
 
 pub but_last_at : (ps : List Pass) (k : ℕ) (p : Pass) → get_elem? (all_but_last ps) k ≡ some p → get_elem? ps k ≡ some p
@@ -168,3 +265,7 @@ but_last_at [] k p at = absurd (some-ne-none p (sym at))
 but_last_at (x ∷ []) k p at = absurd (some-ne-none p (sym at))
 but_last_at (x ∷ y ∷ ps) zero p at = at
 but_last_at (x ∷ y ∷ ps) (suc k) p at = but_last_at (y ∷ ps) k p at
+
+pub none_behind : {A : Type 0} (xs ys : List A) → xs ++ ys ≡ [] → ys ≡ []
+none_behind [] ys none = none
+none_behind (x ∷ xs) ys none = absurd (cc)

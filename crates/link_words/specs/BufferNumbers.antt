@@ -1,5 +1,5 @@
 -- The numbers of buffers in the rings of a link: each has 32 bits, as an entry has room for (VIRTIO 1.2 section 2.7.8).
-use Rattle.std.specs.Prelude.{ℕ, ◌<◌, ◌^◌}
+use Rattle.std.specs.Prelude.{◌<◌, ◌^◌}
 use Rattle.std.specs.List.{All}
 use Rattle.lane_model.specs.declared.lane_links.LaneLink.{LaneLink}
 use Rattle.ring_core.specs.declared.states.Rings.{Rings}

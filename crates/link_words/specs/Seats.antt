@@ -1,5 +1,5 @@
 -- What the steps tell that move, make and end callers, and those of the manager's own view (own).
-use Rattle.std.specs.Prelude.{not, ◌≡◌, ◌<◌, ◌==◌, ◌||◌, ℕ, Bool, true, false, [], Some}
+use Rattle.std.specs.Prelude.{not, ◌≡◌, ◌<◌, ◌==◌, ◌||◌, ℕ, Bool, true, false, Some}
 use mathlib.Core.Option.{Option, some, none}
 use Rattle.rp_base.specs.declared.kinds.Era.{Era}
 use Rattle.rp_base.specs.declared.kinds.End.{End}
@@ -36,10 +36,6 @@ with_era v era = record v { is_closed = not era.is_live }
 
 abbrev pub LearnsEra : SeatState → ℕ → SeatState → Type 0
 LearnsEra me n me' = (era : Era) × (n ≡ era_word era) × (era.inc < 4294967296) × (me' ≡ (with_era me.0 era, me.1)) × (era.inc ≡ me.0.inc) × (me.0.is_closed ≡ true → era.is_live ≡ false)
-
--- a manager whose callers are all its own found the era of its copy
-abbrev pub FindsEraOfCopy : SeatState → ℕ → Type 0
-FindsEraOfCopy me n = (k : LinkCopy) → me.0.out ≡ [] → me.0.copy ≡ Some k → n ≡ era_word k.state.era
 
 -- those that were out have come back, and the view has a copy again
 abbrev pub Settles : SeatState → SeatState → Type 0

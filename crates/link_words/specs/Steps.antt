@@ -144,6 +144,17 @@ pub record IsCloseOf {B : Type 0} {kc : Coded B} {kz : DeskTables} (coded : Code
 abbrev pub ClosesLink : {D : Type 0} → Coded D → DeskMeaning D → ℕ → ℕ → SeatState → SeatState → Type 0
 ClosesLink coded meaning inc n me me' = IsCloseOf (placed_coded coded me.0.sizes.desks) (placed_meaning coded me.0.sizes.desks meaning) inc n me me'
 
+-- the manager loads the era: it is that of some sound state. Where the manager has a copy of the state, and none of its callers is out, that state is the copy's
+pub record IsLookAt {B : Type 0} {kc : Coded B} {kz : DeskTables} (coded : Coded (PlacedDesk kc kz)) (desk : DeskMeaning (PlacedDesk kc kz)) (n : ℕ) (me : SeatState) : Type 0 where
+  pub state : LaneLink (RingState (PlacedDesk kc kz))
+  pub sound : IsSoundState desk state
+  pub found : n ≡ era_word state.era
+  pub copy : (k : LinkCopy) → me.0.out ≡ [] → me.0.copy ≡ Some k → k ≡ copied coded state
+
+-- the same, with the desks in the tables that the seat knows
+abbrev pub LooksAtLink : {D : Type 0} → Coded D → DeskMeaning D → ℕ → SeatState → Type 0
+LooksAtLink coded meaning n me = IsLookAt (placed_coded coded me.0.sizes.desks) (placed_meaning coded me.0.sizes.desks meaning) n me
+
 -- the work of a call that has done its first step
 abbrev pub first_work : Wish → Work
 first_work (wish.Send message) = work.Take take_stage.Turn

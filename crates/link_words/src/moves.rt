@@ -46,13 +46,16 @@ impl<D: Desk> Play<Slot, View> for TellsEndsCaller<D> {
 }
 
 /// The manager loads the era.
-pub struct TellsLearnsEra;
+pub struct TellsLearnsEra<D> {
+    marker: PhantomData<D>,
+}
 
-impl Play<Slot, View> for TellsLearnsEra {
+impl<D: Desk> Play<Slot, View> for TellsLearnsEra<D> {
     ghost use Rattle.link_words.specs.Orderly.{IsOrderly};
-    ghost use Rattle.link_words.specs.Seats.{LearnsEra, FindsEraOfCopy};
+    ghost use Rattle.link_words.specs.Seats.{LearnsEra};
+    ghost use Rattle.link_words.specs.Steps.{LooksAtLink};
 
-    ghost then = { λ st m r m'. (LearnsEra m r m' × FindsEraOfCopy m r) × IsOrderly m'.0 };
+    ghost then = { λ st m r m'. (LearnsEra m r m' × LooksAtLink D.row.coded D.meaning r m) × IsOrderly m'.0 };
 }
 
 /// All callers that were out have come back.

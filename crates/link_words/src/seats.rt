@@ -8,8 +8,8 @@ ghost use Rattle.link_words.specs.declared.rule.Pass.{Pass};
 ghost use Rattle.link_words.specs.declared.rule.Call.TheVariants.{Rests};
 ghost use Rattle.link_words.specs.Orderly.{IsOrderly};
 ghost use Rattle.link_words.specs.Passes.{HasNumber, numbers_of, Manages, Mover, without_last, only_last, with_passes_from, after_end_with, place_of_number, without_new, only_new};
-ghost use Rattle.link_words.specs.Seats.{Settles, EnlistsCaller, EndsCaller, LearnsEra, FindsEraOfCopy, ClosesEra};
-ghost use Rattle.link_words.specs.Steps.{MakesCaller, FreesCaller, ClosesLink};
+ghost use Rattle.link_words.specs.Seats.{Settles, EnlistsCaller, EndsCaller, LearnsEra, ClosesEra};
+ghost use Rattle.link_words.specs.Steps.{MakesCaller, FreesCaller, ClosesLink, LooksAtLink};
 ghost use Rattle.link_words.specs.Words.{words_in};
 
 use crate::moves::{
@@ -93,14 +93,14 @@ pub fn end_carried<D: Desk>(table: &LinkTable<D>, manager: &mut LinkSeat, caller
 
 /// The manager loads the era, and knows from then on that it is closed, if it found it so.
 pub fn learn_era<D: Desk>(table: &LinkTable<D>, manager: &mut LinkSeat) -> u64
-    requires table { (manager.old.table_id ≡ table.now.table_id) × (words_in table.now.key ≤ table.now.table_id.words) }
+    requires table { (manager.old.table_id ≡ table.now.table_id) × (words_in table.now.key ≤ table.now.table_id.words) × (manager.old.me.0.sizes ≡ table.now.key) }
     requires manager { Manages manager.old.me.0 }
     ensures same { (manager.new.table_id ≡ manager.old.table_id) × (manager.new.id ≡ manager.old.id) }
     ensures told { LearnsEra manager.old.me result manager.new.me }
-    ensures known { FindsEraOfCopy manager.old.me result }
+    ensures found { LooksAtLink D.row.coded D.meaning result manager.old.me }
     ensures order { IsOrderly manager.new.me.0 }
 {
-    table.load::<TellsLearnsEra>(manager, ERA_PLACE)
+    table.load::<TellsLearnsEra<D>>(manager, ERA_PLACE)
 }
 
 /// All callers that were out have come back: the manager's copy is the state again.

@@ -6,7 +6,7 @@ use Rattle.std.proofs.lemmas.Bool.Decides.{eqb_tells}
 use Rattle.rp_base.specs.declared.kinds.Switch.{Switch}
 use Rattle.rp_base.specs.declared.limits.TheConstants.{STEPS_MOST}
 use Rattle.lane_model.specs.declared.calls.LinkConfig.{LinkConfig}
-use Rattle.lane_model.specs.Recoveries.{unclosed_by}
+use Rattle.lane_model.specs.Recoveries.{link_close_refusal}
 use Rattle.channel_bus.specs.Sides.{side_meaning}
 use Rattle.script_lang.specs.declared.commands.Command.{Command}
 use Rattle.script_lang.specs.declared.commands.RegionSet.{RegionSet}
@@ -115,7 +115,7 @@ module _ (run : RunState) (place : ℕ) (on : NamedLink) (found : slice_get run.
   unfolding close_effect
   closed_again =
       cond_both (run.steps == STEPS_MOST) (record { bench = on.bench; steps = run.steps; events = []; ending = Some stop.StepLimit })
-      (tells (after_close on.bench) (run.steps + 1) (close_event on.name (link_in on.bench).era (unclosed_by (link_in on.bench).era (link_in on.bench).era.inc)))
+      (tells (after_close on.bench) (run.steps + 1) (close_event on.name (link_in on.bench).era (link_close_refusal (link_in on.bench).era (link_in on.bench).era.inc)))
       (λ (effect : Effect). StaysClosed (link_in on.bench) (link_in effect.bench)) (λ _. stays)
       (λ _. closed_by (link_in on.bench) (link_in (after_close on.bench)) (comes_close on.bench) shut)
 

@@ -7,7 +7,7 @@ use Rattle.rp_base.specs.declared.limits.TheConstants.{STEPS_MOST}
 use Rattle.lane_model.specs.declared.calls.LinkConfig.{LinkConfig}
 use Rattle.lane_model.specs.declared.recoveries.ReopenFault.{ReopenFault}
 use Rattle.lane_model.specs.Links.{LinkState}
-use Rattle.lane_model.specs.Recoveries.{unclosed_by, unopened_by}
+use Rattle.lane_model.specs.Recoveries.{link_close_refusal, link_reopen_refusal}
 use Rattle.lane_model.specs.Soundness.{SoundLink}
 use Rattle.channel_bus.specs.Sides.{EndState}
 use Rattle.script_lang.specs.declared.commands.Command.{Command}
@@ -95,16 +95,16 @@ module _ (name : List ℕ) (bench : BenchState) (steps : ℕ) (is : IsReachedBen
   close_reached : IsReachedBench (close_effect name bench steps).bench
   unfolding close_effect
   close_reached =
-      cond_both (steps == STEPS_MOST) _ (tells (after_close bench) (steps + 1) (close_event name (link_in bench).era (unclosed_by (link_in bench).era (link_in bench).era.inc)))
+      cond_both (steps == STEPS_MOST) _ (tells (after_close bench) (steps + 1) (close_event name (link_in bench).era (link_close_refusal (link_in bench).era (link_in bench).era.inc)))
       (λ (effect : Effect). IsReachedBench effect.bench) (λ _. is) (λ _. closed bench is)
 
-  opened_at : (why : Option ReopenFault) → unopened_by (link_in bench) ≡ why → IsReachedBench (opened_effect name bench steps why).bench
+  opened_at : (why : Option ReopenFault) → link_reopen_refusal (link_in bench) ≡ why → IsReachedBench (opened_effect name bench steps why).bench
   opened_at None clear = reopened bench is clear
   opened_at (Some why) found = is
 
   reopen_reached : IsReachedBench (reopen_effect name bench steps).bench
   unfolding reopen_effect
-  reopen_reached = opened_at (unopened_by (link_in bench)) refl
+  reopen_reached = opened_at (link_reopen_refusal (link_in bench)) refl
 
   managed : (wanted : ManagerAct) → IsReachedBench (manager_effect name bench steps wanted).bench
   managed manager.Close = close_reached

@@ -59,7 +59,7 @@ use Rattle.link_words.specs.Passes.{with_call, place_of_number}
 use Rattle.link_words.specs.PlacedDesks.{IsRightTo, no_right}
 use Rattle.link_words.specs.Steps.{GoesOn, EndsAt, LeavesTurn, TakesTurn, TakesSender, TakesReceiver, first_work, MayLoadIndex, LoadsIndex, MayLoadEntry, LoadsEntry, MayLoadEra, LoadsEra, MayStoreEntry, StoresEntry, MayPublish, PublishesIndex, SendLoadsEra, SendLooks, SendTakesBuffer, SendStoresEntry, SendPublishes, TakeLoadsEra, TakeLooks, TakeTakesBuffer, TakeHands, GiveStoresEntry, GivePublishes, BindLoadsEra, look_turn, take_look_turn, with_room, with_publish, with_waiting, with_handing, with_given, with_binding, with_entry, accepted_side, handed_side, given_or, hands_but, desk_says, desk_after}
 use Rattle.link_words.specs.Words.{other, sizes_at, buffer_slot, sender_slot, receiver_slot}
-use Rattle.split_ring.specs.Focus.{send_count, work_count, slot_count, front, behind, count_of, seat_of, LeavesOthers, StepsAlone}
+use Rattle.split_ring.specs.Focus.{send_count, work_count, send_turn_count, work_turn_count, slot_count, front, behind, count_of, seat_of, LeavesOthers, StepsAlone}
 use Rattle.split_ring.proofs.Focusing.{Focused, Links, goes_alone, goes_on, focused, step_alone, calls_same, owns_same, hands_same, count_is, call_there, place_alone, found_number, rest_front, rest_behind, lent_front}
 
 -- what a step reads of the call of the pass that steps
@@ -114,13 +114,6 @@ abbrev binding_to : {D : Type 0} → Coded D → DeskMeaning D → Era → D →
 binding_to coded meaning era desk p k = receive_or p (λ e t x b message. under_way_or p (λ caller r. cond (is_live_in era r.follows)
     (with_call p (Receives e (turn.Leaving caller (desk_says meaning desk x.handed r.work)) (record x { desk = record x.desk { code = coded.code (desk_after meaning desk x.handed r.work) } }) b message))
     (with_call p (Receives e (turn.Leaving caller (end.Dead era)) x b message))) t) k
-
--- how many slots are out with a turn
-abbrev send_turn_count : Turn Sending → ℕ
-send_turn_count t = under_way_or 1 (λ caller s. send_count s.stage) t
-
-abbrev work_turn_count : Turn Receiving → ℕ
-work_turn_count t = under_way_or 1 (λ caller r. work_count r.work) t
 
 send_either : (b : Bool) (t u : Turn Sending) → send_turn_count t ≡ 1 → send_turn_count u ≡ 1 → send_turn_count (cond b t u) ≡ 1
 send_either true t u ht hu = ht
@@ -239,7 +232,7 @@ module _ (n : ℕ) (me me' : SeatState) (order : IsOrderly me.0) where
   }
 
   -- a change that keeps how many slots are out, one by which a slot is out more, and one by which it is at home
-  keeps_slots : (f : Focused n me) (change : Pass → Pass) → (change f.pass).number ≡ f.pass.number → slot_count (change f.pass).call ≡ count_of n me → Becomes change (place_of me) me.1 me me'
+  pub keeps_slots : (f : Focused n me) (change : Pass → Pass) → (change f.pass).number ≡ f.pass.number → slot_count (change f.pass).call ≡ count_of n me → Becomes change (place_of me) me.1 me me'
       → Becomes change (place_of (seat_of n me)) (seat_of n me).1 (seat_of n me) (seat_of n me') × LeavesOthers n me me'
   keeps_slots f change keeps counted told = step_alone n me me' change me.1 (seat_of n me).1 (place_of me) (place_of (seat_of n me)) (count_of n me) f.pass f.there f.here f.first keeps counted refl refl told
 

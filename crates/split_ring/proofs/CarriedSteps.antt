@@ -278,8 +278,8 @@ module _ (z : LinkSizes) (who : CallerId) (p p' : Phase) (counts : List ℕ) (me
         let kept : count_of other.number b ≡ count_of other.number me = ap slot_count ((λ i. call_at (place_next i) b.0.passes) ∙ (call_there there b.0.passes (pass_in (seat_of other.number beside)) there_now ∙ sym (call_there there me.0.passes (pass_in (seat_of other.number beside)) there_was))) in
         ap (λ (k : ℕ). front k (turned_to (side_of other.end q) next_out next_block)) (kept ∙ many) ∙ (block_beside (slots_in q) refl ∙ sym (ap (λ (k : ℕ). front k (turned_to (side_of other.end q) counts me.1)) many))
 
-    pub number_beside : (pass_in (carried_at other q next_out (b.0, next_block))).number ≡ other.number
-    number_beside = ap (λ (l : List Pass). (first_pass l).number) pass_next ∙ number
+    pub pass_beside : pass_in (carried_at other q next_out (b.0, next_block)) ≡ pass_in (carried_at other q counts me)
+    pass_beside = ap first_pass pass_next
 
     pub stands_beside : StandsIn z other q (carried_at other q next_out (b.0, next_block))
     stands_beside = stands_same z other q (carried_at other q counts me) (carried_at other q next_out (b.0, next_block)) pass_next slots_beside stood

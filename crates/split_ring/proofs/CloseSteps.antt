@@ -145,14 +145,14 @@ where_it_was link before after made id table n user =
     }
 
 -- a pass is there still, with its number and its call
-pass_stays : (made : Made) (k : ℕ) (ps : List Pass) (l : ℕ) (b : Pass) → get_elem? ps l ≡ some b → (c : Pass) × (get_elem? (with_pass_at (noted made) k ps) l ≡ some c) × (c.number ≡ b.number) × (c.call ≡ b.call)
+pub pass_stays : (made : Made) (k : ℕ) (ps : List Pass) (l : ℕ) (b : Pass) → get_elem? ps l ≡ some b → (c : Pass) × (get_elem? (with_pass_at (noted made) k ps) l ≡ some c) × (c.number ≡ b.number) × (c.call ≡ b.call)
 pass_stays made k [] l b at = absurd (some-ne-none b (sym at))
 pass_stays made zero (p ∷ ps) zero b at = (noted made p, refl, ap (λ (q : Pass). q.number) (some-injective p b at), ap (λ (q : Pass). q.call) (some-injective p b at))
 pass_stays made zero (p ∷ ps) (suc l) b at = (b, at, refl, refl)
 pass_stays made (suc k) (p ∷ ps) zero b at = (b, at, refl, refl)
 pass_stays made (suc k) (p ∷ ps) (suc l) b at = pass_stays made k ps l b at
 
-place_stays : (made : Made) (k n : ℕ) (ps : List Pass) → place_of_number n (with_pass_at (noted made) k ps) ≡ place_of_number n ps
+pub place_stays : (made : Made) (k n : ℕ) (ps : List Pass) → place_of_number n (with_pass_at (noted made) k ps) ≡ place_of_number n ps
 place_stays made k n [] = refl
 place_stays made zero n (p ∷ ps) = refl
 place_stays made (suc k) n (p ∷ ps) = ap (λ (later : ℕ). if p.number == n then 0 else suc later) (place_stays made k n ps)

@@ -1,12 +1,11 @@
 -- The steps by which a caller's call is ended in a reclaim, as its seat is told them.
-use Rattle.std.proofs.Common.{◌≡◌, ◌≢◌, ◌<◌, ℕ, ◌+◌, Bool, true, false, cond, List, [], ◌∷◌, ◌++◌, refl, sym, ap, ◌∙◌, subst}
+use Rattle.std.proofs.Common.{◌≡◌, ◌<◌, ℕ, ◌+◌, Bool, true, false, cond, List, [], ◌∷◌, ◌++◌, refl, sym, ap, ◌∙◌, subst}
 use base.Stored.{Coded}
 use Rattle.atomic_table.specs.Seated.{TableId}
 use Rattle.atomic_table.specs.Table.{rest}
 use Rattle.rp_base.specs.declared.kinds.End.{End}
 use Rattle.rp_base.specs.declared.kinds.End.TheVariants as side
 use Rattle.rp_base.specs.declared.kinds.Era.{Era}
-use Rattle.lane_model.specs.declared.recoveries.LaneTurn.{LaneTurn}
 use Rattle.lane_model.specs.declared.recoveries.LaneTurn.TheVariants as lane_turn
 use Rattle.lane_model.specs.declared.stages.Receiving.{Receiving}
 use Rattle.lane_model.specs.declared.stages.Sending.{Sending}
@@ -21,26 +20,23 @@ use Rattle.link_words.specs.declared.rule.SenderSide.{SenderSide}
 use Rattle.link_words.specs.declared.rule.Slot.{Slot}
 use Rattle.link_words.specs.declared.rule.View.{View}
 use Rattle.link_words.specs.declared.rule.Slot.TheVariants.{Buffer, Receiver, Sender}
-use Rattle.link_words.specs.Calls.{SeatState, Becomes, has_side, first_side, place_of, place_with, with_pass_at, call_at}
+use Rattle.link_words.specs.Calls.{SeatState, Becomes, has_side, first_side, place_of, place_with, with_pass_at}
 use Rattle.link_words.specs.Deeds.{ManagerTakes}
 use Rattle.link_words.specs.Layouts.{place_in}
 use Rattle.link_words.specs.Passes.{with_call, with_call_and_hands, place_of_number}
-use Rattle.link_words.specs.Reclaims.{StandsIn, DoesAt, HasTurn, MayFindClosed, FindsClosed, IsUnclaimed, MayClaim, ClaimsTurn, MayEnd, HasSlots, HasFilledSlots, MayLeaveEnded, LeavesEnded, doomed_call, claimed_call, spared_call, ended_pass, slots_left, without_hands}
+use Rattle.link_words.specs.Reclaims.{DoesAt, HasTurn, FindsClosed, IsUnclaimed, MayEnd, HasSlots, HasFilledSlots, doomed_call, claimed_call, spared_call, ended_pass, slots_left, without_hands}
 use Rattle.link_words.specs.Steps.{HasWord}
 use Rattle.link_words.specs.Words.{other, era_word, receiver_word, sender_slot, receiver_slot, buffer_slot}
 use Rattle.split_ring.specs.declared.callers.CallerId.{CallerId}
 use Rattle.split_ring.specs.Reclaims.{HasSend, HasReceive, SendSlots, TakeSlots, IsNow, StandsAlone, HoldsAlone, IsEmptied, IsAnothers, ended_of}
 use Rattle.split_ring.specs.Seats.{IsAt, IsSeatOf, pass_in, first_pass}
-use Rattle.split_ring.proofs.Seats.{mover_of, number_place, side_sends, side_fills, side_receives, side_hands}
+use Rattle.split_ring.proofs.Seats.{side_sends, side_fills, side_receives, side_hands}
 
 -- the one pass is the first that steps
-alone_place : (me : SeatState) → StandsAlone me → place_of me ≡ 0
+pub alone_place : (me : SeatState) → StandsAlone me → place_of me ≡ 0
 alone_place me s = (λ i. place_with (first_side me.1) (s.one i)) ∙ ap (λ (b : Bool). cond b 0 1) s.side
 
-stands_in : (me : SeatState) → StandsAlone me → StandsIn me (pass_in me).call
-stands_in me s = record { mover = mover_of me s.one; here = sym (alone_place me s); is = refl }
-
-becomes_now : (f : Pass → Pass) (slots : List (ℕ × Slot)) (k : ℕ) (me me' : SeatState) → k ≡ 0 → me.0.passes ≡ pass_in me ∷ [] → Becomes f k slots me me' → IsNow (f (pass_in me)) slots me me'
+pub becomes_now : (f : Pass → Pass) (slots : List (ℕ × Slot)) (k : ℕ) (me me' : SeatState) → k ≡ 0 → me.0.passes ≡ pass_in me ∷ [] → Becomes f k slots me me' → IsNow (f (pass_in me)) slots me me'
 becomes_now f slots k me me' zero one told = record {
   one = ap (λ (s : SeatState). s.0.passes) told ∙ (λ i. with_pass_at f (zero i) (one i));
   out = ap (λ (s : SeatState). s.1) told;
@@ -55,9 +51,6 @@ pub seat_now : (table : TableId) (sizes : LinkSizes) (id id' : TableId) (p : Pas
 seat_now table sizes id id' p slots me me' same now s = record { at_table = same ∙ s.at_table; told = now.sizes ∙ s.told }
 
 -- the load of the era
-pub may_find : (me : SeatState) → StandsAlone me → HasTurn (pass_in me).call → MayFindClosed me
-may_find me s has = ((pass_in me).call, stands_in me s, has)
-
 pub found_closed : (me me' : SeatState) (n : ℕ) (found : Era) → StandsAlone me → FindsClosed me n me' → ((era : Era) → n ≡ era_word era → era.inc < 4294967296 → found ≡ era) → found.is_live ≡ false
     → IsNow (with_call (pass_in me) (doomed_call (pass_in me).call)) me.1 me me'
 found_closed me me' n found s told reads dead =
@@ -68,18 +61,7 @@ pub found_live : (me me' : SeatState) (n : ℕ) (found : Era) → StandsAlone me
 found_live me me' n found s told reads live =
     let same : found ≡ told.0 = reads told.0 told.1 told.2 in (live, subst (IsNow (pass_in me) me.1 me) (sym (told.4 (sym (ap (λ (e : Era). e.is_live) same) ∙ live))) (now_same me s.one))
 
--- the attempt on the receiver's turn
-pub may_claim : (me : SeatState) (who : CallerId) → me.0.passes ≡ pass_in me ∷ [] → (pass_in me).number ≡ who.number → IsUnclaimed who.end (pass_in me).call → MayClaim me who.end who.number
-may_claim me who one number un = record { mover = mover_of me one; here = sym (number_place me who.number one number); number = number; call = (pass_in me).call; is = refl; unclaimed = un }
-
-pub claimed_now : (me me' : SeatState) (who : CallerId) (n : ℕ) → me.0.passes ≡ pass_in me ∷ [] → (pass_in me).number ≡ who.number → ClaimsTurn who.end who.number me n me' → n ≡ 0
-    → (y : ReceiverSide) × IsNow (with_call (pass_in me) (claimed_call y (pass_in me).call)) ((receiver_slot who.end, Receiver y) ∷ me.1) me me'
-claimed_now me me' who n one number told free = let t = told.0 free in
-    (t.0, becomes_now (λ p. with_call p (claimed_call t.0 p.call)) ((receiver_slot who.end, Receiver t.0) ∷ me.1) (place_of_number who.number me.0.passes) me me' (number_place me who.number one number) one t.1)
-
-pub spared_now : (me me' : SeatState) (who : CallerId) (n : ℕ) → me.0.passes ≡ pass_in me ∷ [] → (pass_in me).number ≡ who.number → ClaimsTurn who.end who.number me n me' → n ≢ 0 → IsNow (with_call (pass_in me) (spared_call (pass_in me).call)) me.1 me me'
-spared_now me me' who n one number told busy = becomes_now (λ p. with_call p (spared_call p.call)) me.1 (place_of_number who.number me.0.passes) me me' (number_place me who.number one number) one (told.1 busy)
-
+-- the attempt on the receiver's turn found it another's
 pub anothers : {D : Type 0} (coded : Coded D) (meaning : DeskMeaning D) (me me' : SeatState) (who : CallerId) (n holder : ℕ) → n ≡ holder + 1
     → DoesAt coded meaning (place_of_number who.number me.0.passes) me (HasWord (place_in (receiver_word who.end)) n) (ManagerTakes lane_turn.Receiver who.end) me' → IsAnothers coded meaning who holder
 anothers coded meaning me me' who n holder is step = record {
@@ -87,16 +69,6 @@ anothers coded meaning me me' who n holder is step = record {
   after = me';
   step = subst (λ (k : ℕ). DoesAt coded meaning (place_of_number who.number me.0.passes) me (HasWord (place_in (receiver_word who.end)) k) (ManagerTakes lane_turn.Receiver who.end) me') is step;
 }
-
--- a leave
-pub may_leave : (turn : LaneTurn) (lane : End) (me : SeatState) → StandsAlone me → MayEnd turn lane (pass_in me).number me (pass_in me).call → MayLeaveEnded turn lane me
-unfolding stands_in
-may_leave turn lane me s may = record { call = (pass_in me).call; stands = stands_in me s; may = may }
-
-pub left_now : (me me' : SeatState) → StandsAlone me → LeavesEnded me me' → IsNow (ended_pass (pass_in me) (pass_in me).call) (slots_left (pass_in me).call me.1) me me'
-left_now me me' s told =
-    let here : call_at (place_of me) me.0.passes ≡ (pass_in me).call = λ i. call_at (alone_place me s i) (s.one i) in
-    becomes_now (λ p. ended_pass p p.call) (slots_left (pass_in me).call me.1) (place_of me) me me' (alone_place me s) s.one (subst (λ (c : Call). Becomes (λ p. ended_pass p p.call) (place_of me) (slots_left c me.1) me me') here told)
 
 -- a seat whose pass is this one, with these slots
 pub pass_is : (me : SeatState) (q : Pass) → me.0.passes ≡ q ∷ [] → pass_in me ≡ q
@@ -239,9 +211,6 @@ module _ (z : LinkSizes) (who : CallerId) (out : Bool) (me : SeatState) (h : Has
   abbrev pub buffer_first : ReceiverSide → List (ℕ × Slot)
   buffer_first x = (buffer_slot z.to_host.capacity who.end h.buffer, Buffer h.message) ∷ (receiver_slot who.end, Receiver x) ∷ []
 
-  abbrev pub side_first : ReceiverSide → List (ℕ × Slot)
-  side_first x = (receiver_slot who.end, Receiver x) ∷ (buffer_slot z.to_host.capacity who.end h.buffer, Buffer h.message) ∷ []
-
   pub take_slots : out ≡ true → me.1 ≡ buffer_first h.side
   take_slots full = subst (λ (o : Bool). TakeSlots o (buffer_slot z.to_host.capacity who.end h.buffer) h.message (receiver_slot who.end) (Receiver h.side) me.1) full h.slots
 
@@ -351,11 +320,11 @@ module _ (z : LinkSizes) (who : CallerId) (out : Bool) (me : SeatState) (h : Has
     sizes = spared.sizes ∙ now.sizes;
   }
 
-  -- behind it: the receiver's side state goes behind the send's slots
-  pub send_claimed : (me1 me2 : SeatState) (y : ReceiverSide) → IsNow doomed_send me.1 me me1 → IsNow (with_call (pass_in me1) (claimed_call y (pass_in me1).call)) ((receiver_slot who.end, Receiver y) ∷ me1.1) me1 me2 → IsNow (both_send y) ((receiver_slot who.end, Receiver y) ∷ me.1) me me2
+  -- behind it: the receiver's side state is behind the send's slots
+  pub send_claimed : (me1 me2 : SeatState) (y : ReceiverSide) → IsNow doomed_send me.1 me me1 → IsNow (with_call (pass_in me1) (claimed_call y (pass_in me1).call)) (me1.1 ++ (receiver_slot who.end, Receiver y) ∷ []) me1 me2 → IsNow (both_send y) (me.1 ++ (receiver_slot who.end, Receiver y) ∷ []) me me2
   send_claimed me1 me2 y now claimed = let is = pass_is me1 doomed_send now.one in record {
     one = claimed.one ∙ ap (λ (p : Pass). with_call p (claimed_call y p.call) ∷ []) is;
-    out = claimed.out ∙ ap (λ (l : List (ℕ × Slot)). (receiver_slot who.end, Receiver y) ∷ l) now.out;
+    out = claimed.out ∙ ap (λ (l : List (ℕ × Slot)). l ++ (receiver_slot who.end, Receiver y) ∷ []) now.out;
     sizes = claimed.sizes ∙ now.sizes;
   }
 
@@ -397,8 +366,8 @@ module _ (who : CallerId) (me : SeatState) (at : IsAt me (Rests who.end) []) whe
   pub rest_spared : (me1 : SeatState) → IsNow (with_call (pass_in me) (spared_call (pass_in me).call)) me.1 me me1 → IsNow (pass_in me) me.1 me me1
   rest_spared me1 now = record { one = now.one ∙ (ap (λ (c : Call). with_call (pass_in me) (spared_call c) ∷ []) at.in_call ∙ ap (λ (p : Pass). p ∷ []) (again (pass_in me) (Rests who.end) at.in_call)); out = now.out; sizes = now.sizes }
 
-  pub rest_claimed : (me1 : SeatState) (y : ReceiverSide) → IsNow (with_call (pass_in me) (claimed_call y (pass_in me).call)) ((receiver_slot who.end, Receiver y) ∷ me.1) me me1 → IsNow (claimed_rest y) ((receiver_slot who.end, Receiver y) ∷ []) me me1
-  rest_claimed me1 y now = record { one = now.one ∙ ap (λ (c : Call). with_call (pass_in me) (claimed_call y c) ∷ []) at.in_call; out = now.out ∙ ap (λ (l : List (ℕ × Slot)). (receiver_slot who.end, Receiver y) ∷ l) at.out; sizes = now.sizes }
+  pub rest_claimed : (me1 : SeatState) (y : ReceiverSide) → IsNow (with_call (pass_in me) (claimed_call y (pass_in me).call)) (me.1 ++ (receiver_slot who.end, Receiver y) ∷ []) me me1 → IsNow (claimed_rest y) ((receiver_slot who.end, Receiver y) ∷ []) me me1
+  rest_claimed me1 y now = record { one = now.one ∙ ap (λ (c : Call). with_call (pass_in me) (claimed_call y c) ∷ []) at.in_call; out = now.out ∙ ap (λ (l : List (ℕ × Slot)). l ++ (receiver_slot who.end, Receiver y) ∷ []) at.out; sizes = now.sizes }
 
   claimed_side : (e : End) (y : ReceiverSide) → has_side (first_side ((receiver_slot e, Receiver y) ∷ [])) (Reclaims e y) ≡ true
   claimed_side side.Host y = refl

@@ -20,9 +20,9 @@ use Rattle.link_words.specs.declared.rule.Pass.{Pass}
 use Rattle.link_words.specs.declared.rule.Slot.{Slot}
 use Rattle.link_words.specs.declared.rule.View.{View}
 use Rattle.link_words.specs.Calls.{SeatState, Becomes, call_at, number_at, own_at, in_hand_at, first_side, has_side, is_side, place_of, place_with, with_pass_at}
-use Rattle.link_words.specs.Orderly.{IsOrderly}
+use Rattle.link_words.specs.Orderly.{ArePassesIn, IsOrderly}
 use Rattle.link_words.specs.Deeds.{Deed, IsSoundState, MayDo, Steps, after_deed}
-use Rattle.link_words.specs.Passes.{Manages, Mover, only_pass, place_of_number, with_call}
+use Rattle.link_words.specs.Passes.{Manages, Mover, only_pass, place_of_number}
 use Rattle.link_words.specs.Codes.{copied}
 use Rattle.link_words.specs.PlacedDesks.{PlacedDesk, placed_coded, placed_meaning}
 use Rattle.link_words.specs.PlacedLinks.{KnowsState, IsSameCarrier, placed_link}
@@ -40,7 +40,7 @@ use Rattle.split_ring.proofs.Seats.{call_here, number_place, rewritten}
 pub false-true : false ≡ true → ⊥
 false-true e = absurd (cc)
 
-nil_cons : {A : Type 0} (x : A) (xs : List A) → [] ≡ x ∷ xs → ⊥
+pub nil_cons : {A : Type 0} (x : A) (xs : List A) → [] ≡ x ∷ xs → ⊥
 nil_cons x xs is = let h : 0 ≡ suc (length xs) = ap length is in omega (arith, h)
 
 -- the slots in front, and those behind
@@ -145,20 +145,27 @@ alone_at n me call slots at number many =
     }
 
 -- and is in order
-pub one_order : (v : View) (one : Pass) → v.passes ≡ one ∷ [] → IsOrderly v
-one_order v one is = record {
+pub one_order : (v : View) (one : Pass) → v.passes ≡ one ∷ [] → ArePassesIn v → IsOrderly v
+one_order v one is known = record {
   numbers = λ k l p q hp hq same. first k p hp ∙ sym (first l q hq);
   sides = λ slot k l p q hp hq sp sq. first k p hp ∙ sym (first l q hq);
+  known = known;
 }
   where
     first : (k : ℕ) (p : Pass) → get_elem? v.passes k ≡ some p → k ≡ 0
     first k p at = (only_there 0 (one ∷ []) k p (subst (λ (ps : List Pass). get_elem? ps k ≡ some p) is at)).0
 
-pub alone_order : (n : ℕ) (me : SeatState) → IsAlone n me → IsOrderly me.0
-alone_order n me alone = one_order me.0 (pass_in me) alone.one
+-- a caller's seat is no manager's
+pub alone_order : (n : ℕ) (me : SeatState) → n ≢ 64 → IsAlone n me → IsOrderly me.0
+alone_order n me own alone = one_order me.0 (pass_in me) alone.one
+    (λ manages out k was place q there other. let first = (only_there 0 (pass_in me ∷ []) manages.0 manages.1 (subst (λ (ps : List Pass). get_elem? ps manages.0 ≡ some manages.1) alone.one manages.2)).0 in
+    absurd (own (sym (found_number n me.0.passes manages.1 (ap (get_elem? me.0.passes) (alone.here ∙ sym first) ∙ manages.2)) ∙ manages.3)))
 
-pub alone_seat : (n : ℕ) (table : TableId) (sizes : LinkSizes) (seat : TableId) (me : SeatState) → IsSeatOf table sizes seat me → IsAlone n me → IsOrderlySeat table sizes seat me
-alone_seat n table sizes seat me of alone = record { at_table = of.at_table; told = of.told; order = alone_order n me alone }
+pub alone_seat : (n : ℕ) (table : TableId) (sizes : LinkSizes) (seat : TableId) (me : SeatState) → n ≢ 64 → IsSeatOf table sizes seat me → IsAlone n me → IsOrderlySeat table sizes seat me
+alone_seat n table sizes seat me own of alone = record { at_table = of.at_table; told = of.told; order = alone_order n me own alone }
+
+pub low_own : (n : ℕ) → n < 64 → n ≢ 64
+low_own n low is = absurd (omega (arith, low, is))
 
 -- it stays alone
 one_after : (f : Pass → Pass) (k : ℕ) (p : Pass) (me me' : SeatState) → me.0.passes ≡ p ∷ [] → k ≡ 0 → me'.0.passes ≡ with_pass_at f k me.0.passes → me'.0.passes ≡ pass_in me' ∷ []
@@ -230,7 +237,7 @@ number_alone k [] = refl
 number_alone zero (p ∷ ps) = refl
 number_alone (suc k) (p ∷ ps) = number_alone k ps
 
-call_alone : (k : ℕ) (ps : List Pass) → call_at k ps ≡ call_at 0 (only_pass k ps)
+pub call_alone : (k : ℕ) (ps : List Pass) → call_at k ps ≡ call_at 0 (only_pass k ps)
 call_alone k [] = refl
 call_alone zero (p ∷ ps) = refl
 call_alone (suc k) (p ∷ ps) = call_alone k ps
@@ -472,7 +479,7 @@ pub caller_alone : (table : TableId) (sizes : LinkSizes) (who : CallerId) (seat 
 caller_alone table sizes who seat me q = alone_at who.number me (Rests who.end) [] q.rests q.number refl
 
 pub caller_seat : (table : TableId) (sizes : LinkSizes) (who : CallerId) (seat : TableId) (me : SeatState) → IsCaller table sizes who seat me → IsOrderlySeat table sizes seat me
-caller_seat table sizes who seat me q = alone_seat who.number table sizes seat me q.seat (caller_alone table sizes who seat me q)
+caller_seat table sizes who seat me q = alone_seat who.number table sizes seat me (low_own who.number q.low) q.seat (caller_alone table sizes who seat me q)
 
 pub caller_there : (table : TableId) (sizes : LinkSizes) (who : CallerId) (seat : TableId) (me : SeatState) → IsCaller table sizes who seat me → IsCaller table sizes who seat (seat_of who.number me)
 caller_there table sizes who seat me q = subst (IsCaller table sizes who seat) (sym (alone_same who.number me (caller_alone table sizes who seat me q))) q
@@ -492,23 +499,6 @@ caller_again table sizes who seat me of alone low rests =
 pub both_alone : (n : ℕ) (me me' : SeatState) (P : SeatState → SeatState → Type 0) → IsAlone n me → IsAlone n me' → P (seat_of n me) (seat_of n me') → P me me'
 both_alone n me me' P alone alone' is = subst (λ (t : SeatState × SeatState). P t.0 t.1) (λ i. (alone_same n me alone i, alone_same n me' alone' i)) is
 
--- the passes of a view are in order where they are those of another, and where one of these has gone to a call without side states
-pub order_same : (v w : View) → w.passes ≡ v.passes → IsOrderly v → IsOrderly w
-order_same v w same order = order_within v w (λ k p at. ap (λ (ps : List Pass). get_elem? ps k) (sym same) ∙ at) order
-
-pub order_rested : (v w : View) (k : ℕ) (call : Call) → ((slot : ℕ) → has_side slot call ≡ false) → w.passes ≡ with_pass_at (λ p. with_call p call) k v.passes → IsOrderly v → IsOrderly w
-order_rested v w k call none is order = record {
-  numbers = λ i j p q hp hq same. let x = was k v.passes i p (there i p hp) in let y = was k v.passes j q (there j q hq) in order.numbers i j x.0 y.0 x.1 y.1 (sym x.2 ∙ (same ∙ y.2));
-  sides = λ slot i j p q hp hq sp sq. let x = was k v.passes i p (there i p hp) in let y = was k v.passes j q (there j q hq) in order.sides slot i j x.0 y.0 x.1 y.1 (x.3 slot sp) (y.3 slot sq);
-}
-  where
-    there : (i : ℕ) (p : Pass) → get_elem? w.passes i ≡ some p → get_elem? (with_pass_at (λ p. with_call p call) k v.passes) i ≡ some p
-    there i p at = ap (λ (ps : List Pass). get_elem? ps i) (sym is) ∙ at
-
-    was : (k : ℕ) (ps : List Pass) (i : ℕ) (p : Pass) → get_elem? (with_pass_at (λ p. with_call p call) k ps) i ≡ some p → (q : Pass) × (get_elem? ps i ≡ some q) × (p.number ≡ q.number) × ((slot : ℕ) → has_side slot p.call ≡ true → has_side slot q.call ≡ true)
-    was k [] i p at = absurd (some-ne-none p (sym at))
-    was zero (q ∷ ps) zero p at = let same : with_call q call ≡ p = some-injective (with_call q call) p at in
-        (q, refl, ap (λ (x : Pass). x.number) (sym same), λ slot has. absurd (false-true (sym (none slot) ∙ (ap (λ (x : Pass). has_side slot x.call) same ∙ has))))
-    was zero (q ∷ ps) (suc i) p at = (p, at, refl, λ slot has. has)
-    was (suc k) (q ∷ ps) zero p at = (q, refl, ap (λ (x : Pass). x.number) (sym (some-injective q p at)), λ slot has. ap (λ (x : Pass). has_side slot x.call) (some-injective q p at) ∙ has)
-    was (suc k) (q ∷ ps) (suc i) p at = was k ps i p at
+-- the passes of a view are in order where they are those of another
+pub order_same : (v w : View) → w.passes ≡ v.passes → ArePassesIn w → IsOrderly v → IsOrderly w
+order_same v w same known order = order_within v w (λ k p at. ap (λ (ps : List Pass). get_elem? ps k) (sym same) ∙ at) known order

@@ -20,8 +20,11 @@ pub mod Enlisting
 pub mod Crosses
 pub mod CloseSteps
 pub mod EndSteps
+pub mod AloneEnds
 pub mod PartSteps
 pub mod Gathering
+pub mod CarriedStates
+pub mod Reclaimed
 pub mod Refusals
 pub mod ManagerSteps
 pub mod Reopening
@@ -29,8 +32,14 @@ pub mod StateSteps
 pub mod Reopened
 pub mod Finding
 pub mod Turning
+pub mod TurnsHeld
+pub mod SeatEnds
 pub mod Carrying
 pub mod CarriedSteps
 pub mod CarriedLinks
 pub mod CarriedMakes
+pub mod CarriedCloses
+pub mod CarriedEnds
+pub mod Ending
+pub mod Emptied
 pub mod Outcomes

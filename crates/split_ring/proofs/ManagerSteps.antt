@@ -1,7 +1,6 @@
 -- The manager's own steps as changes of the link's state, and what it knows of the state over them.
 use Rattle.std.proofs.Common.{◌≡◌, ◌+◌, ℕ, Bool, true, false, List, [], ◌∷◌, get_or, refl, sym, ap, ◌∙◌, subst, arith}
 use Rattle.std.specs.Prelude.{Some, None, Result, if◌then◌else◌}
-use lib.ListN.{get_elem?}
 use base.Stored.{Coded}
 use Rattle.rp_base.specs.declared.kinds.End.{End}
 use Rattle.rp_base.specs.declared.kinds.End.TheVariants as side
@@ -46,7 +45,7 @@ use Rattle.link_words.proofs.Placed.{state_after}
 use Rattle.link_words.proofs.TurnWords.{back_again, receiver_of}
 use Rattle.split_ring.specs.Gathers.{IsCalling, TakesSide, PutsSide, FindsTurnFree, FreesTurn, Meets}
 use Rattle.split_ring.proofs.Gathering.{manager_at, same_place}
-use Rattle.split_ring.proofs.Reopening.{manager_calls, rests_none, same_passes}
+use Rattle.split_ring.proofs.Reopening.{manager_calls, none_seat, rests_looked}
 
 -- a turn by its word
 pub free_by : {C : Type 0} (t : Turn C) → 0 ≡ turn_word t → t ≡ turn.Free
@@ -176,22 +175,13 @@ pub receiver_left : (lane : End) (x : ReceiverSide) (slots : List (ℕ × Slot))
 receiver_left side.Host x slots me me1 me2 v c one two = two v (record no_sides { receiver = Some x }) no_sides slots (one v no_sides no_sides slots c)
 receiver_left side.Remote x slots me me1 me2 v c one two = two v no_sides (record no_sides { receiver = Some x }) slots (one v no_sides no_sides slots c)
 
--- the manager at rest, by its own view
-pub rests_here : (me : SeatState) → ManagerAt me (Gathers no_sides no_sides) → me.1 ≡ [] → IsCalling me.0 (Gathers no_sides no_sides) [] me
-rests_here me at none = rests_none me me me.0.is_closed at none refl
-
--- the same with what is out with the calls that it carries
+-- the manager at rest, by its own view, with what is out with the calls that it carries
 pub rests_with : (me : SeatState) → ManagerAt me (Gathers no_sides no_sides) → IsCalling me.0 (Gathers no_sides no_sides) me.1 me
-rests_with me at = record {
-  manager = at.mover.pass;
-  here = ap (get_elem? me.0.passes) (sym at.here) ∙ at.mover.here;
-  number = at.number;
-  is = λ i. (record me.0 { passes = sym (same_passes me (Gathers no_sides no_sides) at) i }, me.1);
-}
+rests_with me at = rests_looked me me me.0.is_closed at refl
 
 -- and behind turns of its own that it has left nothing has changed but the copy
 pub still_resting : (me me' : SeatState) → ManagerAt me (Gathers no_sides no_sides) → IsCalling me.0 (Gathers no_sides no_sides) me.1 me' → me' ≡ (record me.0 { copy = me'.0.copy }, me.1)
-still_resting me me' at c = c.is ∙ (λ i. (record me.0 { copy = me'.0.copy; passes = same_passes me (Gathers no_sides no_sides) at i }, me.1))
+still_resting me me' at c = none_seat me me.0 me.1 me' at refl c
 
 -- a receiver's turn was taken and left: the state is as before
 module _ {D : Type 0} (coded : Coded D) (meaning : DeskMeaning D) where

@@ -21,15 +21,13 @@ use Rattle.std.proofs.Common.{inl, inr, zero, suc, ◌⊎◌, ⊎_elim, ◌≡�
 use Rattle.std.specs.Prelude.{Option, Some, None}
 use mathlib.Core.Option.{some, some-ne-none}
 use lib.ListN.{get_elem?}
-use Rattle.atomic_table.specs.Seated.{TableId}
 use Rattle.rp_base.specs.declared.kinds.Era.{Era}
 use Rattle.lane_model.specs.declared.calls.Ask.TheVariants as ask
 use Rattle.lane_model.specs.HeldBuffers.{HeldBuffer}
 use Rattle.link_words.specs.declared.rule.LinkSizes.{LinkSizes}
 use Rattle.link_words.specs.declared.rule.Pass.{Pass}
 use Rattle.link_words.specs.Calls.{SeatState}
-use Rattle.link_words.specs.Passes.{HasNumber, Manages}
-use Rattle.split_ring.proofs.Makes.{rests_at}
+use Rattle.link_words.specs.Passes.{HasNumber}
 use Rattle.split_ring.specs.declared.callers.CallerId.{CallerId}
 use Rattle.split_ring.specs.declared.calls.Phase.{Phase}
 use Rattle.split_ring.specs.declared.calls.Phase.TheVariants as phase
@@ -40,14 +38,12 @@ use Rattle.split_ring.specs.declared.links.SharedLink.{SharedLink}
 use base.Stored.{Coded}
 use Rattle.lane_model.specs.Desks.{DeskMeaning}
 use Rattle.split_ring.specs.declared.reclaims.Parts.{Parts}
-use Rattle.split_ring.specs.Links.{IsManager}
-use Rattle.split_ring.specs.PartsOf.{IsAllOf, AreSame, LooksAgain, NeedsTurn}
+use Rattle.split_ring.specs.PartsOf.{IsAllOf, AreHeldBy, AreSame, HoldsItsOwn, HoldsNoOther, LooksAgain, NeedsTurn}
 use Rattle.split_ring.specs.Receives.{IsHeldBy}
-use Rattle.split_ring.specs.Reclaims.{StandsIn, HasRead, IsNow, IsEndFault, IsAnothers, buffer_in, has_buffer, is_turn, lacks_receiver, phase_of, turn_in}
+use Rattle.split_ring.specs.Reclaims.{StandsIn, IsNow, IsEndFault, IsAnothers, buffer_in, has_buffer, is_turn, lacks_receiver, phase_of, turn_in}
 use Rattle.split_ring.specs.Seats.{pass_in}
 use Rattle.split_ring.proofs.CloseSteps.{IsLike, at_noted, held_noted, phase_noted}
 use Rattle.split_ring.proofs.EndSteps.{none_behind, pass_is, one_is, seat_now}
-use Rattle.split_ring.proofs.Focusing.{order_same}
 
 pub true-false : true ≡ false → ⊥
 true-false e = absurd (cc)
@@ -96,63 +92,66 @@ no_numbers (n ∷ ns) none = absurd (none n (0, refl))
 none_of : (n : ℕ) → HasNumber [] n → ⊥
 none_of n (k, at) = some-ne-none n (sym at)
 
-module _ {D : Type 0} (link : SharedLink D) (parts : Parts D) (all : IsAllOf link parts) where
-  -- where there is no buffer, nothing is in hand
-  pub holds_nothing : (is_giving : Bool) → is_giving ≡ has_buffer (phase_of parts.call) → (is_giving ≡ false) × (parts.held.items ≡ []) → (pass_in parts.caller.seat.me).hands ≡ []
-  holds_nothing is_giving is none = no_numbers (pass_in parts.caller.seat.me).hands (λ n has. none_of n
-      (subst (λ (l : List ℕ). HasNumber l n) (λ i. no_buffer (phase_of parts.call) (sym is ∙ none.0) i ++ map (λ (buffer : HeldBuffer). buffer.number) (none.1 i)) (all.all n has)))
+-- and one that gives one back, or was handed one
+some_buffer : (p : Phase) → has_buffer p ≡ true → (n : ℕ) × HasNumber (buffer_in p) n
+some_buffer (phase.Asked (ask.Give given)) is = (given.number, (0, refl))
+some_buffer (phase.Gives s given returned) is = (given.number, (0, refl))
+some_buffer (phase.LeavesSender (answer.Took held verdict)) is = (held.number, (0, refl))
+some_buffer (phase.LeavesReceiver (answer.Took held verdict)) is = (held.number, (0, refl))
+some_buffer (phase.Asked (ask.Send message)) is = absurd (true-false (sym is))
+some_buffer (phase.Asked ask.Take) is = absurd (true-false (sym is))
+some_buffer (phase.Asked (ask.Bind address)) is = absurd (true-false (sym is))
+some_buffer (phase.Asked (ask.Unbind address)) is = absurd (true-false (sym is))
+some_buffer (phase.Sends s c message) is = absurd (true-false (sym is))
+some_buffer (phase.Takes s c buffer) is = absurd (true-false (sym is))
+some_buffer (phase.Asks asked) is = absurd (true-false (sym is))
+some_buffer (phase.LeavesSender (answer.Sent number)) is = absurd (true-false (sym is))
+some_buffer (phase.LeavesSender (answer.Gave number)) is = absurd (true-false (sym is))
+some_buffer (phase.LeavesSender (answer.Bound endpoint)) is = absurd (true-false (sym is))
+some_buffer (phase.LeavesSender (answer.Unbound endpoint)) is = absurd (true-false (sym is))
+some_buffer (phase.LeavesSender (answer.Busy holder)) is = absurd (true-false (sym is))
+some_buffer (phase.LeavesSender (answer.GiveBusy holder held)) is = absurd (true-false (sym is))
+some_buffer (phase.LeavesSender (answer.Dead era)) is = absurd (true-false (sym is))
+some_buffer (phase.LeavesSender (answer.NoBuffer accepted returned)) is = absurd (true-false (sym is))
+some_buffer (phase.LeavesSender (answer.BookFull accepted)) is = absurd (true-false (sym is))
+some_buffer (phase.LeavesSender (answer.Empty accepted)) is = absurd (true-false (sym is))
+some_buffer (phase.LeavesSender (answer.Refused fault)) is = absurd (true-false (sym is))
+some_buffer (phase.LeavesReceiver (answer.Sent number)) is = absurd (true-false (sym is))
+some_buffer (phase.LeavesReceiver (answer.Gave number)) is = absurd (true-false (sym is))
+some_buffer (phase.LeavesReceiver (answer.Bound endpoint)) is = absurd (true-false (sym is))
+some_buffer (phase.LeavesReceiver (answer.Unbound endpoint)) is = absurd (true-false (sym is))
+some_buffer (phase.LeavesReceiver (answer.Busy holder)) is = absurd (true-false (sym is))
+some_buffer (phase.LeavesReceiver (answer.GiveBusy holder held)) is = absurd (true-false (sym is))
+some_buffer (phase.LeavesReceiver (answer.Dead era)) is = absurd (true-false (sym is))
+some_buffer (phase.LeavesReceiver (answer.NoBuffer accepted returned)) is = absurd (true-false (sym is))
+some_buffer (phase.LeavesReceiver (answer.BookFull accepted)) is = absurd (true-false (sym is))
+some_buffer (phase.LeavesReceiver (answer.Empty accepted)) is = absurd (true-false (sym is))
+some_buffer (phase.LeavesReceiver (answer.Refused fault)) is = absurd (true-false (sym is))
+some_buffer phase.Ended is = absurd (true-false (sym is))
+
+-- what a caller holds, by the phase of its call and its buffers: where there is no buffer, nothing is in hand
+module _ (who : CallerId) (p : Phase) (held : List HeldBuffer) (me : SeatState) where
+  pub holds_nothing : HoldsNoOther p held me → (is_giving : Bool) → is_giving ≡ has_buffer p → (is_giving ≡ false) × (held ≡ []) → (pass_in me).hands ≡ []
+  holds_nothing all is_giving is none = no_numbers (pass_in me).hands (λ n has. none_of n
+      (subst (λ (l : List ℕ). HasNumber l n) (λ i. no_buffer p (sym is ∙ none.0) i ++ map (λ (buffer : HeldBuffer). buffer.number) (none.1 i)) (all n has)))
 
   -- and where there is one, something is
-  some_buffer : (p : Phase) → has_buffer p ≡ true → (n : ℕ) × HasNumber (buffer_in p) n
-  some_buffer (phase.Asked (ask.Give given)) is = (given.number, (0, refl))
-  some_buffer (phase.Gives s given returned) is = (given.number, (0, refl))
-  some_buffer (phase.LeavesSender (answer.Took held verdict)) is = (held.number, (0, refl))
-  some_buffer (phase.LeavesReceiver (answer.Took held verdict)) is = (held.number, (0, refl))
-  some_buffer (phase.Asked (ask.Send message)) is = absurd (true-false (sym is))
-  some_buffer (phase.Asked ask.Take) is = absurd (true-false (sym is))
-  some_buffer (phase.Asked (ask.Bind address)) is = absurd (true-false (sym is))
-  some_buffer (phase.Asked (ask.Unbind address)) is = absurd (true-false (sym is))
-  some_buffer (phase.Sends s c message) is = absurd (true-false (sym is))
-  some_buffer (phase.Takes s c buffer) is = absurd (true-false (sym is))
-  some_buffer (phase.Asks asked) is = absurd (true-false (sym is))
-  some_buffer (phase.LeavesSender (answer.Sent number)) is = absurd (true-false (sym is))
-  some_buffer (phase.LeavesSender (answer.Gave number)) is = absurd (true-false (sym is))
-  some_buffer (phase.LeavesSender (answer.Bound endpoint)) is = absurd (true-false (sym is))
-  some_buffer (phase.LeavesSender (answer.Unbound endpoint)) is = absurd (true-false (sym is))
-  some_buffer (phase.LeavesSender (answer.Busy holder)) is = absurd (true-false (sym is))
-  some_buffer (phase.LeavesSender (answer.GiveBusy holder held)) is = absurd (true-false (sym is))
-  some_buffer (phase.LeavesSender (answer.Dead era)) is = absurd (true-false (sym is))
-  some_buffer (phase.LeavesSender (answer.NoBuffer accepted returned)) is = absurd (true-false (sym is))
-  some_buffer (phase.LeavesSender (answer.BookFull accepted)) is = absurd (true-false (sym is))
-  some_buffer (phase.LeavesSender (answer.Empty accepted)) is = absurd (true-false (sym is))
-  some_buffer (phase.LeavesSender (answer.Refused fault)) is = absurd (true-false (sym is))
-  some_buffer (phase.LeavesReceiver (answer.Sent number)) is = absurd (true-false (sym is))
-  some_buffer (phase.LeavesReceiver (answer.Gave number)) is = absurd (true-false (sym is))
-  some_buffer (phase.LeavesReceiver (answer.Bound endpoint)) is = absurd (true-false (sym is))
-  some_buffer (phase.LeavesReceiver (answer.Unbound endpoint)) is = absurd (true-false (sym is))
-  some_buffer (phase.LeavesReceiver (answer.Busy holder)) is = absurd (true-false (sym is))
-  some_buffer (phase.LeavesReceiver (answer.GiveBusy holder held)) is = absurd (true-false (sym is))
-  some_buffer (phase.LeavesReceiver (answer.Dead era)) is = absurd (true-false (sym is))
-  some_buffer (phase.LeavesReceiver (answer.NoBuffer accepted returned)) is = absurd (true-false (sym is))
-  some_buffer (phase.LeavesReceiver (answer.BookFull accepted)) is = absurd (true-false (sym is))
-  some_buffer (phase.LeavesReceiver (answer.Empty accepted)) is = absurd (true-false (sym is))
-  some_buffer (phase.LeavesReceiver (answer.Refused fault)) is = absurd (true-false (sym is))
-  some_buffer phase.Ended is = absurd (true-false (sym is))
+  abbrev HasSome : Bool → Type 0
+  HasSome is_giving = (is_giving ≡ true) ⊎ ((buffer : HeldBuffer) × (get_elem? held 0 ≡ some buffer))
 
-  pub number_held : (is_giving : Bool) → is_giving ≡ has_buffer (phase_of parts.call) → (is_giving ≡ true) ⊎ ((buffer : HeldBuffer) × (get_elem? parts.held.items 0 ≡ some buffer)) → (n : ℕ) × HasNumber (pass_in parts.caller.seat.me).hands n
-  number_held is_giving is either = ⊎_elim
-      (λ (gives : is_giving ≡ true). let n = some_buffer (phase_of parts.call) (sym is ∙ gives) in (n.0, all.own n.0 n.1))
-      (λ (has : (buffer : HeldBuffer) × (get_elem? parts.held.items 0 ≡ some buffer)). (has.0.number, (all.held 0 has.0 has.1).numbered)) either
+  pub number_held : AreHeldBy who held me → HoldsItsOwn p me → (is_giving : Bool) → is_giving ≡ has_buffer p → HasSome is_giving → (n : ℕ) × HasNumber (pass_in me).hands n
+  number_held theirs own is_giving is either = ⊎_elim
+      (λ (gives : is_giving ≡ true). let n = some_buffer p (sym is ∙ gives) in (n.0, own n.0 n.1))
+      (λ (has : (buffer : HeldBuffer) × (get_elem? held 0 ≡ some buffer)). (has.0.number, (theirs 0 has.0 has.1).numbered)) either
 
-  pub holds_some : (is_giving : Bool) → is_giving ≡ has_buffer (phase_of parts.call) → (is_giving ≡ true) ⊎ ((buffer : HeldBuffer) × (get_elem? parts.held.items 0 ≡ some buffer)) → lacks_receiver (turn_in (phase_of parts.call)) ≡ true → NeedsTurn parts
-  holds_some is_giving is either lacks = let n = number_held is_giving is either in record { number = n.0; holds = n.1; lacks = lacks }
+  pub holds_some : AreHeldBy who held me → HoldsItsOwn p me → (is_giving : Bool) → is_giving ≡ has_buffer p → HasSome is_giving → lacks_receiver (turn_in p) ≡ true → NeedsTurn p me
+  holds_some theirs own is_giving is either lacks = let n = number_held theirs own is_giving is either in record { number = n.0; holds = n.1; lacks = lacks }
 
   -- a second look at the era was for a turn or for what is held
-  pub looks_again : (turn : TurnHeld) (is_giving is_holding : Bool) → turn ≡ turn_in (phase_of parts.call) → is_giving ≡ has_buffer (phase_of parts.call) → (is_holding ≡ true → (is_giving ≡ true) ⊎ ((buffer : HeldBuffer) × (get_elem? parts.held.items 0 ≡ some buffer)))
-      → (is_turn turn ≡ true) ⊎ (is_holding ≡ true) → LooksAgain parts
-  looks_again turn is_giving is_holding same is some_held why = ⊎_elim
+  pub looks_again : AreHeldBy who held me → HoldsItsOwn p me → (turn : TurnHeld) (is_giving is_holding : Bool) → turn ≡ turn_in p → is_giving ≡ has_buffer p → (is_holding ≡ true → HasSome is_giving) → (is_turn turn ≡ true) ⊎ (is_holding ≡ true) → LooksAgain p me
+  looks_again theirs own turn is_giving is_holding same is some_held why = ⊎_elim
       (λ (has : is_turn turn ≡ true). inl (sym (ap is_turn same) ∙ has))
-      (λ (holds : is_holding ≡ true). inr (number_held is_giving is (some_held holds))) why
+      (λ (holds : is_holding ≡ true). inr (number_held theirs own is_giving is (some_held holds))) why
 
 -- a seat that has the same pass is like it was
 like_now : (me me' : SeatState) → IsNow (pass_in me) me.1 me me' → IsLike me me'
@@ -187,18 +186,6 @@ all_same link before after same all =
       all = λ number has. subst (λ (l : List ℕ). HasNumber l number) (λ i. buffer_in (phase_of (sym same.call i)) ++ map (λ (buffer : HeldBuffer). buffer.number) (sym same.held i).items) (all.all number (subst (λ (l : List ℕ). HasNumber l number) n.in_hand has));
       own = λ number has. subst (λ (l : List ℕ). HasNumber l number) (sym n.in_hand) (all.own number (subst (λ (o : Option (RingCall _)). HasNumber (buffer_in (phase_of o)) number) same.call has));
     }
-
--- a manager that has read an era
-pub manager_read : (table : TableId) (sizes : LinkSizes) (users : List (Option _)) (id id' : TableId) (era : Era) (me me' : SeatState) → id' ≡ id → HasRead era me me' → IsManager table sizes users id me → IsManager table sizes users id' me'
-manager_read table sizes users id id' era me me' same read m = record {
-  at_table = same ∙ m.at_table;
-  manages = subst (λ (s : SeatState). Manages s.0) (sym read) m.manages;
-  rests = rests_at (sym (ap (λ (s : SeatState). s.0.passes) read)) m.rests;
-  knows = ap (λ (s : SeatState). s.0.users) read ∙ m.knows;
-  told = ap (λ (s : SeatState). s.0.sizes) read ∙ m.told;
-  empty = ap (λ (s : SeatState). s.1) read ∙ m.empty;
-  order = order_same me.0 me'.0 (ap (λ (s : SeatState). s.0.passes) read) m.order;
-}
 
 -- a list that is not empty has a first item
 pub first_item : {A : Type 0} (l : List A) → (l ≡ [] → ⊥) → (x : A) × (get_elem? l 0 ≡ some x)

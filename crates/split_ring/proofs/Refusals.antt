@@ -24,7 +24,7 @@ use Rattle.split_ring.specs.declared.reclaims.ReclaimFault.TheVariants as refusa
 use Rattle.split_ring.specs.Gathers.{IsHolderIn}
 use Rattle.split_ring.specs.PartsOf.{IsRefusal, LooksAgain}
 use Rattle.split_ring.specs.Reclaims.{is_turn, phase_of, turn_in}
-use Rattle.split_ring.specs.Reopens.{IsReopening, unopened_from}
+use Rattle.split_ring.specs.Reopens.{IsReopening, refusal_from}
 use Rattle.split_ring.specs.Seats.{pass_in}
 
 true-false : true ≡ false → ⊥
@@ -35,7 +35,7 @@ no_number hands n none (k, at) = some-ne-none n (sym (subst (λ (l : List ℕ). 
 
 -- a reclaim of such a caller, in an era that the manager knows closed
 module _ {D : Type 0} (coded : Coded D) (meaning : DeskMeaning D) (link : SharedLink D) (manager : Manager) (parts : Parts D) (after : Manager) where
-  no_second_look : parts.call ≡ None → (pass_in parts.caller.seat.me).hands ≡ [] → LooksAgain parts → ⊥
+  no_second_look : parts.call ≡ None → (pass_in parts.caller.seat.me).hands ≡ [] → LooksAgain (phase_of parts.call) parts.caller.seat.me → ⊥
   no_second_look none empty why = ⊎_elim
       (λ (has : is_turn (turn_in (phase_of parts.call)) ≡ true). true-false (sym has ∙ ap (λ (o : Option (RingCall D)). is_turn (turn_in (phase_of o))) none))
       (λ (holds : (number : ℕ) × HasNumber (pass_in parts.caller.seat.me).hands number). no_number (pass_in parts.caller.seat.me).hands holds.0 empty holds.1) why
@@ -55,7 +55,7 @@ module _ {D : Type 0} (coded : Coded D) (meaning : DeskMeaning D) (v v' : View) 
   nobody_holds : (holder : ℕ) → IsHolderIn v holder → ⊥
   nobody_holds holder held = ⊎_elim (λ (user : (e : End) × (end_of v.users holder ≡ Some e)). nobody (holder, user.0, user.1)) (λ (manager : (holder ≡ 64) × SomeInUse v). nobody manager.1) held
 
-  not_last : (host remote : List Hand) → unopened_from host remote v.inc ≡ Some fault.IncarnationsSpent → ⊥
+  not_last : (host remote : List Hand) → refusal_from host remote v.inc ≡ Some fault.IncarnationsSpent → ⊥
   not_last host remote is = go (option_or (least_hand host) (least_hand remote)) (eqb v.inc 4294967295) refl is
     where
       held_spent : (caller number : ℕ) → Some (fault.StillHeld caller number) ≡ Some fault.IncarnationsSpent → ⊥

@@ -12,7 +12,7 @@ use Rattle.lane_model.specs.declared.states.Holding.{Holding}
 use Rattle.lane_model.specs.Crashes.{least_held, lesser}
 use Rattle.lane_model.specs.Desks.{DeskMeaning}
 use Rattle.lane_model.specs.Links.{link_of}
-use Rattle.lane_model.specs.Recoveries.{link_after_reopen, unopened_by}
+use Rattle.lane_model.specs.Recoveries.{link_after_reopen, link_reopen_refusal}
 use Rattle.ring_core.specs.declared.states.Hand.{Hand}
 use Rattle.ring_core.specs.declared.states.RingState.{RingState}
 use Rattle.ring_core.specs.RingSteps.{holding_of, ring_form}
@@ -29,13 +29,15 @@ use Rattle.link_words.specs.Histories.{books_of}
 use Rattle.link_words.specs.PlacedDesks.{placed_coded}
 use Rattle.link_words.specs.PlacedLinks.{IsSameCarrier, KnowsState, placed_link}
 use Rattle.link_words.specs.Reopens.{KeepsCopy, OpensLink, books_by, both_sides, least_hand, lesser_hand}
-use Rattle.link_words.specs.Seats.{FindsEraOfCopy, LearnsEra}
+use Rattle.link_words.specs.declared.copies.LinkCopy.{LinkCopy}
+use Rattle.link_words.specs.Seats.{LearnsEra}
+use Rattle.link_words.specs.Steps.{LooksAtLink}
 use Rattle.link_words.specs.Sides.{sides_at}
 use Rattle.link_words.specs.Words.{era_word, lane_to}
 use Rattle.link_words.proofs.Closes.{era_of_word}
 use Rattle.link_words.proofs.Placed.{state_after}
 use Rattle.split_ring.specs.Gathers.{IsCalling}
-use Rattle.split_ring.specs.Reopens.{AreTold, unopened_from}
+use Rattle.split_ring.specs.Reopens.{AreTold, refusal_from}
 use Rattle.split_ring.specs.States.{AreSidesOf, all_left, all_taken, turns_out}
 use Rattle.split_ring.proofs.Gathering.{manager_at}
 use Rattle.split_ring.proofs.StateSteps.{nothing_out}
@@ -61,8 +63,9 @@ pub reopened_taken : {D : Type 0} (meaning : DeskMeaning D) (m : LaneLink (RingS
 reopened_taken meaning m = refl
 
 -- the era that the manager found is that of the state
-pub era_known : {D : Type 0} (coded : Coded D) (me me' : SeatState) (n : ℕ) (found : Era) (m : LaneLink (RingState D)) → LearnsEra me n me' → FindsEraOfCopy me n → ((era : Era) → n ≡ era_word era → era.inc < 4294967296 → found ≡ era) → KnowsState coded me.0 m → m.era ≡ found
-era_known coded me me' n found m told finds reads knows = sym (reads told.0 told.1 told.2 ∙ era_of_word told.0 m.era (sym told.1 ∙ finds _ knows.carries knows.copy))
+pub era_known : {D : Type 0} (coded : Coded D) (meaning : DeskMeaning D) (me me' : SeatState) (n : ℕ) (found : Era) (m : LaneLink (RingState D)) → LearnsEra me n me' → LooksAtLink coded meaning n me → ((era : Era) → n ≡ era_word era → era.inc < 4294967296 → found ≡ era) → KnowsState coded me.0 m → m.era ≡ found
+era_known coded meaning me me' n found m told looks reads knows =
+    sym (reads told.0 told.1 told.2 ∙ era_of_word told.0 m.era (sym told.1 ∙ (looks.found ∙ ap (λ (c : LinkCopy). era_word c.state.era) (sym (looks.copy _ knows.carries knows.copy)))))
 
 -- and it knows the state still
 pub known_learned : {D : Type 0} (coded : Coded D) (me me' : SeatState) (n : ℕ) (m : LaneLink (RingState D)) → LearnsEra me n me' → KnowsState coded me.0 m → KnowsState coded me'.0 m
@@ -94,7 +97,7 @@ either_hand (Some x) b = refl
 
 -- why a closed link with four free turns is not reopened: by what their side states hold
 pub unopened_is : {D : Type 0} (meaning : DeskMeaning D) (m : LaneLink (RingState D)) (inc : ℕ) (x u : SenderSide) (y w : ReceiverSide) → m.era ≡ record { inc = inc; is_live = false } → AreSidesOf m.to_host x y → AreSidesOf m.to_remote u w
-    → unopened_by (link_of (ring_form meaning) m) ≡ unopened_from y.hands w.hands inc
+    → link_reopen_refusal (link_of (ring_form meaning) m) ≡ refusal_from y.hands w.hands inc
 unopened_is meaning m inc x u y w era host remote =
     let none = nothing_out m x u y w host remote in
     let least : option_map held_fault (option_or (least_held m.to_host.lane.lane.held) (least_held m.to_remote.lane.lane.held)) ≡ option_map hand_fault (option_or (least_hand y.hands) (least_hand w.hands))
@@ -106,11 +109,11 @@ abbrev behind_turns : {D : Type 0} → LaneLink (RingState D) → Option ReopenF
 behind_turns m = option_or (option_map held_fault (option_or (least_held m.to_host.lane.lane.held) (least_held m.to_remote.lane.lane.held))) (cond (eqb m.era.inc 4294967295) (Some fault.IncarnationsSpent) None)
 
 -- a live one
-pub unopened_live : {D : Type 0} (meaning : DeskMeaning D) (m : LaneLink (RingState D)) (era : Era) → m.era ≡ era → m.era.is_live ≡ true → unopened_by (link_of (ring_form meaning) m) ≡ Some (fault.StillOpen era)
+pub unopened_live : {D : Type 0} (meaning : DeskMeaning D) (m : LaneLink (RingState D)) (era : Era) → m.era ≡ era → m.era.is_live ≡ true → link_reopen_refusal (link_of (ring_form meaning) m) ≡ Some (fault.StillOpen era)
 unopened_live meaning m era is live = (λ i. option_or (cond (live i) (Some (fault.StillOpen m.era)) None) (option_or (option_map fault.StillTurn (turns_out m)) (behind_turns m))) ∙ ap (λ (e : Era). Some (fault.StillOpen e)) is
 
 -- one with a turn out
-pub unopened_turn : {D : Type 0} (meaning : DeskMeaning D) (m : LaneLink (RingState D)) (inc holder : ℕ) → m.era ≡ record { inc = inc; is_live = false } → turns_out m ≡ Some holder → unopened_by (link_of (ring_form meaning) m) ≡ Some (fault.StillTurn holder)
+pub unopened_turn : {D : Type 0} (meaning : DeskMeaning D) (m : LaneLink (RingState D)) (inc holder : ℕ) → m.era ≡ record { inc = inc; is_live = false } → turns_out m ≡ Some holder → link_reopen_refusal (link_of (ring_form meaning) m) ≡ Some (fault.StillTurn holder)
 unopened_turn meaning m inc holder era out = (λ i. option_or (cond (era i).is_live (Some (fault.StillOpen (era i))) None) (option_or (option_map fault.StillTurn (turns_out m)) (behind_turns m))) ∙ (λ i. option_or (option_map fault.StillTurn (out i)) (behind_turns m))
 
 -- the books by the side states are those of the state

@@ -27,11 +27,8 @@ use Rattle.link_words.specs.declared.rule.SenderSide.{SenderSide}
 use Rattle.link_words.specs.declared.rule.Slot.{Slot}
 use Rattle.link_words.specs.declared.rule.View.{View}
 use Rattle.link_words.specs.Calls.{SeatState, with_pass_at, call_at}
-use Rattle.atomic_table.specs.Seated.{TableId}
 use Rattle.link_words.specs.declared.codes.DeskRight.{DeskRight}
 use Rattle.link_words.specs.Fresh.{fresh_of, opened_sender, opened_receiver}
-use Rattle.split_ring.specs.Links.{IsManager}
-use Rattle.split_ring.specs.Seats.{IsSeatOf}
 use Rattle.link_words.specs.Histories.{LaneBooks, HasHistory}
 use Rattle.link_words.specs.Layouts.{layout, place_in}
 use Rattle.link_words.specs.Passes.{with_call, place_of_number}
@@ -43,11 +40,9 @@ use Rattle.link_words.proofs.Apart.{found_apart}
 use Rattle.link_words.proofs.ManagerTold.{index_place_is, entry_reset_is}
 use Rattle.split_ring.specs.Gathers.{called_view, IsCalling}
 use Rattle.split_ring.specs.Openings.{opened_entries, opened_words, IsOpenable}
-use Rattle.split_ring.specs.Reopens.{all_slots, HasNone, HasAll, next_view, unopened_from, IsReopening}
+use Rattle.split_ring.specs.Reopens.{all_slots, HasAll, HasNoneBeside, next_view, refusal_from, IsReopening}
 use Rattle.split_ring.proofs.Apart.{lane_entries, entries_length}
 use Rattle.split_ring.proofs.Gathering.{manager_at, calls_next, same_place, call_again}
-use Rattle.link_words.specs.Orderly.{IsOrderly}
-use Rattle.split_ring.proofs.Focusing.{order_rested}
 
 true-false : true ≡ false → ⊥
 true-false e = absurd (cc)
@@ -83,33 +78,21 @@ same_passes me call at = same_call (place_of_number 64 me.0.passes) me.0.passes 
     same_call zero (q ∷ ps) p here is = ap (λ (c : Call). with_call q c ∷ ps) (sym is ∙ ap (λ (x : Pass). x.call) (sym (some-injective q p here)))
     same_call (suc k) (q ∷ ps) p here is = ap (λ (l : List Pass). q ∷ l) (same_call k ps p here is)
 
--- the manager has no turn, and has looked at the era
-pub rests_none : (me me1 : SeatState) (b : Bool) → ManagerAt me (Gathers no_sides no_sides) → me.1 ≡ [] → me1 ≡ (record me.0 { is_closed = b }, me.1) → HasNone (record me.0 { is_closed = b }) me1
-rests_none me me1 b at none told = let same = same_passes me (Gathers no_sides no_sides) at in record {
+-- the manager has no turn itself, and has looked at the era
+pub rests_looked : (me me1 : SeatState) (b : Bool) → ManagerAt me (Gathers no_sides no_sides) → me1 ≡ (record me.0 { is_closed = b }, me.1) → HasNoneBeside me.1 (record me.0 { is_closed = b }) me1
+rests_looked me me1 b at told = let same = same_passes me (Gathers no_sides no_sides) at in record {
   manager = at.mover.pass;
   here = ap (get_elem? me.0.passes) (sym at.here) ∙ at.mover.here;
   number = at.number;
-  is = told ∙ ((λ i. (record me.0 { is_closed = b; passes = sym same i }, none i)) ∙ (λ i. (called_view (record me.0 { is_closed = b }) (Gathers no_sides no_sides) (ap (λ (s : SeatState). s.0.copy) (sym told) i), [])));
+  is = told ∙ ((λ i. (record me.0 { is_closed = b; passes = sym same i }, me.1)) ∙ (λ i. (called_view (record me.0 { is_closed = b }) (Gathers no_sides no_sides) (ap (λ (s : SeatState). s.0.copy) (sym told) i), me.1)));
 }
 
--- what its view is then, by one whose passes are the same
-pub none_view : (me : SeatState) (v : View) (me1 : SeatState) → ManagerAt me (Gathers no_sides no_sides) → me.0.passes ≡ v.passes → HasNone v me1 → me1.0 ≡ record v { copy = me1.0.copy }
-none_view me v me1 at passes none = ap (λ (s : SeatState). s.0) none.is ∙ (λ i. record v { copy = me1.0.copy; passes = same i })
+-- what its seat is then, by a view whose passes are the same
+pub none_seat : (me : SeatState) (v : View) (slots : List (ℕ × Slot)) (me1 : SeatState) → ManagerAt me (Gathers no_sides no_sides) → me.0.passes ≡ v.passes → HasNoneBeside slots v me1 → me1 ≡ (record v { copy = me1.0.copy }, slots)
+none_seat me v slots me1 at passes none = none.is ∙ (λ i. (record v { copy = me1.0.copy; passes = same i }, slots))
   where
     same : with_pass_at (λ q. with_call q (Gathers no_sides no_sides)) (place_of_number 64 v.passes) v.passes ≡ v.passes
     same = subst (λ (ps : List Pass). with_pass_at (λ q. with_call q (Gathers no_sides no_sides)) (place_of_number 64 ps) ps ≡ ps) passes (same_passes me (Gathers no_sides no_sides) at)
-
--- it is the manager again
-pub manager_again : (table : TableId) (sizes : LinkSizes) (users : List (Option End)) (seat : TableId) (v : View) (me : SeatState) → IsSeatOf table sizes seat me → HasNone v me → v.users ≡ users → IsOrderly v → IsManager table sizes users seat me
-manager_again table sizes users seat v me at none known order = let own = manager_at v (Gathers no_sides no_sides) [] me none in record {
-  at_table = at.at_table;
-  manages = (own.mover.place, own.mover.pass, own.mover.here, own.number);
-  rests = own;
-  knows = ap (λ (s : SeatState). s.0.users) none.is ∙ known;
-  told = at.told;
-  empty = ap (λ (s : SeatState). s.1) none.is;
-  order = order_rested v me.0 (place_of_number 64 v.passes) (Gathers no_sides no_sides) (λ slot. refl) (ap (λ (s : SeatState). s.0.passes) none.is) order;
-}
 
 -- the manager's call, by its place
 pub manager_calls : (v : View) (call : Call) (slots : List (ℕ × Slot)) (me : SeatState) → IsCalling v call slots me → manager_call me ≡ call
@@ -328,7 +311,7 @@ holder_in_use v host remote h hosts remotes is = go (least_hand host) refl is
     go None least found = let at = least_in remote h found in (side.Remote, remotes at.0 h at.1)
 
 pub refused_is : {D : Type 0} (coded : Coded D) (meaning : DeskMeaning D) (v : View) (x u : SenderSide) (y w : ReceiverSide) (before : SeatState) (f : ReopenFault) (v' : View) → HasAll (record v { is_closed = true }) x y u w before
-    → AreInUse v side.Host y.hands → AreInUse v side.Remote w.hands → unopened_from y.hands w.hands v.inc ≡ Some f → v' ≡ record v { is_closed = true; copy = v'.copy } → IsReopening coded meaning v (Err f) v'
+    → AreInUse v side.Host y.hands → AreInUse v side.Remote w.hands → refusal_from y.hands w.hands v.inc ≡ Some f → v' ≡ record v { is_closed = true; copy = v'.copy } → IsReopening coded meaning v (Err f) v'
 refused_is coded meaning v x u y w before f v' all hosts remotes is view = ⊎_elim
     (λ (t : (h : Hand) × (f ≡ held_fault h) × (option_or (least_hand y.hands) (least_hand w.hands) ≡ Some h)).
     subst (λ (k : ReopenFault). IsReopening coded meaning v (Err k) v') (sym t.1) (x, y, u, w, before, all, is ∙ ap Some t.1, view, holder_in_use v y.hands w.hands t.0 hosts remotes t.2))

@@ -78,6 +78,11 @@ turned_more (suc c) (x ∷ xs) ys few =
 pub turned_is : (c : ℕ) (xs : Slots) → c ≤ length xs → turned_by c xs ≡ behind c xs ++ front c xs
 turned_is c xs few = ap (turned_by c) (sym (no_more xs)) ∙ turned_more c xs [] few
 
+-- the first part goes behind the other
+pub turned_parts : (xs ys : Slots) → turned_by (length xs) (xs ++ ys) ≡ ys ++ xs
+turned_parts [] ys = sym (no_more ys)
+turned_parts (x ∷ xs) ys = ap (turned_by (length xs)) (more_last xs ys (x ∷ [])) ∙ (turned_parts xs (ys ++ x ∷ []) ∙ more_last ys (x ∷ []) xs)
+
 -- one more turned
 pub turned_last : (c : ℕ) (xs : Slots) → turned (turned_by c xs) ≡ turned_by (c + 1) xs
 turned_last zero xs = refl

@@ -2,8 +2,13 @@
 use Rattle.std.specs.Prelude.{◌≡◌, ◌<◌, ℕ, List, [], ◌∷◌, Result}
 use base.Stored.{Coded}
 use Rattle.link_words.specs.declared.rule.Event.{Event}
+use Rattle.link_words.specs.declared.rule.Call.TheVariants.{Gathers}
 use Rattle.link_words.specs.Calls.{SeatState}
 use Rattle.link_words.specs.Histories.{LaneCounts, seen}
+use Rattle.link_words.specs.Orderly.{IsOrderly}
+use Rattle.link_words.specs.Passes.{Manages}
+use Rattle.link_words.specs.Reopens.{ManagerAt}
+use Rattle.link_words.specs.Sides.{no_sides}
 use Rattle.link_words.specs.Words.{other}
 use Rattle.lane_model.specs.declared.lane_links.LaneLink.{LaneLink}
 use Rattle.lane_model.specs.declared.recoveries.Already.{Already}
@@ -27,9 +32,9 @@ use Rattle.split_ring.specs.declared.sends.SendFault.{SendFault}
 use Rattle.split_ring.specs.declared.takes.Taken.{Taken}
 use Rattle.split_ring.specs.declared.takes.TakeFault.{TakeFault}
 use Rattle.split_ring.specs.Binds.{IsDeskCall}
+use Rattle.split_ring.specs.Carried.{HasBlocks}
 use Rattle.split_ring.specs.Calls.{IsInPhase, Advances, HasCome}
 use Rattle.split_ring.specs.Closes.{HasClosed}
-use Rattle.split_ring.specs.Links.{IsManager}
 use Rattle.split_ring.specs.NotBelow.{EndsNotBelow}
 use Rattle.split_ring.specs.Receives.{IsGive, IsGiveAbove, IsHeldBy, IsTake, IsTakeNotBelow}
 use Rattle.split_ring.specs.Seats.{IsCaller, IsSeatOf, pass_in}
@@ -74,9 +79,15 @@ module _ {D : Type 0} where
     pub number : (pass_in caller.seat.me).number ≡ caller.id.number
     pub low : caller.id.number < 64
 
-  -- the manager of this link
-  abbrev pub IsManagerOf : SharedLink D → Manager → Type 0
-  IsManagerOf link manager = IsManager link.table.shared.table_id link.sizes manager.users manager.seat.table_id manager.seat.me
+  -- the manager of this link: its seat is one of it, has no turn itself, and knows who is in use; its passes are in order, and so are the slots that are out with the calls that it carries
+  pub record IsManagerOf (link : SharedLink D) (manager : Manager) : Type 0 where
+    pub at_table : manager.seat.table_id ≡ link.table.shared.table_id
+    pub manages : Manages manager.seat.me.0
+    pub rests : ManagerAt manager.seat.me (Gathers no_sides no_sides)
+    pub knows : manager.seat.me.0.users ≡ manager.users
+    pub told : manager.seat.me.0.sizes ≡ link.sizes
+    pub order : IsOrderly manager.seat.me.0
+    pub blocks : HasBlocks manager.out manager.seat.me
 
   -- the same caller after a call, in no call again
   abbrev pub IsAfterCall : SharedLink D → Caller → Caller → Type 0

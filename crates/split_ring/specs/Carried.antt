@@ -7,14 +7,9 @@ use Rattle.lane_model.specs.declared.calls.Ask.{Ask}
 use Rattle.lane_model.specs.declared.calls.Progress.{Progress}
 use Rattle.lane_model.specs.declared.calls.Progress.TheVariants as progress
 use Rattle.lane_model.specs.Links.{end_of}
-use Rattle.link_words.specs.declared.rule.Call.TheVariants.{Gathers}
 use Rattle.link_words.specs.declared.rule.Pass.{Pass}
 use Rattle.link_words.specs.declared.rule.Slot.{Slot}
 use Rattle.link_words.specs.Calls.{SeatState, has_side}
-use Rattle.link_words.specs.Orderly.{IsOrderly}
-use Rattle.link_words.specs.Passes.{Manages}
-use Rattle.link_words.specs.Reopens.{ManagerAt}
-use Rattle.link_words.specs.Sides.{no_sides}
 use Rattle.split_ring.specs.Calls.{IsOwnAsk}
 use Rattle.split_ring.specs.Focus.{front, behind, seat_of}
 use Rattle.split_ring.specs.Phases.{IsUnderWay, side_of, slots_in}
@@ -49,6 +44,10 @@ carried_at who p counts me = seat_of who.number (me.0, turned_to (side_of who.en
 abbrev pub carried_seat : CallerId → Phase → Manager → SeatState
 carried_seat who p manager = carried_at who p manager.out manager.seat.me
 
+-- the caller of this seat is new: it has done nothing, and holds nothing
+abbrev pub IsNew : SeatState → Type 0
+IsNew me = ((pass_in me).own ≡ []) × ((pass_in me).hands ≡ [])
+
 -- each slot that is out is one of a carried call, and they stand in the order of the side states with which they are out, with each so many
 pub record HasBlocks (counts : List ℕ) (me : SeatState) : Type 0 where
   pub four : length counts ≡ 4
@@ -57,16 +56,6 @@ pub record HasBlocks (counts : List ℕ) (me : SeatState) : Type 0 where
   pub owned : (slot : ℕ) → slice_index counts slot ≢ 0 → (k : ℕ) × (p : Pass) × (get_elem? me.0.passes k ≡ some p) × (has_side slot p.call ≡ true)
 
 module _ {D : Type 0} where
-  -- the manager's seat is one of this link, has no turn itself, and knows who is in use; its passes are in order, and so are the slots that are out
-  pub record IsCarrierOf (link : SharedLink D) (manager : Manager) : Type 0 where
-    pub at_table : manager.seat.table_id ≡ link.table.shared.table_id
-    pub manages : Manages manager.seat.me.0
-    pub rests : ManagerAt manager.seat.me (Gathers no_sides no_sides)
-    pub knows : manager.seat.me.0.users ≡ manager.users
-    pub told : manager.seat.me.0.sizes ≡ link.sizes
-    pub order : IsOrderly manager.seat.me.0
-    pub blocks : HasBlocks manager.out manager.seat.me
-
   -- the manager carries this caller, which is in this phase of its call, or in no call, where the call has ended
   pub record Carries (link : SharedLink D) (manager : Manager) (who : CallerId) (p : Phase) : Type 0 where
     pub user : end_of manager.users who.number ≡ Some who.end
@@ -90,3 +79,7 @@ module _ {D : Type 0} where
   abbrev pub CarriesOn : SharedLink D → Manager → CallerId → Phase → Progress → Type 0
   CarriesOn link manager who p (progress.At number) = Carries link manager who p × IsUnderWay p
   CarriesOn link manager who p (progress.Done answer) = CarriesIdle link manager who
+
+  -- behind a call of the manager it carries this caller as it did before: in the same phase of its call, with what it has done and what it holds
+  abbrev pub Keeps : SharedLink D → Manager → Manager → CallerId → Phase → Type 0
+  Keeps link before after who p = Carries link before who p → Carries link after who p × (pass_in (carried_seat who p after) ≡ pass_in (carried_seat who p before))

@@ -3,18 +3,22 @@ use Rattle.std.specs.Prelude.{◌≡◌, ℕ, zero, suc, List, [], ◌∷◌}
 use base.Stored.{Coded}
 use Rattle.atomic_table.specs.Seated.{TableId}
 use Rattle.lane_model.specs.declared.lane_links.LaneLink.{LaneLink}
+use Rattle.lane_model.specs.declared.stages.Receiving.{Receiving}
 use Rattle.lane_model.specs.declared.stages.SendStage.{SendStage}
 use Rattle.lane_model.specs.declared.stages.SendStage.TheVariants as stage
+use Rattle.lane_model.specs.declared.stages.Sending.{Sending}
 use Rattle.lane_model.specs.declared.stages.TakeStage.TheVariants as take_stage
+use Rattle.lane_model.specs.declared.stages.Turn.{Turn}
 use Rattle.lane_model.specs.declared.stages.Work.{Work}
 use Rattle.lane_model.specs.declared.stages.Work.TheVariants as work
 use Rattle.lane_model.specs.Desks.{DeskMeaning}
 use Rattle.ring_core.specs.declared.states.RingState.{RingState}
 use Rattle.link_words.specs.declared.rule.Call.{Call}
+use Rattle.link_words.specs.declared.rule.Call.TheVariants.{Idle, Rests, Sends, EndsSend, EndsBoth, Receives, EndsReceive, Reclaims, EndsHeld, Reopens, Gathers}
 use Rattle.link_words.specs.declared.rule.LinkSizes.{LinkSizes}
 use Rattle.link_words.specs.declared.rule.Pass.{Pass}
 use Rattle.link_words.specs.declared.rule.Slot.{Slot}
-use Rattle.link_words.specs.Calls.{SeatState, call_at, send_or, receive_or, under_way_or, with_pass_at}
+use Rattle.link_words.specs.Calls.{SeatState, call_at, under_way_or, with_pass_at}
 use Rattle.link_words.specs.Deeds.{Deed, IsSoundState, after_deed}
 use Rattle.link_words.specs.Orderly.{IsOrderly}
 use Rattle.link_words.specs.Passes.{only_pass, place_of_number}
@@ -40,9 +44,26 @@ work_count (work.Give number given) = 1
 work_count (work.Bind address) = 1
 work_count (work.Unbind address) = 1
 
--- how many are out with a caller's call: none between its calls, and the side state alone where the end is settled
+-- with a turn: the side state alone where the end is settled
+abbrev pub send_turn_count : Turn Sending → ℕ
+send_turn_count t = under_way_or 1 (λ caller s. send_count s.stage) t
+
+abbrev pub work_turn_count : Turn Receiving → ℕ
+work_turn_count t = under_way_or 1 (λ caller r. work_count r.work) t
+
+-- how many are out with a caller's call: none between its calls. While a reclaim ends it, as many, and the receiver's side state where the manager has that turn
 abbrev pub slot_count : Call → ℕ
-slot_count call = send_or (receive_or 0 (λ e t x b message. under_way_or 1 (λ caller r. work_count r.work) t) call) (λ e t x b. under_way_or 1 (λ caller s. send_count s.stage) t) call
+slot_count Idle = 0
+slot_count (Rests e) = 0
+slot_count (Sends e t x b) = send_turn_count t
+slot_count (EndsSend e t x b) = send_turn_count t
+slot_count (EndsBoth e t x b y) = suc (send_turn_count t)
+slot_count (Receives e t x b message) = work_turn_count t
+slot_count (EndsReceive e t x b message) = work_turn_count t
+slot_count (Reclaims e x) = 1
+slot_count (EndsHeld e x) = 1
+slot_count (Reopens p inc a b) = 0
+slot_count (Gathers a b) = 0
 
 -- the first so many slots, and those behind them
 abbrev pub front : ℕ → List (ℕ × Slot) → List (ℕ × Slot)
@@ -106,3 +127,17 @@ pub record StepsAlone {D : Type 0} (coded : Coded D) (meaning : DeskMeaning D) (
 pub record StaysAlone (n : ℕ) (me me' : SeatState) : Type 0 where
   pub view : me'.0 ≡ me.0
   pub others : others_of n me' ≡ others_of n me
+
+-- the state after these deeds, the first of them first
+abbrev pub after_deeds : {D : Type 0} → DeskMeaning D → LaneLink (RingState D) → List Deed → LaneLink (RingState D)
+after_deeds meaning m [] = m
+after_deeds meaning m (d ∷ ds) = after_deeds meaning (after_deed meaning m d) ds
+
+-- a manager that knew the state knows the one after these deeds
+abbrev pub KnowsAfter : {D : Type 0} → Coded D → DeskMeaning D → List Deed → SeatState → SeatState → Type 0
+KnowsAfter coded meaning ds me me' = (m : LaneLink (RingState _)) → KnowsState coded me.0 m → KnowsState coded me'.0 (after_deeds meaning m ds)
+
+-- steps of a reclaim with the pass of this number, which are these deeds of the manager: nothing else changes
+pub record ChangesAlone {D : Type 0} (coded : Coded D) (meaning : DeskMeaning D) (n : ℕ) (ds : List Deed) (me me' : SeatState) : Type 0 where
+  pub leaves : LeavesOthers n me me'
+  pub knows : KnowsAfter coded meaning ds me me'

@@ -1,19 +1,12 @@
 -- A shared link as one value: its tables, its sizes, and its manager (own).
-use Rattle.std.specs.Prelude.{◌≡◌, ◌≤◌, ◌<◌, List, [], Option}
+use Rattle.std.specs.Prelude.{◌≡◌, ◌≤◌, ◌<◌, []}
 use base.Stored.{Gv}
 use Rattle.atomic_table.specs.Seated.{TableId}
 use Rattle.atomic_table.specs.Table.{Me}
-use Rattle.rp_base.specs.declared.kinds.End.{End}
 use Rattle.rp_base.specs.declared.limits.TheConstants.{BOOK_MOST}
 use Rattle.link_words.specs.declared.codes.DeskView.{DeskView}
 use Rattle.link_words.specs.declared.rule.LinkSizes.{LinkSizes}
-use Rattle.link_words.specs.Calls.{SeatState}
 use Rattle.link_words.specs.DeskSeats.{home_view}
-use Rattle.link_words.specs.declared.rule.Call.TheVariants.{Gathers}
-use Rattle.link_words.specs.Orderly.{IsOrderly}
-use Rattle.link_words.specs.Passes.{Manages}
-use Rattle.link_words.specs.Reopens.{ManagerAt}
-use Rattle.link_words.specs.Sides.{no_sides}
 use Rattle.link_words.specs.Words.{IsSized, words_in}
 use Rattle.split_ring.specs.Openings.{IsOpenable}
 
@@ -32,13 +25,3 @@ pub record HasDeskSeat {D : Type 0} (code : Gv) (table seat : TableId) (me : Me 
   pub at_table : seat ≡ table
   pub some : 0 < table.words
   pub home : me ≡ (home_view code, [])
-
--- the manager's seat is one of this link, it has no turn, knows who is in use, and its passes are in order
-pub record IsManager (table : TableId) (sizes : LinkSizes) (users : List (Option End)) (seat : TableId) (me : SeatState) : Type 0 where
-  pub at_table : seat ≡ table
-  pub manages : Manages me.0
-  pub rests : ManagerAt me (Gathers no_sides no_sides)
-  pub knows : me.0.users ≡ users
-  pub told : me.0.sizes ≡ sizes
-  pub empty : me.1 ≡ []
-  pub order : IsOrderly me.0

@@ -1,13 +1,17 @@
 -- What the manager's calls answer and leave of a link whose state it knows (own).
-use Rattle.std.specs.Prelude.{◌≡◌, ◌⊎◌, ◌*◌, Result, Ok, Err, Some, None}
+use Rattle.std.specs.Prelude.{◌≡◌, ◌⊎◌, ◌*◌, ℕ, Option, Result, Vec, Ok, Err, Some, None}
 use base.Stored.{Coded}
+use Rattle.std.specs.declared.alloc.Global.{Global}
 use Rattle.lane_model.specs.declared.lane_links.LaneLink.{LaneLink}
 use Rattle.lane_model.specs.declared.recoveries.Books.{Books}
+use Rattle.lane_model.specs.declared.recoveries.ReclaimByFault.{ReclaimByFault}
+use Rattle.lane_model.specs.declared.recoveries.ReclaimRefusal.{ReclaimRefusal}
 use Rattle.lane_model.specs.declared.recoveries.ReopenFault.{ReopenFault}
 use Rattle.lane_model.specs.declared.recoveries.ReopenFault.TheVariants as fault
 use Rattle.lane_model.specs.Desks.{DeskMeaning}
+use Rattle.lane_model.specs.HeldBuffers.{HeldBuffer}
 use Rattle.lane_model.specs.Links.{link_of}
-use Rattle.lane_model.specs.Recoveries.{link_after_reopen, unopened_by}
+use Rattle.lane_model.specs.Recoveries.{handed_back, link_after_reclaim, link_after_reopen, link_reopen_refusal, link_reclaim_refusal}
 use Rattle.ring_core.specs.declared.states.RingState.{RingState}
 use Rattle.ring_core.specs.RingSteps.{ring_form}
 use Rattle.ring_core.specs.RingWords.{words_of}
@@ -17,6 +21,7 @@ use Rattle.vring_layout.specs.declared.snapshots.SnapshotFault.TheVariants as sn
 use Rattle.link_words.specs.Histories.{books_of}
 use Rattle.link_words.specs.Words.{lane_to}
 use Rattle.split_ring.specs.declared.callers.Manager.{Manager}
+use Rattle.split_ring.specs.declared.calls.RingCall.{RingCall}
 use Rattle.split_ring.specs.Callers.{IsStateOf}
 use Rattle.split_ring.specs.Reopens.{AreTold}
 use Rattle.split_ring.specs.States.{turns_out}
@@ -24,9 +29,15 @@ use Rattle.split_ring.specs.States.{turns_out}
 -- a reopening of a link in this state has this answer, and leaves its manager so: the books are those of the incarnation that was closed, and the state
 -- that behind a reopening; a refusal that isn't want of memory is the one that the state gives, and leaves it
 abbrev pub ReopensState : {D : Type 0} → Coded D → DeskMeaning D → LaneLink (RingState D) → Result Books ReopenFault → Manager → Type 0
-ReopensState coded meaning m (Ok books) after = (unopened_by (link_of (ring_form meaning) m) ≡ None) × (books.inc ≡ m.era.inc) × AreTold books (λ e. books_of (lane_to m e))
+ReopensState coded meaning m (Ok books) after = (link_reopen_refusal (link_of (ring_form meaning) m) ≡ None) × (books.inc ≡ m.era.inc) × AreTold books (λ e. books_of (lane_to m e))
     × IsStateOf coded after (link_after_reopen (ring_form meaning) m)
-ReopensState coded meaning m (Err why) after = ((why ≡ fault.NoMemory) ⊎ (unopened_by (link_of (ring_form meaning) m) ≡ Some why)) × IsStateOf coded after m
+ReopensState coded meaning m (Err why) after = ((why ≡ fault.NoMemory) ⊎ (link_reopen_refusal (link_of (ring_form meaning) m) ≡ Some why)) × IsStateOf coded after m
+
+-- a reclaim of this caller, with its call and its buffers, has this answer, and leaves the manager so: nothing refuses it, and the state is that behind a reclaim; or it is
+-- refused for what the state gives, hands back call and buffers, and leaves the state
+abbrev pub ReclaimsState : {D : Type 0} → Coded D → DeskMeaning D → LaneLink (RingState D) → ℕ → Option (RingCall D) → Vec HeldBuffer Global → Result (Unit {0}) (ReclaimByFault (RingCall D)) → Manager → Type 0
+ReclaimsState coded meaning m caller call held (Ok done) after = (link_reclaim_refusal (link_of (ring_form meaning) m) caller ≡ None) × IsStateOf coded after (link_after_reclaim (ring_form meaning) m caller)
+ReclaimsState coded meaning m caller call held (Err fault) after = (why : ReclaimRefusal) × (link_reclaim_refusal (link_of (ring_form meaning) m) caller ≡ Some why) × (fault ≡ handed_back call held why) × IsStateOf coded after m
 
 -- the era and the words of a link in this state, with its buffers from address 0 on, 512 bytes each, those of the lane to the host first
 abbrev pub snapshot_of : {D : Type 0} → LaneLink (RingState D) → Snapshot

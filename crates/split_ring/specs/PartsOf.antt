@@ -1,31 +1,65 @@
 -- A reclaim of a caller with its parts: what it asks, and what it answers (own).
-use Rattle.std.specs.Prelude.{◌≡◌, ◌⊎◌, ℕ, true, false, ◌++◌, map, slice_set, None}
+use Rattle.std.specs.Prelude.{◌≡◌, ◌⊎◌, ℕ, List, true, false, ◌++◌, map, slice_set, Option, None, Vec}
 use mathlib.Core.Option.{some}
 use lib.ListN.{get_elem?}
 use base.Stored.{Coded}
+use Rattle.std.specs.declared.alloc.Global.{Global}
 use Rattle.rp_base.specs.declared.kinds.Era.{Era}
+use Rattle.lane_model.specs.declared.recoveries.ReclaimByFault.{ReclaimByFault}
+use Rattle.lane_model.specs.declared.recoveries.ReclaimByFault.TheVariants as by_fault
 use Rattle.lane_model.specs.Desks.{DeskMeaning}
 use Rattle.lane_model.specs.HeldBuffers.{HeldBuffer}
+use Rattle.link_words.specs.Calls.{SeatState}
 use Rattle.link_words.specs.Passes.{HasNumber}
+use Rattle.split_ring.specs.declared.callers.CallerId.{CallerId}
 use Rattle.split_ring.specs.declared.callers.Manager.{Manager}
+use Rattle.split_ring.specs.declared.calls.Phase.{Phase}
+use Rattle.split_ring.specs.declared.calls.RingCall.{RingCall}
 use Rattle.split_ring.specs.declared.links.SharedLink.{SharedLink}
 use Rattle.split_ring.specs.declared.reclaims.Parts.{Parts}
 use Rattle.split_ring.specs.declared.reclaims.ReclaimFault.{ReclaimFault}
 use Rattle.split_ring.specs.declared.reclaims.ReclaimFault.TheVariants as fault
 use Rattle.split_ring.specs.Callers.{IsUserOf}
+use Rattle.split_ring.specs.Carried.{Carries, carried_seat}
 use Rattle.split_ring.specs.Receives.{IsHeldBy}
 use Rattle.split_ring.specs.Reclaims.{StandsIn, HasRead, HasRetired, IsAnothers, IsNow, buffer_in, is_turn, lacks_receiver, phase_of, turn_in}
 use Rattle.split_ring.specs.Seats.{pass_in}
 
+-- each buffer is in the hands of this caller; whatever is in its hands is one of these, or the one that its call gives back or was handed; and that one is in its hands
+abbrev pub AreHeldBy : CallerId → List HeldBuffer → SeatState → Type 0
+AreHeldBy who held me = (place : ℕ) (buffer : HeldBuffer) → get_elem? held place ≡ some buffer → IsHeldBy who buffer me
+
+abbrev pub HoldsNoOther : Phase → List HeldBuffer → SeatState → Type 0
+HoldsNoOther p held me = (number : ℕ) → HasNumber (pass_in me).hands number → HasNumber (buffer_in p ++ map (λ buffer. buffer.number) held) number
+
+abbrev pub HoldsItsOwn : Phase → SeatState → Type 0
+HoldsItsOwn p me = (number : ℕ) → HasNumber (buffer_in p) number → HasNumber (pass_in me).hands number
+
+-- a caller needs its receiver's turn that holds something, where its call, in this phase, doesn't have that turn
+pub record NeedsTurn (p : Phase) (me : SeatState) : Type 0 where
+  pub number : ℕ
+  pub holds : HasNumber (pass_in me).hands number
+  pub lacks : lacks_receiver (turn_in p) ≡ true
+
+-- its call has a turn, or it holds something: a reclaim looks at the era again with its pass
+abbrev pub LooksAgain : Phase → SeatState → Type 0
+LooksAgain p me = (is_turn (turn_in p) ≡ true) ⊎ ((number : ℕ) × HasNumber (pass_in me).hands number)
+
 module _ {D : Type 0} where
-  -- the parts are all that this caller of the link has: it is in its call, or in none; each buffer is in its hands, and each that is in its hands is one of
-  -- these, or the one that its call gives back or was handed
+  -- the parts are all that this caller of the link has: it is in its call, or in none, and the buffers are all that it has in hand beside that of its call
   pub record IsAllOf (link : SharedLink D) (parts : Parts D) : Type 0 where
     pub user : IsUserOf link parts.caller
     pub stands : StandsIn link.sizes parts.caller.id (phase_of parts.call) parts.caller.seat.me
-    pub held : (place : ℕ) (buffer : HeldBuffer) → get_elem? parts.held.items place ≡ some buffer → IsHeldBy parts.caller.id buffer parts.caller.seat.me
-    pub all : (number : ℕ) → HasNumber (pass_in parts.caller.seat.me).hands number → HasNumber (buffer_in (phase_of parts.call) ++ map (λ buffer. buffer.number) parts.held.items) number
-    pub own : (number : ℕ) → HasNumber (buffer_in (phase_of parts.call)) number → HasNumber (pass_in parts.caller.seat.me).hands number
+    pub held : AreHeldBy parts.caller.id parts.held.items parts.caller.seat.me
+    pub all : HoldsNoOther (phase_of parts.call) parts.held.items parts.caller.seat.me
+    pub own : HoldsItsOwn (phase_of parts.call) parts.caller.seat.me
+
+  -- and so they are of a caller that the manager carries
+  pub record IsAllCarried (link : SharedLink D) (manager : Manager) (who : CallerId) (call : Option (RingCall D)) (buffers : List HeldBuffer) : Type 0 where
+    pub carries : Carries link manager who (phase_of call)
+    pub held : AreHeldBy who buffers (carried_seat who (phase_of call) manager)
+    pub all : HoldsNoOther (phase_of call) buffers (carried_seat who (phase_of call) manager)
+    pub own : HoldsItsOwn (phase_of call) (carried_seat who (phase_of call) manager)
 
   -- the parts that come back are those that came
   pub record AreSame (before after : Parts D) : Type 0 where
@@ -34,16 +68,6 @@ module _ {D : Type 0} where
     pub held : after.held ≡ before.held
     pub table : after.caller.seat.table_id ≡ before.caller.seat.table_id
     pub seat : IsNow (pass_in before.caller.seat.me) before.caller.seat.me.1 before.caller.seat.me after.caller.seat.me
-
-  -- a caller needs its receiver's turn that holds something, where its call doesn't have that turn
-  pub record NeedsTurn (parts : Parts D) : Type 0 where
-    pub number : ℕ
-    pub holds : HasNumber (pass_in parts.caller.seat.me).hands number
-    pub lacks : lacks_receiver (turn_in (phase_of parts.call)) ≡ true
-
-  -- the call of a caller has a turn, or the caller holds something: a reclaim looks at the era again with its seat
-  abbrev pub LooksAgain : Parts D → Type 0
-  LooksAgain parts = (is_turn (turn_in (phase_of parts.call)) ≡ true) ⊎ ((number : ℕ) × HasNumber (pass_in parts.caller.seat.me).hands number)
 
   -- the caller has ended: its number is free
   pub record IsReclaimed (manager : Manager) (parts : Parts D) (after : Manager) : Type 0 where
@@ -55,6 +79,12 @@ module _ {D : Type 0} (coded : Coded D) (meaning : DeskMeaning D) where
   -- turn that the caller needs. The manager has read an era, and knows nothing else
   abbrev pub IsRefusal : SharedLink D → Manager → Parts D → ReclaimFault D → Manager → Type 0
   IsRefusal link manager parts (fault.StillOpen era back) after = (era.is_live ≡ true) × AreSame parts back × IsAllOf link back × (after.users ≡ manager.users) × ((read : Era) × HasRead read manager.seat.me after.seat.me)
-      × (manager.seat.me.0.is_closed ≡ true → LooksAgain parts)
-  IsRefusal link manager parts (fault.Busy holder back) after = IsAnothers coded meaning parts.caller.id holder × NeedsTurn parts × AreSame parts back × IsAllOf link back × (after.users ≡ manager.users)
+      × (manager.seat.me.0.is_closed ≡ true → LooksAgain (phase_of parts.call) parts.caller.seat.me)
+  IsRefusal link manager parts (fault.Busy holder back) after = IsAnothers coded meaning parts.caller.id holder × NeedsTurn (phase_of parts.call) parts.caller.seat.me × AreSame parts back × IsAllOf link back × (after.users ≡ manager.users)
       × ((read : Era) × (read.is_live ≡ false) × HasRead read manager.seat.me after.seat.me)
+
+  -- why a caller that the manager carries is not reclaimed, with its call and its buffers as they came
+  abbrev pub IsRefusalBy : CallerId → Manager → Option (RingCall D) → Vec HeldBuffer Global → ReclaimByFault (RingCall D) → Type 0
+  IsRefusalBy who manager call held (by_fault.StillOpen era call' held') = (era.is_live ≡ true) × (call' ≡ call) × (held' ≡ held)
+      × (manager.seat.me.0.is_closed ≡ true → LooksAgain (phase_of call) (carried_seat who (phase_of call) manager))
+  IsRefusalBy who manager call held (by_fault.Busy holder call' held') = IsAnothers coded meaning who holder × NeedsTurn (phase_of call) (carried_seat who (phase_of call) manager) × (call' ≡ call) × (held' ≡ held)

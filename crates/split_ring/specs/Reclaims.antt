@@ -13,9 +13,13 @@ use Rattle.lane_model.specs.declared.stages.SendStage.TheVariants as stage
 use Rattle.lane_model.specs.declared.stages.TakeStage.{TakeStage}
 use Rattle.lane_model.specs.declared.stages.TakeStage.TheVariants as take_stage
 use Rattle.lane_model.specs.declared.stages.Turn.{Turn}
+use Rattle.lane_model.specs.declared.stages.Turn.TheVariants as turn
 use Rattle.lane_model.specs.declared.stages.Sending.{Sending}
 use Rattle.lane_model.specs.declared.stages.Receiving.{Receiving}
+use Rattle.lane_model.specs.declared.lane_links.LaneLink.{LaneLink}
 use Rattle.lane_model.specs.Desks.{DeskMeaning}
+use Rattle.lane_model.specs.Lanes.{holder}
+use Rattle.ring_core.specs.declared.states.RingState.{RingState}
 use Rattle.ring_core.specs.Owners.{sender_is_out, receiver_is_out}
 use Rattle.link_words.specs.declared.rule.Call.{Call}
 use Rattle.link_words.specs.declared.rule.Call.TheVariants.{Rests, Sends, Receives, EndsHeld, EndsReceive}
@@ -26,14 +30,15 @@ use Rattle.link_words.specs.declared.rule.SenderSide.{SenderSide}
 use Rattle.link_words.specs.declared.rule.Slot.{Slot}
 use Rattle.link_words.specs.declared.rule.Slot.TheVariants.{Buffer, Receiver, Sender}
 use Rattle.link_words.specs.Calls.{SeatState, has_side, first_side}
-use Rattle.link_words.specs.Deeds.{ManagerTakes}
+use Rattle.link_words.specs.Deeds.{Deed, EndsCall, LeavesTurn, ManagerTakes}
 use Rattle.link_words.specs.Layouts.{place_in}
 use Rattle.link_words.specs.Passes.{with_call_and_hands, after_end_with, place_of_number, spent_view}
+use Rattle.link_words.specs.PlacedLinks.{KnowsState}
 use Rattle.link_words.specs.Reclaims.{DoesAt}
 use Rattle.link_words.specs.Seats.{with_era}
 use Rattle.link_words.specs.Steps.{HasWord}
 use Rattle.link_words.specs.Turns.{is_manager}
-use Rattle.link_words.specs.Words.{other, receiver_word, sender_slot, receiver_slot, buffer_slot}
+use Rattle.link_words.specs.Words.{lane_to, other, receiver_word, sender_slot, receiver_slot, buffer_slot}
 use Rattle.split_ring.specs.declared.callers.CallerId.{CallerId}
 use Rattle.split_ring.specs.declared.calls.Phase.{Phase}
 use Rattle.split_ring.specs.declared.calls.Phase.TheVariants as phase
@@ -240,6 +245,42 @@ is_turn held.ReceiverAndBuffer = true
 abbrev pub IsEndFault : {D : Type 0} → Coded D → DeskMeaning D → CallerId → TurnHeld → Bool → EndFault → Type 0
 IsEndFault coded meaning who turn is_holding (end_fault.StillOpen era) = (era.is_live ≡ true) × ((is_turn turn ≡ true) ⊎ (is_holding ≡ true))
 IsEndFault coded meaning who turn is_holding (end_fault.Busy holder) = IsAnothers coded meaning who holder × (is_holding ≡ true) × (lacks_receiver turn ≡ true)
+
+-- how many slots are out with it
+abbrev pub turn_slots : TurnHeld → ℕ
+turn_slots held.Neither = 0
+turn_slots held.Sender = 1
+turn_slots held.SenderAndBuffer = 2
+turn_slots held.Receiver = 1
+turn_slots held.ReceiverAndBuffer = 2
+
+-- what the manager does to the link of a caller whose call it ends: it takes the receiver's turn where it needs it for what the caller holds, ends the call where there
+-- is one, and leaves the turn that it took
+abbrev pub end_deeds : CallerId → TurnHeld → Bool → List Deed
+end_deeds who held.Neither false = []
+end_deeds who held.Neither true = ManagerTakes lane_turn.Receiver who.end ∷ LeavesTurn who.end who.number ∷ []
+end_deeds who held.Sender false = EndsCall who.end who.number ∷ []
+end_deeds who held.Sender true = ManagerTakes lane_turn.Receiver who.end ∷ EndsCall who.end who.number ∷ LeavesTurn who.end who.number ∷ []
+end_deeds who held.SenderAndBuffer false = EndsCall who.end who.number ∷ []
+end_deeds who held.SenderAndBuffer true = ManagerTakes lane_turn.Receiver who.end ∷ EndsCall who.end who.number ∷ LeavesTurn who.end who.number ∷ []
+end_deeds who held.Receiver is_holding = EndsCall who.end who.number ∷ []
+end_deeds who held.ReceiverAndBuffer is_holding = EndsCall who.end who.number ∷ []
+
+-- who has the receiver's turn of this end
+abbrev pub IsReceiver : {D : Type 0} → End → ℕ → LaneLink (RingState D) → Type 0
+IsReceiver end found m = holder (lane_to m end).lane.receiver ≡ Some found
+
+-- nobody has it, in the state that a manager knows
+abbrev pub KnowsFree : {D : Type 0} → Coded D → End → SeatState → Type 0
+KnowsFree coded end me = (m : LaneLink (RingState _)) → KnowsState coded me.0 m → (lane_to m end).lane.receiver ≡ turn.Free
+
+-- a manager that knew the state, whose era was closed, knows it still where a call was not ended: another has the receiver's turn
+abbrev pub IsRefusedIn : {D : Type 0} → End → EndFault → LaneLink (RingState D) → Type 0
+IsRefusedIn end (end_fault.StillOpen era) m = ⊥
+IsRefusedIn end (end_fault.Busy found) m = IsReceiver end found m
+
+abbrev pub KnowsRefusal : {D : Type 0} → Coded D → CallerId → EndFault → SeatState → SeatState → Type 0
+KnowsRefusal coded who fault me me' = (m : LaneLink (RingState _)) → KnowsState coded me.0 m → m.era.is_live ≡ false → IsRefusedIn who.end fault m × KnowsState coded me'.0 m
 
 -- the manager has read this era, and nothing else of what it knows has changed
 abbrev pub HasRead : Era → SeatState → SeatState → Type 0

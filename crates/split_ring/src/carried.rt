@@ -7,24 +7,24 @@ ghost use Rattle.ring_core.specs.RingSteps.{ring_form};
 ghost use Rattle.link_words.specs.Deeds.{after_deed};
 ghost use Rattle.split_ring.specs.declared.callers.CallerId.{CallerId};
 ghost use Rattle.split_ring.specs.declared.calls.Phase.{Phase};
-ghost use Rattle.split_ring.specs.Callers.{IsStateOf};
+ghost use Rattle.split_ring.specs.Callers.{IsManagerOf, IsStateOf};
 ghost use Rattle.split_ring.specs.Calls.{Advances, deed_of};
-ghost use Rattle.split_ring.specs.Carried.{Carries, CarriesOn, IsCarrierOf, carried_seat, out_before, turned_by};
+ghost use Rattle.split_ring.specs.Carried.{Carries, CarriesOn, Keeps, carried_seat, out_before};
 ghost use Rattle.split_ring.specs.Phases.{IsUnderWay, outcome_said, side_of, slots_in, wished_in};
 
 use crate::callers::{CallerId, Manager};
 use crate::calls::{Phase, RingCall};
 use crate::links::SharedLink;
 use crate::sends::sender_slot;
+use crate::slots::turn_by;
 use crate::takes::receiver_slot;
 use crate::turns::other;
 use lane_model::{Ask, Desk, Progress, SendStage, TakeStage};
-use link_words::LinkSeat;
 use rp_base::{CallerNo, End, Inc};
 use std::mem;
 
 /// The slot of the side state that goes with the turn of a call in this phase, or that it asks for.
-fn side_of(end: End, phase: &Phase) -> usize
+pub(crate) fn side_of(end: End, phase: &Phase) -> usize
     ensures side { result ≡ side_of end phase.now }
     ensures within { result < 4 }
 {
@@ -58,19 +58,9 @@ fn slots_in(phase: &Phase) -> u8
     }
 }
 
-/// The first slots that are out, so many of them, go behind the others.
-fn turn_by(seat: &mut LinkSeat, count: u8)
-    ensures same { (seat.new.table_id ≡ seat.old.table_id) × (seat.new.id ≡ seat.old.id) }
-    ensures turned { seat.new.me ≡ (seat.old.me.0, turned_by count seat.old.me.1) }
-{
-    for _ in 0..count {
-        seat.turn();
-    }
-}
-
 impl Manager {
     /// How many slots are out with the first so many side states.
-    fn out_before(&self, side: usize) -> u8
+    pub(crate) fn out_before(&self, side: usize) -> u8
         requires few { (slot : ℕ) → slice_index self.now.out slot ≤ 2 }
         requires within { side ≤ 4 }
         ensures { result ≡ out_before side self.now.out }
@@ -93,11 +83,11 @@ impl<D: Desk> SharedLink<D> {
         inc: Inc,
         call: &mut RingCall<D>,
     ) -> Progress
-        requires manager { IsCarrierOf self.now manager.old }
+        requires manager { IsManagerOf self.now manager.old }
         requires call { (end : End) × Carries self.now manager.old (record { number = caller; end = end; follows = inc }) call.old.phase × IsUnderWay call.old.phase }
-        ensures manager { IsCarrierOf self.now manager.new × (manager.new.users ≡ manager.old.users) }
+        ensures manager { IsManagerOf self.now manager.new × (manager.new.users ≡ manager.old.users) }
         ensures call { (end : End) → end_of manager.old.users caller ≡ Some end → CarriesOn self.now manager.new (record { number = caller; end = end; follows = inc }) call.new.phase result }
-        ensures others { (who : CallerId) (p : Phase) → who.number ≢ caller → Carries self.now manager.old who p → Carries self.now manager.new who p }
+        ensures others { (who : CallerId) (p : Phase) → who.number ≢ caller → Keeps self.now manager.old manager.new who p }
         ensures step { (end : End) → end_of manager.old.users caller ≡ Some end → let who : CallerId = record { number = caller; end = end; follows = inc } in
             Advances D.row.coded D.meaning self.now.sizes who call.old.phase result call.new.phase (carried_seat who call.old.phase manager.old) (carried_seat who call.old.phase manager.new) }
         ensures said { (m : LaneLink (RingState D)) → IsStateOf D.row.coded manager.old m → outcome_said result ≡ (form_step (ring_form D.meaning) D.meaning m caller inc (wished_in call.old.phase)).outcome }

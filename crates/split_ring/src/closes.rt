@@ -7,8 +7,11 @@ ghost use Rattle.link_words.specs.Deeds.{Closes, after_deed};
 ghost use Rattle.link_words.specs.declared.rule.Event.TheVariants.{Step};
 ghost use Rattle.link_words.specs.declared.rule.Made.TheVariants as made;
 ghost use Rattle.link_words.specs.Passes.{Mover};
-ghost use Rattle.split_ring.specs.Callers.{own_of, IsManagerOf, IsStateOf, IsUserOf, IsWhereItWas, MakesClose, ManagerCloses};
+ghost use Rattle.split_ring.specs.Callers.{IsManagerOf, IsStateOf, IsUserOf, IsWhereItWas, MakesClose, ManagerCloses, own_of};
+ghost use Rattle.split_ring.specs.Carried.{Keeps};
 ghost use Rattle.split_ring.specs.Closes.{IsCloseAnswer, HasClosed};
+ghost use Rattle.split_ring.specs.declared.callers.CallerId.{CallerId};
+ghost use Rattle.split_ring.specs.declared.calls.Phase.{Phase};
 ghost use Rattle.split_ring.specs.Seats.{IsSeatOf};
 ghost use Rattle.link_words.specs.Orderly.{IsOrderly};
 
@@ -36,12 +39,14 @@ impl<D: Desk> SharedLink<D> {
         self.close_once(&mut caller.seat, closer, inc)
     }
 
-    /// The same by the manager, which knows then that the era is closed, where it asked for the incarnation that it knows.
+    /// The same by the manager, which knows then that the era is closed, where it asked for the incarnation that it knows. The callers that it carries are
+    /// where they were.
     pub fn close_by(&self, manager: &mut Manager, inc: Inc) -> Result<(), Already>
         requires { IsManagerOf self.now manager.old }
         ensures closed { ManagerCloses D.row.coded D.meaning manager.old inc result manager.new }
         ensures known { inc ≡ manager.old.seat.me.0.inc → manager.new.seat.me.0.is_closed ≡ true }
         ensures manager { IsManagerOf self.now manager.new × (manager.new.users ≡ manager.old.users) }
+        ensures others { (who : CallerId) (p : Phase) → Keeps self.now manager.old manager.new who p }
         ensures state { (m : LaneLink (RingState D)) → IsStateOf D.row.coded manager.old m → IsStateOf D.row.coded manager.new (after_deed D.meaning m (Closes inc)) × IsCloseAnswer inc m.era result }
     {
         self.close_once(&mut manager.seat, MANAGER, inc)

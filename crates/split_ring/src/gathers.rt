@@ -11,6 +11,7 @@ ghost use Rattle.link_words.specs.declared.rule.SenderSide.{SenderSide};
 ghost use Rattle.link_words.specs.declared.rule.Slot.{Slot};
 ghost use Rattle.link_words.specs.declared.rule.Slot.TheVariants.{Empty, Receiver, Sender};
 ghost use Rattle.link_words.specs.declared.rule.View.{View};
+ghost use Rattle.link_words.specs.Orderly.{IsOrderly};
 ghost use Rattle.link_words.specs.Parts.{has_for_manager, has_sender_for_manager};
 ghost use Rattle.link_words.specs.PlacedLinks.{KnowsState};
 ghost use Rattle.link_words.specs.Reopens.{AreInUse, MayGather, both_sides, gathered, manager_call};
@@ -70,6 +71,7 @@ impl<D: Desk> SharedLink<D> {
         ensures seat { IsSeatOf self.now.table.shared.table_id self.now.sizes seat.new.table_id seat.new.me }
         ensures taken { IfOk result (λ side. TakesSide lane (λ g. record g { sender = Some side }) (sender_slot lane) seat.old.me seat.new.me) }
         ensures step { IfOk result (λ _. FindsTurnFree D.row.coded D.meaning lane_turn.Sender lane seat.old.me seat.new.me) }
+        ensures order { IsOrderly seat.new.me.0 }
         ensures met { IfErr result (λ holder. (seat.new.me ≡ seat.old.me) × Meets D.row.coded D.meaning lane_turn.Sender lane holder seat.old.me) }
         ensures holder { IfErr result (λ holder. has_sender_for_manager lane (manager_call seat.old.me) ≡ false → IsHolderIn seat.old.me.0 holder) }
     {
@@ -94,6 +96,7 @@ impl<D: Desk> SharedLink<D> {
         ensures taken { IfOk result (λ side. TakesSide lane (λ g. record g { receiver = Some side }) (receiver_slot lane) seat.old.me seat.new.me) }
         ensures users { IfOk result (λ side. AreInUse seat.old.me.0 lane side.hands) }
         ensures step { IfOk result (λ _. FindsTurnFree D.row.coded D.meaning lane_turn.Receiver lane seat.old.me seat.new.me) }
+        ensures order { IsOrderly seat.new.me.0 }
         ensures met { IfErr result (λ holder. (seat.new.me ≡ seat.old.me) × Meets D.row.coded D.meaning lane_turn.Receiver lane holder seat.old.me) }
         ensures holder { IfErr result (λ holder. has_for_manager lane (manager_call seat.old.me) ≡ false → IsHolderIn seat.old.me.0 holder) }
     {
@@ -111,6 +114,7 @@ impl<D: Desk> SharedLink<D> {
         requires seat { IsSeatOf self.now.table.shared.table_id self.now.sizes seat.old.table_id seat.old.me }
         requires manager { (v : View) × (a : LaneSides) × (b : LaneSides) × (slots : List (ℕ × Slot)) × IsCalling v (Gathers a b) ((sender_slot lane, Empty) ∷ slots) seat.old.me × ((sides_at lane a b).sender ≡ Some side) }
         ensures seat { IsSeatOf self.now.table.shared.table_id self.now.sizes seat.new.table_id seat.new.me }
+        ensures order { IsOrderly seat.new.me.0 }
         ensures put { PutsSide lane (λ g. record g { sender = None }) (sender_slot lane) seat.old.me seat.new.me }
         ensures step { FreesTurn D.row.coded D.meaning lane_turn.Sender lane seat.old.me seat.new.me }
     {
@@ -124,6 +128,7 @@ impl<D: Desk> SharedLink<D> {
         requires seat { IsSeatOf self.now.table.shared.table_id self.now.sizes seat.old.table_id seat.old.me }
         requires manager { (v : View) × (a : LaneSides) × (b : LaneSides) × (slots : List (ℕ × Slot)) × IsCalling v (Gathers a b) ((receiver_slot lane, Empty) ∷ slots) seat.old.me × ((sides_at lane a b).receiver ≡ Some side) }
         ensures seat { IsSeatOf self.now.table.shared.table_id self.now.sizes seat.new.table_id seat.new.me }
+        ensures order { IsOrderly seat.new.me.0 }
         ensures put { PutsSide lane (λ g. record g { receiver = None }) (receiver_slot lane) seat.old.me seat.new.me }
         ensures step { FreesTurn D.row.coded D.meaning lane_turn.Receiver lane seat.old.me seat.new.me }
     {
@@ -140,6 +145,7 @@ impl<D: Desk> SharedLink<D> {
         requires manager { (v : View) × (a : LaneSides) × (b : LaneSides) × (slots : List (ℕ × Slot)) × IsCalling v (Gathers a b) slots seat.old.me × (sides_at lane a b ≡ no_sides) }
         ensures seat { IsSeatOf self.now.table.shared.table_id self.now.sizes seat.new.table_id seat.new.me }
         ensures taken { IfOk result (λ states. TakesLane lane states.sender states.receiver seat.old.me seat.new.me) }
+        ensures order { IsOrderly seat.new.me.0 }
         ensures users { IfOk result (λ states. AreInUse seat.old.me.0 lane states.receiver.hands) }
         ensures met { IfErr result (λ holder. IsAsBefore lane seat.old.me seat.new.me × MeetsLane D.row.coded D.meaning lane holder seat.old.me) }
         ensures holder { IfErr result (λ holder. IsHolderIn seat.old.me.0 holder) }
@@ -164,6 +170,7 @@ impl<D: Desk> SharedLink<D> {
         requires seat { IsSeatOf self.now.table.shared.table_id self.now.sizes seat.old.table_id seat.old.me }
         requires manager { (v : View) × (a : LaneSides) × (b : LaneSides) × (slots : List (ℕ × Slot)) × IsCalling v (Gathers a b) (lane_slots lane slots) seat.old.me × (sides_at lane a b ≡ both_sides states.sender states.receiver) }
         ensures seat { IsSeatOf self.now.table.shared.table_id self.now.sizes seat.new.table_id seat.new.me }
+        ensures order { IsOrderly seat.new.me.0 }
         ensures put { PutsLane lane seat.old.me seat.new.me }
         ensures state { (m : LaneLink (RingState D)) → KnowsState D.row.coded seat.old.me.0 m → KnowsState D.row.coded seat.new.me.0 (lane_left D.meaning m lane) }
     {

@@ -67,7 +67,9 @@ fn first_of(config: &LinkConfig) -> Inc
 
 impl<D: Desk> SharedLink<D> {
     ghost use Rattle.split_ring.specs.Callers.{IsCallerOf, IsManagerOf, IsStateOf};
-    ghost use Rattle.split_ring.specs.Carried.{IsCarrierOf};
+    ghost use Rattle.split_ring.specs.Carried.{Keeps};
+    ghost use Rattle.split_ring.specs.declared.callers.CallerId.{CallerId};
+    ghost use Rattle.split_ring.specs.declared.calls.Phase.{Phase};
 
     /// A new link, live in its first incarnation, and the one who makes its callers.
     ///
@@ -82,7 +84,6 @@ impl<D: Desk> SharedLink<D> {
         requires desks { IsFreshDesk D.meaning host × IsFreshDesk D.meaning remote }
         ensures sizes { IfOk result (λ made. made.0.sizes ≡ sizes_for config made.0.sizes.desks) }
         ensures manager { IfOk result (λ made. IsManagerOf made.0 made.1) }
-        ensures carrier { IfOk result (λ made. IsCarrierOf made.0 made.1) }
         ensures view { IfOk result (λ made. made.1.seat.me ≡ (first_view made.0.sizes 64, [])) }
         ensures state { IfOk result (λ made. IsStateOf D.row.coded made.1 (opened_ring_link config host remote)) }
     {
@@ -126,6 +127,7 @@ impl<D: Desk> SharedLink<D> {
     pub fn caller(&self, manager: &mut Manager, end: End) -> Option<Caller>
         requires { IsManagerOf self.now manager.old }
         ensures manager { IsManagerOf self.now manager.new }
+        ensures others { (who : CallerId) (p : Phase) → Keeps self.now manager.old manager.new who p }
         ensures some { IfSome result (λ caller. (free_number manager.old.users ≡ Some caller.id.number) × (caller.id.end ≡ end) × (caller.id.follows ≡ self.now.sizes.first)
             × IsCallerOf self.now caller × ((pass_in caller.seat.me).own ≡ []) × ((pass_in caller.seat.me).hands ≡ [])) }
         ensures views { IfSome result (λ caller. (manager.new.seat.me ≡ (without_new end manager.old.seat.me.0 manager.new.seat.me.0.copy, manager.old.seat.me.1)) × (caller.seat.me ≡ (only_new end manager.old.seat.me.0, []))) }

@@ -10,10 +10,11 @@ ghost use Rattle.link_words.specs.Passes.{with_new_caller};
 ghost use Rattle.link_words.specs.PlacedDesks.{table_at};
 ghost use Rattle.link_words.specs.Words.{lane_to};
 ghost use Rattle.split_ring.specs.Callers.{IsManagerOf, IsStateOf};
-ghost use Rattle.split_ring.specs.Carried.{Carries, CarriesIdle, IsCarrierOf};
+ghost use Rattle.split_ring.specs.Carried.{CarriesIdle, IsNew, Keeps, carried_seat};
 ghost use Rattle.split_ring.specs.Gathers.{IsHolderIn};
 ghost use Rattle.split_ring.specs.declared.callers.CallerId.{CallerId};
 ghost use Rattle.split_ring.specs.declared.calls.Phase.{Phase};
+ghost use Rattle.split_ring.specs.declared.calls.Phase.TheVariants as phase;
 ghost use Rattle.std.specs.Fn.{FnOnceReturnsAt};
 
 use crate::callers::{Manager, least_free};
@@ -27,12 +28,12 @@ impl<D: Desk> SharedLink<D> {
     /// A new caller on this end, which the manager carries, under the least number that is not in use. There is
     /// none exactly where 64 are in use.
     pub fn enlist(&self, manager: &mut Manager, end: End) -> Option<CallerNo>
-        requires { IsCarrierOf self.now manager.old }
-        ensures manager { IsCarrierOf self.now manager.new }
-        ensures bare { IsManagerOf self.now manager.old → IsManagerOf self.now manager.new }
+        requires { IsManagerOf self.now manager.old }
+        ensures manager { IsManagerOf self.now manager.new }
         ensures number { result ≡ free_number manager.old.users }
-        ensures carried { IfSome result (λ number. (follows : ℕ) → CarriesIdle self.now manager.new (record { number = number; end = end; follows = follows })) }
-        ensures others { (who : CallerId) (p : Phase) → Carries self.now manager.old who p → Carries self.now manager.new who p }
+        ensures carried { IfSome result (λ number. (follows : ℕ) → let who : CallerId = record { number = number; end = end; follows = follows } in
+            CarriesIdle self.now manager.new who × IsNew (carried_seat who phase.Ended manager.new)) }
+        ensures others { (who : CallerId) (p : Phase) → Keeps self.now manager.old manager.new who p }
         ensures view { IfSome result (λ _. manager.new.seat.me ≡ (with_new_caller end manager.old.seat.me.0 manager.new.seat.me.0.copy, manager.old.seat.me.1)) }
         ensures users { IfSome result (λ number. manager.new.users ≡ slice_set manager.old.users number (Some end)) }
         ensures same { IfNone result (manager.new ≡ manager.old) }
@@ -55,12 +56,11 @@ impl<D: Desk> SharedLink<D> {
         end: End,
         look: F,
     ) -> Result<T, CallerNo>
-        requires manager { IsCarrierOf self.now manager.old }
+        requires manager { IsManagerOf self.now manager.old }
         requires look { F.IsAlwaysCallable look }
-        ensures manager { IsCarrierOf self.now manager.new }
-        ensures bare { IsManagerOf self.now manager.old → IsManagerOf self.now manager.new }
+        ensures manager { IsManagerOf self.now manager.new }
         ensures users { manager.new.users ≡ manager.old.users }
-        ensures others { (who : CallerId) (p : Phase) → Carries self.now manager.old who p → Carries self.now manager.new who p }
+        ensures others { (who : CallerId) (p : Phase) → Keeps self.now manager.old manager.new who p }
         ensures holder { IfErr result (λ holder. IsHolderIn manager.old.seat.me.0 holder) }
         ensures state { (m : LaneLink (RingState D)) → IsStateOf D.row.coded manager.old m → IsStateOf D.row.coded manager.new m }
         ensures seen { (m : LaneLink (RingState D)) → IsStateOf D.row.coded manager.old m → IfOk result (λ seen. ((lane_to m end).lane.receiver ≡ turn.Free) × FnOnceReturnsAt F.FnOnce look (lane_to m end).lane.desk seen) }

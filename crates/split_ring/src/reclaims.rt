@@ -1,9 +1,12 @@
 //! The reclaim of a caller that is in any phase of a call, or in none, with all that it has.
-ghost use Rattle.std.specs.Prelude.{◌≡◌, ◌⊎◌, [], true, false, IfOk, IfErr};
+ghost use Rattle.std.specs.Prelude.{◌≡◌, ◌≢◌, ◌⊎◌, [], true, false, IfOk, IfErr};
 ghost use lib.ListN.{get_elem?};
 ghost use mathlib.Core.Option.{some};
 ghost use Rattle.lane_model.specs.HeldBuffers.{HeldBuffer};
+ghost use Rattle.split_ring.specs.Carried.{Keeps};
 ghost use Rattle.split_ring.specs.Callers.{IsManagerOf};
+ghost use Rattle.split_ring.specs.declared.callers.CallerId.{CallerId};
+ghost use Rattle.split_ring.specs.declared.calls.Phase.{Phase};
 ghost use Rattle.split_ring.specs.PartsOf.{IsAllOf, IsReclaimed, IsRefusal};
 ghost use Rattle.split_ring.specs.Reclaims.{has_buffer, phase_of, turn_in};
 
@@ -68,7 +71,7 @@ fn has_buffer(phase: &Phase) -> bool
 }
 
 /// The turn that a caller's call has, and whether a buffer is in it that is in its caller's hands.
-fn call_has<D: Desk>(call: &Option<RingCall<D>>) -> (TurnHeld, bool)
+pub(crate) fn call_has<D: Desk>(call: &Option<RingCall<D>>) -> (TurnHeld, bool)
     ensures { (result.0 ≡ turn_in (phase_of call.now)) × (result.1 ≡ has_buffer (phase_of call.now)) }
 {
     match call {
@@ -78,7 +81,7 @@ fn call_has<D: Desk>(call: &Option<RingCall<D>>) -> (TurnHeld, bool)
 }
 
 /// Whether a caller holds something: the buffer that is in its call, or one of these.
-fn is_holding(is_giving: bool, held: &[Held]) -> bool
+pub(crate) fn is_holding(is_giving: bool, held: &[Held]) -> bool
     ensures nothing { result ≡ false → (is_giving ≡ false) × (held.now ≡ []) }
     ensures some { result ≡ true → (is_giving ≡ true) ⊎ ((buffer : HeldBuffer) × (get_elem? held.now 0 ≡ some buffer)) }
 {
@@ -99,6 +102,7 @@ impl<D: Desk> SharedLink<D> {
         requires manager { IsManagerOf self.now manager.old }
         requires parts { IsAllOf self.now parts }
         ensures manager { IsManagerOf self.now manager.new }
+        ensures others { (who : CallerId) (p : Phase) → who.number ≢ parts.caller.id.number → Keeps self.now manager.old manager.new who p }
         ensures reclaimed { IfOk result (λ _. IsReclaimed manager.old parts manager.new) }
         ensures refused { IfErr result (λ fault. IsRefusal D.row.coded D.meaning self.now manager.old parts fault manager.new) }
     {
@@ -114,7 +118,7 @@ impl<D: Desk> SharedLink<D> {
         let who = caller.id;
         let (turn, is_giving) = call_has(&call);
         let is_holding = is_holding(is_giving, &held);
-        match self.end_call(&mut caller.seat, who, turn, is_holding) {
+        match self.end_alone(&mut caller.seat, who, turn, is_holding) {
             Ok(()) => {
                 join(&self.table.shared, &mut manager.seat, caller.seat);
                 manager.users[who.number as usize] = None;

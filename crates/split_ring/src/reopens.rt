@@ -7,7 +7,7 @@ ghost use Rattle.lane_model.specs.declared.lane_links.LaneLink.{LaneLink};
 ghost use Rattle.lane_model.specs.Recoveries.{link_after_reopen};
 ghost use Rattle.ring_core.specs.declared.states.RingState.{RingState};
 ghost use Rattle.ring_core.specs.RingSteps.{ring_form};
-ghost use Rattle.link_words.specs.declared.rule.Call.TheVariants.{Gathers, Reopens};
+ghost use Rattle.link_words.specs.declared.rule.Call.TheVariants.{Reopens};
 ghost use Rattle.link_words.specs.declared.rule.LaneSides.{LaneSides};
 ghost use Rattle.link_words.specs.declared.rule.ReceiverSide.{ReceiverSide};
 ghost use Rattle.link_words.specs.declared.rule.SenderSide.{SenderSide};
@@ -16,6 +16,7 @@ ghost use Rattle.link_words.specs.declared.rule.View.{View};
 ghost use Rattle.link_words.specs.Fresh.{fresh_of, opened_sender, opened_receiver};
 ghost use Rattle.link_words.specs.Histories.{LaneBooks};
 ghost use Rattle.link_words.specs.Layouts.{layout};
+ghost use Rattle.link_words.specs.Orderly.{IsOrderly};
 ghost use Rattle.link_words.specs.Passes.{Manages};
 ghost use Rattle.link_words.specs.PlacedDesks.{table_at};
 ghost use Rattle.link_words.specs.PlacedLinks.{KnowsState};
@@ -23,7 +24,7 @@ ghost use Rattle.link_words.specs.Reopens.{AreBooksOf, AreInUse, books_by, both_
 ghost use Rattle.link_words.specs.Sides.{sides_at};
 ghost use Rattle.split_ring.specs.Gathers.{IsCalling, IsHolderIn};
 ghost use Rattle.split_ring.specs.Openings.{opened_words};
-ghost use Rattle.split_ring.specs.Reopens.{all_slots, HasNone, HasAll, MeetsTurn, spent_by, unopened_from, AreTold, next_view, IsReopening};
+ghost use Rattle.split_ring.specs.Reopens.{HasNone, HasNoneItself, HasAll, HasAllBeside, TakesAll, PutsAll, StillHasNone, MeetsTurn, spent_by, refusal_from, AreTold, next_view, IsReopening};
 ghost use Rattle.split_ring.specs.Seats.{IsSeatOf};
 ghost use Rattle.split_ring.specs.Sends.{live_era};
 ghost use Rattle.split_ring.specs.States.{AreSidesOf, all_left, all_taken, turns_out};
@@ -83,9 +84,9 @@ fn next_lane(alloc: Global, book: u32) -> Result<NextLane, NoMemory>
 }
 
 /// Why the next incarnation isn't opened, by what both receivers' side states hold and this incarnation.
-fn unopened_from(host: &ReceiverState, remote: &ReceiverState, inc: Inc) -> Option<ReopenFault>
+fn refusal_from(host: &ReceiverState, remote: &ReceiverState, inc: Inc) -> Option<ReopenFault>
     requires { inc < 4294967296 }
-    ensures fault { result ≡ unopened_from host.now.hands remote.now.hands inc }
+    ensures fault { result ≡ refusal_from host.now.hands remote.now.hands inc }
     ensures none { IfNone result ((host.now.hands ≡ []) × (remote.now.hands ≡ []) × (inc + 1 < 4294967296)) }
 {
     match host.least_hand() {
@@ -112,17 +113,22 @@ fn spent(inc: Inc) -> Option<ReopenFault>
 
 impl<D: Desk> SharedLink<D> {
     ghost use Rattle.split_ring.specs.Callers.{IsManagerOf, IsStateOf};
+    ghost use Rattle.split_ring.specs.Carried.{Keeps};
     ghost use Rattle.split_ring.specs.ManagerCalls.{ReopensState};
+    ghost use Rattle.split_ring.specs.declared.callers.CallerId.{CallerId};
+    ghost use Rattle.split_ring.specs.declared.calls.Phase.{Phase};
 
     /// Opens the next incarnation, with both lanes empty and both desks reset. The answer is what each lane accepted
     /// and handed over in the one that was closed. Its memory is taken first.
     ///
     /// Errors: `NoMemory`, before anything is done; `StillOpen` exactly where the era is live; then `StillTurn` exactly where
-    /// another has one of the four turns; then `StillHeld` exactly where something is held, with the least number of the lane to
-    /// the host, else of the other; then `IncarnationsSpent`. After each the manager has no turn.
+    /// another, or a call that the manager carries, has one of the four turns; then `StillHeld` exactly where something is held,
+    /// with the least number of the lane to the host, else of the other; then `IncarnationsSpent`. After each answer the manager
+    /// has no turn itself, and the calls that it carries are where they were.
     pub fn reopen(&self, alloc: Global, manager: &mut Manager) -> Result<Books, ReopenFault>
         requires { IsManagerOf self.now manager.old }
-        ensures manager { IsManagerOf self.now manager.new }
+        ensures manager { IsManagerOf self.now manager.new × (manager.new.users ≡ manager.old.users) }
+        ensures others { (who : CallerId) (p : Phase) → Keeps self.now manager.old manager.new who p }
         ensures answer { IsReopening D.row.coded D.meaning manager.old.seat.me.0 result manager.new.seat.me.0 }
         ensures state { (m : LaneLink (RingState D)) → IsStateOf D.row.coded manager.old m → ReopensState D.row.coded D.meaning m result manager.new }
     {
@@ -139,7 +145,7 @@ impl<D: Desk> SharedLink<D> {
             Ok(lanes) => lanes,
             Err(holder) => return Err(ReopenFault::StillTurn(holder)),
         };
-        match unopened_from(&host.receiver, &remote.receiver, inc) {
+        match refusal_from(&host.receiver, &remote.receiver, inc) {
             Some(fault) => {
                 self.put_lanes(seat, host, remote);
                 Err(fault)
@@ -168,6 +174,7 @@ impl<D: Desk> SharedLink<D> {
         requires seat { IsSeatOf self.now.table.shared.table_id self.now.sizes seat.old.table_id seat.old.me }
         requires manager { Manages seat.old.me.0 }
         ensures seat { IsSeatOf self.now.table.shared.table_id self.now.sizes seat.new.table_id seat.new.me }
+        ensures order { IsOrderly seat.new.me.0 }
         ensures closed { IfOk result (λ inc. (inc ≡ seat.old.me.0.inc) × (inc < 4294967296) × (seat.new.me ≡ (record seat.old.me.0 { is_closed = true }, seat.old.me.1))) }
         ensures unknown { IfErr result (λ _. seat.old.me.0.is_closed ≡ false) }
         ensures open { IfErr result (λ era. (era ≡ live_era seat.old.me.0.inc) × (seat.new.me ≡ (record seat.old.me.0 { is_closed = false }, seat.old.me.1))) }
@@ -181,17 +188,18 @@ impl<D: Desk> SharedLink<D> {
 
     /// The side states of both lanes, by one attempt at each turn.
     ///
-    /// Errors: the holder of the first turn that was another's. The manager has none then.
+    /// Errors: the holder of the first turn that was another's, or a carried call's. The manager has none itself then.
     pub(crate) fn take_lanes(
         &self,
         seat: &mut LinkSeat,
     ) -> Result<(LaneStates, LaneStates), CallerNo>
         requires seat { IsSeatOf self.now.table.shared.table_id self.now.sizes seat.old.table_id seat.old.me }
-        requires manager { (v : View) × HasNone v seat.old.me }
+        requires manager { (v : View) × HasNoneItself v seat.old.me }
         ensures seat { IsSeatOf self.now.table.shared.table_id self.now.sizes seat.new.table_id seat.new.me }
-        ensures taken { IfOk result (λ lanes. (v : View) → HasNone v seat.old.me → HasAll v lanes.0.sender lanes.0.receiver lanes.1.sender lanes.1.receiver seat.new.me) }
+        ensures taken { IfOk result (λ lanes. TakesAll lanes.0.sender lanes.0.receiver lanes.1.sender lanes.1.receiver seat.old.me seat.new.me) }
+        ensures order { IsOrderly seat.new.me.0 }
         ensures users { IfOk result (λ lanes. AreInUse seat.old.me.0 side.Host lanes.0.receiver.hands × AreInUse seat.old.me.0 side.Remote lanes.1.receiver.hands) }
-        ensures met { IfErr result (λ holder. ((v : View) → HasNone v seat.old.me → HasNone v seat.new.me) × MeetsTurn D.row.coded D.meaning holder seat.old.me) }
+        ensures met { IfErr result (λ holder. StillHasNone seat.old.me seat.new.me × MeetsTurn D.row.coded D.meaning holder seat.old.me) }
         ensures holder { IfErr result (λ holder. IsHolderIn seat.old.me.0 holder) }
         ensures known { IfOk result (λ lanes. (m : LaneLink (RingState D)) → KnowsState D.row.coded seat.old.me.0 m → KnowsState D.row.coded seat.new.me.0 (all_taken D.meaning m) × AreSidesOf m.to_host lanes.0.sender lanes.0.receiver × AreSidesOf m.to_remote lanes.1.sender lanes.1.receiver) }
         ensures refused { IfErr result (λ holder. (m : LaneLink (RingState D)) → KnowsState D.row.coded seat.old.me.0 m → KnowsState D.row.coded seat.new.me.0 m × (turns_out m ≡ Some holder)) }
@@ -212,9 +220,10 @@ impl<D: Desk> SharedLink<D> {
     /// The manager leaves the four turns, with these side states.
     pub(crate) fn put_lanes(&self, seat: &mut LinkSeat, host: LaneStates, remote: LaneStates)
         requires seat { IsSeatOf self.now.table.shared.table_id self.now.sizes seat.old.table_id seat.old.me }
-        requires manager { (v : View) × HasAll v host.sender host.receiver remote.sender remote.receiver seat.old.me }
+        requires manager { (v : View) × (slots : List (ℕ × Slot)) × HasAllBeside slots v host.sender host.receiver remote.sender remote.receiver seat.old.me }
         ensures seat { IsSeatOf self.now.table.shared.table_id self.now.sizes seat.new.table_id seat.new.me }
-        ensures put { (v : View) (a b : LaneSides) → IsCalling v (Gathers a b) all_slots seat.old.me → HasNone v seat.new.me }
+        ensures order { IsOrderly seat.new.me.0 }
+        ensures put { PutsAll seat.old.me seat.new.me }
         ensures state { (m : LaneLink (RingState D)) → KnowsState D.row.coded seat.old.me.0 m → KnowsState D.row.coded seat.new.me.0 (all_left D.meaning m) }
     {
         self.put_lane(seat, End::Remote, remote);
@@ -237,6 +246,7 @@ impl<D: Desk> SharedLink<D> {
         requires host { (room.host.sender ≡ opened_sender self.now.sizes.book) × (room.host.takers.items ≡ []) × (self.now.sizes.book ≤ vec_capacity room.host.takers) }
         requires remote { (room.remote.sender ≡ opened_sender self.now.sizes.book) × (room.remote.takers.items ≡ []) × (self.now.sizes.book ≤ vec_capacity room.remote.takers) }
         ensures seat { IsSeatOf self.now.table.shared.table_id self.now.sizes seat.new.table_id seat.new.me }
+        ensures order { IsOrderly seat.new.me.0 }
         ensures next { (v : View) → HasAll v host.sender host.receiver remote.sender remote.receiver seat.old.me → v.inc ≡ inc → HasNone (next_view v) seat.new.me }
         ensures books { (v : View) → HasAll v host.sender host.receiver remote.sender remote.receiver seat.old.me → v.inc ≡ inc → v.is_closed ≡ true → (told : End → LaneBooks) × AreBooksOf v told × AreTold result told }
         ensures inc { result.inc ≡ inc }

@@ -8,9 +8,10 @@ ghost use Rattle.link_words.specs.declared.rule.SenderSide.{SenderSide};
 ghost use Rattle.link_words.specs.declared.rule.Slot.TheVariants.{Buffer, Receiver, Sender};
 ghost use Rattle.link_words.specs.Steps.{accepted_side, handed_side};
 ghost use Rattle.link_words.specs.Reclaims.{without_hands};
+ghost use Rattle.split_ring.specs.Carried.{turned_by};
 
 use lane_model::Desk;
-use link_words::{DeskTable, ReceiverState, SenderState, Slot};
+use link_words::{DeskTable, LinkSeat, ReceiverState, SenderState, Slot};
 use rp_base::{CallerNo, End, Message, Verdict};
 use std::snapshot::Snapshot;
 
@@ -96,5 +97,15 @@ pub(crate) fn put_aside_in(slot: &mut Slot, caller: CallerNo)
 {
     if let Slot::Receiver(side) = slot {
         side.put_aside(caller);
+    }
+}
+
+/// The first slots that are out, so many of them, go behind the others.
+pub(crate) fn turn_by(seat: &mut LinkSeat, count: u8)
+    ensures same { (seat.new.table_id ≡ seat.old.table_id) × (seat.new.id ≡ seat.old.id) }
+    ensures turned { seat.new.me ≡ (seat.old.me.0, turned_by count seat.old.me.1) }
+{
+    for _ in 0..count {
+        seat.turn();
     }
 }

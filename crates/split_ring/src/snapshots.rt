@@ -64,17 +64,22 @@ fn numbers_in(alloc: Global, ring: &[UsedWord]) -> Result<Vec<u16>, NoMemory>
 
 impl<D: Desk> SharedLink<D> {
     ghost use Rattle.split_ring.specs.Callers.{IsManagerOf, IsStateOf};
+    ghost use Rattle.split_ring.specs.Carried.{Keeps};
     ghost use Rattle.split_ring.specs.ManagerCalls.{ShowsState};
     ghost use Rattle.split_ring.specs.Snapshots.{IsFound, IsRefusedIn};
+    ghost use Rattle.split_ring.specs.declared.callers.CallerId.{CallerId};
+    ghost use Rattle.split_ring.specs.declared.calls.Phase.{Phase};
 
     /// The era and the words of both lanes as they stand, while the manager has the four turns. The buffers of the link stand
     /// from address 0 on, 512 bytes each, those of the lane to the host first.
     ///
-    /// Errors: `StillTurn` exactly where a turn was another's, with the holder of the first such turn: of the sender's and the
-    /// receiver's of the lane to the host, then of the lane to the remote; else `NoMemory`. After each answer the manager has no turn.
+    /// Errors: `StillTurn` exactly where a turn was another's, or a carried call's, with the holder of the first such turn: of the
+    /// sender's and the receiver's of the lane to the host, then of the lane to the remote; else `NoMemory`. After each answer the
+    /// manager has no turn itself, and the calls that it carries are where they were.
     pub fn snapshot(&self, alloc: Global, manager: &mut Manager) -> Result<Snapshot, SnapshotFault>
         requires { IsManagerOf self.now manager.old }
         ensures manager { IsManagerOf self.now manager.new × (manager.new.users ≡ manager.old.users) }
+        ensures others { (who : CallerId) (p : Phase) → Keeps self.now manager.old manager.new who p }
         ensures view { manager.new.seat.me.0 ≡ record manager.old.seat.me.0 { copy = manager.new.seat.me.0.copy } }
         ensures words { IfOk result (IsFound D.row.coded D.meaning manager.old.seat.me.0) }
         ensures refused { IfErr result (IsRefusedIn manager.old.seat.me.0) }

@@ -5,7 +5,7 @@ use Rattle.rp_base.specs.declared.kinds.End.{End}
 use Rattle.rp_base.specs.declared.limits.TheConstants.{STEPS_MOST}
 use Rattle.lane_model.specs.declared.calls.LinkConfig.{LinkConfig}
 use Rattle.lane_model.specs.declared.recoveries.ReopenFault.{ReopenFault}
-use Rattle.lane_model.specs.Recoveries.{unclosed_by, unopened_by}
+use Rattle.lane_model.specs.Recoveries.{link_close_refusal, link_reopen_refusal}
 use Rattle.lane_laws.specs.Moves.{Close}
 use Rattle.lane_laws.proofs.RingLinks.{opened_lane_sound, reopen_kept}
 use Rattle.lane_laws.proofs.WayFacts.{opened, reopened}
@@ -56,7 +56,7 @@ module _ (end : End) (bench : BenchState) (account : Account) (tale : IsSoundTal
   closed_tale : (name : List ℕ) (steps : ℕ) → Kept (close_effect name bench steps) (close_deeds bench steps)
   unfolding close_effect
   closed_tale name steps =
-      both_if (steps == STEPS_MOST) Kept _ (tells (after_close bench) (steps + 1) (close_event name (link_in bench).era (unclosed_by (link_in bench).era (link_in bench).era.inc))) no_deeds (one_move (Close (link_in bench).era.inc))
+      both_if (steps == STEPS_MOST) Kept _ (tells (after_close bench) (steps + 1) (close_event name (link_in bench).era (link_close_refusal (link_in bench).era (link_in bench).era.inc))) no_deeds (one_move (Close (link_in bench).era.inc))
       (sound_kept end bench account tale no_deeds bench (lands_none bench.rings))
       (sound_kept end bench account tale (one_move (Close (link_in bench).era.inc)) (after_close bench)
       (record { whole = (tt, tt); may = (tt, tt); leads = refl; takes = λ other. refl }))
@@ -69,9 +69,9 @@ module _ (end : End) (bench : BenchState) (account : Account) (tale : IsSoundTal
       }
   reopened_at name steps (Some why) = tale
 
-  reopened_tale : (name : List ℕ) (steps : ℕ) → IsSoundTale end (reopen_effect name bench steps).bench (reopened_account bench (unopened_by (link_in bench)) account)
+  reopened_tale : (name : List ℕ) (steps : ℕ) → IsSoundTale end (reopen_effect name bench steps).bench (reopened_account bench (link_reopen_refusal (link_in bench)) account)
   unfolding reopen_effect
-  reopened_tale name steps = reopened_at name steps (unopened_by (link_in bench))
+  reopened_tale name steps = reopened_at name steps (link_reopen_refusal (link_in bench))
 
 pub link_tale : (end : End) (on : NamedLink) (steps : ℕ) (wanted : NamedAct (List ℕ)) (account : Account) → FitsNamed IsFitAct wanted → IsReachedBench on.bench → IsSoundTale end on.bench account
     → IsSoundTale end (link_effect on steps wanted).bench (account_after end on.bench steps wanted account)

@@ -12,7 +12,7 @@ use Rattle.lane_model.specs.declared.calls.Wish.{Wish}
 use Rattle.lane_model.specs.declared.states.BookEntry.{BookEntry}
 use Rattle.lane_model.specs.Conditions.{is_holding}
 use Rattle.lane_model.specs.Links.{LinkState, end_of, free_number}
-use Rattle.lane_model.specs.Recoveries.{unreclaimed_by}
+use Rattle.lane_model.specs.Recoveries.{link_reclaim_refusal}
 use Rattle.lane_laws.specs.Handings.{Handing, handing_of}
 use Rattle.lane_laws.specs.Moves.{Move}
 use Rattle.lane_laws.specs.Takes.{step_takes}
@@ -170,7 +170,7 @@ module _ {W : Type 0} (sees : Seeing W) (bench : BenchState) (watcher : W) (step
   free_tells (act.Step caller more) = step_tells caller more
   free_tells (act.Pump sender receiver count) = pump_tells sender receiver count
   free_tells (act.Reclaim caller) =
-      no_reach (reclaim_act bench watcher steps caller) (reclaim_deeds caller (end_of (link_in bench).callers caller) (unreclaimed_by (link_in bench) caller)) (reclaim_none caller (reclaim_answer (end_of (link_in bench).callers caller) (unreclaimed_by (link_in bench) caller)))
+      no_reach (reclaim_act bench watcher steps caller) (reclaim_deeds caller (end_of (link_in bench).callers caller) (link_reclaim_refusal (link_in bench) caller)) (reclaim_none caller (reclaim_answer (end_of (link_in bench).callers caller) (link_reclaim_refusal (link_in bench) caller)))
 
   own_tells : (found : Option ℕ) (deeds : Deeds) (acted : Acted W) → Tells acted deeds → Tells (unless_own bench watcher steps found acted) (unless_told found deeds)
   own_tells None deeds acted rest = rest

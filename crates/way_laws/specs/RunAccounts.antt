@@ -3,7 +3,7 @@ use Rattle.std.specs.Prelude.{ℕ, ◌==◌, Bool, false, List, slice_get, Optio
 use Rattle.rp_base.specs.declared.kinds.End.{End}
 use Rattle.rp_base.specs.declared.limits.TheConstants.{STEPS_MOST}
 use Rattle.lane_model.specs.declared.recoveries.ReopenFault.{ReopenFault}
-use Rattle.lane_model.specs.Recoveries.{unopened_by}
+use Rattle.lane_model.specs.Recoveries.{link_reopen_refusal}
 use Rattle.lane_laws.specs.Moves.{Close}
 use Rattle.script_lang.specs.declared.commands.Command.{Command}
 use Rattle.script_lang.specs.declared.recipes.RecipeLine.{RecipeLine}
@@ -37,7 +37,7 @@ abbrev pub account_after : End → BenchState → ℕ → NamedAct (List ℕ) �
 account_after end bench steps (under.Make made) account = account
 account_after end bench steps (under.Link asked) account = with_deeds end (link_in bench).era.is_live account (act_deeds nobody_sees 0 bench tt steps asked)
 account_after end bench steps (under.Manage manager.Close) account = with_deeds end (link_in bench).era.is_live account (close_deeds bench steps)
-account_after end bench steps (under.Manage manager.Reopen) account = reopened_account bench (unopened_by (link_in bench)) account
+account_after end bench steps (under.Manage manager.Reopen) account = reopened_account bench (link_reopen_refusal (link_in bench)) account
 account_after end bench steps (under.Show shown) account = account
 account_after end bench steps (under.Core asked) account = account
 

@@ -13,7 +13,7 @@ pub advance_by-requires-clause-call : goal.advance_by-requires-clause-call
 advance_by-requires-clause-call c = c.loop.invariant.1
 
 pub returns-in-Done-clause-others : goal.returns-in-Done-clause-others
-returns-in-Done-clause-others c = λ who p differs carries. c.advance_by.ensures.others who p differs (c.loop.invariant.2 who p differs carries)
+returns-in-Done-clause-others c = λ who p differs carries. (c.advance_by.ensures.others who p differs (c.loop.invariant.2 who p differs carries)).0
 
 pub loop-preserved : goal.loop-preserved
 loop-preserved c =
@@ -21,7 +21,7 @@ loop-preserved c =
     let on = subst (λ (said : Progress). CarriesOn c.args.link.now c.advance_by.new.manager (record { number = c.args.caller; end = end; follows = 1 }) c.advance_by.new.call.phase said) c.in-At.is (c.advance_by.ensures.call end before.user) in (
       c.advance_by.ensures.manager.0,
       (end, on.0, on.1),
-      λ who p differs carries. c.advance_by.ensures.others who p differs (c.loop.invariant.2 who p differs carries),
+      λ who p differs carries. (c.advance_by.ensures.others who p differs (c.loop.invariant.2 who p differs carries)).0,
     )
 
 pub returns-clause-manager : goal.returns-clause-manager

@@ -1,4 +1,4 @@
-use Rattle.std.proofs.Common.{◌≡◌, ◌∷◌, ◌++◌, [], List, All, sym, ap, ◌∙◌, subst}
+use Rattle.std.proofs.Common.{List, All, sym, ap, ◌∙◌, subst}
 use Rattle.std.proofs.lemmas.List.Elements.{All-push}
 use Rattle.split_ring.specs.Callers.{IsCallerOf}
 use Rattle.link_threads.specs.declared.workers.Worker.{Worker}

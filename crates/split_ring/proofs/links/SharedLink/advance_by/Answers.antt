@@ -16,7 +16,7 @@ use Rattle.split_ring.specs.Focus.{seat_of}
 use Rattle.split_ring.specs.Phases.{outcome_said, side_of, wished_in}
 use Rattle.split_ring.specs.Seats.{pass_in}
 use Rattle.split_ring.proofs.Carrying.{stands_in}
-use Rattle.split_ring.proofs.CarriedLinks.{HasAdvanced, before_least, carrier_after, carries_here, carries_on, has_advanced, others_after, out_after, out_few, same_user, seat_after, seat_turned, state_after_step, step_after, turned_again, turned_front, turned_order, user_of}
+use Rattle.split_ring.proofs.CarriedLinks.{HasAdvanced, before_least, carrier_after, carries_here, carries_on, has_advanced, has_gone, others_after, out_after, out_few, same_user, seat_after, seat_turned, state_after_step, step_after, turned_again, turned_front, turned_order, user_of}
 use Rattle.split_ring.proofs.links.SharedLink.advance_by.Goals as goal
 
 pub step_on-next-requires-clause-seat : goal.step_on-next-requires-clause-seat
@@ -49,10 +49,10 @@ out_before-requires-clause-few g c = λ slot.
     let carries : Carries link before who p = carries_here link before c.args.caller c.args.inc p q.0 c.in-Some-Some.end q.1 user in
     let turned : c.turn_by.new.seat.me ≡ seat_turned who p before = turned_front link before who p c.out_before-before.result c.turn_by.new.seat.me carrier (c.out_before-before.ensures ∙ ap (λ (k : ℕ). out_before k before.out) c.side_of-side.ensures.side) c.turn_by.ensures.turned in
     let s = c.step_on-next in let b = s.new.seat.me in let said = s.result.1 in let next = s.result.0 in
-    let h : HasAdvanced coded meaning link who p said next before b = has_advanced coded meaning link who p said next before b c.replace-phase.result c.turn_by.new.seat.me c.replace-phase.ensures.value turned carrier carries s.ensures.alone s.ensures.seat.order s.ensures.next s.ensures.step in
-    let out : slice_set before.out c.side_of-side.result (slice_index before.out c.side_of-side.result + c.slots_in.result - c.slots_in-had.result) ≡ out_after coded meaning link who p said next before b h
+    let h : HasAdvanced coded meaning link who p said next before b = has_advanced coded meaning link who p said next before b c.replace-phase.result c.turn_by.new.seat.me c.replace-phase.ensures.value turned carrier carries s.ensures.alone s.ensures.seat.order s.ensures.next s.ensures.step in let t = has_gone coded meaning link who p said next before b h in
+    let out : slice_set before.out c.side_of-side.result (slice_index before.out c.side_of-side.result + c.slots_in.result - c.slots_in-had.result) ≡ out_after link who p next before b t
     = λ i. slice_set before.out (c.side_of-side.ensures.side i) (slice_index before.out (c.side_of-side.ensures.side i) + c.slots_in.ensures i - c.slots_in-had.ensures i) in
-    let few = out_few coded meaning link who p said next before b h slot in let same = ap (λ (l : List ℕ). slice_index l slot) out in omega (arith, few, same)
+    let few = out_few link who p next before b t slot in let same = ap (λ (l : List ℕ). slice_index l slot) out in omega (arith, few, same)
 
 pub overflow_sub-rest : goal.overflow_sub-rest
 overflow_sub-rest g c = let before = c.args.manager.now in let p = c.args.call.now.phase in
@@ -69,15 +69,15 @@ returns-clause-manager g c =
     let carries : Carries link before who p = carries_here link before c.args.caller c.args.inc p q.0 c.in-Some-Some.end q.1 user in
     let turned : c.turn_by.new.seat.me ≡ seat_turned who p before = turned_front link before who p c.out_before-before.result c.turn_by.new.seat.me carrier (c.out_before-before.ensures ∙ ap (λ (k : ℕ). out_before k before.out) c.side_of-side.ensures.side) c.turn_by.ensures.turned in
     let s = c.step_on-next in let b = s.new.seat.me in let said = s.result.1 in let next = s.result.0 in
-    let h : HasAdvanced coded meaning link who p said next before b = has_advanced coded meaning link who p said next before b c.replace-phase.result c.turn_by.new.seat.me c.replace-phase.ensures.value turned carrier carries s.ensures.alone s.ensures.seat.order s.ensures.next s.ensures.step in
-    let out : slice_set before.out c.side_of-side.result (slice_index before.out c.side_of-side.result + c.slots_in.result - c.slots_in-had.result) ≡ out_after coded meaning link who p said next before b h
+    let h : HasAdvanced coded meaning link who p said next before b = has_advanced coded meaning link who p said next before b c.replace-phase.result c.turn_by.new.seat.me c.replace-phase.ensures.value turned carrier carries s.ensures.alone s.ensures.seat.order s.ensures.next s.ensures.step in let t = has_gone coded meaning link who p said next before b h in
+    let out : slice_set before.out c.side_of-side.result (slice_index before.out c.side_of-side.result + c.slots_in.result - c.slots_in-had.result) ≡ out_after link who p next before b t
     = λ i. slice_set before.out (c.side_of-side.ensures.side i) (slice_index before.out (c.side_of-side.ensures.side i) + c.slots_in.ensures i - c.slots_in-had.ensures i) in
     let after : Manager = record { seat = c.turn_by-2.new.seat; users = before.users; out = slice_set before.out c.side_of-side.result (slice_index before.out c.side_of-side.result + c.slots_in.result - c.slots_in-had.result) } in
-    let rest : c.out_before.result - c.out_before-before.result ≡ out_before 4 (out_after coded meaning link who p said next before b h) - out_before (side_of who.end p) before.out
+    let rest : c.out_before.result - c.out_before-before.result ≡ out_before 4 (out_after link who p next before b t) - out_before (side_of who.end p) before.out
     = λ i. (c.out_before.ensures ∙ ap (out_before 4) out) i - (c.out_before-before.ensures ∙ ap (λ (k : ℕ). out_before k before.out) c.side_of-side.ensures.side) i in
-    let seat : after.seat.me ≡ seat_after coded meaning link who p said next before b h = turned_again coded meaning link who p said next before b h (c.out_before.result - c.out_before-before.result) c.turn_by-2.new.seat.me rest c.turn_by-2.ensures.turned in
+    let seat : after.seat.me ≡ seat_after link who p next before b t = turned_again link who p next before b t (c.out_before.result - c.out_before-before.result) c.turn_by-2.new.seat.me rest c.turn_by-2.ensures.turned in
     let table = c.turn_by-2.ensures.same.0 ∙ s.ensures.seat.at_table in
-    (carrier_after coded meaning link who p said next before b h after seat out refl table, refl)
+    (carrier_after link who p next before b t after seat out refl table, refl)
 
 pub returns-clause-call : goal.returns-clause-call
 returns-clause-call g c = λ end is.
@@ -87,15 +87,14 @@ returns-clause-call g c = λ end is.
     let carries : Carries link before who p = carries_here link before c.args.caller c.args.inc p q.0 c.in-Some-Some.end q.1 user in
     let turned : c.turn_by.new.seat.me ≡ seat_turned who p before = turned_front link before who p c.out_before-before.result c.turn_by.new.seat.me carrier (c.out_before-before.ensures ∙ ap (λ (k : ℕ). out_before k before.out) c.side_of-side.ensures.side) c.turn_by.ensures.turned in
     let s = c.step_on-next in let b = s.new.seat.me in let said = s.result.1 in let next = s.result.0 in
-    let h : HasAdvanced coded meaning link who p said next before b = has_advanced coded meaning link who p said next before b c.replace-phase.result c.turn_by.new.seat.me c.replace-phase.ensures.value turned carrier carries s.ensures.alone s.ensures.seat.order s.ensures.next s.ensures.step in
-    let out : slice_set before.out c.side_of-side.result (slice_index before.out c.side_of-side.result + c.slots_in.result - c.slots_in-had.result) ≡ out_after coded meaning link who p said next before b h
+    let h : HasAdvanced coded meaning link who p said next before b = has_advanced coded meaning link who p said next before b c.replace-phase.result c.turn_by.new.seat.me c.replace-phase.ensures.value turned carrier carries s.ensures.alone s.ensures.seat.order s.ensures.next s.ensures.step in let t = has_gone coded meaning link who p said next before b h in
+    let out : slice_set before.out c.side_of-side.result (slice_index before.out c.side_of-side.result + c.slots_in.result - c.slots_in-had.result) ≡ out_after link who p next before b t
     = λ i. slice_set before.out (c.side_of-side.ensures.side i) (slice_index before.out (c.side_of-side.ensures.side i) + c.slots_in.ensures i - c.slots_in-had.ensures i) in
     let after : Manager = record { seat = c.turn_by-2.new.seat; users = before.users; out = slice_set before.out c.side_of-side.result (slice_index before.out c.side_of-side.result + c.slots_in.result - c.slots_in-had.result) } in
-    let rest : c.out_before.result - c.out_before-before.result ≡ out_before 4 (out_after coded meaning link who p said next before b h) - out_before (side_of who.end p) before.out
+    let rest : c.out_before.result - c.out_before-before.result ≡ out_before 4 (out_after link who p next before b t) - out_before (side_of who.end p) before.out
     = λ i. (c.out_before.ensures ∙ ap (out_before 4) out) i - (c.out_before-before.ensures ∙ ap (λ (k : ℕ). out_before k before.out) c.side_of-side.ensures.side) i in
-    let seat : after.seat.me ≡ seat_after coded meaning link who p said next before b h = turned_again coded meaning link who p said next before b h (c.out_before.result - c.out_before-before.result) c.turn_by-2.new.seat.me rest c.turn_by-2.ensures.turned in
-    let table = c.turn_by-2.ensures.same.0 ∙ s.ensures.seat.at_table in
-    subst (λ (e : End). CarriesOn link after (record { number = c.args.caller; end = e; follows = c.args.inc }) next said) (same_user before.users c.args.caller who.end end user is) (carries_on coded meaning link who p said next before b h after seat out refl table)
+    let seat : after.seat.me ≡ seat_after link who p next before b t = turned_again link who p next before b t (c.out_before.result - c.out_before-before.result) c.turn_by-2.new.seat.me rest c.turn_by-2.ensures.turned in
+    subst (λ (e : End). CarriesOn link after (record { number = c.args.caller; end = e; follows = c.args.inc }) next said) (same_user before.users c.args.caller who.end end user is) (carries_on coded meaning link who p said next before b h after seat out refl)
 
 pub returns-clause-others : goal.returns-clause-others
 returns-clause-others g c = λ other r apart carried.
@@ -105,15 +104,14 @@ returns-clause-others g c = λ other r apart carried.
     let carries : Carries link before who p = carries_here link before c.args.caller c.args.inc p q.0 c.in-Some-Some.end q.1 user in
     let turned : c.turn_by.new.seat.me ≡ seat_turned who p before = turned_front link before who p c.out_before-before.result c.turn_by.new.seat.me carrier (c.out_before-before.ensures ∙ ap (λ (k : ℕ). out_before k before.out) c.side_of-side.ensures.side) c.turn_by.ensures.turned in
     let s = c.step_on-next in let b = s.new.seat.me in let said = s.result.1 in let next = s.result.0 in
-    let h : HasAdvanced coded meaning link who p said next before b = has_advanced coded meaning link who p said next before b c.replace-phase.result c.turn_by.new.seat.me c.replace-phase.ensures.value turned carrier carries s.ensures.alone s.ensures.seat.order s.ensures.next s.ensures.step in
-    let out : slice_set before.out c.side_of-side.result (slice_index before.out c.side_of-side.result + c.slots_in.result - c.slots_in-had.result) ≡ out_after coded meaning link who p said next before b h
+    let h : HasAdvanced coded meaning link who p said next before b = has_advanced coded meaning link who p said next before b c.replace-phase.result c.turn_by.new.seat.me c.replace-phase.ensures.value turned carrier carries s.ensures.alone s.ensures.seat.order s.ensures.next s.ensures.step in let t = has_gone coded meaning link who p said next before b h in
+    let out : slice_set before.out c.side_of-side.result (slice_index before.out c.side_of-side.result + c.slots_in.result - c.slots_in-had.result) ≡ out_after link who p next before b t
     = λ i. slice_set before.out (c.side_of-side.ensures.side i) (slice_index before.out (c.side_of-side.ensures.side i) + c.slots_in.ensures i - c.slots_in-had.ensures i) in
     let after : Manager = record { seat = c.turn_by-2.new.seat; users = before.users; out = slice_set before.out c.side_of-side.result (slice_index before.out c.side_of-side.result + c.slots_in.result - c.slots_in-had.result) } in
-    let rest : c.out_before.result - c.out_before-before.result ≡ out_before 4 (out_after coded meaning link who p said next before b h) - out_before (side_of who.end p) before.out
+    let rest : c.out_before.result - c.out_before-before.result ≡ out_before 4 (out_after link who p next before b t) - out_before (side_of who.end p) before.out
     = λ i. (c.out_before.ensures ∙ ap (out_before 4) out) i - (c.out_before-before.ensures ∙ ap (λ (k : ℕ). out_before k before.out) c.side_of-side.ensures.side) i in
-    let seat : after.seat.me ≡ seat_after coded meaning link who p said next before b h = turned_again coded meaning link who p said next before b h (c.out_before.result - c.out_before-before.result) c.turn_by-2.new.seat.me rest c.turn_by-2.ensures.turned in
-    let table = c.turn_by-2.ensures.same.0 ∙ s.ensures.seat.at_table in
-    others_after coded meaning link who p said next before b h after seat out refl table other r apart carried
+    let seat : after.seat.me ≡ seat_after link who p next before b t = turned_again link who p next before b t (c.out_before.result - c.out_before-before.result) c.turn_by-2.new.seat.me rest c.turn_by-2.ensures.turned in
+    others_after link who p next before b t after seat out refl other r apart carried
 
 pub returns-clause-step : goal.returns-clause-step
 returns-clause-step g c = λ end is.
@@ -123,16 +121,15 @@ returns-clause-step g c = λ end is.
     let carries : Carries link before who p = carries_here link before c.args.caller c.args.inc p q.0 c.in-Some-Some.end q.1 user in
     let turned : c.turn_by.new.seat.me ≡ seat_turned who p before = turned_front link before who p c.out_before-before.result c.turn_by.new.seat.me carrier (c.out_before-before.ensures ∙ ap (λ (k : ℕ). out_before k before.out) c.side_of-side.ensures.side) c.turn_by.ensures.turned in
     let s = c.step_on-next in let b = s.new.seat.me in let said = s.result.1 in let next = s.result.0 in
-    let h : HasAdvanced coded meaning link who p said next before b = has_advanced coded meaning link who p said next before b c.replace-phase.result c.turn_by.new.seat.me c.replace-phase.ensures.value turned carrier carries s.ensures.alone s.ensures.seat.order s.ensures.next s.ensures.step in
-    let out : slice_set before.out c.side_of-side.result (slice_index before.out c.side_of-side.result + c.slots_in.result - c.slots_in-had.result) ≡ out_after coded meaning link who p said next before b h
+    let h : HasAdvanced coded meaning link who p said next before b = has_advanced coded meaning link who p said next before b c.replace-phase.result c.turn_by.new.seat.me c.replace-phase.ensures.value turned carrier carries s.ensures.alone s.ensures.seat.order s.ensures.next s.ensures.step in let t = has_gone coded meaning link who p said next before b h in
+    let out : slice_set before.out c.side_of-side.result (slice_index before.out c.side_of-side.result + c.slots_in.result - c.slots_in-had.result) ≡ out_after link who p next before b t
     = λ i. slice_set before.out (c.side_of-side.ensures.side i) (slice_index before.out (c.side_of-side.ensures.side i) + c.slots_in.ensures i - c.slots_in-had.ensures i) in
     let after : Manager = record { seat = c.turn_by-2.new.seat; users = before.users; out = slice_set before.out c.side_of-side.result (slice_index before.out c.side_of-side.result + c.slots_in.result - c.slots_in-had.result) } in
-    let rest : c.out_before.result - c.out_before-before.result ≡ out_before 4 (out_after coded meaning link who p said next before b h) - out_before (side_of who.end p) before.out
+    let rest : c.out_before.result - c.out_before-before.result ≡ out_before 4 (out_after link who p next before b t) - out_before (side_of who.end p) before.out
     = λ i. (c.out_before.ensures ∙ ap (out_before 4) out) i - (c.out_before-before.ensures ∙ ap (λ (k : ℕ). out_before k before.out) c.side_of-side.ensures.side) i in
-    let seat : after.seat.me ≡ seat_after coded meaning link who p said next before b h = turned_again coded meaning link who p said next before b h (c.out_before.result - c.out_before-before.result) c.turn_by-2.new.seat.me rest c.turn_by-2.ensures.turned in
-    let table = c.turn_by-2.ensures.same.0 ∙ s.ensures.seat.at_table in
+    let seat : after.seat.me ≡ seat_after link who p next before b t = turned_again link who p next before b t (c.out_before.result - c.out_before-before.result) c.turn_by-2.new.seat.me rest c.turn_by-2.ensures.turned in
     subst (λ (e : End). let who : CallerId = record { number = c.args.caller; end = e; follows = c.args.inc } in Advances coded meaning link.sizes who p said next (carried_seat who p before) (carried_seat who p after))
-    (same_user before.users c.args.caller who.end end user is) (step_after coded meaning link who p said next before b h after seat out refl table)
+    (same_user before.users c.args.caller who.end end user is) (step_after coded meaning link who p said next before b h after seat out refl)
 
 pub returns-clause-state : goal.returns-clause-state
 returns-clause-state g c = λ end is m known.
@@ -142,16 +139,15 @@ returns-clause-state g c = λ end is m known.
     let carries : Carries link before who p = carries_here link before c.args.caller c.args.inc p q.0 c.in-Some-Some.end q.1 user in
     let turned : c.turn_by.new.seat.me ≡ seat_turned who p before = turned_front link before who p c.out_before-before.result c.turn_by.new.seat.me carrier (c.out_before-before.ensures ∙ ap (λ (k : ℕ). out_before k before.out) c.side_of-side.ensures.side) c.turn_by.ensures.turned in
     let s = c.step_on-next in let b = s.new.seat.me in let said = s.result.1 in let next = s.result.0 in
-    let h : HasAdvanced coded meaning link who p said next before b = has_advanced coded meaning link who p said next before b c.replace-phase.result c.turn_by.new.seat.me c.replace-phase.ensures.value turned carrier carries s.ensures.alone s.ensures.seat.order s.ensures.next s.ensures.step in
-    let out : slice_set before.out c.side_of-side.result (slice_index before.out c.side_of-side.result + c.slots_in.result - c.slots_in-had.result) ≡ out_after coded meaning link who p said next before b h
+    let h : HasAdvanced coded meaning link who p said next before b = has_advanced coded meaning link who p said next before b c.replace-phase.result c.turn_by.new.seat.me c.replace-phase.ensures.value turned carrier carries s.ensures.alone s.ensures.seat.order s.ensures.next s.ensures.step in let t = has_gone coded meaning link who p said next before b h in
+    let out : slice_set before.out c.side_of-side.result (slice_index before.out c.side_of-side.result + c.slots_in.result - c.slots_in-had.result) ≡ out_after link who p next before b t
     = λ i. slice_set before.out (c.side_of-side.ensures.side i) (slice_index before.out (c.side_of-side.ensures.side i) + c.slots_in.ensures i - c.slots_in-had.ensures i) in
     let after : Manager = record { seat = c.turn_by-2.new.seat; users = before.users; out = slice_set before.out c.side_of-side.result (slice_index before.out c.side_of-side.result + c.slots_in.result - c.slots_in-had.result) } in
-    let rest : c.out_before.result - c.out_before-before.result ≡ out_before 4 (out_after coded meaning link who p said next before b h) - out_before (side_of who.end p) before.out
+    let rest : c.out_before.result - c.out_before-before.result ≡ out_before 4 (out_after link who p next before b t) - out_before (side_of who.end p) before.out
     = λ i. (c.out_before.ensures ∙ ap (out_before 4) out) i - (c.out_before-before.ensures ∙ ap (λ (k : ℕ). out_before k before.out) c.side_of-side.ensures.side) i in
-    let seat : after.seat.me ≡ seat_after coded meaning link who p said next before b h = turned_again coded meaning link who p said next before b h (c.out_before.result - c.out_before-before.result) c.turn_by-2.new.seat.me rest c.turn_by-2.ensures.turned in
-    let table = c.turn_by-2.ensures.same.0 ∙ s.ensures.seat.at_table in
+    let seat : after.seat.me ≡ seat_after link who p next before b t = turned_again link who p next before b t (c.out_before.result - c.out_before-before.result) c.turn_by-2.new.seat.me rest c.turn_by-2.ensures.turned in
     subst (λ (e : End). IsStateOf coded after (after_deed meaning m (deed_of (record { number = c.args.caller; end = e; follows = c.args.inc }) p)))
-    (same_user before.users c.args.caller who.end end user is) (state_after_step coded meaning link who p said next before b h after seat out refl table m known)
+    (same_user before.users c.args.caller who.end end user is) (state_after_step coded meaning link who p said next before b h after seat out refl m known)
 
 pub returns-clause-said : goal.returns-clause-said
 returns-clause-said g c = λ m known.

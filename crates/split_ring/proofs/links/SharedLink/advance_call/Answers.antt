@@ -6,14 +6,14 @@ use Rattle.split_ring.specs.Seats.{pass_in}
 use Rattle.split_ring.specs.declared.calls.Phase.{Phase}
 use Rattle.split_ring.proofs.CallEnds.{advanced}
 use Rattle.split_ring.proofs.CallSeen.{step_seen}
-use Rattle.split_ring.proofs.Focusing.{alone_leaves, alone_same, alone_seat, both_alone}
+use Rattle.split_ring.proofs.Focusing.{alone_leaves, alone_same, alone_seat, both_alone, low_own}
 use Rattle.split_ring.proofs.Phases.{phase_alone}
 use Rattle.split_ring.proofs.links.SharedLink.advance_call.Goals as goal
 
 pub step_on-next-requires-clause-seat : goal.step_on-next-requires-clause-seat
 step_on-next-requires-clause-seat g c =
     let z = c.args.self.now.sizes in let who = c.args.caller.now.id in let a = c.args.caller.now.seat.me in
-    alone_seat who.number c.args.self.now.table.shared.table_id z c.args.caller.now.seat.table_id a c.requires.seat (phase_alone who.number z who c.args.call.now.phase a c.requires.number c.requires.stands)
+    alone_seat who.number c.args.self.now.table.shared.table_id z c.args.caller.now.seat.table_id a (low_own who.number c.requires.low) c.requires.seat (phase_alone who.number z who c.args.call.now.phase a c.requires.number c.requires.stands)
 
 pub step_on-next-requires-clause-number : goal.step_on-next-requires-clause-number
 step_on-next-requires-clause-number g c =

@@ -1,11 +1,12 @@
-use Rattle.std.proofs.Common.{◌∙◌, refl, sym, ap}
+use Rattle.std.proofs.Common.{◌∙◌, refl, sym}
 use Rattle.link_words.specs.declared.rule.Made.TheVariants as made
 use Rattle.link_words.specs.Calls.{SeatState}
 use Rattle.link_words.specs.Passes.{place_of_number}
-use Rattle.split_ring.proofs.CloseSteps.{manages_noted, rests_noted, known_closed}
-use Rattle.split_ring.proofs.Makes.{rests_at}
-use Rattle.split_ring.proofs.ManagerSteps.{closed_state}
 use Rattle.link_words.specs.Seats.{is_closed_behind}
+use Rattle.split_ring.specs.declared.callers.Manager.{Manager}
+use Rattle.split_ring.proofs.CarriedCloses.{carrier_closed, keeps_closed}
+use Rattle.split_ring.proofs.CloseSteps.{known_closed, manages_noted}
+use Rattle.split_ring.proofs.ManagerSteps.{closed_state}
 use Rattle.split_ring.proofs.links.SharedLink.close_by.Goals as goal
 
 pub close_once-requires-clause-pass : goal.close_once-requires-clause-pass
@@ -16,19 +17,13 @@ close_once-requires-clause-seat g c = record { at_table = c.requires.at_table; t
 
 pub returns-clause-manager : goal.returns-clause-manager
 returns-clause-manager g c =
-    let q = c.requires in let x = c.close_once.ensures.closed in let me = c.args.manager.now.seat.me in let me' = c.close_once.new.seat.me in
-    let knows : SeatState = (record me.0 { is_closed = is_closed_behind c.args.inc x.era }, me.1) in (
-      record {
-        at_table = c.close_once.ensures.same.0 ∙ q.at_table;
-        manages = manages_noted (made.Close x.era) (place_of_number 64 me.0.passes) knows me' x.noted q.manages;
-        rests = rests_noted (made.Close x.era) (place_of_number 64 me.0.passes) knows me' _ x.noted (rests_at {me' = knows} refl q.rests);
-        knows = ap (λ (s : SeatState). s.0.users) x.noted ∙ q.knows;
-        told = ap (λ (s : SeatState). s.0.sizes) x.noted ∙ q.told;
-        empty = ap (λ (s : SeatState). s.1) x.noted ∙ q.empty;
-        order = c.close_once.ensures.order;
-      },
-      refl,
-    )
+    let x = c.close_once.ensures.closed in let before = c.args.manager.now in let after : Manager = record { seat = c.close_once.new.seat; users = before.users; out = before.out } in
+    (carrier_closed c.args.self.now before after (made.Close x.era) (is_closed_behind c.args.inc x.era) x.noted refl refl (c.close_once.ensures.same.0 ∙ c.requires.at_table) c.close_once.ensures.order c.requires, refl)
+
+pub returns-clause-others : goal.returns-clause-others
+returns-clause-others g c =
+    let x = c.close_once.ensures.closed in let before = c.args.manager.now in let after : Manager = record { seat = c.close_once.new.seat; users = before.users; out = before.out } in
+    keeps_closed c.args.self.now before after (made.Close x.era) (is_closed_behind c.args.inc x.era) x.noted refl refl
 
 pub returns-clause-known : goal.returns-clause-known
 returns-clause-known g c same =

@@ -2,7 +2,6 @@ use Rattle.std.proofs.Common.{◌≡◌, ◌∷◌, false, refl, sym, ap, ◌∙
 use Rattle.std.specs.Prelude.{Some}
 use Rattle.rp_base.specs.declared.kinds.End.{End}
 use Rattle.rp_base.specs.declared.kinds.End.TheVariants as side
-use Rattle.link_words.specs.Calls.{SeatState}
 use Rattle.link_words.specs.Parts.{has_for_manager}
 use Rattle.link_words.specs.declared.rule.Call.TheVariants.{Gathers}
 use Rattle.link_words.specs.declared.rule.LinkSizes.{LinkSizes}
@@ -11,7 +10,7 @@ use Rattle.link_words.specs.PlacedDesks.{table_at}
 use Rattle.link_words.specs.Sides.{no_sides}
 use Rattle.link_words.specs.Words.{receiver_slot}
 use Rattle.split_ring.specs.declared.callers.Manager.{Manager}
-use Rattle.split_ring.proofs.CarriedMakes.{carrier_copied, carries_copied, manager_bare, met_same}
+use Rattle.split_ring.proofs.CarriedMakes.{carrier_copied, keeps_copied, met_same}
 use Rattle.split_ring.proofs.ManagerSteps.{desk_known, receiver_held, receiver_left, rests_with, right_table, right_taken, state_again, still_resting, turn_free, turn_held}
 use Rattle.split_ring.proofs.Reopening.{manager_calls}
 use Rattle.split_ring.proofs.links.SharedLink.desk_by.Goals as goal
@@ -33,24 +32,24 @@ returns-in-Ok-clause-manager g c =
     let q = c.requires.manager in let me = c.args.manager.now.seat.me in let me2 = c.put_receiver.new.seat.me in
     let left = receiver_left c.args.end c.in-Ok.side me.1 me c.take_receiver.new.seat.me me2 me.0 (rests_with me q.rests) c.in-Ok.ensures.taken c.put_receiver.ensures.put in
     let after : Manager = record { seat = c.put_receiver.new.seat; users = c.args.manager.now.users; out = c.args.manager.now.out } in
-    carrier_copied c.args.self.now c.args.manager.now after (still_resting me me2 q.rests left) refl refl c.put_receiver.ensures.seat.at_table q
+    carrier_copied c.args.self.now c.args.manager.now after (still_resting me me2 q.rests left) refl refl c.put_receiver.ensures.seat.at_table c.put_receiver.ensures.order q
 
 pub returns-in-Ok-clause-others : goal.returns-in-Ok-clause-others
 returns-in-Ok-clause-others g c =
     let q = c.requires.manager in let me = c.args.manager.now.seat.me in let me2 = c.put_receiver.new.seat.me in
     let left = receiver_left c.args.end c.in-Ok.side me.1 me c.take_receiver.new.seat.me me2 me.0 (rests_with me q.rests) c.in-Ok.ensures.taken c.put_receiver.ensures.put in
     let after : Manager = record { seat = c.put_receiver.new.seat; users = c.args.manager.now.users; out = c.args.manager.now.out } in
-    carries_copied c.args.self.now c.args.manager.now after (still_resting me me2 q.rests left) refl refl
+    keeps_copied c.args.self.now c.args.manager.now after (still_resting me me2 q.rests left) refl refl
 
 pub returns-in-Err-clause-manager : goal.returns-in-Err-clause-manager
 returns-in-Err-clause-manager g c =
     let q = c.requires.manager in let me = c.args.manager.now.seat.me in let after : Manager = record { seat = c.take_receiver.new.seat; users = c.args.manager.now.users; out = c.args.manager.now.out } in
-    carrier_copied c.args.self.now c.args.manager.now after (met_same me c.take_receiver.new.seat.me c.in-Err.ensures.met.0) refl refl c.take_receiver.ensures.seat.at_table q
+    carrier_copied c.args.self.now c.args.manager.now after (met_same me c.take_receiver.new.seat.me c.in-Err.ensures.met.0) refl refl c.take_receiver.ensures.seat.at_table c.take_receiver.ensures.order q
 
 pub returns-in-Err-clause-others : goal.returns-in-Err-clause-others
 returns-in-Err-clause-others g c =
     let me = c.args.manager.now.seat.me in let after : Manager = record { seat = c.take_receiver.new.seat; users = c.args.manager.now.users; out = c.args.manager.now.out } in
-    carries_copied c.args.self.now c.args.manager.now after (met_same me c.take_receiver.new.seat.me c.in-Err.ensures.met.0) refl refl
+    keeps_copied c.args.self.now c.args.manager.now after (met_same me c.take_receiver.new.seat.me c.in-Err.ensures.met.0) refl refl
 
 pub returns-in-Ok-clause-state : goal.returns-in-Ok-clause-state
 returns-in-Ok-clause-state g c = λ m is.
@@ -77,15 +76,3 @@ returns-in-Err-clause-holder g c = let q = c.requires.manager in let me = c.args
     none_there : (e : End) → has_for_manager e (Gathers no_sides no_sides) ≡ false
     none_there side.Host = refl
     none_there side.Remote = refl
-
-pub returns-in-Ok-clause-bare : goal.returns-in-Ok-clause-bare
-returns-in-Ok-clause-bare g c = λ old.
-    let q = c.requires.manager in let me = c.args.manager.now.seat.me in let me2 = c.put_receiver.new.seat.me in
-    let left = receiver_left c.args.end c.in-Ok.side me.1 me c.take_receiver.new.seat.me me2 me.0 (rests_with me q.rests) c.in-Ok.ensures.taken c.put_receiver.ensures.put in
-    let after : Manager = record { seat = c.put_receiver.new.seat; users = c.args.manager.now.users; out = c.args.manager.now.out } in
-    manager_bare c.args.self.now after (returns-in-Ok-clause-manager g c) (ap (λ (s : SeatState). s.1) (still_resting me me2 q.rests left) ∙ old.empty)
-
-pub returns-in-Err-clause-bare : goal.returns-in-Err-clause-bare
-returns-in-Err-clause-bare g c = λ old.
-    let me = c.args.manager.now.seat.me in let after : Manager = record { seat = c.take_receiver.new.seat; users = c.args.manager.now.users; out = c.args.manager.now.out } in
-    manager_bare c.args.self.now after (returns-in-Err-clause-manager g c) (ap (λ (s : SeatState). s.1) c.in-Err.ensures.met.0 ∙ old.empty)

@@ -7,7 +7,7 @@ use Rattle.link_words.specs.Passes.{Manages, first_incarnation, new_pass, with_n
 use Rattle.link_words.proofs.Moving.{still_manages}
 use Rattle.split_ring.specs.declared.callers.Manager.{Manager}
 use Rattle.split_ring.specs.Carried.{HasBlocks}
-use Rattle.split_ring.proofs.CarriedMakes.{blocks_longer, manager_bare, new_carried, others_enlisted}
+use Rattle.split_ring.proofs.CarriedMakes.{blocks_longer, new_carried, others_enlisted}
 use Rattle.split_ring.proofs.Enlisting.{new_view, enlisted_at, enlisted_carrier}
 use Rattle.split_ring.proofs.links.SharedLink.enlist.Goals as goal
 
@@ -48,8 +48,3 @@ returns-clause-others g c = λ who p carried.
     let here : free_number users ≡ Some n = sym c.in_ok-number.ensures.number in let free : free_number me.0.users ≡ Some n = ap free_number q.knows ∙ here in
     let after : Manager = record { seat = c.enlist_carried.new.manager; users = slice_set users n (Some e); out = c.args.manager.now.out } in
     others_enlisted c.args.self.now c.args.manager.now after e n here me'.0.copy (told ∙ (λ i. (new_view e me.0 me'.0.copy n free i, me.1))) refl refl who p carried
-
-pub returns-clause-bare : goal.returns-clause-bare
-returns-clause-bare g c = λ old.
-    let n = c.in_ok-number.number in let after : Manager = record { seat = c.enlist_carried.new.manager; users = slice_set c.args.manager.now.users n (Some c.args.end); out = c.args.manager.now.out } in
-    manager_bare c.args.self.now after (returns-clause-manager g c) (ap (λ (s : SeatState). s.1) c.enlist_carried.ensures.told ∙ old.empty)

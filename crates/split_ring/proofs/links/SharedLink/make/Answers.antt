@@ -1,5 +1,8 @@
-use Rattle.std.proofs.Common.{◌≡◌, ◌<◌, ℕ, length, refl, sym, ap, ◌∙◌, subst, arith}
+use Rattle.std.proofs.Common.{◌≡◌, ◌<◌, ℕ, zero, suc, [], ◌∷◌, length, refl, sym, ap, ◌∙◌, subst, arith}
+use mathlib.Core.Option.{some, some-injective, some-ne-none}
+use lib.ListN.{get_elem?}
 use Rattle.rp_base.specs.declared.kinds.End.TheVariants as side
+use Rattle.link_words.specs.declared.rule.Pass.{Pass}
 use Rattle.link_words.specs.declared.codes.DeskRight.{DeskRight}
 use Rattle.link_words.specs.declared.codes.DeskTables.{DeskTables}
 use Rattle.link_words.specs.declared.rule.LinkSizes.{LinkSizes}
@@ -19,6 +22,11 @@ use Rattle.split_ring.proofs.CarriedMakes.{no_blocks}
 use Rattle.split_ring.proofs.Makes.{makes, code_is, has_entry, first_knows}
 use Rattle.split_ring.proofs.Focusing.{one_order}
 use Rattle.split_ring.proofs.links.SharedLink.make.Goals as goal
+
+-- the one pass of a new link's manager has its number
+first_alone : (place : ℕ) (q : Pass) → get_elem? (record { number = 64; call = Gathers no_sides no_sides; first = 0; own = []; hands = [] } ∷ []) place ≡ some q → q.number ≡ 64
+first_alone zero q there = ap (λ (p : Pass). p.number) (sym (some-injective _ q there))
+first_alone (suc k) q there = absurd (some-ne-none q (sym there))
 
 pub new-requires : goal.new-requires
 new-requires g c =
@@ -57,18 +65,6 @@ invariant_of-result g c =
       };
     }
 
-pub returns-in-Ok-clause-manager : goal.returns-in-Ok-clause-manager
-returns-in-Ok-clause-manager g c =
-    let ok = c.in-Ok.ensures.ok in let view = ap (λ (s : SeatState). s.0) ok.4 in record {
-      at_table = ok.2;
-      manages = subst Manages (sym view) (0, _, refl, refl);
-      rests = subst (λ (s : SeatState). ManagerAt s (Gathers no_sides no_sides)) (sym ok.4) (record { mover = record { place = 0; pass = _; here = refl }; here = refl; number = refl; in_call = refl });
-      knows = ap (λ (v : View). v.users) view;
-      told = ap (λ (v : View). v.sizes) view;
-      empty = ap (λ (s : SeatState). s.1) ok.4;
-      order = one_order c.in-Ok.seat.me.0 _ (ap (λ (v : View). v.passes) view);
-    }
-
 pub returns-in-Ok-clause-state : goal.returns-in-Ok-clause-state
 returns-in-Ok-clause-state g c =
     let config = c.args.config in let desks : DeskTables = record { host = c.of.result; remote = c.of-2.result } in
@@ -82,14 +78,15 @@ returns-in-Ok-clause-state g c =
       users = refl;
     }
 
-pub returns-in-Ok-clause-carrier : goal.returns-in-Ok-clause-carrier
-returns-in-Ok-clause-carrier g c =
+pub returns-in-Ok-clause-manager : goal.returns-in-Ok-clause-manager
+returns-in-Ok-clause-manager g c =
     let ok = c.in-Ok.ensures.ok in let view = ap (λ (s : SeatState). s.0) ok.4 in record {
       at_table = ok.2;
       manages = subst Manages (sym view) (0, _, refl, refl);
       rests = subst (λ (s : SeatState). ManagerAt s (Gathers no_sides no_sides)) (sym ok.4) (record { mover = record { place = 0; pass = _; here = refl }; here = refl; number = refl; in_call = refl });
       knows = ap (λ (v : View). v.users) view;
       told = ap (λ (v : View). v.sizes) view;
-      order = one_order c.in-Ok.seat.me.0 _ (ap (λ (v : View). v.passes) view);
+      order = one_order c.in-Ok.seat.me.0 _ (ap (λ (v : View). v.passes) view)
+          (λ manages out k was place q there other. absurd (other (first_alone place q (subst (λ (v : View). get_elem? v.passes place ≡ some q) view there))));
       blocks = no_blocks c.in-Ok.seat.me (ap (λ (s : SeatState). s.1) ok.4);
     }

@@ -1,4 +1,4 @@
-use Rattle.std.proofs.Common.{ℕ, List, length, refl, sym, ap, ◌∙◌}
+use Rattle.std.proofs.Common.{ℕ, List, [], length, refl, sym, ap, ◌∙◌}
 use Rattle.link_words.specs.Calls.{SeatState}
 use Rattle.link_words.specs.Deeds.{Opens, after_deed}
 use Rattle.link_words.specs.Fresh.{fresh_of}
@@ -52,6 +52,7 @@ put_lanes-requires-clause-manager g c =
     let o = has_opened coded meaning z v (length (fresh_of z)) inc x u y w all_slots me2 me3 c.reset_words.ensures.seat.told reset c.open_era.ensures.told in
     let h = c.next_states-next_host in let r = c.next_states-next_remote in (
       next_view v,
+      [],
       has_next (next_view v) z.book (record y.desk { code = coded.code (meaning.fresh o.0) }) (record w.desk { code = coded.code (meaning.fresh o.1) }) h.result.0.sender r.result.0.sender h.result.0.receiver r.result.0.receiver me3 o.4
           (h.ensures.sender ∙ c.requires.host.0) (h.ensures.receiver o.0 o.2.code) (r.ensures.sender ∙ c.requires.remote.0) (r.ensures.receiver o.1 o.3.code),
     )
@@ -62,7 +63,7 @@ returns-clause-next g c = λ v all same.
     let closed = ap (λ (s : SeatState). s.0.is_closed) c.requires.manager.1.is ∙ c.requires.manager.3 in
     let reset = was_reset z v inc c.begin_reopening.result x u y w me me1 me2 all closed same c.begin_reopening.ensures.told c.reset_words.ensures.all in
     let o = has_opened coded meaning z v (length (fresh_of z)) inc x u y w all_slots me2 me3 c.reset_words.ensures.seat.told reset c.open_era.ensures.told in
-    c.put_lanes.ensures.put (next_view v) (opened_sides z.book (record y.desk { code = coded.code (meaning.fresh o.0) })) (opened_sides z.book (record w.desk { code = coded.code (meaning.fresh o.1) })) o.4
+    c.put_lanes.ensures.put (next_view v) (opened_sides z.book (record y.desk { code = coded.code (meaning.fresh o.0) })) (opened_sides z.book (record w.desk { code = coded.code (meaning.fresh o.1) })) [] o.4
 
 pub returns-clause-told : goal.returns-clause-told
 returns-clause-told g c = let h = c.next_states-next_host.ensures.closed in let r = c.next_states-next_remote.ensures.closed in record {

@@ -1,8 +1,12 @@
-use Rattle.std.proofs.Common.{◌+◌, ◌<◌, ℕ, refl, sym, ap, ◌∙◌, subst, inl, inr, true, false}
+use Rattle.std.proofs.Common.{◌+◌, ◌<◌, ℕ, List, [], refl, sym, ap, ◌∙◌, subst, inl, inr, true, false}
+use Rattle.link_words.specs.declared.rule.Slot.{Slot}
 use Rattle.link_words.specs.declared.rule.View.{View}
 use Rattle.link_words.specs.Reopens.{both_sides}
-use Rattle.split_ring.specs.Reopens.{next_view, unopened_from}
-use Rattle.split_ring.proofs.Reopening.{rests_none, none_view, manager_again, refused_is}
+use Rattle.split_ring.specs.declared.callers.Manager.{Manager}
+use Rattle.split_ring.specs.Reopens.{HasNoneBeside, next_view, refusal_from}
+use Rattle.split_ring.proofs.CarriedMakes.{carrier_kept, keeps_same}
+use Rattle.split_ring.proofs.Emptied.{all_alone, none_carried}
+use Rattle.split_ring.proofs.Reopening.{none_seat, refused_is, rests_looked}
 use Rattle.rp_base.specs.declared.kinds.End.TheVariants as side
 use Rattle.link_words.specs.Calls.{SeatState}
 use Rattle.split_ring.proofs.Gathering.{holder_by, in_use_by}
@@ -13,83 +17,128 @@ use Rattle.link_words.specs.PlacedLinks.{KnowsState}
 use Rattle.split_ring.specs.States.{all_taken}
 use Rattle.split_ring.proofs.StateSteps.{all_again}
 use Rattle.split_ring.proofs.Reopened.{told_books, unopened_is, unopened_live, unopened_turn}
-use Rattle.split_ring.proofs.Focusing.{order_same}
 use Rattle.split_ring.proofs.links.SharedLink.reopen.Goals as goal
 
 pub returns-in-Err-find_closed-clause-manager : goal.returns-in-Err-find_closed-clause-manager
 returns-in-Err-find_closed-clause-manager g c =
-    let me = c.args.manager.now.seat.me in let me1 = c.find_closed.new.seat.me in
-    manager_again _ _ _ _ (record me.0 { is_closed = false }) me1 c.find_closed.ensures.seat (rests_none me me1 false c.requires.rests c.requires.empty c.in-Err-find_closed.ensures.open.1) c.requires.knows (order_same me.0 (record me.0 { is_closed = false }) refl c.requires.order)
+    let q = c.requires in let me = c.args.manager.now.seat.me in let me1 = c.find_closed.new.seat.me in
+    let after : Manager = record { seat = c.find_closed.new.seat; users = c.args.manager.now.users; out = c.args.manager.now.out } in
+    (carrier_kept c.args.self.now c.args.manager.now after (record me.0 { is_closed = false }) c.in-Err-find_closed.ensures.open.1 refl refl refl refl refl c.find_closed.ensures.seat.at_table c.find_closed.ensures.order q, refl)
+
+pub returns-in-Err-find_closed-clause-others : goal.returns-in-Err-find_closed-clause-others
+returns-in-Err-find_closed-clause-others g c =
+    let q = c.requires in let me = c.args.manager.now.seat.me in let me1 = c.find_closed.new.seat.me in
+    let after : Manager = record { seat = c.find_closed.new.seat; users = c.args.manager.now.users; out = c.args.manager.now.out } in
+    keeps_same c.args.self.now c.args.manager.now after (record me.0 { is_closed = false }) c.in-Err-find_closed.ensures.open.1 refl refl refl
 
 pub take_lanes-requires-clause-manager : goal.take_lanes-requires-clause-manager
 take_lanes-requires-clause-manager g c =
-    let me = c.args.manager.now.seat.me in let me1 = c.find_closed.new.seat.me in let v : View = record me.0 { is_closed = true } in let closed = c.in-Ok-find_closed.ensures.closed in
-    let none = rests_none me me1 true c.requires.rests c.requires.empty closed.2 in (v, none)
+    let q = c.requires in let me = c.args.manager.now.seat.me in let me1 = c.find_closed.new.seat.me in let v : View = record me.0 { is_closed = true } in let closed = c.in-Ok-find_closed.ensures.closed in (v, (me.1, rests_looked me me1 true q.rests closed.2))
 
 pub returns-in-Err-take_lanes-clause-manager : goal.returns-in-Err-take_lanes-clause-manager
 returns-in-Err-take_lanes-clause-manager g c =
-    let me = c.args.manager.now.seat.me in let me1 = c.find_closed.new.seat.me in let v : View = record me.0 { is_closed = true } in let closed = c.in-Ok-find_closed.ensures.closed in
-    let none = rests_none me me1 true c.requires.rests c.requires.empty closed.2 in
-    manager_again _ _ _ _ v c.take_lanes.new.seat.me c.take_lanes.ensures.seat (c.in-Err-take_lanes.ensures.met.0 v none) c.requires.knows (order_same me.0 v refl c.requires.order)
+    let q = c.requires in let me = c.args.manager.now.seat.me in let me1 = c.find_closed.new.seat.me in let v : View = record me.0 { is_closed = true } in let closed = c.in-Ok-find_closed.ensures.closed in
+    let none = rests_looked me me1 true q.rests closed.2 in let same = none_seat me v me.1 c.take_lanes.new.seat.me q.rests refl (c.in-Err-take_lanes.ensures.met.0 v me.1 none) in
+    let after : Manager = record { seat = c.take_lanes.new.seat; users = c.args.manager.now.users; out = c.args.manager.now.out } in
+    (carrier_kept c.args.self.now c.args.manager.now after (record v { copy = c.take_lanes.new.seat.me.0.copy }) same refl refl refl refl refl c.take_lanes.ensures.seat.at_table c.take_lanes.ensures.order q, refl)
+
+pub returns-in-Err-take_lanes-clause-others : goal.returns-in-Err-take_lanes-clause-others
+returns-in-Err-take_lanes-clause-others g c =
+    let q = c.requires in let me = c.args.manager.now.seat.me in let me1 = c.find_closed.new.seat.me in let v : View = record me.0 { is_closed = true } in let closed = c.in-Ok-find_closed.ensures.closed in
+    let none = rests_looked me me1 true q.rests closed.2 in let same = none_seat me v me.1 c.take_lanes.new.seat.me q.rests refl (c.in-Err-take_lanes.ensures.met.0 v me.1 none) in
+    let after : Manager = record { seat = c.take_lanes.new.seat; users = c.args.manager.now.users; out = c.args.manager.now.out } in
+    keeps_same c.args.self.now c.args.manager.now after (record v { copy = c.take_lanes.new.seat.me.0.copy }) same refl refl refl
 
 pub returns-in-Err-take_lanes-clause-answer : goal.returns-in-Err-take_lanes-clause-answer
 returns-in-Err-take_lanes-clause-answer g c =
-    let me = c.args.manager.now.seat.me in let me1 = c.find_closed.new.seat.me in let v : View = record me.0 { is_closed = true } in let closed = c.in-Ok-find_closed.ensures.closed in
-    let none = rests_none me me1 true c.requires.rests c.requires.empty closed.2 in
+    let q = c.requires in let me = c.args.manager.now.seat.me in let me1 = c.find_closed.new.seat.me in let v : View = record me.0 { is_closed = true } in let closed = c.in-Ok-find_closed.ensures.closed in
+    let none = rests_looked me me1 true q.rests closed.2 in
     let met = c.in-Err-take_lanes.ensures.met in (
       me1,
-      none,
+      (me.1, none),
       met.1,
-      none_view me v c.take_lanes.new.seat.me c.requires.rests refl (met.0 v none),
+      ap (λ (s : SeatState). s.0) (none_seat me v me.1 c.take_lanes.new.seat.me q.rests refl (met.0 v me.1 none)),
       holder_by me.0 me1.0 c.in-Err-take_lanes.holder (ap (λ (s : SeatState). s.0.users) closed.2) c.in-Err-take_lanes.ensures.holder,
     )
 
 pub put_lanes-requires-clause-manager : goal.put_lanes-requires-clause-manager
 put_lanes-requires-clause-manager g c =
-    let me = c.args.manager.now.seat.me in let me1 = c.find_closed.new.seat.me in let v : View = record me.0 { is_closed = true } in let closed = c.in-Ok-find_closed.ensures.closed in
-    let none = rests_none me me1 true c.requires.rests c.requires.empty closed.2 in (v, c.in-Ok-take_lanes.ensures.taken v none)
+    let q = c.requires in let me = c.args.manager.now.seat.me in let me1 = c.find_closed.new.seat.me in let v : View = record me.0 { is_closed = true } in let closed = c.in-Ok-find_closed.ensures.closed in
+    let none = rests_looked me me1 true q.rests closed.2 in (v, me.1, c.in-Ok-take_lanes.ensures.taken v me.1 none)
 
 pub open_next-requires-clause-manager : goal.open_next-requires-clause-manager
 open_next-requires-clause-manager g c =
-    let me = c.args.manager.now.seat.me in let me1 = c.find_closed.new.seat.me in let v : View = record me.0 { is_closed = true } in let closed = c.in-Ok-find_closed.ensures.closed in
-    let none = rests_none me me1 true c.requires.rests c.requires.empty closed.2 in (v, c.in-Ok-take_lanes.ensures.taken v none, closed.0, refl)
+    let q = c.requires in let me = c.args.manager.now.seat.me in let me1 = c.find_closed.new.seat.me in let v : View = record me.0 { is_closed = true } in let closed = c.in-Ok-find_closed.ensures.closed in
+    let none = rests_looked me me1 true q.rests closed.2 in
+    let taken = c.in-Ok-take_lanes.ensures.taken v me.1 none in let h = c.in-Ok-take_lanes.lanes.0 in let r = c.in-Ok-take_lanes.lanes.1 in let me2 = c.take_lanes.new.seat.me in
+    let all = all_alone c.args.manager.now.out me v h.sender r.sender h.receiver r.receiver me2 q.blocks q.rests refl taken c.in-Ok-take_lanes.ensures.order in (v, all, closed.0, refl)
 
 pub returns-in-Some-clause-manager : goal.returns-in-Some-clause-manager
 returns-in-Some-clause-manager g c =
-    let me = c.args.manager.now.seat.me in let me1 = c.find_closed.new.seat.me in let v : View = record me.0 { is_closed = true } in let closed = c.in-Ok-find_closed.ensures.closed in
-    let none = rests_none me me1 true c.requires.rests c.requires.empty closed.2 in
-    let taken = c.in-Ok-take_lanes.ensures.taken v none in let h = c.in-Ok-take_lanes.lanes.0 in let r = c.in-Ok-take_lanes.lanes.1 in let me2 = c.take_lanes.new.seat.me in
-    manager_again _ _ _ _ v c.put_lanes.new.seat.me c.put_lanes.ensures.seat (c.put_lanes.ensures.put v (both_sides h.sender h.receiver) (both_sides r.sender r.receiver) taken) c.requires.knows (order_same me.0 v refl c.requires.order)
+    let q = c.requires in let me = c.args.manager.now.seat.me in let me1 = c.find_closed.new.seat.me in let v : View = record me.0 { is_closed = true } in let closed = c.in-Ok-find_closed.ensures.closed in
+    let none = rests_looked me me1 true q.rests closed.2 in
+    let taken = c.in-Ok-take_lanes.ensures.taken v me.1 none in let h = c.in-Ok-take_lanes.lanes.0 in let r = c.in-Ok-take_lanes.lanes.1 in let me2 = c.take_lanes.new.seat.me in
+    let left = c.put_lanes.ensures.put v (both_sides h.sender h.receiver) (both_sides r.sender r.receiver) me.1 taken in let same = none_seat me v me.1 c.put_lanes.new.seat.me q.rests refl left in
+    let after : Manager = record { seat = c.put_lanes.new.seat; users = c.args.manager.now.users; out = c.args.manager.now.out } in
+    (carrier_kept c.args.self.now c.args.manager.now after (record v { copy = c.put_lanes.new.seat.me.0.copy }) same refl refl refl refl refl c.put_lanes.ensures.seat.at_table c.put_lanes.ensures.order q, refl)
+
+pub returns-in-Some-clause-others : goal.returns-in-Some-clause-others
+returns-in-Some-clause-others g c =
+    let q = c.requires in let me = c.args.manager.now.seat.me in let me1 = c.find_closed.new.seat.me in let v : View = record me.0 { is_closed = true } in let closed = c.in-Ok-find_closed.ensures.closed in
+    let none = rests_looked me me1 true q.rests closed.2 in
+    let taken = c.in-Ok-take_lanes.ensures.taken v me.1 none in let h = c.in-Ok-take_lanes.lanes.0 in let r = c.in-Ok-take_lanes.lanes.1 in let me2 = c.take_lanes.new.seat.me in
+    let left = c.put_lanes.ensures.put v (both_sides h.sender h.receiver) (both_sides r.sender r.receiver) me.1 taken in let same = none_seat me v me.1 c.put_lanes.new.seat.me q.rests refl left in
+    let after : Manager = record { seat = c.put_lanes.new.seat; users = c.args.manager.now.users; out = c.args.manager.now.out } in
+    keeps_same c.args.self.now c.args.manager.now after (record v { copy = c.put_lanes.new.seat.me.0.copy }) same refl refl refl
 
 pub returns-in-Some-clause-answer : goal.returns-in-Some-clause-answer
 returns-in-Some-clause-answer g c =
-    let me = c.args.manager.now.seat.me in let me1 = c.find_closed.new.seat.me in let v : View = record me.0 { is_closed = true } in let closed = c.in-Ok-find_closed.ensures.closed in
-    let none = rests_none me me1 true c.requires.rests c.requires.empty closed.2 in
-    let taken = c.in-Ok-take_lanes.ensures.taken v none in let h = c.in-Ok-take_lanes.lanes.0 in let r = c.in-Ok-take_lanes.lanes.1 in let me2 = c.take_lanes.new.seat.me in
-    let left = c.put_lanes.ensures.put v (both_sides h.sender h.receiver) (both_sides r.sender r.receiver) taken in
-    refused_is g.row.D.coded g.D.Desk.meaning me.0 h.sender r.sender h.receiver r.receiver me2 c.in-Some.fault c.put_lanes.new.seat.me.0 taken
+    let q = c.requires in let me = c.args.manager.now.seat.me in let me1 = c.find_closed.new.seat.me in let v : View = record me.0 { is_closed = true } in let closed = c.in-Ok-find_closed.ensures.closed in
+    let none = rests_looked me me1 true q.rests closed.2 in
+    let taken = c.in-Ok-take_lanes.ensures.taken v me.1 none in let h = c.in-Ok-take_lanes.lanes.0 in let r = c.in-Ok-take_lanes.lanes.1 in let me2 = c.take_lanes.new.seat.me in
+    let all = all_alone c.args.manager.now.out me v h.sender r.sender h.receiver r.receiver me2 q.blocks q.rests refl taken c.in-Ok-take_lanes.ensures.order in
+    let left = c.put_lanes.ensures.put v (both_sides h.sender h.receiver) (both_sides r.sender r.receiver) me.1 taken in
+    refused_is g.row.D.coded g.D.Desk.meaning me.0 h.sender r.sender h.receiver r.receiver me2 c.in-Some.fault c.put_lanes.new.seat.me.0 all
     (in_use_by me.0 me1.0 side.Host h.receiver.hands (ap (λ (s : SeatState). s.0.users) closed.2) c.in-Ok-take_lanes.ensures.users.0) (in_use_by me.0 me1.0 side.Remote r.receiver.hands (ap (λ (s : SeatState). s.0.users) closed.2) c.in-Ok-take_lanes.ensures.users.1)
-    (ap (λ (k : ℕ). unopened_from h.receiver.hands r.receiver.hands k) (sym closed.0) ∙ sym c.in-Some.ensures.fault) (none_view me v c.put_lanes.new.seat.me c.requires.rests refl left)
+    (ap (λ (k : ℕ). refusal_from h.receiver.hands r.receiver.hands k) (sym closed.0) ∙ sym c.in-Some.ensures.fault) (ap (λ (s : SeatState). s.0) (none_seat me v me.1 c.put_lanes.new.seat.me q.rests refl left))
 
 pub returns-in-None-clause-manager : goal.returns-in-None-clause-manager
 returns-in-None-clause-manager g c =
-    let me = c.args.manager.now.seat.me in let me1 = c.find_closed.new.seat.me in let v : View = record me.0 { is_closed = true } in let closed = c.in-Ok-find_closed.ensures.closed in
-    let none = rests_none me me1 true c.requires.rests c.requires.empty closed.2 in
-    let taken = c.in-Ok-take_lanes.ensures.taken v none in let h = c.in-Ok-take_lanes.lanes.0 in let r = c.in-Ok-take_lanes.lanes.1 in let me2 = c.take_lanes.new.seat.me in
-    manager_again _ _ _ _ (next_view v) c.open_next.new.seat.me c.open_next.ensures.seat (c.open_next.ensures.next v taken (sym closed.0)) c.requires.knows (order_same me.0 (next_view v) refl c.requires.order)
+    let q = c.requires in let me = c.args.manager.now.seat.me in let me1 = c.find_closed.new.seat.me in let v : View = record me.0 { is_closed = true } in let closed = c.in-Ok-find_closed.ensures.closed in
+    let none = rests_looked me me1 true q.rests closed.2 in
+    let taken = c.in-Ok-take_lanes.ensures.taken v me.1 none in let h = c.in-Ok-take_lanes.lanes.0 in let r = c.in-Ok-take_lanes.lanes.1 in let me2 = c.take_lanes.new.seat.me in
+    let all = all_alone c.args.manager.now.out me v h.sender r.sender h.receiver r.receiver me2 q.blocks q.rests refl taken c.in-Ok-take_lanes.ensures.order in
+    let none_out = none_carried c.args.manager.now.out me v h.sender r.sender h.receiver r.receiver me2 q.blocks q.rests refl taken c.in-Ok-take_lanes.ensures.order in
+    let next = c.open_next.ensures.next v all (sym closed.0) in
+    let seat = none_seat me (next_view v) me.1 c.open_next.new.seat.me q.rests refl (subst (λ (l : List (ℕ × Slot)). HasNoneBeside l (next_view v) c.open_next.new.seat.me) (sym none_out) next) in
+    let after : Manager = record { seat = c.open_next.new.seat; users = c.args.manager.now.users; out = c.args.manager.now.out } in
+    (carrier_kept c.args.self.now c.args.manager.now after (record (next_view v) { copy = c.open_next.new.seat.me.0.copy }) seat refl refl refl refl refl c.open_next.ensures.seat.at_table c.open_next.ensures.order q, refl)
+
+pub returns-in-None-clause-others : goal.returns-in-None-clause-others
+returns-in-None-clause-others g c =
+    let q = c.requires in let me = c.args.manager.now.seat.me in let me1 = c.find_closed.new.seat.me in let v : View = record me.0 { is_closed = true } in let closed = c.in-Ok-find_closed.ensures.closed in
+    let none = rests_looked me me1 true q.rests closed.2 in
+    let taken = c.in-Ok-take_lanes.ensures.taken v me.1 none in let h = c.in-Ok-take_lanes.lanes.0 in let r = c.in-Ok-take_lanes.lanes.1 in let me2 = c.take_lanes.new.seat.me in
+    let all = all_alone c.args.manager.now.out me v h.sender r.sender h.receiver r.receiver me2 q.blocks q.rests refl taken c.in-Ok-take_lanes.ensures.order in
+    let none_out = none_carried c.args.manager.now.out me v h.sender r.sender h.receiver r.receiver me2 q.blocks q.rests refl taken c.in-Ok-take_lanes.ensures.order in
+    let next = c.open_next.ensures.next v all (sym closed.0) in
+    let seat = none_seat me (next_view v) me.1 c.open_next.new.seat.me q.rests refl (subst (λ (l : List (ℕ × Slot)). HasNoneBeside l (next_view v) c.open_next.new.seat.me) (sym none_out) next) in
+    let after : Manager = record { seat = c.open_next.new.seat; users = c.args.manager.now.users; out = c.args.manager.now.out } in
+    keeps_same c.args.self.now c.args.manager.now after (record (next_view v) { copy = c.open_next.new.seat.me.0.copy }) seat refl refl refl
 
 pub returns-in-None-clause-answer : goal.returns-in-None-clause-answer
 returns-in-None-clause-answer g c =
-    let me = c.args.manager.now.seat.me in let me1 = c.find_closed.new.seat.me in let v : View = record me.0 { is_closed = true } in let closed = c.in-Ok-find_closed.ensures.closed in
-    let none = rests_none me me1 true c.requires.rests c.requires.empty closed.2 in
-    let taken = c.in-Ok-take_lanes.ensures.taken v none in let h = c.in-Ok-take_lanes.lanes.0 in let r = c.in-Ok-take_lanes.lanes.1 in let me2 = c.take_lanes.new.seat.me in
-    let next = c.open_next.ensures.next v taken (sym closed.0) in let t = c.open_next.ensures.books v taken (sym closed.0) refl in (
+    let q = c.requires in let me = c.args.manager.now.seat.me in let me1 = c.find_closed.new.seat.me in let v : View = record me.0 { is_closed = true } in let closed = c.in-Ok-find_closed.ensures.closed in
+    let none = rests_looked me me1 true q.rests closed.2 in
+    let taken = c.in-Ok-take_lanes.ensures.taken v me.1 none in let h = c.in-Ok-take_lanes.lanes.0 in let r = c.in-Ok-take_lanes.lanes.1 in let me2 = c.take_lanes.new.seat.me in
+    let all = all_alone c.args.manager.now.out me v h.sender r.sender h.receiver r.receiver me2 q.blocks q.rests refl taken c.in-Ok-take_lanes.ensures.order in
+    let next = c.open_next.ensures.next v all (sym closed.0) in let t = c.open_next.ensures.books v all (sym closed.0) refl in (
       t.0,
       record { own = t.1.own; unused = t.1.unused; ended = t.1.ended; back = t.1.back },
       t.2,
       c.open_next.ensures.inc ∙ closed.0,
       subst (λ (k : ℕ). k + 1 < 4294967296) closed.0 c.in-None.ensures.none.2,
-      none_view me (next_view v) c.open_next.new.seat.me c.requires.rests refl next,
+      ap (λ (s : SeatState). s.0) (none_seat me (next_view v) [] c.open_next.new.seat.me q.rests refl next),
     )
 
 pub returns-in-Err-clause-state : goal.returns-in-Err-clause-state

@@ -1,5 +1,7 @@
-use Rattle.std.proofs.Common.{◌≡◌, ◌+◌, ◌-◌, ◌∙◌, arith}
+use Rattle.std.proofs.Common.{◌≡◌, ◌+◌, ◌-◌, ◌∙◌, subst, sym, arith}
 use Rattle.lane_model.specs.declared.recoveries.LaneTurn.TheVariants as lane_turn
+use Rattle.link_words.specs.Calls.{SeatState}
+use Rattle.link_words.specs.Orderly.{IsOrderly}
 use Rattle.link_words.specs.Words.{receiver_slot}
 use Rattle.link_words.specs.declared.rule.Slot.TheVariants.{Receiver}
 use Rattle.split_ring.proofs.ManagerSteps.{finds_to}
@@ -35,3 +37,6 @@ returns-then-found-eq0-clause-users g c =
 pub returns-then-found-eq0-clause-step : goal.returns-then-found-eq0-clause-step
 returns-then-found-eq0-clause-step g c =
     finds_to g.row.D.coded g.D.Desk.meaning lane_turn.Receiver c.args.lane c.take_for_manager-found.result c.args.seat.now.me c.take_for_manager-found.new.manager.me c.exchange.new.seat.me _ c.if-found-eq0.true c.exchange.ensures.3 c.take_for_manager-found.ensures.step
+
+pub returns-then-found-eq0-clause-order : goal.returns-then-found-eq0-clause-order
+returns-then-found-eq0-clause-order g c = subst (λ (s : SeatState). IsOrderly s.0) (sym c.exchange.ensures.3) c.take_for_manager-found.ensures.order

@@ -1,5 +1,7 @@
-use Rattle.std.proofs.Common.{◌≡◌, ◌+◌, ◌-◌, ◌∙◌, arith}
+use Rattle.std.proofs.Common.{◌≡◌, ◌+◌, ◌-◌, ◌∙◌, subst, sym, arith}
 use Rattle.lane_model.specs.declared.recoveries.LaneTurn.TheVariants as lane_turn
+use Rattle.link_words.specs.Calls.{SeatState}
+use Rattle.link_words.specs.Orderly.{IsOrderly}
 use Rattle.link_words.specs.Words.{other, sender_slot}
 use Rattle.link_words.specs.declared.rule.Slot.TheVariants.{Sender}
 use Rattle.split_ring.proofs.ManagerSteps.{finds_to}
@@ -30,3 +32,6 @@ returns-else-found-eq0-clause-holder g c = let me = c.args.seat.now.me in
 pub returns-then-found-eq0-clause-step : goal.returns-then-found-eq0-clause-step
 returns-then-found-eq0-clause-step g c =
     finds_to g.row.D.coded g.D.Desk.meaning lane_turn.Sender c.args.lane c.take_for_manager-found.result c.args.seat.now.me c.take_for_manager-found.new.manager.me c.exchange.new.seat.me _ c.if-found-eq0.true c.exchange.ensures.3 c.take_for_manager-found.ensures.step
+
+pub returns-then-found-eq0-clause-order : goal.returns-then-found-eq0-clause-order
+returns-then-found-eq0-clause-order g c = subst (λ (s : SeatState). IsOrderly s.0) (sym c.exchange.ensures.3) c.take_for_manager-found.ensures.order

@@ -1,7 +1,7 @@
 use Rattle.std.proofs.Common.{arith, refl}
 use Rattle.std.specs.Prelude.{IsTrue}
 use Rattle.std.specs.Int.{is_power_of_two}
-use Rattle.link_threads.proofs.carried.can_carry.Goals as goal
+use Rattle.link_threads.proofs.small_links.small_link.Goals as goal
 
 power : IsTrue (is_power_of_two 64)
 unfolding lib.Count.ones

@@ -2,7 +2,7 @@ use Rattle.std.proofs.Common.{ap, ◌∙◌}
 use Rattle.atomic_table.specs.Table.{turned}
 use Rattle.link_words.specs.Calls.{SeatState}
 use Rattle.split_ring.proofs.Turning.{turned_last}
-use Rattle.split_ring.proofs.carried.turn_by.Goals as goal
+use Rattle.split_ring.proofs.slots.turn_by.Goals as goal
 
 -- one more is turned
 pub loop-preserved : goal.loop-preserved

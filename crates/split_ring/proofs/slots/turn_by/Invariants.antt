@@ -1,6 +1,6 @@
 use Rattle.std.proofs.Common.{◌≡◌}
 use Rattle.split_ring.specs.Carried.{turned_by}
-use Rattle.split_ring.proofs.carried.turn_by.Given as goal
+use Rattle.split_ring.proofs.slots.turn_by.Given as goal
 
 -- so many are turned
 abbrev pub invariant-loop : goal.invariant-loop

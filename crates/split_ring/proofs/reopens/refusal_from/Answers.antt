@@ -1,6 +1,6 @@
 use Rattle.std.proofs.Common.{sym, ◌∙◌}
 use Rattle.split_ring.proofs.Reopening.{none_least, if_none}
-use Rattle.split_ring.proofs.reopens.unopened_from.Goals as goal
+use Rattle.split_ring.proofs.reopens.refusal_from.Goals as goal
 
 pub returns-in-None-least_hand-clause-none : goal.returns-in-None-least_hand-clause-none
 returns-in-None-least_hand-clause-none c =
