@@ -166,6 +166,7 @@ impl Bench {
     }
 
     /// A call of a turn, with the tests that each call has: the number of its message, with its end. Where it doesn't end well, `ended` says how.
+    #[inline(always)]
     #[tactic(auto, unfolding(crate::specs::Turns::turn_call))]
     fn turn_call(
         &mut self,
