@@ -1,12 +1,13 @@
 // Eight callers of one link, four on each end, each on a thread of its own: each sends and takes its messages, and each number that was
 // handed over is compared with the book of its lane. Then two senders of another link take the steps of their calls in turns, a manager has a
-// message go between two callers that it carries, and another reclaims a caller that stopped in a send.
+// message go between two callers that it carries, another reclaims a caller that stopped in a send, and a managed link lives twice.
 #![tactic(auto)]
 
 ghost use Rattle.split_ring.specs.Callers.{IsCallerOf};
 
 mod books;
 mod carried;
+mod managed;
 mod small_links;
 mod stopped;
 mod threads;
@@ -15,6 +16,7 @@ mod workers;
 
 use crate::books::Book;
 use crate::carried::can_carry;
+use crate::managed::can_manage;
 use crate::stopped::can_reclaim;
 use crate::workers::{Log, MESSAGES, Worker, workers};
 use channel_bus::Side;
@@ -49,7 +51,11 @@ fn main(rt: HostRuntime) -> io::Result<()> {
         Err(_) => println!(rt; "no memory")?,
     }
     match can_reclaim(rt.alloc()) {
-        Ok(gone) => println!(rt; "a caller that stopped in a send is reclaimed: {gone}"),
+        Ok(gone) => println!(rt; "a caller that stopped in a send is reclaimed: {gone}")?,
+        Err(_) => println!(rt; "no memory")?,
+    }
+    match can_manage(rt.alloc()) {
+        Ok(managed) => println!(rt; "a managed link lives twice, and a caller goes on: {managed}"),
         Err(_) => println!(rt; "no memory"),
     }
 }

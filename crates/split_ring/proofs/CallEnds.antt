@@ -28,7 +28,6 @@ use Rattle.link_words.specs.declared.rule.LinkSizes.{LinkSizes}
 use Rattle.link_words.specs.declared.rule.Made.TheVariants as made
 use Rattle.link_words.specs.Calls.{SeatState}
 use Rattle.link_words.specs.Histories.{latest}
-use Rattle.link_words.specs.Passes.{HasNumber}
 use Rattle.link_words.specs.Steps.{hands_but, IsFit}
 use Rattle.link_words.specs.Words.{other}
 use Rattle.split_ring.specs.Binds.{desk_result, DeskAnswers, IsOfDesk, IsDeskWalk}
@@ -52,7 +51,7 @@ use Rattle.split_ring.specs.declared.calls.Phase.TheVariants as phase
 use Rattle.split_ring.specs.declared.sends.SendFault.TheVariants as fault
 use Rattle.split_ring.specs.declared.takes.TakeFault.TheVariants as take_fault
 use Rattle.split_ring.proofs.CallSteps.{and_then, counted}
-use Rattle.split_ring.proofs.GiveSteps.{given_now}
+use Rattle.split_ring.proofs.GiveSteps.{given_now, held_still}
 use Rattle.split_ring.proofs.Seats.{done_then, still}
 use Rattle.lane_model.specs.declared.calls.CallEnd.TheVariants as end
 
@@ -62,9 +61,6 @@ own_end side.Host = refl
 own_end side.Remote = refl
 
 -- what is in the caller's hands, where they are the same
-pub held_still : (who : CallerId) (held : HeldBuffer) (me me' : SeatState) → (pass_in me').hands ≡ (pass_in me).hands → IsHeldBy who held me → IsHeldBy who held me'
-held_still who held me me' same holds = record { lane = holds.lane; caller = holds.caller; numbered = subst (λ (hands : List ℕ). HasNumber hands held.number) (sym same) holds.numbered }
-
 pub ask_still : (who : CallerId) (a : Ask) (me me' : SeatState) → (pass_in me').hands ≡ (pass_in me).hands → IsOwnAsk who a me → IsOwnAsk who a me'
 ask_still who (ask.Send message) me me' same own = tt
 ask_still who ask.Take me me' same own = tt

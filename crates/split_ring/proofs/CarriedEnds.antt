@@ -47,7 +47,7 @@ left_same n a b one leaves now =
     λ i. (view i, slots i)
 
 -- slots that were turned, turned home
-turned_home : (b t : ℕ) (xs : Slots) → b ≤ length xs → t + b ≡ length xs → turned_by t (behind b xs ++ front b xs) ≡ xs
+pub turned_home : (b t : ℕ) (xs : Slots) → b ≤ length xs → t + b ≡ length xs → turned_by t (behind b xs ++ front b xs) ≡ xs
 turned_home b t xs few count =
     let none : b + 0 ≡ b = omega arith in let one = length_both (behind b xs) (front b xs) in let two = length_behind b xs few in let three = length_front b xs few in
     turned_back b 0 t [] xs (behind b xs ++ front b xs) (omega (arith, few)) refl (ap (λ (k : ℕ). behind k xs ++ front b xs) (sym none)) (omega (arith, count, one, two, three)) (omega arith)

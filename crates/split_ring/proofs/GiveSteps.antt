@@ -4,7 +4,7 @@ use Rattle.std.proofs.Math.Nat.{max-eq_left}
 use mathlib.Core.Option.{some, some-ne-none}
 use lib.ListN.{get_elem?}
 use Rattle.link_words.specs.Passes.{HasNumber}
-use Rattle.std.specs.Prelude.{Result, Ok, Err}
+use Rattle.std.specs.Prelude.{Result, Ok, Err, IfErr}
 use base.Stored.{Coded}
 use Rattle.lane_model.specs.declared.calls.CallEnd.TheVariants as end
 use Rattle.lane_model.specs.declared.stages.GiveStage.TheVariants as give_stage
@@ -32,7 +32,7 @@ use Rattle.link_words.specs.Calls.{SeatState, receive_or, under_way_or, place_of
 use Rattle.link_words.specs.Steps.{GiveStoresAt, GivePublishesAt, GiveStoresEntry, GivePublishes, returned_by, given_or, hands_but, with_entry, with_given}
 use Rattle.link_words.specs.Words.{sizes_at}
 use Rattle.split_ring.specs.declared.callers.CallerId.{CallerId}
-use Rattle.split_ring.specs.Receives.{IsGiveAt, IsGive, IsGiveAbove}
+use Rattle.split_ring.specs.Receives.{IsGiveAt, IsGive, IsGiveAbove, IsHeldBy}
 use Rattle.split_ring.specs.Seats.{pass_in, IsAt}
 use Rattle.split_ring.specs.Turns.{receive_call, receive_slots}
 use Rattle.split_ring.specs.declared.gives.GiveBusy.{GiveBusy}
@@ -43,6 +43,10 @@ use Rattle.split_ring.proofs.TakeSteps.{alone, receiving, turned, side_is, lane_
 -- the side state when the buffer of this number is back
 abbrev pub side_given : ReceiverSide → ℕ → ReceiverSide
 side_given x number = record x { returned = x.returned + 1; hands = hands_without x.hands number }
+
+-- a buffer is in hand still where the hands have not changed
+pub held_still : (who : CallerId) (held : HeldBuffer) (me me' : SeatState) → (pass_in me').hands ≡ (pass_in me).hands → IsHeldBy who held me → IsHeldBy who held me'
+held_still who held me me' same holds = record { lane = holds.lane; caller = holds.caller; numbered = subst (λ (hands : List ℕ). HasNumber hands held.number) (sym same) holds.numbered }
 
 -- who holds a buffer gives it in the incarnation of its latest step
 pub given_now : (hands : List ℕ) (number : ℕ) (own : List Event) (inc : ℕ) → HasNumber hands number → (hands ≡ []) ⊎ (latest own ≡ inc) → latest own ≡ inc
@@ -132,3 +136,12 @@ give_seen coded meaning end held (Ok number) me me' give =
     newest : (end : End) (inc made : ℕ) (own : List Event) → (seen end inc (Count end inc (Gave made) ∷ own)).returned ≡ max made (seen end inc own).returned
     newest side.Host inc made own = ap (λ (b : Bool). (cond b (greatest (counts_told (Gave made)) (seen side.Host inc own)) (seen side.Host inc own)).returned) (eq-eqb inc inc refl)
     newest side.Remote inc made own = ap (λ (b : Bool). (cond b (greatest (counts_told (Gave made)) (seen side.Remote inc own)) (seen side.Remote inc own)).returned) (eq-eqb inc inc refl)
+
+-- where the turn is another's the buffer comes back, and is in hand still
+pub comes_back : {D : Type 0} (coded : Coded D) (meaning : DeskMeaning D) (end : End) (held : HeldBuffer) (answer : Result ℕ GiveBusy) (me me' : SeatState) → IsGive coded meaning end held answer me me' → IfErr answer (λ busy. busy.held ≡ held)
+comes_back coded meaning end held (Ok number) me me' give = tt
+comes_back coded meaning end held (Err busy) me me' give = give.is.1
+
+pub held_yet : {D : Type 0} (coded : Coded D) (meaning : DeskMeaning D) (who : CallerId) (held : HeldBuffer) (answer : Result ℕ GiveBusy) (me me' : SeatState) → IsGive coded meaning who.end held answer me me' → IsHeldBy who held me → IfErr answer (λ busy. IsHeldBy who busy.held me')
+held_yet coded meaning who held (Ok number) me me' give holds = tt
+held_yet coded meaning who held (Err busy) me me' give holds = subst (λ (b : HeldBuffer). IsHeldBy who b me') (sym give.is.1) (held_still who held me me' give.done.in_hand holds)

@@ -43,3 +43,8 @@ pub mod CarriedEnds
 pub mod Ending
 pub mod Emptied
 pub mod Outcomes
+pub mod StepLanes
+pub mod Runs
+pub mod SendRuns
+pub mod ReceiveRuns
+pub mod WholeCalls

@@ -68,7 +68,7 @@ use Rattle.split_ring.proofs.Focusing.{call_there, false-true, known_is, only_th
 use Rattle.split_ring.proofs.ManagerSteps.{found_turn, held_by, turn_there}
 use Rattle.split_ring.proofs.StateSteps.{found_sender, sender_there}
 
-other_twice : (e : End) → other (other e) ≡ e
+pub other_twice : (e : End) → other (other e) ≡ e
 other_twice side.Host = refl
 other_twice side.Remote = refl
 
@@ -76,10 +76,10 @@ abbrev number_or : Option ℕ → ℕ
 number_or None = 0
 number_or (Some n) = n
 
-taken_has : {C : Type 0} (k n : ℕ) (c : C) → holder (turn.Taken k c) ≡ Some n → has_call (turn.Taken k c) n ≡ true
+pub taken_has : {C : Type 0} (k n : ℕ) (c : C) → holder (turn.Taken k c) ≡ Some n → has_call (turn.Taken k c) n ≡ true
 taken_has k n c is = eq-eqb k n (ap number_or is)
 
-leaving_has : (C : Type 0) (k n : ℕ) (ended : CallEnd) → holder {C = C} (turn.Leaving k ended) ≡ Some n → has_call {C = C} (turn.Leaving k ended) n ≡ true
+pub leaving_has : (C : Type 0) (k n : ℕ) (ended : CallEnd) → holder {C = C} (turn.Leaving k ended) ≡ Some n → has_call {C = C} (turn.Leaving k ended) n ≡ true
 leaving_has C k n ended is = eq-eqb k n (ap number_or is)
 
 -- a turn that became a call's was free, where the call's caller had none before
@@ -90,7 +90,7 @@ was_free {C} (turn.Leaving k x) n c d is none = absurd (false-true (sym none ∙
 was_free {C} turn.Manager n c d is none = absurd (false-true (sym none ∙ (ap (λ (t : Turn C). has_call t n) is ∙ eq-eqb n n refl)))
 
 -- the call of a pass of a seat
-call_of_at : (n : ℕ) (a : SeatState) (call : Call) (slots : List (ℕ × Slot)) → IsAt (seat_of n a) call slots → call_at (place_of_number n a.0.passes) a.0.passes ≡ call
+pub call_of_at : (n : ℕ) (a : SeatState) (call : Call) (slots : List (ℕ × Slot)) → IsAt (seat_of n a) call slots → call_at (place_of_number n a.0.passes) a.0.passes ≡ call
 call_of_at n a call slots at = let k = place_of_number n a.0.passes in
     call_there k a.0.passes (pass_in (seat_of n a)) (only_there k a.0.passes 0 (pass_in (seat_of n a)) (ap (λ (ps : List Pass). get_elem? ps 0) at.one)).1 ∙ at.in_call
 
@@ -131,7 +131,7 @@ module _ {D : Type 0} (coded : Coded D) (meaning : DeskMeaning D) where
   abbrev Link : Type 0
   Link = LaneLink (RingState D)
 
-  abbrev lanes_by : Link → End → Lanes (RingState D)
+  abbrev pub lanes_by : Link → End → Lanes (RingState D)
   lanes_by m e = record { outgoing = lane_to m (other e); incoming = lane_to m e }
 
   sent_said : (era : Era) (s r : RingState D) (n f : ℕ) (t : Turn Sending) (k : Outcome) → s.lane.sender ≡ t → has_call t n ≡ true → ((state : LaneState D) → (turn_step state (record state { sender = turn.Free }) (λ caller c. send_step era state caller c c.stage) t).outcome ≡ k)
@@ -152,16 +152,16 @@ module _ {D : Type 0} (coded : Coded D) (meaning : DeskMeaning D) where
   by_end m side.Host n f w user = ap (λ (o : Option End). (on_lanes m o (λ lanes. lanes_step (ring_form meaning) meaning m.era lanes n f w)).outcome) user
   by_end m side.Remote n f w user = ap (λ (o : Option End). (on_lanes m o (λ lanes. lanes_step (ring_form meaning) meaning m.era lanes n f w)).outcome) user
 
-  sender_in : (tables : DeskTables) (m : Link) (e : End) (t : Turn Sending) → ((turns_in (placed_link coded tables m)).lanes e).sender ≡ t → (lane_to m e).lane.sender ≡ t
+  pub sender_in : (tables : DeskTables) (m : Link) (e : End) (t : Turn Sending) → ((turns_in (placed_link coded tables m)).lanes e).sender ≡ t → (lane_to m e).lane.sender ≡ t
   sender_in tables m side.Host t is = is
   sender_in tables m side.Remote t is = is
 
-  receiver_in : (tables : DeskTables) (m : Link) (e : End) (t : Turn Receiving) → ((turns_in (placed_link coded tables m)).lanes e).receiver ≡ t → (lane_to m e).lane.receiver ≡ t
+  pub receiver_in : (tables : DeskTables) (m : Link) (e : End) (t : Turn Receiving) → ((turns_in (placed_link coded tables m)).lanes e).receiver ≡ t → (lane_to m e).lane.receiver ≡ t
   receiver_in tables m side.Host t is = is
   receiver_in tables m side.Remote t is = is
 
   -- who has a receiver's turn has no sender's
-  no_sender : (tables : DeskTables) (m : Link) (e : End) (n : ℕ) (t : Turn Receiving) → IsSoundState (placed_meaning coded tables meaning) (placed_link coded tables m) → (lane_to m e).lane.receiver ≡ t → has_call t n ≡ true → has_call (lane_to m (other e)).lane.sender n ≡ false
+  pub no_sender : (tables : DeskTables) (m : Link) (e : End) (n : ℕ) (t : Turn Receiving) → IsSoundState (placed_meaning coded tables meaning) (placed_link coded tables m) → (lane_to m e).lane.receiver ≡ t → has_call t n ≡ true → has_call (lane_to m (other e)).lane.sender n ≡ false
   no_sender tables m side.Host n t sound is has = by (has_call m.to_remote.lane.sender n) refl
     where
       by : (b : Bool) → has_call m.to_remote.lane.sender n ≡ b → has_call m.to_remote.lane.sender n ≡ false
@@ -268,16 +268,16 @@ module _ {D : Type 0} (coded : Coded D) (meaning : DeskMeaning D) where
   receiver_after m side.Host n f (wish.Unbind address) user not = ap (λ (o : Option End). (begun m n f (wish.Unbind address) o).to_host.lane.receiver) user
   receiver_after m side.Remote n f (wish.Unbind address) user not = ap (λ (o : Option End). (begun m n f (wish.Unbind address) o).to_remote.lane.receiver) user
 
-  no_send_in : (tables : DeskTables) (m : Link) (e : End) (n : ℕ) → has_call ((turns_in (placed_link coded tables m)).lanes e).sender n ≡ false → has_call (lane_to m e).lane.sender n ≡ false
+  pub no_send_in : (tables : DeskTables) (m : Link) (e : End) (n : ℕ) → has_call ((turns_in (placed_link coded tables m)).lanes e).sender n ≡ false → has_call (lane_to m e).lane.sender n ≡ false
   no_send_in tables m side.Host n is = is
   no_send_in tables m side.Remote n is = is
 
-  no_receive_in : (tables : DeskTables) (m : Link) (e : End) (n : ℕ) → has_call ((turns_in (placed_link coded tables m)).lanes e).receiver n ≡ false → has_call (lane_to m e).lane.receiver n ≡ false
+  pub no_receive_in : (tables : DeskTables) (m : Link) (e : End) (n : ℕ) → has_call ((turns_in (placed_link coded tables m)).lanes e).receiver n ≡ false → has_call (lane_to m e).lane.receiver n ≡ false
   no_receive_in tables m side.Host n is = is
   no_receive_in tables m side.Remote n is = is
 
   -- a caller in no call
-  rests_in : (n : ℕ) (e : End) (a : SeatState) (m : Link) → IsAt (seat_of n a) (Rests e) [] → ShowsCall coded n a m → IsCallOf (placed_link coded a.0.sizes.desks m) 0 n (Rests e)
+  pub rests_in : (n : ℕ) (e : End) (a : SeatState) (m : Link) → IsAt (seat_of n a) (Rests e) [] → ShowsCall coded n a m → IsCallOf (placed_link coded a.0.sizes.desks m) 0 n (Rests e)
   rests_in n e a m at shows = subst (IsCallOf (placed_link coded a.0.sizes.desks m) 0 n) (call_of_at n a (Rests e) [] at) shows
 
   pub rests_user : (n : ℕ) (e : End) (a : SeatState) (m : Link) → IsAt (seat_of n a) (Rests e) [] → ShowsCall coded n a m → end_of m.callers n ≡ Some e

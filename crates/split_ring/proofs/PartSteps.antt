@@ -18,11 +18,14 @@ use Rattle.split_ring.specs.Calls.{HasCome, send_answer, take_answer, hands_with
 use Rattle.split_ring.specs.Reclaims.{taken_buffer, asked_buffer}
 use Rattle.lane_model.specs.declared.calls.Answer.TheVariants as answer
 use Rattle.std.proofs.Common.{inl, inr, zero, suc, ◌⊎◌, ⊎_elim, ◌≡◌, ◌<◌, ℕ, Bool, true, false, List, [], ◌∷◌, ◌++◌, map, refl, sym, ap, ◌∙◌, subst}
+use Rattle.std.specs.List.{slice_get}
 use Rattle.std.specs.Prelude.{Option, Some, None}
 use mathlib.Core.Option.{some, some-ne-none}
 use lib.ListN.{get_elem?}
 use Rattle.rp_base.specs.declared.kinds.Era.{Era}
 use Rattle.lane_model.specs.declared.calls.Ask.TheVariants as ask
+use Rattle.lane_model.specs.declared.recoveries.ReclaimRefusal.{ReclaimRefusal}
+use Rattle.lane_model.specs.declared.recoveries.ReclaimRefusal.TheVariants as refusal
 use Rattle.lane_model.specs.HeldBuffers.{HeldBuffer}
 use Rattle.link_words.specs.declared.rule.LinkSizes.{LinkSizes}
 use Rattle.link_words.specs.declared.rule.Pass.{Pass}
@@ -31,14 +34,12 @@ use Rattle.link_words.specs.Passes.{HasNumber}
 use Rattle.split_ring.specs.declared.callers.CallerId.{CallerId}
 use Rattle.split_ring.specs.declared.calls.Phase.{Phase}
 use Rattle.split_ring.specs.declared.calls.Phase.TheVariants as phase
-use Rattle.split_ring.specs.declared.ends.EndFault.{EndFault}
-use Rattle.split_ring.specs.declared.ends.EndFault.TheVariants as end_fault
 use Rattle.split_ring.specs.declared.ends.TurnHeld.{TurnHeld}
 use Rattle.split_ring.specs.declared.links.SharedLink.{SharedLink}
 use base.Stored.{Coded}
 use Rattle.lane_model.specs.Desks.{DeskMeaning}
 use Rattle.split_ring.specs.declared.reclaims.Parts.{Parts}
-use Rattle.split_ring.specs.PartsOf.{IsAllOf, AreHeldBy, AreSame, HoldsItsOwn, HoldsNoOther, LooksAgain, NeedsTurn}
+use Rattle.split_ring.specs.PartsOf.{IsAllOf, AreHeldBy, AreSame, HoldsItsOwn, HoldsNoOther, LooksAgain, NeedsTurn, TellsHands}
 use Rattle.split_ring.specs.Receives.{IsHeldBy}
 use Rattle.split_ring.specs.Reclaims.{StandsIn, IsNow, IsEndFault, IsAnothers, buffer_in, has_buffer, is_turn, lacks_receiver, phase_of, turn_in}
 use Rattle.split_ring.specs.Seats.{pass_in}
@@ -129,29 +130,39 @@ some_buffer (phase.LeavesReceiver (answer.Empty accepted)) is = absurd (true-fal
 some_buffer (phase.LeavesReceiver (answer.Refused fault)) is = absurd (true-false (sym is))
 some_buffer phase.Ended is = absurd (true-false (sym is))
 
--- what a caller holds, by the phase of its call and its buffers: where there is no buffer, nothing is in hand
+some_none : {A : Type 0} (x : A) → Some x ≡ None → ⊥
+some_none x e = absurd (cc)
+
+-- the first of some buffers, where there is one
+first_at : (held : List HeldBuffer) (first : HeldBuffer) → Some first ≡ slice_get held 0 → get_elem? held 0 ≡ some first
+first_at [] first is = absurd (some_none first is)
+first_at (buffer ∷ held) first is = cc
+
+no_first : (held : List HeldBuffer) → None ≡ slice_get held 0 → held ≡ []
+no_first [] is = refl
+no_first (buffer ∷ held) is = absurd (some_none buffer (sym is))
+
+-- what a caller holds, by the phase of its call and its buffers: where there is a buffer, that is in its hands
 module _ (who : CallerId) (p : Phase) (held : List HeldBuffer) (me : SeatState) where
-  pub holds_nothing : HoldsNoOther p held me → (is_giving : Bool) → is_giving ≡ has_buffer p → (is_giving ≡ false) × (held ≡ []) → (pass_in me).hands ≡ []
-  holds_nothing all is_giving is none = no_numbers (pass_in me).hands (λ n has. none_of n
-      (subst (λ (l : List ℕ). HasNumber l n) (λ i. no_buffer p (sym is ∙ none.0) i ++ map (λ (buffer : HeldBuffer). buffer.number) (none.1 i)) (all n has)))
+  pub told_held : AreHeldBy who held me → (first : HeldBuffer) → Some first ≡ slice_get held 0 → TellsHands true me
+  told_held theirs first is = record { some = λ _. (first.number, (theirs 0 first (first_at held first is)).numbered); none = λ bad. absurd (true-false bad) }
 
-  -- and where there is one, something is
-  abbrev HasSome : Bool → Type 0
-  HasSome is_giving = (is_giving ≡ true) ⊎ ((buffer : HeldBuffer) × (get_elem? held 0 ≡ some buffer))
+  -- and where there is none, what its call gives back or was handed is all
+  pub told_call : HoldsNoOther p held me → HoldsItsOwn p me → None ≡ slice_get held 0 → (is_giving : Bool) → is_giving ≡ has_buffer p → TellsHands is_giving me
+  told_call all own none is_giving is = record {
+    some = λ gives. let n = some_buffer p (sym is ∙ gives) in (n.0, own n.0 n.1);
+    none = λ empty. no_numbers (pass_in me).hands (λ n has. none_of n
+        (subst (λ (l : List ℕ). HasNumber l n) (λ i. no_buffer p (sym is ∙ empty) i ++ map (λ (buffer : HeldBuffer). buffer.number) (no_first held none i)) (all n has)));
+  }
 
-  pub number_held : AreHeldBy who held me → HoldsItsOwn p me → (is_giving : Bool) → is_giving ≡ has_buffer p → HasSome is_giving → (n : ℕ) × HasNumber (pass_in me).hands n
-  number_held theirs own is_giving is either = ⊎_elim
-      (λ (gives : is_giving ≡ true). let n = some_buffer p (sym is ∙ gives) in (n.0, own n.0 n.1))
-      (λ (has : (buffer : HeldBuffer) × (get_elem? held 0 ≡ some buffer)). (has.0.number, (theirs 0 has.0 has.1).numbered)) either
-
-  pub holds_some : AreHeldBy who held me → HoldsItsOwn p me → (is_giving : Bool) → is_giving ≡ has_buffer p → HasSome is_giving → lacks_receiver (turn_in p) ≡ true → NeedsTurn p me
-  holds_some theirs own is_giving is either lacks = let n = number_held theirs own is_giving is either in record { number = n.0; holds = n.1; lacks = lacks }
+-- by what is told of its hands: a caller that holds something needs the turn that its call lacks
+module _ (p : Phase) (me : SeatState) (is_holding : Bool) (told : TellsHands is_holding me) (turn : TurnHeld) (same : turn ≡ turn_in p) where
+  pub needs_turn : (is_holding ≡ true) × (lacks_receiver turn ≡ true) → NeedsTurn p me
+  needs_turn why = let n = told.some why.0 in record { number = n.0; holds = n.1; lacks = subst (λ (t : TurnHeld). lacks_receiver t ≡ true) same why.1 }
 
   -- a second look at the era was for a turn or for what is held
-  pub looks_again : AreHeldBy who held me → HoldsItsOwn p me → (turn : TurnHeld) (is_giving is_holding : Bool) → turn ≡ turn_in p → is_giving ≡ has_buffer p → (is_holding ≡ true → HasSome is_giving) → (is_turn turn ≡ true) ⊎ (is_holding ≡ true) → LooksAgain p me
-  looks_again theirs own turn is_giving is_holding same is some_held why = ⊎_elim
-      (λ (has : is_turn turn ≡ true). inl (sym (ap is_turn same) ∙ has))
-      (λ (holds : is_holding ≡ true). inr (number_held theirs own is_giving is (some_held holds))) why
+  pub looks_again : (is_turn turn ≡ true) ⊎ (is_holding ≡ true) → LooksAgain p me
+  looks_again why = ⊎_elim (λ (has : is_turn turn ≡ true). inl (sym (ap is_turn same) ∙ has)) (λ (holds : is_holding ≡ true). inr (told.some holds)) why
 
 -- a seat that has the same pass is like it was
 like_now : (me me' : SeatState) → IsNow (pass_in me) me.1 me me' → IsLike me me'
@@ -187,21 +198,13 @@ all_same link before after same all =
       own = λ number has. subst (λ (l : List ℕ). HasNumber l number) (sym n.in_hand) (all.own number (subst (λ (o : Option (RingCall _)). HasNumber (buffer_in (phase_of o)) number) same.call has));
     }
 
--- a list that is not empty has a first item
-pub first_item : {A : Type 0} (l : List A) → (l ≡ [] → ⊥) → (x : A) × (get_elem? l 0 ≡ some x)
-first_item [] some_there = absurd (some_there refl)
-first_item (x ∷ xs) some_there = (x, refl)
-
 -- why a call was not ended
-module _ {D : Type 0} (coded : Coded D) (meaning : DeskMeaning D) (who : CallerId) (turn : TurnHeld) (is_holding : Bool) (fault : EndFault) where
-  pub open_is : (era : Era) → fault ≡ end_fault.StillOpen era → IsEndFault coded meaning who turn is_holding fault → (era.is_live ≡ true) × ((is_turn turn ≡ true) ⊎ (is_holding ≡ true))
+module _ {D : Type 0} (coded : Coded D) (meaning : DeskMeaning D) (who : CallerId) (turn : TurnHeld) (is_holding : Bool) (fault : ReclaimRefusal) where
+  pub open_is : (era : Era) → fault ≡ refusal.StillOpen era → IsEndFault coded meaning who turn is_holding fault → (era.is_live ≡ true) × ((is_turn turn ≡ true) ⊎ (is_holding ≡ true))
   open_is era is why = subst (IsEndFault coded meaning who turn is_holding) is why
 
-  pub busy_is : (holder : ℕ) → fault ≡ end_fault.Busy holder → IsEndFault coded meaning who turn is_holding fault → IsAnothers coded meaning who holder × (is_holding ≡ true) × (lacks_receiver turn ≡ true)
+  pub busy_is : (holder : ℕ) → fault ≡ refusal.Busy holder → IsEndFault coded meaning who turn is_holding fault → IsAnothers coded meaning who holder × (is_holding ≡ true) × (lacks_receiver turn ≡ true)
   busy_is holder is why = subst (IsEndFault coded meaning who turn is_holding) is why
-
-pub some_is : {A : Type 0} (x : A) → Some x ≡ None → ⊥
-some_is x e = absurd (cc)
 
 abbrev pub IsSendOrTake : Ask → Type 0
 IsSendOrTake (ask.Send message) = Unit {0}

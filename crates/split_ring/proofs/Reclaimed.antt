@@ -6,10 +6,12 @@ use mathlib.Core.Option.{some-ne-none}
 use base.Stored.{Coded}
 use Rattle.rp_base.specs.declared.kinds.End.{End}
 use Rattle.rp_base.specs.declared.kinds.End.TheVariants as side
+use Rattle.rp_base.specs.declared.kinds.Era.{Era}
 use Rattle.lane_model.specs.declared.lane_links.LaneLink.{LaneLink}
 use Rattle.lane_model.specs.declared.recoveries.LaneTurn.TheVariants as lane_turn
 use Rattle.lane_model.specs.declared.recoveries.ReclaimPart.{ReclaimPart}
 use Rattle.lane_model.specs.declared.recoveries.ReclaimPart.TheVariants as part
+use Rattle.lane_model.specs.declared.recoveries.ReclaimRefusal.{ReclaimRefusal}
 use Rattle.lane_model.specs.declared.recoveries.ReclaimRefusal.TheVariants as refusal
 use Rattle.lane_model.specs.declared.stages.Receiving.{Receiving}
 use Rattle.lane_model.specs.declared.stages.Turn.{Turn}
@@ -48,7 +50,8 @@ use Rattle.split_ring.specs.declared.links.SharedLink.{SharedLink}
 use Rattle.split_ring.specs.Callers.{IsManagerOf, IsStateOf}
 use Rattle.split_ring.specs.Carried.{Carries, carried_seat}
 use Rattle.split_ring.specs.Focus.{after_deeds}
-use Rattle.split_ring.specs.Reclaims.{end_deeds, is_turn, lacks_receiver, turn_in}
+use Rattle.split_ring.specs.PartsOf.{TellsHands}
+use Rattle.split_ring.specs.Reclaims.{IsEndFault, IsRefusedIn, end_deeds, is_turn, lacks_receiver, turn_in}
 use Rattle.split_ring.specs.Seats.{pass_in}
 use Rattle.split_ring.proofs.CarriedStates.{known_of}
 use Rattle.split_ring.proofs.Focusing.{known_is}
@@ -140,8 +143,9 @@ module _ {D : Type 0} (meaning : DeskMeaning D) where
     some_needed : (h lacks : Bool) (x : Option ℕ) (found : ℕ) → h ≡ true → lacks ≡ true → x ≡ Some found → cond h (cond (not lacks) None x) None ≡ Some found
     some_needed h lacks x found holding lacking is = (λ i. cond (holding i) (cond (not (lacking i)) None (is i)) None)
 
-    pub busy_by : (found : ℕ) → holds ≡ true → lacks_receiver t ≡ true → holder (lane_to m who.end).lane.receiver ≡ Some found → link_reclaim_refusal (link_of (ring_form meaning) m) who.number ≡ Some (refusal.Busy found)
-    busy_by found holding lacking is = unreclaimed_is (Some found) (some_needed holds (lacks_receiver t) (holder (lane_to m who.end).lane.receiver) found holding lacking is)
+    pub refused_by : (coded : Coded D) (why : ReclaimRefusal) → IsEndFault coded meaning who t holds why → IsRefusedIn who.end why m → link_reclaim_refusal (link_of (ring_form meaning) m) who.number ≡ Some why
+    refused_by coded (refusal.StillOpen era) is met = absurd met
+    refused_by coded (refusal.Busy found) is met = unreclaimed_is (Some found) (some_needed holds (lacks_receiver t) (holder (lane_to m who.end).lane.receiver) found is.1 is.2 met)
 
     -- where the turn that is needed is free nothing refuses it, and the deeds in their order are the reclaim
     pub nothing_refuses : (holds ≡ true → lacks_receiver t ≡ true → (lane_to m who.end).lane.receiver ≡ turn.Free) → link_reclaim_refusal (link_of (ring_form meaning) m) who.number ≡ None
@@ -154,8 +158,8 @@ module _ {D : Type 0} (meaning : DeskMeaning D) where
         ∙ (sym (parts_are m who (parts_by (holds && lacks_receiver t) ((is_turn t && lacks_receiver t) || not (lacks_receiver t))))
         ∙ (ap (ring_parts_done meaning m who.end who.number) (sym parts_same) ∙ parts_whole meaning m who.end who.number r.rings r.user (nothing_refuses free))))
 
-  pub live_by : (m : LaneLink (RingState D)) (number : ℕ) → m.era.is_live ≡ true → link_reclaim_refusal (link_of (ring_form meaning) m) number ≡ Some (refusal.StillOpen m.era)
-  live_by m number live = λ i. cond (live i) (Some (refusal.StillOpen m.era)) (option_map refusal.Busy (option_and_then (λ end. needed_holder (lanes_of (link_of (ring_form meaning) m) end).incoming number) (end_of m.callers number)))
+  pub live_by : (m : LaneLink (RingState D)) (number : ℕ) (era : Era) → m.era ≡ era → era.is_live ≡ true → link_reclaim_refusal (link_of (ring_form meaning) m) number ≡ Some (refusal.StillOpen era)
+  live_by m number era same live = λ i. cond ((ap (λ (e : Era). e.is_live) same ∙ live) i) (Some (refusal.StillOpen (same i))) (option_map refusal.Busy (option_and_then (λ end. needed_holder (lanes_of (link_of (ring_form meaning) m) end).incoming number) (end_of m.callers number)))
 
 -- whether a caller holds something, by what it has in hand
 held_none : (number : ℕ) (hs : List Holding) → hands_of number hs ≡ [] → has_held hs number ≡ false
@@ -203,20 +207,19 @@ module _ {D : Type 0} (coded : Coded D) (tables : DeskTables) where
   sound_placed m r = record { to_host = rings_placed side.Host m.to_host r.to_host; to_remote = rings_placed side.Remote m.to_remote r.to_remote }
 
 -- what a reclaim of a caller that the manager carries finds in the state that the manager knew
-pub reclaim_found : {D : Type 0} (coded : Coded D) (meaning : DeskMeaning D) (link : SharedLink D) (manager : Manager) (who w : CallerId) (p : Phase) (n : ℕ) (m : LaneLink (RingState D)) (holds : Bool) → IsManagerOf link manager → Carries link manager w p → w.number ≡ who.number
-    → end_of manager.users who.number ≡ Some who.end → LooksAtLink coded meaning n manager.seat.me → IsStateOf coded manager m → m.era.is_live ≡ false → (holds ≡ false → (pass_in (carried_seat w p manager)).hands ≡ [])
-    → (holds ≡ true → (k : ℕ) × HasNumber (pass_in (carried_seat w p manager)).hands k) → IsReclaimOf m who (turn_in p) holds
-reclaim_found coded meaning link manager who w p n m holds of c numbers user looks is closed none more =
+pub reclaim_found : {D : Type 0} (coded : Coded D) (meaning : DeskMeaning D) (link : SharedLink D) (manager : Manager) (who w : CallerId) (p : Phase) (t : TurnHeld) (n : ℕ) (m : LaneLink (RingState D)) (holds : Bool) → IsManagerOf link manager → Carries link manager w p → w.number ≡ who.number
+    → end_of manager.users who.number ≡ Some who.end → t ≡ turn_in p → LooksAtLink coded meaning n manager.seat.me → IsStateOf coded manager m → m.era.is_live ≡ false → TellsHands holds (carried_seat w p manager) → IsReclaimOf m who t holds
+reclaim_found coded meaning link manager who w p t n m holds of c numbers user turns looks is closed told =
     let tables = manager.seat.me.0.sizes.desks in let ends : w.end ≡ who.end = one_end w.end who.end (sym c.user ∙ (ap (end_of manager.users) numbers ∙ user)) in let known = known_of coded link manager m w p of is c in
     let same = known_is coded meaning manager.seat.me looks.state m is.known (λ k was. looks.copy k is.known.carries was) in
-    record {
+    subst (λ (x : TurnHeld). IsReclaimOf m who x holds) (sym turns) (record {
       rings = sound_placed coded tables m (subst (λ (l : LaneLink (RingState (PlacedDesk coded tables))). HasSoundRings l) same looks.sound.rings);
       closed = closed;
       user = ap (λ (us : List (Option End)). end_of us who.number) (sym is.users) ∙ user;
-      in_hand = (λ i. has_held (lane_to m (sym ends i)).lane.lane.held (sym numbers i)) ∙ held_by_hands w.number holds (lane_to m w.end).lane.lane.held (pass_in (carried_seat w p manager)).hands known.2 none more;
+      in_hand = (λ i. has_held (lane_to m (sym ends i)).lane.lane.held (sym numbers i)) ∙ held_by_hands w.number holds (lane_to m w.end).lane.lane.held (pass_in (carried_seat w p manager)).hands known.2 told.none told.some;
       sends = (λ i. has_call (lane_to m (other (sym ends i))).lane.sender (sym numbers i)) ∙ known.0;
       receives = (λ i. has_call (lane_to m (sym ends i)).lane.receiver (sym numbers i)) ∙ known.1;
-    }
+    })
   where
     one_end : (a b : End) → Some a ≡ Some b → a ≡ b
     one_end a b is = cc

@@ -22,3 +22,5 @@ pub mod ManagerCalls
 pub mod Snapshots
 pub mod Phases
 pub mod Carried
+pub mod Handed
+pub mod Runs

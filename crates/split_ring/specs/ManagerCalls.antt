@@ -2,12 +2,15 @@
 use Rattle.std.specs.Prelude.{◌≡◌, ◌⊎◌, ◌*◌, ℕ, Option, Result, Vec, Ok, Err, Some, None}
 use base.Stored.{Coded}
 use Rattle.std.specs.declared.alloc.Global.{Global}
+use Rattle.lane_model.specs.declared.calls.Answer.{Answer}
+use Rattle.lane_model.specs.declared.calls.Wish.{Wish}
 use Rattle.lane_model.specs.declared.lane_links.LaneLink.{LaneLink}
 use Rattle.lane_model.specs.declared.recoveries.Books.{Books}
 use Rattle.lane_model.specs.declared.recoveries.ReclaimByFault.{ReclaimByFault}
 use Rattle.lane_model.specs.declared.recoveries.ReclaimRefusal.{ReclaimRefusal}
 use Rattle.lane_model.specs.declared.recoveries.ReopenFault.{ReopenFault}
 use Rattle.lane_model.specs.declared.recoveries.ReopenFault.TheVariants as fault
+use Rattle.lane_model.specs.AtOnce.{FormEndsIn}
 use Rattle.lane_model.specs.Desks.{DeskMeaning}
 use Rattle.lane_model.specs.HeldBuffers.{HeldBuffer}
 use Rattle.lane_model.specs.Links.{link_of}
@@ -22,7 +25,10 @@ use Rattle.link_words.specs.Histories.{books_of}
 use Rattle.link_words.specs.Words.{lane_to}
 use Rattle.split_ring.specs.declared.callers.Manager.{Manager}
 use Rattle.split_ring.specs.declared.calls.RingCall.{RingCall}
+use Rattle.split_ring.specs.declared.callers.CallerId.{CallerId}
 use Rattle.split_ring.specs.Callers.{IsStateOf}
+use Rattle.split_ring.specs.Calls.{call_end}
+use Rattle.split_ring.specs.Handed.{Settles}
 use Rattle.split_ring.specs.Reopens.{AreTold}
 use Rattle.split_ring.specs.States.{turns_out}
 
@@ -33,11 +39,24 @@ ReopensState coded meaning m (Ok books) after = (link_reopen_refusal (link_of (r
     × IsStateOf coded after (link_after_reopen (ring_form meaning) m)
 ReopensState coded meaning m (Err why) after = ((why ≡ fault.NoMemory) ⊎ (link_reopen_refusal (link_of (ring_form meaning) m) ≡ Some why)) × IsStateOf coded after m
 
--- a reclaim of this caller, with its call and its buffers, has this answer, and leaves the manager so: nothing refuses it, and the state is that behind a reclaim; or it is
--- refused for what the state gives, hands back call and buffers, and leaves the state
+-- the end of this caller has this answer, and leaves the manager so: nothing refuses it, and the state is that behind a reclaim; or it is refused for what the state gives,
+-- and leaves it
+abbrev pub EndsState : {D : Type 0} → Coded D → DeskMeaning D → LaneLink (RingState D) → ℕ → Result (Unit {0}) ReclaimRefusal → Manager → Type 0
+EndsState coded meaning m caller (Ok done) after = (link_reclaim_refusal (link_of (ring_form meaning) m) caller ≡ None) × IsStateOf coded after (link_after_reclaim (ring_form meaning) m caller)
+EndsState coded meaning m caller (Err why) after = (link_reclaim_refusal (link_of (ring_form meaning) m) caller ≡ Some why) × IsStateOf coded after m
+
+-- a reclaim of this caller, with its call and its buffers, has this answer, and leaves the manager so: as its end does, and a refusal hands back call and buffers
 abbrev pub ReclaimsState : {D : Type 0} → Coded D → DeskMeaning D → LaneLink (RingState D) → ℕ → Option (RingCall D) → Vec HeldBuffer Global → Result (Unit {0}) (ReclaimByFault (RingCall D)) → Manager → Type 0
-ReclaimsState coded meaning m caller call held (Ok done) after = (link_reclaim_refusal (link_of (ring_form meaning) m) caller ≡ None) × IsStateOf coded after (link_after_reclaim (ring_form meaning) m caller)
-ReclaimsState coded meaning m caller call held (Err fault) after = (why : ReclaimRefusal) × (link_reclaim_refusal (link_of (ring_form meaning) m) caller ≡ Some why) × (fault ≡ handed_back call held why) × IsStateOf coded after m
+ReclaimsState coded meaning m caller call held (Ok done) after = EndsState coded meaning m caller (Ok done) after
+ReclaimsState coded meaning m caller call held (Err fault) after = (why : ReclaimRefusal) × EndsState coded meaning m caller (Err why) after × (fault ≡ handed_back call held why)
+
+-- a whole call of this caller, which wishes this, ends with this answer and so many steps behind its first, and leaves the manager so: the state is that behind these steps,
+-- and the lanes are those behind the one that settled the answer
+pub record CallsState {D : Type 0} (coded : Coded D) (meaning : DeskMeaning D) (m : LaneLink (RingState D)) (who : CallerId) (wished : Wish) (behind : ℕ) (said : Answer) (after : Manager) : Type 0 where
+  pub left : LaneLink (RingState D)
+  pub ends : FormEndsIn behind (ring_form meaning) meaning m who.number who.follows (Some wished) left (call_end said)
+  pub settles : Settles who said m left
+  pub state : IsStateOf coded after left
 
 -- the era and the words of a link in this state, with its buffers from address 0 on, 512 bytes each, those of the lane to the host first
 abbrev pub snapshot_of : {D : Type 0} → LaneLink (RingState D) → Snapshot

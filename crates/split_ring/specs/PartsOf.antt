@@ -1,14 +1,16 @@
 -- A reclaim of a caller with its parts: what it asks, and what it answers (own).
-use Rattle.std.specs.Prelude.{◌≡◌, ◌⊎◌, ℕ, List, true, false, ◌++◌, map, slice_set, Option, None, Vec}
+use Rattle.std.specs.Prelude.{◌≡◌, ◌⊎◌, ℕ, List, [], Bool, true, false, ◌++◌, map, slice_set, Option, None, Vec}
 use mathlib.Core.Option.{some}
 use lib.ListN.{get_elem?}
 use base.Stored.{Coded}
 use Rattle.std.specs.declared.alloc.Global.{Global}
 use Rattle.rp_base.specs.declared.kinds.Era.{Era}
 use Rattle.lane_model.specs.declared.recoveries.ReclaimByFault.{ReclaimByFault}
-use Rattle.lane_model.specs.declared.recoveries.ReclaimByFault.TheVariants as by_fault
+use Rattle.lane_model.specs.declared.recoveries.ReclaimRefusal.{ReclaimRefusal}
+use Rattle.lane_model.specs.declared.recoveries.ReclaimRefusal.TheVariants as refusal
 use Rattle.lane_model.specs.Desks.{DeskMeaning}
 use Rattle.lane_model.specs.HeldBuffers.{HeldBuffer}
+use Rattle.lane_model.specs.Recoveries.{handed_back}
 use Rattle.link_words.specs.Calls.{SeatState}
 use Rattle.link_words.specs.Passes.{HasNumber}
 use Rattle.split_ring.specs.declared.callers.CallerId.{CallerId}
@@ -34,6 +36,11 @@ HoldsNoOther p held me = (number : ℕ) → HasNumber (pass_in me).hands number 
 
 abbrev pub HoldsItsOwn : Phase → SeatState → Type 0
 HoldsItsOwn p me = (number : ℕ) → HasNumber (buffer_in p) number → HasNumber (pass_in me).hands number
+
+-- whether a caller has something in hand is told right
+pub record TellsHands (is_holding : Bool) (me : SeatState) : Type 0 where
+  pub some : is_holding ≡ true → (number : ℕ) × HasNumber (pass_in me).hands number
+  pub none : is_holding ≡ false → (pass_in me).hands ≡ []
 
 -- a caller needs its receiver's turn that holds something, where its call, in this phase, doesn't have that turn
 pub record NeedsTurn (p : Phase) (me : SeatState) : Type 0 where
@@ -83,8 +90,12 @@ module _ {D : Type 0} (coded : Coded D) (meaning : DeskMeaning D) where
   IsRefusal link manager parts (fault.Busy holder back) after = IsAnothers coded meaning parts.caller.id holder × NeedsTurn (phase_of parts.call) parts.caller.seat.me × AreSame parts back × IsAllOf link back × (after.users ≡ manager.users)
       × ((read : Era) × (read.is_live ≡ false) × HasRead read manager.seat.me after.seat.me)
 
-  -- why a caller that the manager carries is not reclaimed, with its call and its buffers as they came
+  -- why a caller that the manager carries is not ended, in this phase of its call: the era was found live, by the manager, which did not know it closed, or by a second
+  -- look; or another has the turn that the caller needs
+  abbrev pub IsRetireRefusal : CallerId → Manager → Phase → ReclaimRefusal → Type 0
+  IsRetireRefusal who manager p (refusal.StillOpen era) = (era.is_live ≡ true) × (manager.seat.me.0.is_closed ≡ true → LooksAgain p (carried_seat who p manager))
+  IsRetireRefusal who manager p (refusal.Busy holder) = IsAnothers coded meaning who holder × NeedsTurn p (carried_seat who p manager)
+
+  -- and so why it is not reclaimed, with its call and its buffers as they came
   abbrev pub IsRefusalBy : CallerId → Manager → Option (RingCall D) → Vec HeldBuffer Global → ReclaimByFault (RingCall D) → Type 0
-  IsRefusalBy who manager call held (by_fault.StillOpen era call' held') = (era.is_live ≡ true) × (call' ≡ call) × (held' ≡ held)
-      × (manager.seat.me.0.is_closed ≡ true → LooksAgain (phase_of call) (carried_seat who (phase_of call) manager))
-  IsRefusalBy who manager call held (by_fault.Busy holder call' held') = IsAnothers coded meaning who holder × NeedsTurn (phase_of call) (carried_seat who (phase_of call) manager) × (call' ≡ call) × (held' ≡ held)
+  IsRefusalBy who manager call held fault = (why : ReclaimRefusal) × IsRetireRefusal who manager (phase_of call) why × (fault ≡ handed_back call held why)

@@ -1,9 +1,12 @@
 -- What a phase of a call tells: the side state that is out, how many slots are, how many steps are done, and what the next step says (own).
 use Rattle.std.specs.Prelude.{◌≡◌, ◌+◌, ℕ, Option, Some, None}
+use Rattle.std.specs.Option.{option_map}
 use Rattle.rp_base.specs.declared.kinds.End.{End}
 use Rattle.lane_model.specs.declared.calls.Answer.{Answer}
+use Rattle.lane_model.specs.declared.calls.Answer.TheVariants as answer
 use Rattle.lane_model.specs.declared.calls.Ask.{Ask}
 use Rattle.lane_model.specs.declared.calls.Ask.TheVariants as ask
+use Rattle.lane_model.specs.declared.calls.CallEnd.{CallEnd}
 use Rattle.lane_model.specs.declared.calls.Outcome.{Outcome}
 use Rattle.lane_model.specs.declared.calls.Outcome.TheVariants as outcome
 use Rattle.lane_model.specs.declared.calls.Progress.{Progress}
@@ -18,7 +21,8 @@ use Rattle.lane_model.specs.declared.stages.Work.TheVariants as work
 use Rattle.lane_model.specs.declared.calls.Wish.{Wish}
 use Rattle.lane_model.specs.declared.calls.Wish.TheVariants as wish
 use Rattle.lane_model.specs.declared.lane_links.LaneLink.{LaneLink}
-use Rattle.lane_model.specs.Answers.{busy_answer, wish_of}
+use Rattle.lane_model.specs.Answers.{busy_answer, given_back, wish_of}
+use Rattle.lane_model.specs.HeldBuffers.{HeldBuffer}
 use Rattle.lane_model.specs.Lanes.{holder}
 use Rattle.ring_core.specs.declared.states.RingState.{RingState}
 use Rattle.link_words.specs.Words.{lane_to, other, sender_slot, receiver_slot}
@@ -100,9 +104,27 @@ IsUnsettled (phase.LeavesReceiver answer) = ⊥
 IsUnsettled phase.Ended = ⊥
 IsUnsettled other = Unit {0}
 
--- what the next step of a call of this end says: its number, with the same turn behind it; or the call's end
+-- the buffer that a call gives back, which it keeps while it goes on
+abbrev pub gives_back : Phase → Option HeldBuffer
+gives_back (phase.Asked asked) = given_back asked
+gives_back (phase.Gives stage held returned) = Some held
+gives_back other = None
+
+-- a call settles that it gave this buffer back, or it had none to give back; and not that another has its turn
+abbrev pub IsGivenBack : Option HeldBuffer → Answer → Type 0
+IsGivenBack given (answer.Gave number) = option_map (λ (held : HeldBuffer). held.number) given ≡ Some number
+IsGivenBack given (answer.GiveBusy holder held) = ⊥
+IsGivenBack given other = given ≡ None
+
+abbrev pub KeepsBuffer : Phase → Phase → Type 0
+KeepsBuffer before (phase.Gives stage held returned) = gives_back before ≡ Some held
+KeepsBuffer before (phase.LeavesSender said) = IsGivenBack (gives_back before) said
+KeepsBuffer before (phase.LeavesReceiver said) = IsGivenBack (gives_back before) said
+KeepsBuffer before other = gives_back before ≡ None
+
+-- what the next step of a call of this end says: its number, with the same turn and the same buffer behind it; or the call's end
 abbrev pub IsNext : End → Phase → Progress → Phase → Type 0
-IsNext end before (progress.At number) after = (number ≡ steps_in before + 1) × (side_of end after ≡ side_of end before) × IsUnderWay after × IsUnsettled before
+IsNext end before (progress.At number) after = (number ≡ steps_in before + 1) × (side_of end after ≡ side_of end before) × IsUnderWay after × IsUnsettled before × KeepsBuffer before after
 IsNext end before (progress.Done said) after = (after ≡ phase.Ended) × IsEndOf before said
 
 -- what a caller wishes whose call has done no step
@@ -122,3 +144,9 @@ holder_for end (wish.Unbind address) m = holder (lane_to m end).lane.receiver
 abbrev pub outcome_said : Progress → Outcome
 outcome_said (progress.At number) = outcome.At number
 outcome_said (progress.Done answer) = outcome.Ended (call_end answer)
+
+-- how a call ends whose end is settled
+abbrev pub settled_end : Phase → Option CallEnd
+settled_end (phase.LeavesSender said) = Some (call_end said)
+settled_end (phase.LeavesReceiver said) = Some (call_end said)
+settled_end other = None

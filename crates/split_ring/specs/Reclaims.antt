@@ -1,6 +1,8 @@
 -- A reclaim: the parts that a caller has, how its seat stands, and what it leaves (own).
 use Rattle.std.specs.Prelude.{◌⊎◌, ◌≡◌, ◌+◌, ℕ, Bool, true, false, List, [], ◌∷◌, Option, Some, None}
 use Rattle.lane_model.specs.declared.recoveries.LaneTurn.TheVariants as lane_turn
+use Rattle.lane_model.specs.declared.recoveries.ReclaimRefusal.{ReclaimRefusal}
+use Rattle.lane_model.specs.declared.recoveries.ReclaimRefusal.TheVariants as refusal
 use base.Stored.{Coded}
 use Rattle.rp_base.specs.declared.kinds.End.{End}
 use Rattle.rp_base.specs.declared.kinds.Era.{Era}
@@ -43,8 +45,6 @@ use Rattle.split_ring.specs.declared.callers.CallerId.{CallerId}
 use Rattle.split_ring.specs.declared.calls.Phase.{Phase}
 use Rattle.split_ring.specs.declared.calls.Phase.TheVariants as phase
 use Rattle.split_ring.specs.declared.calls.RingCall.{RingCall}
-use Rattle.split_ring.specs.declared.ends.EndFault.{EndFault}
-use Rattle.split_ring.specs.declared.ends.EndFault.TheVariants as end_fault
 use Rattle.split_ring.specs.declared.ends.TurnHeld.{TurnHeld}
 use Rattle.split_ring.specs.declared.ends.TurnHeld.TheVariants as held
 use Rattle.split_ring.specs.Calls.{IsInPhase}
@@ -242,9 +242,9 @@ is_turn held.SenderAndBuffer = true
 is_turn held.Receiver = true
 is_turn held.ReceiverAndBuffer = true
 
-abbrev pub IsEndFault : {D : Type 0} → Coded D → DeskMeaning D → CallerId → TurnHeld → Bool → EndFault → Type 0
-IsEndFault coded meaning who turn is_holding (end_fault.StillOpen era) = (era.is_live ≡ true) × ((is_turn turn ≡ true) ⊎ (is_holding ≡ true))
-IsEndFault coded meaning who turn is_holding (end_fault.Busy holder) = IsAnothers coded meaning who holder × (is_holding ≡ true) × (lacks_receiver turn ≡ true)
+abbrev pub IsEndFault : {D : Type 0} → Coded D → DeskMeaning D → CallerId → TurnHeld → Bool → ReclaimRefusal → Type 0
+IsEndFault coded meaning who turn is_holding (refusal.StillOpen era) = (era.is_live ≡ true) × ((is_turn turn ≡ true) ⊎ (is_holding ≡ true))
+IsEndFault coded meaning who turn is_holding (refusal.Busy holder) = IsAnothers coded meaning who holder × (is_holding ≡ true) × (lacks_receiver turn ≡ true)
 
 -- how many slots are out with it
 abbrev pub turn_slots : TurnHeld → ℕ
@@ -275,11 +275,11 @@ abbrev pub KnowsFree : {D : Type 0} → Coded D → End → SeatState → Type 0
 KnowsFree coded end me = (m : LaneLink (RingState _)) → KnowsState coded me.0 m → (lane_to m end).lane.receiver ≡ turn.Free
 
 -- a manager that knew the state, whose era was closed, knows it still where a call was not ended: another has the receiver's turn
-abbrev pub IsRefusedIn : {D : Type 0} → End → EndFault → LaneLink (RingState D) → Type 0
-IsRefusedIn end (end_fault.StillOpen era) m = ⊥
-IsRefusedIn end (end_fault.Busy found) m = IsReceiver end found m
+abbrev pub IsRefusedIn : {D : Type 0} → End → ReclaimRefusal → LaneLink (RingState D) → Type 0
+IsRefusedIn end (refusal.StillOpen era) m = ⊥
+IsRefusedIn end (refusal.Busy found) m = IsReceiver end found m
 
-abbrev pub KnowsRefusal : {D : Type 0} → Coded D → CallerId → EndFault → SeatState → SeatState → Type 0
+abbrev pub KnowsRefusal : {D : Type 0} → Coded D → CallerId → ReclaimRefusal → SeatState → SeatState → Type 0
 KnowsRefusal coded who fault me me' = (m : LaneLink (RingState _)) → KnowsState coded me.0 m → m.era.is_live ≡ false → IsRefusedIn who.end fault m × KnowsState coded me'.0 m
 
 -- the manager has read this era, and nothing else of what it knows has changed

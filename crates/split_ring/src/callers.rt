@@ -65,6 +65,21 @@ pub struct Manager {
     pub(crate) out: [u8; 4],
 }
 
+impl Manager {
+    ghost use Rattle.lane_model.specs.Links.{end_of};
+
+    /// The end of the caller of this number, where it is in use.
+    pub fn end_of(&self, caller: CallerNo) -> Option<End>
+        ensures end { result ≡ end_of self.now.users caller }
+        ensures within { IfSome result (λ _. caller < 64) }
+    {
+        match self.users.get(usize::from(caller)) {
+            Some(found) => *found,
+            None => None,
+        }
+    }
+}
+
 /// The least number that is not in use.
 pub(crate) fn least_free(users: &[Option<End>; 64]) -> Option<CallerNo>
     ensures number { result ≡ free_number users.now }

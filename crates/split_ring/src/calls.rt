@@ -8,15 +8,17 @@ ghost use Rattle.ring_core.specs.RingSteps.{ring_form};
 ghost use Rattle.link_words.specs.declared.rule.Event.TheVariants.{Step};
 ghost use Rattle.link_words.specs.declared.rule.Made.TheVariants as made;
 ghost use Rattle.link_words.specs.Calls.{SeatState};
+ghost use Rattle.link_words.specs.Deeds.{after_deed};
 ghost use Rattle.link_words.specs.PlacedLinks.{KnowsState};
 ghost use Rattle.split_ring.specs.declared.calls.Phase.TheVariants as phase;
-ghost use Rattle.split_ring.specs.Calls.{deed_of, send_answer, desk_said, hands_in, IsInPhase, IsOwnAsk, IsShort, IsPath, Advances};
+ghost use Rattle.split_ring.specs.Calls.{call_end, deed_of, send_answer, desk_said, hands_in, IsInPhase, IsOwnAsk, IsShort, IsPath, Advances};
 ghost use Rattle.split_ring.specs.Callers.{IsAdvanced, MayAdvance, StepNotBelow, TakesStep};
 ghost use Rattle.split_ring.specs.declared.callers.CallerId.{CallerId};
 ghost use Rattle.split_ring.specs.declared.callers.Manager.{Manager};
 ghost use Rattle.split_ring.specs.Carried.{MayAdvanceBy, MayAskBy};
 ghost use Rattle.split_ring.specs.Focus.{IsOrderlySeat, StaysAlone, StepsAlone, seat_of};
-ghost use Rattle.split_ring.specs.Phases.{IsNext, IsUnderWay, asked_side, outcome_said, side_of, wished_in};
+ghost use Rattle.split_ring.specs.Handed.{HandsBufferOf, StepsLanes};
+ghost use Rattle.split_ring.specs.Phases.{IsNext, IsUnderWay, IsUnsettled, KeepsBuffer, asked_side, outcome_said, settled_end, side_of, wished_in};
 ghost use Rattle.split_ring.specs.Seats.{pass_in};
 ghost use Rattle.split_ring.specs.Turns.{HasBegun};
 ghost use Rattle.split_ring.specs.Walks.{HasDone, same_hands};
@@ -27,7 +29,9 @@ use crate::links::SharedLink;
 use crate::sends::{SendCall, SendFault};
 use crate::takes::TakeCall;
 use crate::turns::other;
-use lane_model::{Answer, Ask, Desk, GiveStage, Held, LaneTurn, Progress, SendStage, TakeStage};
+use lane_model::{
+    Answer, Ask, CallEnd, Desk, GiveStage, Held, LaneTurn, Progress, SendStage, TakeStage,
+};
 use link_words::{Intent, LinkSeat};
 use rp_base::{CallerNo, Endpoint, Message};
 use std::marker::PhantomData;
@@ -59,6 +63,37 @@ pub(crate) enum Phase {
 pub struct RingCall<D: Desk> {
     pub(crate) phase: Phase,
     marker: PhantomData<D>,
+}
+
+impl<D: Desk> RingCall<D> {
+    /// How the call ends, once that is settled: its next step is the last one.
+    pub fn settled(&self) -> Option<CallEnd>
+        ensures { result ≡ settled_end self.now.phase }
+    {
+        match &self.phase {
+            Phase::LeavesSender(answer) | Phase::LeavesReceiver(answer) => Some(end_with(answer)),
+            _ => None,
+        }
+    }
+}
+
+/// The end of a call with this answer.
+fn end_with(answer: &Answer) -> CallEnd
+    ensures { result ≡ call_end answer.now }
+{
+    match answer {
+        Answer::Sent(number) => CallEnd::Sent(*number),
+        Answer::Took(held, verdict) => CallEnd::Took(held.number(), *verdict),
+        Answer::Gave(number) => CallEnd::Gave(*number),
+        Answer::Bound(endpoint) => CallEnd::Bound(*endpoint),
+        Answer::Unbound(endpoint) => CallEnd::Unbound(*endpoint),
+        Answer::Busy(holder) | Answer::GiveBusy(holder, _) => CallEnd::Busy(*holder),
+        Answer::Dead(era) => CallEnd::Dead(*era),
+        Answer::NoBuffer(accepted, returned) => CallEnd::NoBuffer(*accepted, *returned),
+        Answer::BookFull(accepted) => CallEnd::BookFull(*accepted),
+        Answer::Empty(accepted) => CallEnd::Empty(*accepted),
+        Answer::Refused(fault) => CallEnd::Refused(*fault),
+    }
 }
 
 /// What a caller wishes that asks this.
@@ -153,6 +188,7 @@ impl<D: Desk> SharedLink<D> {
         ensures alone { StepsAlone D.row.coded D.meaning who.number (deed_of who phase) seat.old.me seat.new.me }
         ensures next { IsNext who.end phase result.1 result.0 }
         ensures said { (m : LaneLink (RingState D)) → KnowsState D.row.coded seat.old.me.0 m → outcome_said result.1 ≡ (form_step (ring_form D.meaning) D.meaning m who.number who.follows (wished_in phase)).outcome }
+        ensures lanes { (m : LaneLink (RingState D)) → KnowsState D.row.coded seat.old.me.0 m → StepsLanes who result.0 m (after_deed D.meaning m (deed_of who phase)) }
     {
         match phase {
             Phase::Asked(ask) => self.first_step(seat, who, ask),
@@ -182,6 +218,7 @@ impl<D: Desk> SharedLink<D> {
         ensures alone { StepsAlone D.row.coded D.meaning who.number (deed_of who (phase.Asked ask)) seat.old.me seat.new.me }
         ensures next { IsNext who.end (phase.Asked ask) result.1 result.0 }
         ensures said { (m : LaneLink (RingState D)) → KnowsState D.row.coded seat.old.me.0 m → outcome_said result.1 ≡ (form_step (ring_form D.meaning) D.meaning m who.number who.follows (wished_in (phase.Asked ask))).outcome }
+        ensures lanes { (m : LaneLink (RingState D)) → KnowsState D.row.coded seat.old.me.0 m → StepsLanes who result.0 m (after_deed D.meaning m (deed_of who (phase.Asked ask))) }
     {
         match self.enter(seat, who, wish_of(&ask)) {
             Ok(()) => (self.begun_call(seat, who, ask), Progress::At(1)),
@@ -201,6 +238,8 @@ impl<D: Desk> SharedLink<D> {
         ensures path { (start : SeatState) → IsPath D.row.coded D.meaning self.now.sizes who ask result (Step (made.Turn 0) ∷ []) start (seat_of who.number seat.new.me) }
         ensures stays { StaysAlone who.number seat.old.me seat.new.me }
         ensures next { (side_of who.end result ≡ asked_side who.end ask) × IsUnderWay result }
+        ensures unsettled { IsUnsettled result }
+        ensures buffer { KeepsBuffer (phase.Asked ask) result }
     {
         match ask {
             Ask::Send(message) => {
@@ -282,6 +321,7 @@ impl<D: Desk> SharedLink<D> {
         ensures step { Advances D.row.coded D.meaning self.now.sizes who (phase.Takes stage call buffer) result.1 result.0 (seat_of who.number seat.old.me) (seat_of who.number seat.new.me) }
         ensures alone { StepsAlone D.row.coded D.meaning who.number (deed_of who (phase.Takes stage call buffer)) seat.old.me seat.new.me }
         ensures next { IsNext who.end (phase.Takes stage call buffer) result.1 result.0 }
+        ensures handed { HandsBufferOf self.now.sizes call buffer result.0 (seat_of who.number seat.old.me) }
     {
         match stage {
             TakeStage::Turn => match self.find_take_era(seat, &call) {

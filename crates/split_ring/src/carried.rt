@@ -10,7 +10,8 @@ ghost use Rattle.split_ring.specs.declared.calls.Phase.{Phase};
 ghost use Rattle.split_ring.specs.Callers.{IsManagerOf, IsStateOf};
 ghost use Rattle.split_ring.specs.Calls.{Advances, deed_of};
 ghost use Rattle.split_ring.specs.Carried.{Carries, CarriesOn, Keeps, carried_seat, out_before};
-ghost use Rattle.split_ring.specs.Phases.{IsUnderWay, outcome_said, side_of, slots_in, wished_in};
+ghost use Rattle.split_ring.specs.Handed.{StepsLanes};
+ghost use Rattle.split_ring.specs.Phases.{IsNext, IsUnderWay, outcome_said, side_of, slots_in, wished_in};
 
 use crate::callers::{CallerId, Manager};
 use crate::calls::{Phase, RingCall};
@@ -59,6 +60,22 @@ fn slots_in(phase: &Phase) -> u8
 }
 
 impl Manager {
+    /// The caller of this number, which is in use, and whose calls follow this incarnation.
+    pub(crate) fn carried_id(&self, number: CallerNo, follows: Inc) -> CallerId
+        requires { (end : End) × (end_of self.now.users number ≡ Some end) }
+        ensures { (result.number ≡ number) × (end_of self.now.users number ≡ Some result.end) × (result.follows ≡ follows) }
+    {
+        let end = match self.users.get(usize::from(number)) {
+            Some(Some(end)) => *end,
+            Some(None) | None => unreachable!(),
+        };
+        CallerId {
+            number,
+            end,
+            follows,
+        }
+    }
+
     /// How many slots are out with the first so many side states.
     pub(crate) fn out_before(&self, side: usize) -> u8
         requires few { (slot : ℕ) → slice_index self.now.out slot ≤ 2 }
@@ -90,6 +107,9 @@ impl<D: Desk> SharedLink<D> {
         ensures others { (who : CallerId) (p : Phase) → who.number ≢ caller → Keeps self.now manager.old manager.new who p }
         ensures step { (end : End) → end_of manager.old.users caller ≡ Some end → let who : CallerId = record { number = caller; end = end; follows = inc } in
             Advances D.row.coded D.meaning self.now.sizes who call.old.phase result call.new.phase (carried_seat who call.old.phase manager.old) (carried_seat who call.old.phase manager.new) }
+        ensures next { (end : End) → end_of manager.old.users caller ≡ Some end → IsNext end call.old.phase result call.new.phase }
+        ensures lanes { (end : End) → end_of manager.old.users caller ≡ Some end → let who : CallerId = record { number = caller; end = end; follows = inc } in (m : LaneLink (RingState D)) → IsStateOf D.row.coded manager.old m
+            → StepsLanes who call.new.phase m (after_deed D.meaning m (deed_of who call.old.phase)) }
         ensures said { (m : LaneLink (RingState D)) → IsStateOf D.row.coded manager.old m → outcome_said result ≡ (form_step (ring_form D.meaning) D.meaning m caller inc (wished_in call.old.phase)).outcome }
         ensures state { (end : End) → end_of manager.old.users caller ≡ Some end → (m : LaneLink (RingState D)) → IsStateOf D.row.coded manager.old m
             → IsStateOf D.row.coded manager.new (after_deed D.meaning m (deed_of (record { number = caller; end = end; follows = inc }) call.old.phase)) }

@@ -10,8 +10,8 @@ ghost use Rattle.split_ring.specs.declared.callers.CallerId.{CallerId};
 ghost use Rattle.split_ring.specs.declared.calls.Phase.{Phase};
 ghost use Rattle.split_ring.specs.declared.calls.Phase.TheVariants as phase;
 ghost use Rattle.split_ring.specs.Focus.{KnowsAfter};
-ghost use Rattle.split_ring.specs.ManagerCalls.{ReclaimsState};
-ghost use Rattle.split_ring.specs.PartsOf.{IsAllCarried, IsRefusalBy};
+ghost use Rattle.split_ring.specs.ManagerCalls.{EndsState, ReclaimsState};
+ghost use Rattle.split_ring.specs.PartsOf.{IsAllCarried, IsRefusalBy, IsRetireRefusal, TellsHands};
 ghost use Rattle.split_ring.specs.Phases.{side_of};
 ghost use Rattle.split_ring.specs.Reclaims.{IsEndFault, IsNow, KnowsFree, KnowsRefusal, end_deeds, ended_of, lacks_receiver, phase_of, turn_in};
 ghost use Rattle.split_ring.specs.Seats.{pass_in};
@@ -19,13 +19,13 @@ ghost use Rattle.split_ring.specs.Seats.{pass_in};
 use crate::callers::{CallerId, Manager};
 use crate::calls::RingCall;
 use crate::carried::side_of;
-use crate::ends::{EndFault, TurnHeld};
+use crate::ends::TurnHeld;
 use crate::links::SharedLink;
-use crate::reclaims::{call_has, is_holding};
+use crate::reclaims::{is_holding, turn_of};
 use crate::slots::turn_by;
 use crate::takes::receiver_slot;
 use crate::turns::era_of;
-use lane_model::{Desk, Held, ReclaimByFault};
+use lane_model::{Desk, Held, ReclaimByFault, ReclaimRefusal};
 use link_words::{end_carried, learn_era};
 use rp_base::{CallerNo, End};
 
@@ -63,23 +63,47 @@ impl<D: Desk> SharedLink<D> {
         ensures refused { IfErr result (λ fault. (who : CallerId) → who.number ≡ caller → IsAllCarried self.now manager.old who call held.items → IsRefusalBy D.row.coded D.meaning who manager.old call held fault) }
         ensures state { (m : LaneLink (RingState D)) → IsStateOf D.row.coded manager.old m → ReclaimsState D.row.coded D.meaning m caller call held result manager.new }
     {
-        let era = era_of(learn_era(&self.table.shared, &mut manager.seat));
-        if era.is_live {
-            return Err(ReclaimByFault::StillOpen(era, call, held));
-        }
-        let who = self.carried_id(manager, caller);
-        let (turn, is_giving) = call_has(&call);
-        let is_holding = is_holding(is_giving, &held);
-        match self.end_by(manager, who, &call, turn, is_holding) {
-            Ok(()) => {
-                end_carried(&self.table.shared, &mut manager.seat, caller);
-                manager.users[usize::from(caller)] = None;
-                Ok(())
-            }
-            Err(EndFault::StillOpen(era)) => Err(ReclaimByFault::StillOpen(era, call, held)),
-            Err(EndFault::Busy(holder)) => Err(ReclaimByFault::Busy(holder, call, held)),
+        let is_holding = is_holding(&call, &held);
+        match self.retire_by(manager, caller, &call, is_holding) {
+            Ok(()) => Ok(()),
+            Err(ReclaimRefusal::StillOpen(era)) => Err(ReclaimByFault::StillOpen(era, call, held)),
+            Err(ReclaimRefusal::Busy(holder)) => Err(ReclaimByFault::Busy(holder, call, held)),
         }
     }
+
+    /// Ends a caller that the manager carries, in any phase of this call of its, in a closed era, as `reclaim_by` does: its number is free again.
+    /// `is_holding` says whether the caller has a buffer in hand, that of its call included. It takes neither memory nor waits.
+    ///
+    /// Errors: as for `reclaim`. Nothing changes then for the caller.
+    pub fn retire_by(
+        &self,
+        manager: &mut Manager,
+        caller: CallerNo,
+        call: &Option<RingCall<D>>,
+        is_holding: bool,
+    ) -> Result<(), ReclaimRefusal>
+        requires manager { IsManagerOf self.now manager.old }
+        requires caller { (who : CallerId) × (who.number ≡ caller) × Carries self.now manager.old who (phase_of call.now) × TellsHands is_holding (carried_seat who (phase_of call.now) manager.old) }
+        ensures manager { IsManagerOf self.now manager.new }
+        ensures others { (who : CallerId) (p : Phase) → who.number ≢ caller → Keeps self.now manager.old manager.new who p }
+        ensures back { IfErr result (λ _. (manager.new.users ≡ manager.old.users) × ((who : CallerId) (p : Phase) → Keeps self.now manager.old manager.new who p)) }
+        ensures users { IfOk result (λ _. manager.new.users ≡ slice_set manager.old.users caller None) }
+        ensures retired { IfOk result (λ _. (who : CallerId) → who.number ≡ caller → Carries self.now manager.old who (phase_of call.now)
+            → manager.new.seat.me.0.ended_passes ≡ ended_of who (pass_in (carried_seat who (phase_of call.now) manager.old)) ∷ manager.old.seat.me.0.ended_passes) }
+        ensures refused { IfErr result (λ why. (who : CallerId) → who.number ≡ caller → Carries self.now manager.old who (phase_of call.now) → IsRetireRefusal D.row.coded D.meaning who manager.old (phase_of call.now) why) }
+        ensures state { (m : LaneLink (RingState D)) → IsStateOf D.row.coded manager.old m → EndsState D.row.coded D.meaning m caller result manager.new }
+    {
+        let era = era_of(learn_era(&self.table.shared, &mut manager.seat));
+        if era.is_live {
+            return Err(ReclaimRefusal::StillOpen(era));
+        }
+        let who = self.carried_id(manager, caller);
+        self.end_by(manager, who, call, turn_of(call), is_holding)?;
+        end_carried(&self.table.shared, &mut manager.seat, caller);
+        manager.users[usize::from(caller)] = None;
+        Ok(())
+    }
+
     /// The caller of this number that the manager carries. What its calls follow plays no part in a reclaim.
     fn carried_id(&self, manager: &Manager, number: CallerNo) -> CallerId
         requires { (end : End) × (end_of manager.now.users number ≡ Some end) }
@@ -106,7 +130,7 @@ impl<D: Desk> SharedLink<D> {
         call: &Option<RingCall<D>>,
         turn: TurnHeld,
         is_holding: bool,
-    ) -> Result<(), EndFault>
+    ) -> Result<(), ReclaimRefusal>
         requires manager { IsManagerOf self.now manager.old }
         requires caller { (follows : ℕ) × Carries self.now manager.old (record who { follows = follows }) (phase_of call.now) }
         requires turn { turn ≡ turn_in (phase_of call.now) }

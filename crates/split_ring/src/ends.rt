@@ -4,6 +4,7 @@ ghost use Rattle.std.specs.Prelude.{◌≡◌, ◌<◌, ◌++◌, ◌∷◌, len
 ghost use Rattle.rp_base.specs.declared.kinds.Era.{Era};
 ghost use Rattle.lane_model.specs.declared.lane_links.LaneLink.{LaneLink};
 ghost use Rattle.lane_model.specs.declared.recoveries.LaneTurn.TheVariants as lane_turn;
+ghost use Rattle.lane_model.specs.declared.recoveries.ReclaimRefusal.TheVariants as refusal;
 ghost use Rattle.ring_core.specs.declared.states.RingState.{RingState};
 ghost use Rattle.link_words.specs.declared.rule.Call.TheVariants.{Rests};
 ghost use Rattle.link_words.specs.declared.rule.ReceiverSide.{ReceiverSide};
@@ -13,7 +14,6 @@ ghost use Rattle.link_words.specs.Passes.{with_call};
 ghost use Rattle.link_words.specs.PlacedLinks.{KnowsState};
 ghost use Rattle.link_words.specs.Reclaims.{HasTurn, IsUnclaimed, MayEnd, doomed_call, claimed_call, spared_call, ended_pass, ending_of, slots_left};
 ghost use Rattle.link_words.specs.Words.{receiver_slot};
-ghost use Rattle.split_ring.specs.declared.ends.EndFault.TheVariants as end_fault;
 ghost use Rattle.split_ring.specs.declared.ends.TurnHeld.TheVariants as held;
 ghost use Rattle.split_ring.specs.Focus.{ChangesAlone, IsOrderlySeat, KnowsAfter, LeavesOthers, others_of, seat_of};
 ghost use Rattle.split_ring.specs.Reclaims.{HasSend, HasReceive, HasTurnHeld, HoldsAlone, StandsAlone, IsNow, IsAnothers, IsEndFault, IsReceiver, KnowsFree, KnowsRefusal, end_deeds, ended_of, lacks_receiver, turn_slots};
@@ -24,7 +24,7 @@ use crate::links::SharedLink;
 use crate::slots::{put_aside_in, turn_by};
 use crate::takes::receiver_slot;
 use crate::turns::{era_of, other};
-use lane_model::{Desk, LaneTurn};
+use lane_model::{Desk, LaneTurn, ReclaimRefusal};
 use link_words::{LinkSeat, claim_turn, find_closed, leave_ended};
 use rp_base::{CallerNo, End, Era};
 
@@ -53,15 +53,6 @@ impl TurnHeld {
     }
 }
 
-/// Why a caller's call is not ended.
-#[derive(Clone, Copy)]
-pub(crate) enum EndFault {
-    /// The era is live.
-    StillOpen(Era),
-    /// This one has the receiver's turn.
-    Busy(CallerNo),
-}
-
 impl<D: Desk> SharedLink<D> {
     /// Parts 1 to 4 of a reclaim: the caller is in no call then, and holds nothing. So many slots are out with the seat.
     ///
@@ -74,7 +65,7 @@ impl<D: Desk> SharedLink<D> {
         turn: TurnHeld,
         is_holding: bool,
         all: u8,
-    ) -> Result<(), EndFault>
+    ) -> Result<(), ReclaimRefusal>
         requires seat { IsOrderlySeat self.now.table.shared.table_id self.now.sizes seat.old.table_id seat.old.me }
         requires all { all ≡ length seat.old.me.1 }
         requires number { ((pass_in (seat_of who.number seat.old.me)).number ≡ who.number) × (who.number < 64) }
@@ -111,7 +102,7 @@ impl<D: Desk> SharedLink<D> {
         who: CallerId,
         turn: TurnHeld,
         is_holding: bool,
-    ) -> Result<(), EndFault>
+    ) -> Result<(), ReclaimRefusal>
         requires seat { IsSeatOf self.now.table.shared.table_id self.now.sizes seat.old.table_id seat.old.me }
         requires number { ((pass_in seat.old.me).number ≡ who.number) × (who.number < 64) }
         requires stands { HasTurnHeld self.now.sizes who turn seat.old.me }
@@ -124,7 +115,7 @@ impl<D: Desk> SharedLink<D> {
     }
 
     /// A caller that is in no call and holds something: the receiver's turn, the era again, and the leave.
-    fn end_holder(&self, seat: &mut LinkSeat, who: CallerId, all: u8) -> Result<(), EndFault>
+    fn end_holder(&self, seat: &mut LinkSeat, who: CallerId, all: u8) -> Result<(), ReclaimRefusal>
         requires seat { IsOrderlySeat self.now.table.shared.table_id self.now.sizes seat.old.table_id seat.old.me }
         requires all { all ≡ length seat.old.me.1 }
         requires number { (pass_in (seat_of who.number seat.old.me)).number ≡ who.number }
@@ -138,11 +129,11 @@ impl<D: Desk> SharedLink<D> {
         ensures met { IfErr result (λ fault. KnowsRefusal D.row.coded who fault seat.old.me seat.new.me) }
     {
         if let Err(holder) = self.claim(seat, who, 0, all) {
-            return Err(EndFault::Busy(holder));
+            return Err(ReclaimRefusal::Busy(holder));
         }
         if let Err(era) = self.find_end(seat, who.number) {
             self.quit(seat, who.number, who.end, LaneTurn::Receiver);
-            return Err(EndFault::StillOpen(era));
+            return Err(ReclaimRefusal::StillOpen(era));
         }
         self.quit_empty(seat, who);
         Ok(())
@@ -156,7 +147,7 @@ impl<D: Desk> SharedLink<D> {
         turn: TurnHeld,
         is_holding: bool,
         all: u8,
-    ) -> Result<(), EndFault>
+    ) -> Result<(), ReclaimRefusal>
         requires seat { IsOrderlySeat self.now.table.shared.table_id self.now.sizes seat.old.table_id seat.old.me }
         requires all { all ≡ length seat.old.me.1 }
         requires number { (pass_in (seat_of who.number seat.old.me)).number ≡ who.number }
@@ -171,14 +162,14 @@ impl<D: Desk> SharedLink<D> {
         ensures met { IfErr result (λ fault. KnowsRefusal D.row.coded who fault seat.old.me seat.new.me) }
     {
         if let Err(era) = self.find_end(seat, who.number) {
-            return Err(EndFault::StillOpen(era));
+            return Err(ReclaimRefusal::StillOpen(era));
         }
         if !is_holding {
             self.quit(seat, who.number, other(who.end), LaneTurn::Sender);
             return Ok(());
         }
         if let Err(holder) = self.claim(seat, who, turn.slots(), all) {
-            return Err(EndFault::Busy(holder));
+            return Err(ReclaimRefusal::Busy(holder));
         }
         self.quit(seat, who.number, other(who.end), LaneTurn::Sender);
         self.quit_empty(seat, who);
@@ -186,39 +177,39 @@ impl<D: Desk> SharedLink<D> {
     }
 
     /// A caller that has the receiver's turn, with no buffer out.
-    fn end_receive(&self, seat: &mut LinkSeat, who: CallerId) -> Result<(), EndFault>
+    fn end_receive(&self, seat: &mut LinkSeat, who: CallerId) -> Result<(), ReclaimRefusal>
         requires seat { IsOrderlySeat self.now.table.shared.table_id self.now.sizes seat.old.table_id seat.old.me }
         requires number { (pass_in (seat_of who.number seat.old.me)).number ≡ who.number }
         requires stands { HasReceive self.now.sizes who false (seat_of who.number seat.old.me) }
         ensures seat { IsOrderlySeat self.now.table.shared.table_id self.now.sizes seat.new.table_id seat.new.me }
         ensures ended { IfOk result (λ _. IsNow (ended_of who (pass_in (seat_of who.number seat.old.me))) [] (seat_of who.number seat.old.me) (seat_of who.number seat.new.me)) }
-        ensures refused { IfErr result (λ fault. IsNow (pass_in (seat_of who.number seat.old.me)) (seat_of who.number seat.old.me).1 (seat_of who.number seat.old.me) (seat_of who.number seat.new.me) × ((era : Era) × (fault ≡ end_fault.StillOpen era) × (era.is_live ≡ true))) }
+        ensures refused { IfErr result (λ fault. IsNow (pass_in (seat_of who.number seat.old.me)) (seat_of who.number seat.old.me).1 (seat_of who.number seat.old.me) (seat_of who.number seat.new.me) × ((era : Era) × (fault ≡ refusal.StillOpen era) × (era.is_live ≡ true))) }
         ensures leaves { LeavesOthers who.number seat.old.me seat.new.me }
         ensures done { IfOk result (λ _. KnowsAfter D.row.coded D.meaning (EndsCall who.end who.number ∷ []) seat.old.me seat.new.me) }
         ensures met { IfErr result (λ fault. KnowsRefusal D.row.coded who fault seat.old.me seat.new.me) }
     {
         if let Err(era) = self.find_end(seat, who.number) {
-            return Err(EndFault::StillOpen(era));
+            return Err(ReclaimRefusal::StillOpen(era));
         }
         self.quit_empty(seat, who);
         Ok(())
     }
 
     /// A caller that has the receiver's turn, whose buffer is out too.
-    fn end_take(&self, seat: &mut LinkSeat, who: CallerId, all: u8) -> Result<(), EndFault>
+    fn end_take(&self, seat: &mut LinkSeat, who: CallerId, all: u8) -> Result<(), ReclaimRefusal>
         requires seat { IsOrderlySeat self.now.table.shared.table_id self.now.sizes seat.old.table_id seat.old.me }
         requires all { all ≡ length seat.old.me.1 }
         requires number { (pass_in (seat_of who.number seat.old.me)).number ≡ who.number }
         requires stands { HasReceive self.now.sizes who true (seat_of who.number seat.old.me) }
         ensures seat { IsOrderlySeat self.now.table.shared.table_id self.now.sizes seat.new.table_id seat.new.me }
         ensures ended { IfOk result (λ _. IsNow (ended_of who (pass_in (seat_of who.number seat.old.me))) [] (seat_of who.number seat.old.me) (seat_of who.number seat.new.me)) }
-        ensures refused { IfErr result (λ fault. IsNow (pass_in (seat_of who.number seat.old.me)) (seat_of who.number seat.old.me).1 (seat_of who.number seat.old.me) (seat_of who.number seat.new.me) × ((era : Era) × (fault ≡ end_fault.StillOpen era) × (era.is_live ≡ true))) }
+        ensures refused { IfErr result (λ fault. IsNow (pass_in (seat_of who.number seat.old.me)) (seat_of who.number seat.old.me).1 (seat_of who.number seat.old.me) (seat_of who.number seat.new.me) × ((era : Era) × (fault ≡ refusal.StillOpen era) × (era.is_live ≡ true))) }
         ensures leaves { LeavesOthers who.number seat.old.me seat.new.me }
         ensures done { IfOk result (λ _. KnowsAfter D.row.coded D.meaning (EndsCall who.end who.number ∷ []) seat.old.me seat.new.me) }
         ensures met { IfErr result (λ fault. KnowsRefusal D.row.coded who fault seat.old.me seat.new.me) }
     {
         if let Err(era) = self.find_end(seat, who.number) {
-            return Err(EndFault::StillOpen(era));
+            return Err(ReclaimRefusal::StillOpen(era));
         }
         seat.turn();
         put_aside_in(

@@ -25,6 +25,8 @@ mod takes;
 mod threads;
 mod turns;
 mod waits;
+mod whole_receives;
+mod whole_sends;
 
 pub use binds::DeskFault;
 pub use callers::{Caller, CallerId, Manager};

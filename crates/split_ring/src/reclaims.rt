@@ -1,21 +1,19 @@
 //! The reclaim of a caller that is in any phase of a call, or in none, with all that it has.
-ghost use Rattle.std.specs.Prelude.{◌≡◌, ◌≢◌, ◌⊎◌, [], true, false, IfOk, IfErr};
-ghost use lib.ListN.{get_elem?};
-ghost use mathlib.Core.Option.{some};
-ghost use Rattle.lane_model.specs.HeldBuffers.{HeldBuffer};
+ghost use Rattle.std.specs.Prelude.{◌≡◌, ◌≢◌, IfOk, IfErr};
+ghost use Rattle.link_words.specs.Calls.{SeatState};
 ghost use Rattle.split_ring.specs.Carried.{Keeps};
 ghost use Rattle.split_ring.specs.Callers.{IsManagerOf};
 ghost use Rattle.split_ring.specs.declared.callers.CallerId.{CallerId};
 ghost use Rattle.split_ring.specs.declared.calls.Phase.{Phase};
-ghost use Rattle.split_ring.specs.PartsOf.{IsAllOf, IsReclaimed, IsRefusal};
+ghost use Rattle.split_ring.specs.PartsOf.{AreHeldBy, HoldsItsOwn, HoldsNoOther, IsAllOf, IsReclaimed, IsRefusal, TellsHands};
 ghost use Rattle.split_ring.specs.Reclaims.{has_buffer, phase_of, turn_in};
 
 use crate::callers::{Caller, Manager};
 use crate::calls::{Phase, RingCall};
-use crate::ends::{EndFault, TurnHeld};
+use crate::ends::TurnHeld;
 use crate::links::SharedLink;
 use crate::turns::era_of;
-use lane_model::{Answer, Ask, Desk, Held, SendStage, TakeStage};
+use lane_model::{Answer, Ask, Desk, Held, ReclaimRefusal, SendStage, TakeStage};
 use link_words::{join, learn_era};
 use rp_base::{CallerNo, Era};
 
@@ -70,24 +68,24 @@ fn has_buffer(phase: &Phase) -> bool
     }
 }
 
-/// The turn that a caller's call has, and whether a buffer is in it that is in its caller's hands.
-pub(crate) fn call_has<D: Desk>(call: &Option<RingCall<D>>) -> (TurnHeld, bool)
-    ensures { (result.0 ≡ turn_in (phase_of call.now)) × (result.1 ≡ has_buffer (phase_of call.now)) }
+/// The turn that a caller's call has.
+pub(crate) fn turn_of<D: Desk>(call: &Option<RingCall<D>>) -> TurnHeld
+    ensures { result ≡ turn_in (phase_of call.now) }
 {
     match call {
-        Some(call) => (turn_in(&call.phase), has_buffer(&call.phase)),
-        None => (TurnHeld::Neither, false),
+        Some(call) => turn_in(&call.phase),
+        None => TurnHeld::Neither,
     }
 }
 
 /// Whether a caller holds something: the buffer that is in its call, or one of these.
-pub(crate) fn is_holding(is_giving: bool, held: &[Held]) -> bool
-    ensures nothing { result ≡ false → (is_giving ≡ false) × (held.now ≡ []) }
-    ensures some { result ≡ true → (is_giving ≡ true) ⊎ ((buffer : HeldBuffer) × (get_elem? held.now 0 ≡ some buffer)) }
+pub(crate) fn is_holding<D: Desk>(call: &Option<RingCall<D>>, held: &[Held]) -> bool
+    ensures { (who : CallerId) (me : SeatState) → AreHeldBy who held.now me → HoldsNoOther (phase_of call.now) held.now me → HoldsItsOwn (phase_of call.now) me → TellsHands result me }
 {
-    match held.first() {
-        Some(_) => true,
-        None => is_giving,
+    match (held.first(), call) {
+        (Some(_), _) => true,
+        (None, Some(call)) => has_buffer(&call.phase),
+        (None, None) => false,
     }
 }
 
@@ -116,19 +114,18 @@ impl<D: Desk> SharedLink<D> {
             held,
         } = parts;
         let who = caller.id;
-        let (turn, is_giving) = call_has(&call);
-        let is_holding = is_holding(is_giving, &held);
-        match self.end_alone(&mut caller.seat, who, turn, is_holding) {
+        let is_holding = is_holding(&call, &held);
+        match self.end_alone(&mut caller.seat, who, turn_of(&call), is_holding) {
             Ok(()) => {
                 join(&self.table.shared, &mut manager.seat, caller.seat);
                 manager.users[who.number as usize] = None;
                 Ok(())
             }
-            Err(EndFault::StillOpen(era)) => {
+            Err(ReclaimRefusal::StillOpen(era)) => {
                 let parts = Parts { caller, call, held };
                 Err(ReclaimFault::StillOpen(era, parts))
             }
-            Err(EndFault::Busy(holder)) => {
+            Err(ReclaimRefusal::Busy(holder)) => {
                 let parts = Parts { caller, call, held };
                 Err(ReclaimFault::Busy(holder, parts))
             }

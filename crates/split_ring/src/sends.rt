@@ -1,21 +1,30 @@
 //! A send: a function for each step, and the whole walk.
-ghost use Rattle.std.specs.Prelude.{◌≡◌, ◌≢◌, ◌+◌, ◌≤◌, ◌%◌, ◌<◌, ℕ, ◌∷◌, [], IfOk, IfErr, None, length};
+ghost use Rattle.std.specs.Prelude.{◌≡◌, ◌≢◌, ◌+◌, ◌≤◌, ◌%◌, ◌<◌, ℕ, suc, ◌∷◌, [], IfOk, IfErr, None, length};
 ghost use Rattle.rp_base.specs.declared.limits.TheConstants.{BOOK_MOST};
 ghost use Rattle.lane_model.specs.declared.calls.CallEnd.{CallEnd};
 ghost use Rattle.lane_model.specs.declared.calls.CallEnd.TheVariants as call_end;
+ghost use Rattle.lane_model.specs.declared.calls.Wish.TheVariants as wish;
+ghost use Rattle.lane_model.specs.declared.lane_links.LaneLink.{LaneLink};
 ghost use Rattle.lane_model.specs.declared.recoveries.LaneTurn.TheVariants as lane_turn;
 ghost use Rattle.lane_model.specs.declared.stages.SendStage.TheVariants as stage;
+ghost use Rattle.ring_core.specs.declared.states.RingState.{RingState};
 ghost use Rattle.ring_core.specs.Rings.{return_count, entry_length};
+ghost use Rattle.link_words.specs.declared.rule.Call.TheVariants.{Rests};
 ghost use Rattle.link_words.specs.declared.rule.Event.TheVariants.{Step, Publish};
 ghost use Rattle.link_words.specs.declared.rule.Made.TheVariants as made;
 ghost use Rattle.link_words.specs.declared.rule.Slot.{Slot};
 ghost use Rattle.link_words.specs.declared.rule.Slot.TheVariants.{Buffer};
 ghost use Rattle.link_words.specs.Deeds.{Steps};
 ghost use Rattle.link_words.specs.Parts.{AreNear};
+ghost use Rattle.link_words.specs.PlacedLinks.{KnowsState};
 ghost use Rattle.link_words.specs.Words.{other, sender_slot};
+ghost use Rattle.split_ring.specs.declared.calls.Phase.TheVariants as phase;
 ghost use Rattle.split_ring.specs.Callers.{IsCallerOf, IsAfterCall, MakesSend, SendNotBelow};
-ghost use Rattle.split_ring.specs.Focus.{IsAlone, IsOrderlySeat, StaysAlone, StepsAlone, seat_of};
-ghost use Rattle.split_ring.specs.Sends.{live_era, room_look, IsSendAt, IsFilledAt, HasNoRoom, HasSettled};
+ghost use Rattle.split_ring.specs.Calls.{send_answer};
+ghost use Rattle.split_ring.specs.Focus.{IsOrderlySeat, LeavesOthers, StaysAlone, StepsAlone, seat_of};
+ghost use Rattle.split_ring.specs.Runs.{HasRun, RunsCall, send_behind};
+ghost use Rattle.split_ring.specs.Seats.{IsAt, IsCaller};
+ghost use Rattle.split_ring.specs.Sends.{live_era, room_look, IsSend, IsSendAt, IsFilledAt, HasNoRoom, HasSettled};
 ghost use Rattle.split_ring.specs.Turns.{HasSender, IsLeaving};
 ghost use Rattle.split_ring.specs.Walks.{HasDone, same_hands};
 
@@ -87,17 +96,29 @@ impl<D: Desk> SharedLink<D> {
         ensures walk { MakesSend D.row.coded D.meaning self.now caller.old message.now result caller.new }
         ensures seen { SendNotBelow caller.old result }
     {
-        let who = caller.id;
-        if let Err(holder) = self.enter(&mut caller.seat, who, Intent::send(message)) {
+        self.send_in(&mut caller.seat, caller.id, message)
+    }
+
+    /// A whole send of this caller, whose pass is one of the seat's, and in no call.
+    pub(crate) fn send_in(
+        &self,
+        seat: &mut LinkSeat,
+        who: CallerId,
+        message: &Message,
+    ) -> Result<u64, SendFault>
+        requires seat { IsOrderlySeat self.now.table.shared.table_id self.now.sizes seat.old.table_id seat.old.me }
+        requires caller { IsCaller self.now.table.shared.table_id self.now.sizes who seat.old.table_id (seat_of who.number seat.old.me) }
+        ensures seat { IsOrderlySeat self.now.table.shared.table_id self.now.sizes seat.new.table_id seat.new.me }
+        ensures rests { IsAt (seat_of who.number seat.new.me) (Rests who.end) [] }
+        ensures walk { IsSend D.row.coded D.meaning self.now.sizes who message.now result (seat_of who.number seat.old.me) (seat_of who.number seat.new.me) }
+        ensures leaves { LeavesOthers who.number seat.old.me seat.new.me }
+        ensures run { (m : LaneLink (RingState D)) → KnowsState D.row.coded seat.old.me.0 m → RunsCall D.row.coded D.meaning who m (wish.Send message.now) (send_behind result) (send_answer result) seat.new.me }
+    {
+        if let Err(holder) = self.enter(seat, who, Intent::send(message)) {
             return Err(SendFault::Busy(holder));
         }
-        let answer = self.send_on(&mut caller.seat, who, message);
-        self.leave(
-            &mut caller.seat,
-            who.number,
-            other(who.end),
-            LaneTurn::Sender,
-        );
+        let answer = self.send_on(seat, who, message);
+        self.leave(seat, who.number, other(who.end), LaneTurn::Sender);
         answer
     }
 
@@ -112,7 +133,9 @@ impl<D: Desk> SharedLink<D> {
         requires turn { HasSender who message.now (seat_of who.number seat.old.me) }
         ensures seat { IsOrderlySeat self.now.table.shared.table_id self.now.sizes seat.new.table_id seat.new.me }
         ensures settled { HasSettled D.row.coded D.meaning self.now.sizes who message.now result (seat_of who.number seat.old.me) (seat_of who.number seat.new.me) }
-        ensures alone { IsAlone who.number seat.old.me → IsAlone who.number seat.new.me }
+        ensures leaves { LeavesOthers who.number seat.old.me seat.new.me }
+        ensures run { (m : LaneLink (RingState D)) → KnowsState D.row.coded seat.old.me.0 m
+            → (steps : ℕ) × (send_behind result ≡ suc steps) × HasRun D.row.coded D.meaning who self.now.sizes steps (phase.LeavesSender (send_answer result)) m seat.new.me }
     {
         let mut call = self.send_begun(seat, who, message);
         if let Err(era) = self.find_send_era(seat, &call) {

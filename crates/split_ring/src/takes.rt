@@ -1,21 +1,30 @@
 //! A take: a function for each step, and the whole walk.
-ghost use Rattle.std.specs.Prelude.{◌≡◌, ◌≢◌, ◌+◌, ◌≤◌, ◌<◌, ◌%◌, ℕ, List, ◌∷◌, [], length, IfOk, IfErr, None};
+ghost use Rattle.std.specs.Prelude.{◌≡◌, ◌≢◌, ◌+◌, ◌≤◌, ◌<◌, ◌%◌, ◌^◌, ℕ, List, ◌∷◌, [], length, IfOk, IfErr, None};
 ghost use Rattle.rp_base.specs.declared.limits.TheConstants.{BOOK_MOST, CAPACITY_MOST};
 ghost use Rattle.lane_model.specs.declared.calls.CallEnd.TheVariants as call_end;
+ghost use Rattle.lane_model.specs.declared.calls.Wish.TheVariants as wish;
+ghost use Rattle.lane_model.specs.declared.lane_links.LaneLink.{LaneLink};
 ghost use Rattle.lane_model.specs.declared.recoveries.LaneTurn.TheVariants as lane_turn;
 ghost use Rattle.lane_model.specs.declared.stages.TakeStage.TheVariants as take_stage;
 ghost use Rattle.lane_model.specs.declared.stages.Work.TheVariants as work;
+ghost use Rattle.ring_core.specs.declared.states.RingState.{RingState};
+ghost use Rattle.link_words.specs.declared.rule.Call.TheVariants.{Rests};
 ghost use Rattle.link_words.specs.declared.rule.Event.TheVariants.{Step, Take};
 ghost use Rattle.link_words.specs.declared.rule.Made.TheVariants as made;
 ghost use Rattle.link_words.specs.declared.rule.ReceiverSide.{ReceiverSide};
 ghost use Rattle.link_words.specs.declared.rule.Slot.TheVariants.{Receiver};
 ghost use Rattle.link_words.specs.Deeds.{Steps};
 ghost use Rattle.link_words.specs.PlacedDesks.{table_at, IsRightTo};
+ghost use Rattle.link_words.specs.PlacedLinks.{KnowsState};
 ghost use Rattle.link_words.specs.Steps.{handed_side};
 ghost use Rattle.link_words.specs.Words.{receiver_slot};
+ghost use Rattle.split_ring.specs.declared.calls.Phase.TheVariants as phase;
 ghost use Rattle.split_ring.specs.Callers.{Holds, IsCallerOf, IsAfterCall, MakesTake, TakeNotBelow};
-ghost use Rattle.split_ring.specs.Receives.{handing_end, lane_number, message_look, IsTakeAt, HasBufferOut, IsHandedTo, HasSettledTake};
-ghost use Rattle.split_ring.specs.Focus.{IsAlone, IsOrderlySeat, StaysAlone, StepsAlone, seat_of};
+ghost use Rattle.split_ring.specs.Calls.{take_answer};
+ghost use Rattle.split_ring.specs.Receives.{handing_end, lane_number, message_look, IsTakeAt, HasBufferOut, IsHandedTo, IsTake, HasSettledTake};
+ghost use Rattle.split_ring.specs.Focus.{IsOrderlySeat, LeavesOthers, StaysAlone, StepsAlone, seat_of};
+ghost use Rattle.split_ring.specs.Runs.{HasRun, RunsCall};
+ghost use Rattle.split_ring.specs.Seats.{IsAt, IsCaller};
 ghost use Rattle.split_ring.specs.Sends.{live_era};
 ghost use Rattle.split_ring.specs.Turns.{HasReceiver, IsLeaving, receive_slots};
 ghost use Rattle.split_ring.specs.Walks.{HasDone, same_hands, one_more};
@@ -96,31 +105,66 @@ impl<D: Desk> SharedLink<D> {
         ensures seen { TakeNotBelow caller.old result }
         ensures held { IfOk result (λ taken. Holds caller.new taken.held) }
     {
-        let who = caller.id;
-        if let Err(holder) = self.enter(&mut caller.seat, who, Intent::take()) {
+        let mut steps = 0;
+        self.take_in(&mut caller.seat, caller.id, &mut steps)
+    }
+
+    /// A whole take of this caller, whose pass is one of the seat's, and in no call; `steps` counts its steps.
+    pub(crate) fn take_in(
+        &self,
+        seat: &mut LinkSeat,
+        who: CallerId,
+        steps: &mut u64,
+    ) -> Result<Taken, TakeFault>
+        requires seat { IsOrderlySeat self.now.table.shared.table_id self.now.sizes seat.old.table_id seat.old.me }
+        requires caller { IsCaller self.now.table.shared.table_id self.now.sizes who seat.old.table_id (seat_of who.number seat.old.me) }
+        requires steps { steps.old < 2 ^ 60 }
+        ensures seat { IsOrderlySeat self.now.table.shared.table_id self.now.sizes seat.new.table_id seat.new.me }
+        ensures rests { IsAt (seat_of who.number seat.new.me) (Rests who.end) [] }
+        ensures walk { IsTake D.row.coded D.meaning who result (seat_of who.number seat.old.me) (seat_of who.number seat.new.me) }
+        ensures leaves { LeavesOthers who.number seat.old.me seat.new.me }
+        ensures run { (m : LaneLink (RingState D)) → KnowsState D.row.coded seat.old.me.0 m
+            → (behind : ℕ) × (steps.new ≡ steps.old + behind + 1) × RunsCall D.row.coded D.meaning who m wish.Take behind (take_answer result) seat.new.me }
+        ensures few { steps.new ≤ steps.old + 6 }
+    {
+        if let Err(holder) = self.enter(seat, who, Intent::take()) {
+            *steps += 1;
             return Err(TakeFault::Busy(holder));
         }
-        let answer = self.take_on(&mut caller.seat, who);
-        self.leave(&mut caller.seat, who.number, who.end, LaneTurn::Receiver);
+        let answer = self.take_on(seat, who, steps);
+        self.leave(seat, who.number, who.end, LaneTurn::Receiver);
+        *steps += 2;
         answer
     }
 
-    /// The steps of a take behind its first, up to the one that settles its end.
-    fn take_on(&self, seat: &mut LinkSeat, who: CallerId) -> Result<Taken, TakeFault>
+    /// The steps of a take behind its first, up to the one that settles its end; `steps` counts them.
+    fn take_on(
+        &self,
+        seat: &mut LinkSeat,
+        who: CallerId,
+        steps: &mut u64,
+    ) -> Result<Taken, TakeFault>
         requires seat { IsOrderlySeat self.now.table.shared.table_id self.now.sizes seat.old.table_id seat.old.me }
         requires turn { HasReceiver who (work.Take take_stage.Turn) (seat_of who.number seat.old.me) }
+        requires steps { steps.old < 2 ^ 60 }
         ensures seat { IsOrderlySeat self.now.table.shared.table_id self.now.sizes seat.new.table_id seat.new.me }
         ensures settled { HasSettledTake D.row.coded D.meaning who result (seat_of who.number seat.old.me) (seat_of who.number seat.new.me) }
-        ensures alone { IsAlone who.number seat.old.me → IsAlone who.number seat.new.me }
+        ensures leaves { LeavesOthers who.number seat.old.me seat.new.me }
+        ensures run { (m : LaneLink (RingState D)) → KnowsState D.row.coded seat.old.me.0 m
+            → (count : ℕ) × (steps.new ≡ steps.old + count) × HasRun D.row.coded D.meaning who self.now.sizes count (phase.LeavesReceiver (take_answer result)) m seat.new.me }
+        ensures few { steps.new ≤ steps.old + 4 }
     {
         let call = self.take_begun(seat, who);
         if let Err(era) = self.find_take_era(seat, &call) {
+            *steps += 1;
             return Err(TakeFault::Dead(era));
         }
         if let Err(accepted) = self.look_for_message(seat, &call) {
+            *steps += 2;
             return Err(TakeFault::Empty(accepted));
         }
         let buffer = self.take_filled(seat, &call);
+        *steps += 4;
         match self.hand_over(seat, &call, buffer) {
             Ok(taken) => Ok(taken),
             Err(era) => Err(TakeFault::Dead(era)),
@@ -221,6 +265,7 @@ impl<D: Desk> SharedLink<D> {
         ensures handed { IfOk result (λ taken. (message : List ℕ) × IsHandedTo D.meaning call.now.who call.now.handed message taken
             × HasDone D.row.coded D.meaning (Step (made.Era (live_era call.now.who.follows)) ∷ Take call.now.who.end call.now.who.follows call.now.handed message ∷ []) (one_more call.now.handed) (seat_of call.now.who.number seat.old.me) (seat_of call.now.who.number seat.new.me)) }
         ensures dead { IfErr result (λ era. (era ≢ live_era call.now.who.follows) × HasDone D.row.coded D.meaning (Step (made.Era era) ∷ []) same_hands (seat_of call.now.who.number seat.old.me) (seat_of call.now.who.number seat.new.me)) }
+        ensures out { IfOk result (λ taken. HasBufferOut self.now.sizes call.now (work.Take take_stage.Buffer) buffer taken.held.message (seat_of call.now.who.number seat.old.me)) }
         ensures alone { StepsAlone D.row.coded D.meaning call.now.who.number (Steps call.now.who.number 0 None) seat.old.me seat.new.me }
     {
         let who = call.who;

@@ -13,7 +13,8 @@ use Rattle.split_ring.specs.Callers.{IsStateOf}
 use Rattle.split_ring.specs.Calls.{Advances, IsInPhase, deed_of}
 use Rattle.split_ring.specs.Carried.{Carries, CarriesOn, carried_seat, out_before}
 use Rattle.split_ring.specs.Focus.{seat_of}
-use Rattle.split_ring.specs.Phases.{outcome_said, side_of, wished_in}
+use Rattle.split_ring.specs.Handed.{StepsLanes}
+use Rattle.split_ring.specs.Phases.{IsNext, outcome_said, side_of, wished_in}
 use Rattle.split_ring.specs.Seats.{pass_in}
 use Rattle.split_ring.proofs.Carrying.{stands_in}
 use Rattle.split_ring.proofs.CarriedLinks.{HasAdvanced, before_least, carrier_after, carries_here, carries_on, has_advanced, has_gone, others_after, out_after, out_few, same_user, seat_after, seat_turned, state_after_step, step_after, turned_again, turned_front, turned_order, user_of}
@@ -154,3 +155,18 @@ returns-clause-said g c = λ m known.
     let coded = g.row.D.coded in let meaning = g.D.Desk.meaning in let s = c.step_on-next in
     subst (λ (x : Phase). outcome_said s.result.1 ≡ (form_step (ring_form meaning) meaning m c.args.caller c.args.inc (wished_in x)).outcome) c.replace-phase.ensures.value
     (s.ensures.said m (subst (λ (x : SeatState). KnowsState coded x.0 m) (sym c.turn_by.ensures.turned) known.known))
+
+pub returns-clause-next : goal.returns-clause-next
+returns-clause-next g c = λ end is.
+    let before = c.args.manager.now in let p = c.args.call.now.phase in let s = c.step_on-next in
+    let who : CallerId = record { number = c.args.caller; end = c.in-Some-Some.end; follows = c.args.inc } in
+    let user : end_of before.users c.args.caller ≡ Some c.in-Some-Some.end = let look = c.in-Some-Some.ensures.lookup in subst (λ (k : ℕ). end_of before.users k ≡ Some c.in-Some-Some.end) c.from.ensures (user_of before.users c.from.result c.in-Some-Some.field-0.now c.in-Some-Some.end look.3.0 look.1 c.in-Some-Some.field-0-is) in
+    subst (λ (e : End). IsNext e p s.result.1 s.result.0) (same_user before.users c.args.caller who.end end user is) (subst (λ (x : Phase). IsNext who.end x s.result.1 s.result.0) c.replace-phase.ensures.value s.ensures.next)
+
+pub returns-clause-lanes : goal.returns-clause-lanes
+returns-clause-lanes g c = λ end is m known.
+    let coded = g.row.D.coded in let meaning = g.D.Desk.meaning in let before = c.args.manager.now in let p = c.args.call.now.phase in let s = c.step_on-next in
+    let who : CallerId = record { number = c.args.caller; end = c.in-Some-Some.end; follows = c.args.inc } in
+    let user : end_of before.users c.args.caller ≡ Some c.in-Some-Some.end = let look = c.in-Some-Some.ensures.lookup in subst (λ (k : ℕ). end_of before.users k ≡ Some c.in-Some-Some.end) c.from.ensures (user_of before.users c.from.result c.in-Some-Some.field-0.now c.in-Some-Some.end look.3.0 look.1 c.in-Some-Some.field-0-is) in
+    subst (λ (e : End). let who : CallerId = record { number = c.args.caller; end = e; follows = c.args.inc } in StepsLanes who s.result.0 m (after_deed meaning m (deed_of who p))) (same_user before.users c.args.caller who.end end user is)
+    (subst (λ (x : Phase). StepsLanes who s.result.0 m (after_deed meaning m (deed_of who x))) c.replace-phase.ensures.value (s.ensures.lanes m (subst (λ (x : SeatState). KnowsState coded x.0 m) (sym c.turn_by.ensures.turned) known.known)))

@@ -1,5 +1,5 @@
 use Rattle.std.proofs.Common.{ℕ, List, refl, sym, ap, ◌∙◌, subst, []}
-use Rattle.lane_model.specs.Answers.{wish_of}
+use Rattle.lane_model.specs.Answers.{given_back, wish_of}
 use Rattle.lane_model.specs.declared.calls.Ask.{Ask}
 use Rattle.lane_model.specs.declared.calls.Ask.TheVariants as ask
 use Rattle.split_ring.specs.Calls.{IsOwnAsk}
@@ -163,3 +163,18 @@ returns-in-Bind-clause-next g c = (sym (ap (asked_side c.args.who.end) c.in-Bind
 
 pub returns-in-Unbind-clause-next : goal.returns-in-Unbind-clause-next
 returns-in-Unbind-clause-next g c = (sym (ap (asked_side c.args.who.end) c.in-Unbind.is), tt)
+
+pub returns-in-Give-clause-buffer : goal.returns-in-Give-clause-buffer
+returns-in-Give-clause-buffer g c = ap given_back c.in-Give.is
+
+pub returns-in-Send-clause-buffer : goal.returns-in-Send-clause-buffer
+returns-in-Send-clause-buffer g c = ap given_back c.in-Send.is
+
+pub returns-in-Take-clause-buffer : goal.returns-in-Take-clause-buffer
+returns-in-Take-clause-buffer g c = ap given_back c.in-Take.is
+
+pub returns-in-Bind-clause-buffer : goal.returns-in-Bind-clause-buffer
+returns-in-Bind-clause-buffer g c = ap given_back c.in-Bind.is
+
+pub returns-in-Unbind-clause-buffer : goal.returns-in-Unbind-clause-buffer
+returns-in-Unbind-clause-buffer g c = ap given_back c.in-Unbind.is

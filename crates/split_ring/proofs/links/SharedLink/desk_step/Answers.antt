@@ -1,10 +1,12 @@
-use Rattle.std.proofs.Common.{sym, ap, ◌∙◌, subst, refl}
+use Rattle.std.proofs.Common.{None, sym, ap, ◌∙◌, subst, refl}
 use Rattle.lane_model.specs.declared.calls.Answer.{Answer}
 use Rattle.lane_model.specs.declared.calls.Progress.TheVariants as progress
 use Rattle.split_ring.specs.declared.calls.Phase.TheVariants as phase
 use Rattle.split_ring.specs.Calls.{desk_said, Advances}
 use Rattle.split_ring.proofs.CallEnds.{desk_done}
 use Rattle.split_ring.specs.Focus.{seat_of}
+use Rattle.split_ring.specs.Phases.{IsGivenBack}
+use Rattle.split_ring.proofs.Phases.{desk_gives}
 use Rattle.split_ring.proofs.links.SharedLink.desk_step.Goals as goal
 
 pub ask_desk-requires-clause-seat : goal.ask_desk-requires-clause-seat
@@ -29,4 +31,4 @@ pub returns-clause-alone : goal.returns-clause-alone
 returns-clause-alone g c = c.ask_desk.ensures.alone
 
 pub returns-clause-next : goal.returns-clause-next
-returns-clause-next g c = (refl, refl, tt, tt)
+returns-clause-next g c = (refl, refl, tt, tt, subst (IsGivenBack None) (sym c.desk_said.ensures) (desk_gives c.args.asked c.desk_result-answer.result))

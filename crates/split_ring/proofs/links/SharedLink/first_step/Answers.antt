@@ -9,10 +9,11 @@ use Rattle.lane_model.specs.declared.calls.Outcome.TheVariants as outcome
 use Rattle.lane_model.specs.Links.{form_step}
 use Rattle.ring_core.specs.RingSteps.{ring_form}
 use Rattle.split_ring.proofs.Outcomes.{first_begun, first_refused, rests_user}
+use Rattle.split_ring.proofs.StepLanes.{begun_lanes, first_lanes}
 use Rattle.split_ring.specs.Turns.{HasBegun}
 use Rattle.split_ring.proofs.CallEnds.{ask_fit, ask_still, call_begun, call_refused}
 use Rattle.split_ring.specs.Focus.{seat_of, StepsAlone}
-use Rattle.link_words.specs.Deeds.{Steps}
+use Rattle.link_words.specs.Deeds.{Steps, after_deed}
 use Rattle.std.specs.Prelude.{Some}
 use Rattle.lane_model.specs.Answers.{wish_of}
 use Rattle.split_ring.proofs.Focusing.{steps_stay}
@@ -70,7 +71,7 @@ returns-in-Err-clause-alone g c =
     subst (λ (w : Wish). StepsAlone coded meaning n (Steps n who.follows (Some w)) a e) c.wish_of.ensures.wish c.enter.ensures.alone
 
 pub returns-in-Ok-clause-next : goal.returns-in-Ok-clause-next
-returns-in-Ok-clause-next g c = (refl, c.begun_call.ensures.next.0, c.begun_call.ensures.next.1, tt)
+returns-in-Ok-clause-next g c = (refl, c.begun_call.ensures.next.0, c.begun_call.ensures.next.1, tt, c.begun_call.ensures.buffer)
 
 pub returns-in-Err-clause-next : goal.returns-in-Err-clause-next
 returns-in-Err-clause-next g c = (refl, (c.in-Err.holder, c.busy_answer.ensures))
@@ -87,3 +88,7 @@ returns-in-Err-clause-said g c = λ m knows.
     ap (λ (x : Answer). outcome.Ended (call_end x)) c.busy_answer.ensures
     ∙ first_refused coded meaning m who.end who.number who.follows c.args.ask h (rests_user coded meaning who.number who.end a m c.requires.stands.0 shows.0)
     (subst (λ (w : Wish). holder_for who.end w m ≡ Some h) c.wish_of.ensures.wish (c.in-Err.ensures.met m knows))
+
+pub returns-in-Ok-clause-lanes : goal.returns-in-Ok-clause-lanes
+returns-in-Ok-clause-lanes g c = λ m knows. let meaning = g.D.Desk.meaning in let who = c.args.who in let w = wish_of c.args.ask in
+    begun_lanes m (after_deed meaning m (Steps who.number who.follows (Some w))) who c.begun_call.result c.begun_call.ensures.unsettled (first_lanes g.row.D.coded meaning m who.number who.follows w)

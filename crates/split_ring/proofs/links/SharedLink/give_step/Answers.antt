@@ -1,4 +1,4 @@
-use Rattle.std.proofs.Common.{ℕ, ◌+◌, ◌∷◌, [], sym, subst, refl, ap}
+use Rattle.std.proofs.Common.{ℕ, ◌+◌, ◌∷◌, [], Some, sym, subst, refl, ap}
 use Rattle.lane_model.specs.declared.calls.Answer.TheVariants as answer
 use Rattle.lane_model.specs.declared.calls.Progress.TheVariants as progress
 use Rattle.lane_model.specs.declared.stages.GiveStage.{GiveStage}
@@ -64,7 +64,7 @@ pub returns-in-Entry-clause-alone : goal.returns-in-Entry-clause-alone
 returns-in-Entry-clause-alone g c = c.publish_given.ensures.alone
 
 pub returns-in-Turn-clause-next : goal.returns-in-Turn-clause-next
-returns-in-Turn-clause-next g c = (sym (ap (λ (s : GiveStage). give_steps s + 1) c.in-Turn.is), refl, tt, tt)
+returns-in-Turn-clause-next g c = (sym (ap (λ (s : GiveStage). give_steps s + 1) c.in-Turn.is), refl, tt, tt, refl)
 
 pub returns-in-Entry-clause-next : goal.returns-in-Entry-clause-next
-returns-in-Entry-clause-next g c = (sym (ap (λ (s : GiveStage). give_steps s + 1) c.in-Entry.is), refl, tt, tt)
+returns-in-Entry-clause-next g c = (sym (ap (λ (s : GiveStage). give_steps s + 1) c.in-Entry.is), refl, tt, tt, ap (λ (k : ℕ). Some k) (sym c.number-number.ensures))

@@ -158,3 +158,10 @@ returns-then-is_live_in-clause-alone g c =
     steps_stay coded meaning n (Steps n 0 None) full full2 full3
     (stays_steps coded meaning n (Steps n 0 None) full full1 full2 (swapped_stays n full (receive_call who w x b m) (buffer_slot z.to_host.capacity who.end b) k (Buffer m) c.slot_mut.result.now (receive_slots who x) out.at) c.load_era.ensures.alone)
     (swapped_stays n full2 after (receiver_slot who.end) c.receiver_slot.result (Receiver x) c.judge-verdict.new.slot [] h.at)
+
+pub returns-then-is_live_in-clause-out : goal.returns-then-is_live_in-clause-out
+returns-then-is_live_in-clause-out g c =
+    let full = c.args.seat.now.me in let n = c.args.call.now.who.number in let me = seat_of n full in let call = c.args.call.now in let who = call.who in let z = c.args.self.now.sizes in let b = c.args.buffer in
+    let m = c.requires.call.0 in let out = c.requires.call.1 in let x = out.side in let w = work.Take take_stage.Buffer in let k = c.buffer_slot-slot.result in
+    let said : c.message_in-message.result ≡ m = c.message_in-message.ensures m (inside_alone n full (receive_call who w x b m) (buffer_slot z.to_host.capacity who.end b) k (Buffer m) c.slot_mut.result.now (receive_slots who x) out.at c.slot_mut.ensures.value) in
+    subst (λ (l : List ℕ). HasBufferOut z call w b l me) (sym (ap (λ (q : HeldBuffer). q.message) c.of-held.ensures ∙ said)) out

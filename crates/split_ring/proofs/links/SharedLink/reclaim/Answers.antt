@@ -1,13 +1,11 @@
-use mathlib.Core.Option.{some}
-use lib.ListN.{get_elem?}
 use Rattle.lane_model.specs.HeldBuffers.{HeldBuffer}
-use Rattle.std.proofs.Common.{◌≡◌, ◌⊎◌, List, [], true, false, refl, sym, ap, ◌∙◌, subst}
+use Rattle.std.proofs.Common.{◌≡◌, List, refl, sym, ap, ◌∙◌, subst}
 use Rattle.rp_base.specs.declared.kinds.Era.{Era}
 use Rattle.split_ring.specs.declared.ends.TurnHeld.{TurnHeld}
 use Rattle.split_ring.specs.declared.reclaims.Parts.{Parts}
-use Rattle.split_ring.specs.PartsOf.{AreSame}
-use Rattle.split_ring.specs.Reclaims.{HasTurnHeld, IsAnothers, lacks_receiver, phase_of}
-use Rattle.split_ring.proofs.PartSteps.{true-false, holds_nothing, holds_some, looks_again, all_same, open_is, busy_is}
+use Rattle.split_ring.specs.PartsOf.{AreHeldBy, AreSame, HoldsItsOwn, HoldsNoOther, TellsHands}
+use Rattle.split_ring.specs.Reclaims.{HasTurnHeld, IsAnothers, phase_of}
+use Rattle.split_ring.proofs.PartSteps.{true-false, looks_again, needs_turn, all_same, open_is, busy_is}
 use Rattle.link_words.specs.Calls.{SeatState}
 use Rattle.std.specs.Prelude.{slice_set, ℕ, Option, None, Some}
 use Rattle.std.proofs.Common.{ap₂}
@@ -31,10 +29,13 @@ none_some k is = absurd (cc)
 pub end_alone-requires-clause-stands : goal.end_alone-requires-clause-stands
 end_alone-requires-clause-stands g c =
     let z = c.args.self.now.sizes in let parts = c.args.parts in let id = parts.caller.id in let me = parts.caller.seat.me in
-    subst (λ (t : TurnHeld). HasTurnHeld z id t me) (sym c.call_has-turn.ensures.0) (turn_stands z id id.follows (phase_of parts.call) me c.requires.parts.stands)
+    subst (λ (t : TurnHeld). HasTurnHeld z id t me) (sym c.turn_of.ensures) (turn_stands z id id.follows (phase_of parts.call) me c.requires.parts.stands)
 
 pub end_alone-requires-clause-hands : goal.end_alone-requires-clause-hands
-end_alone-requires-clause-hands g c none = holds_nothing c.args.parts.caller.id (phase_of c.args.parts.call) c.args.parts.held.items c.args.parts.caller.seat.me c.requires.parts.all c.call_has-turn.result.1 c.call_has-turn.ensures.1 (subst (λ (l : List HeldBuffer). (c.call_has-turn.result.1 ≡ false) × (l ≡ [])) c.deref.ensures.value (c.is_holding-is_holding.ensures.nothing none))
+end_alone-requires-clause-hands g c none =
+    let parts = c.args.parts in let all = c.requires.parts in let h = c.is_holding-is_holding in
+    let me = parts.caller.seat.me in let told : TellsHands h.result me = (subst (λ (l : List HeldBuffer). AreHeldBy parts.caller.id l me → HoldsNoOther (phase_of parts.call) l me → HoldsItsOwn (phase_of parts.call) me → TellsHands h.result me) c.deref.ensures.value (h.ensures parts.caller.id me)) all.held all.all all.own in
+    told.none none
 
 pub returns-in-Err-StillOpen-clause-manager : goal.returns-in-Err-StillOpen-clause-manager
 returns-in-Err-StillOpen-clause-manager g c =
@@ -50,27 +51,29 @@ pub returns-in-Err-StillOpen-clause-refused : goal.returns-in-Err-StillOpen-clau
 returns-in-Err-StillOpen-clause-refused g c =
     let coded = g.row.D.coded in let meaning = g.D.Desk.meaning in let t = c.learn_era.ensures.told in let q = c.in-Err-StillOpen.ensures in let x = c.in-Err-StillOpen in let parts = c.args.parts in
     let back : Parts _ = record { caller = record { id = parts.caller.id; seat = c.end_alone.new.seat }; call = parts.call; held = parts.held } in
+    let all = c.requires.parts in let h = c.is_holding-is_holding in let me = parts.caller.seat.me in
+    let told : TellsHands h.result me = (subst (λ (l : List HeldBuffer). AreHeldBy parts.caller.id l me → HoldsNoOther (phase_of parts.call) l me → HoldsItsOwn (phase_of parts.call) me → TellsHands h.result me) c.deref.ensures.value (h.ensures parts.caller.id me)) all.held all.all all.own in
     let same : AreSame parts back = record { id = refl; call = refl; held = refl; table = q.seat.at_table ∙ sym c.requires.parts.user.seat.at_table; seat = q.refused.0 } in
-    let why = open_is coded meaning parts.caller.id c.call_has-turn.result.0 c.is_holding-is_holding.result x.field-0 x.era x.field-0-is q.refused.1 in (
+    let why = open_is coded meaning parts.caller.id c.turn_of.result c.is_holding-is_holding.result x.field-0 x.era x.field-0-is q.refused.1 in (
       ap (λ (e : Era). e.is_live) x.era-is ∙ why.0,
       same,
       all_same c.args.self.now parts back same c.requires.parts,
       refl,
       (t.0, t.3),
-      λ _. looks_again parts.caller.id (phase_of parts.call) parts.held.items parts.caller.seat.me c.requires.parts.held c.requires.parts.own c.call_has-turn.result.0 c.call_has-turn.result.1 c.is_holding-is_holding.result c.call_has-turn.ensures.0 c.call_has-turn.ensures.1
-          (λ holds. subst (λ (l : List HeldBuffer). (c.call_has-turn.result.1 ≡ true) ⊎ ((buffer : HeldBuffer) × (get_elem? l 0 ≡ some buffer))) c.deref.ensures.value (c.is_holding-is_holding.ensures.some holds)) why.1,
+      λ _. looks_again (phase_of parts.call) me h.result told c.turn_of.result c.turn_of.ensures why.1,
     )
 
 pub returns-in-Err-Busy-clause-refused : goal.returns-in-Err-Busy-clause-refused
 returns-in-Err-Busy-clause-refused g c =
     let coded = g.row.D.coded in let meaning = g.D.Desk.meaning in let t = c.learn_era.ensures.told in let q = c.in-Err-Busy.ensures in let x = c.in-Err-Busy in let parts = c.args.parts in
     let back : Parts _ = record { caller = record { id = parts.caller.id; seat = c.end_alone.new.seat }; call = parts.call; held = parts.held } in
+    let all = c.requires.parts in let h = c.is_holding-is_holding in let me = parts.caller.seat.me in
+    let told : TellsHands h.result me = (subst (λ (l : List HeldBuffer). AreHeldBy parts.caller.id l me → HoldsNoOther (phase_of parts.call) l me → HoldsItsOwn (phase_of parts.call) me → TellsHands h.result me) c.deref.ensures.value (h.ensures parts.caller.id me)) all.held all.all all.own in
     let same : AreSame parts back = record { id = refl; call = refl; held = refl; table = q.seat.at_table ∙ sym c.requires.parts.user.seat.at_table; seat = q.refused.0 } in
-    let why = busy_is coded meaning parts.caller.id c.call_has-turn.result.0 c.is_holding-is_holding.result x.field-0 x.holder x.field-0-is q.refused.1 in
+    let why = busy_is coded meaning parts.caller.id c.turn_of.result c.is_holding-is_holding.result x.field-0 x.holder x.field-0-is q.refused.1 in
     let read : c.era_of-era.result ≡ t.0 = c.era_of-era.ensures t.0 t.1 t.2 in (
       subst (IsAnothers coded meaning parts.caller.id) (sym x.holder-is) why.0,
-      holds_some parts.caller.id (phase_of parts.call) parts.held.items parts.caller.seat.me c.requires.parts.held c.requires.parts.own c.call_has-turn.result.1 c.call_has-turn.ensures.1
-          (subst (λ (l : List HeldBuffer). (c.call_has-turn.result.1 ≡ true) ⊎ ((buffer : HeldBuffer) × (get_elem? l 0 ≡ some buffer))) c.deref.ensures.value (c.is_holding-is_holding.ensures.some why.1)) (subst (λ (u : TurnHeld). lacks_receiver u ≡ true) c.call_has-turn.ensures.0 why.2),
+      needs_turn (phase_of parts.call) me h.result told c.turn_of.result c.turn_of.ensures (why.1, why.2),
       same,
       all_same c.args.self.now parts back same c.requires.parts,
       refl,

@@ -1,5 +1,5 @@
 use Rattle.std.proofs.Common.{sym, subst, ◌≡◌, ◌+◌, refl, ap}
-use Rattle.std.specs.Prelude.{Err}
+use Rattle.std.specs.Prelude.{Err, None}
 use Rattle.lane_model.specs.declared.calls.Answer.{Answer}
 use Rattle.lane_model.specs.declared.calls.Answer.TheVariants as answer
 use Rattle.lane_model.specs.declared.calls.Progress.TheVariants as progress
@@ -10,7 +10,8 @@ use Rattle.split_ring.specs.Calls.{SendStands, send_answer, Advances}
 use Rattle.split_ring.proofs.CallSteps.{send_by, send_live, send_dead, send_room, send_none, send_buffer, send_stored, send_sent, steps_by}
 use Rattle.split_ring.specs.declared.callers.CallerId.{CallerId}
 use Rattle.split_ring.specs.Focus.{seat_of}
-use Rattle.split_ring.specs.Phases.{send_steps}
+use Rattle.split_ring.specs.Phases.{IsGivenBack, send_steps}
+use Rattle.split_ring.proofs.Phases.{unsent_gives}
 use Rattle.split_ring.proofs.links.SharedLink.send_step.Goals as goal
 
 pub find_send_era-requires-clause-seat : goal.find_send_era-requires-clause-seat
@@ -144,22 +145,23 @@ pub returns-in-Entry-clause-alone : goal.returns-in-Entry-clause-alone
 returns-in-Entry-clause-alone g c = steps_by g.row.D.coded g.D.Desk.meaning c.args.self.now.sizes c.args.who c.args.call.who c.args.seat.now.me c.publish_message.new.seat.me c.requires.stands.1 c.publish_message.ensures.alone
 
 pub returns-in-Ok-clause-next : goal.returns-in-Ok-clause-next
-returns-in-Ok-clause-next g c = (sym (ap (λ (s : SendStage). send_steps s + 1) c.in-Turn.is), refl, tt, tt)
+returns-in-Ok-clause-next g c = (sym (ap (λ (s : SendStage). send_steps s + 1) c.in-Turn.is), refl, tt, tt, refl)
 
 pub returns-in-Err-clause-next : goal.returns-in-Err-clause-next
-returns-in-Err-clause-next g c = (sym (ap (λ (s : SendStage). send_steps s + 1) c.in-Turn.is), refl, tt, tt)
+returns-in-Err-clause-next g c = (sym (ap (λ (s : SendStage). send_steps s + 1) c.in-Turn.is), refl, tt, tt, refl)
 
 pub returns-in-Ok-look_for_room-clause-next : goal.returns-in-Ok-look_for_room-clause-next
-returns-in-Ok-look_for_room-clause-next g c = (sym (ap (λ (s : SendStage). send_steps s + 1) c.in-Era.is), refl, tt, tt)
+returns-in-Ok-look_for_room-clause-next g c = (sym (ap (λ (s : SendStage). send_steps s + 1) c.in-Era.is), refl, tt, tt, refl)
 
 pub returns-in-Err-look_for_room-clause-next : goal.returns-in-Err-look_for_room-clause-next
-returns-in-Err-look_for_room-clause-next g c = (sym (ap (λ (s : SendStage). send_steps s + 1) c.in-Era.is), refl, tt, tt)
+returns-in-Err-look_for_room-clause-next g c =
+    (sym (ap (λ (s : SendStage). send_steps s + 1) c.in-Era.is), refl, tt, tt, subst (IsGivenBack None) (sym c.send_refusal.ensures) (unsent_gives c.in-Err-look_for_room.fault))
 
 pub returns-in-Look-clause-next : goal.returns-in-Look-clause-next
-returns-in-Look-clause-next g c = (sym (ap (λ (s : SendStage). send_steps s + 1) c.in-Look.is), refl, tt, tt)
+returns-in-Look-clause-next g c = (sym (ap (λ (s : SendStage). send_steps s + 1) c.in-Look.is), refl, tt, tt, refl)
 
 pub returns-in-Buffer-clause-next : goal.returns-in-Buffer-clause-next
-returns-in-Buffer-clause-next g c = (sym (ap (λ (s : SendStage). send_steps s + 1) c.in-Buffer.is), refl, tt, tt)
+returns-in-Buffer-clause-next g c = (sym (ap (λ (s : SendStage). send_steps s + 1) c.in-Buffer.is), refl, tt, tt, refl)
 
 pub returns-in-Entry-clause-next : goal.returns-in-Entry-clause-next
-returns-in-Entry-clause-next g c = (sym (ap (λ (s : SendStage). send_steps s + 1) c.in-Entry.is), refl, tt, tt)
+returns-in-Entry-clause-next g c = (sym (ap (λ (s : SendStage). send_steps s + 1) c.in-Entry.is), refl, tt, tt, refl)

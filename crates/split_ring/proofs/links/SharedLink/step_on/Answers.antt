@@ -12,6 +12,9 @@ use Rattle.split_ring.specs.Calls.{IsInPhase, Advances, call_end, deed_of}
 use Rattle.lane_model.specs.declared.calls.Outcome.TheVariants as outcome
 use Rattle.lane_model.specs.Links.{form_step}
 use Rattle.ring_core.specs.RingSteps.{ring_form}
+use Rattle.link_words.specs.Deeds.{after_deed}
+use Rattle.split_ring.specs.Handed.{StepsLanes}
+use Rattle.split_ring.proofs.StepLanes.{desk_lanes, give_lanes, receiver_left, send_lanes, sender_left, take_lanes}
 use Rattle.split_ring.specs.Phases.{IsNext, outcome_said, wished_in}
 use Rattle.split_ring.proofs.Outcomes.{desk_on, give_on, later_said, receive_left, send_left, send_on, take_on}
 use Rattle.split_ring.specs.Seats.{IsAt}
@@ -218,3 +221,37 @@ pub returns-in-LeavesReceiver-clause-said : goal.returns-in-LeavesReceiver-claus
 returns-in-LeavesReceiver-clause-said g c = λ m knows. let coded = g.row.D.coded in let meaning = g.D.Desk.meaning in let who = c.args.who in let a = c.args.seat.now.me in let z = c.args.self.now.sizes in let s = c.leave-in-LeavesReceiver in let said = c.in-LeavesReceiver.answer in
     subst (λ (x : Phase). outcome.Ended (call_end said) ≡ (form_step (ring_form meaning) meaning m who.number who.follows (wished_in x)).outcome) (sym c.in-LeavesReceiver.is)
     (receive_left coded meaning who.number who.follows a m (s.ensures.alone.calls m knows).0 (s.ensures.alone.sound m knows) z who said (subst (λ (x : Phase). IsInPhase z who x (seat_of who.number a)) c.in-LeavesReceiver.is c.requires.stands))
+
+pub returns-in-Asked-clause-lanes : goal.returns-in-Asked-clause-lanes
+returns-in-Asked-clause-lanes g c = λ m knows. let meaning = g.D.Desk.meaning in let who = c.args.who in
+    subst (λ (x : Phase). StepsLanes who c.first_step.result.0 m (after_deed meaning m (deed_of who x))) (sym c.in-Asked.is) (c.first_step.ensures.lanes m knows)
+
+pub returns-in-Sends-clause-lanes : goal.returns-in-Sends-clause-lanes
+returns-in-Sends-clause-lanes g c = λ m knows. let coded = g.row.D.coded in let meaning = g.D.Desk.meaning in let who = c.args.who in let a = c.args.seat.now.me in let z = c.args.self.now.sizes in let s = c.send_step in
+    subst (λ (x : Phase). StepsLanes who s.result.0 m (after_deed meaning m (deed_of who x))) (sym c.in-Sends.is)
+    (send_lanes coded meaning z who a s.new.seat.me m s.ensures.alone knows c.in-Sends.stage c.in-Sends.call c.in-Sends.message s.result.1 s.result.0 (subst (λ (x : Phase). IsInPhase z who x (seat_of who.number a)) c.in-Sends.is c.requires.stands) s.ensures.next s.ensures.step.stands)
+
+pub returns-in-Takes-clause-lanes : goal.returns-in-Takes-clause-lanes
+returns-in-Takes-clause-lanes g c = λ m knows. let coded = g.row.D.coded in let meaning = g.D.Desk.meaning in let who = c.args.who in let a = c.args.seat.now.me in let z = c.args.self.now.sizes in let s = c.take_step in
+    subst (λ (x : Phase). StepsLanes who s.result.0 m (after_deed meaning m (deed_of who x))) (sym c.in-Takes.is)
+    (take_lanes coded meaning z who a s.new.seat.me m s.ensures.alone knows c.in-Takes.stage c.in-Takes.call c.in-Takes.buffer s.result.1 s.result.0 s.ensures.handed (subst (λ (x : Phase). IsInPhase z who x (seat_of who.number a)) c.in-Takes.is c.requires.stands) s.ensures.next s.ensures.step.stands)
+
+pub returns-in-Gives-clause-lanes : goal.returns-in-Gives-clause-lanes
+returns-in-Gives-clause-lanes g c = λ m knows. let coded = g.row.D.coded in let meaning = g.D.Desk.meaning in let who = c.args.who in let a = c.args.seat.now.me in let z = c.args.self.now.sizes in let s = c.give_step in
+    subst (λ (x : Phase). StepsLanes who s.result.0 m (after_deed meaning m (deed_of who x))) (sym c.in-Gives.is)
+    (give_lanes coded meaning z who a s.new.seat.me m s.ensures.alone knows c.in-Gives.stage c.in-Gives.held c.in-Gives.returned s.result.1 s.result.0 (subst (λ (x : Phase). IsInPhase z who x (seat_of who.number a)) c.in-Gives.is c.requires.stands) s.ensures.next s.ensures.step.stands)
+
+pub returns-in-Asks-clause-lanes : goal.returns-in-Asks-clause-lanes
+returns-in-Asks-clause-lanes g c = λ m knows. let coded = g.row.D.coded in let meaning = g.D.Desk.meaning in let who = c.args.who in let a = c.args.seat.now.me in let z = c.args.self.now.sizes in let s = c.desk_step in
+    subst (λ (x : Phase). StepsLanes who s.result.0 m (after_deed meaning m (deed_of who x))) (sym c.in-Asks.is)
+    (desk_lanes coded meaning z who a s.new.seat.me m s.ensures.alone knows c.in-Asks.asked s.result.1 s.result.0 (subst (λ (x : Phase). IsInPhase z who x (seat_of who.number a)) c.in-Asks.is c.requires.stands) s.ensures.next s.ensures.step.stands)
+
+pub returns-in-LeavesSender-clause-lanes : goal.returns-in-LeavesSender-clause-lanes
+returns-in-LeavesSender-clause-lanes g c = λ m knows. let coded = g.row.D.coded in let meaning = g.D.Desk.meaning in let who = c.args.who in let a = c.args.seat.now.me in let z = c.args.self.now.sizes in let s = c.leave in
+    subst (λ (x : Phase). StepsLanes who phase.Ended m (after_deed meaning m (deed_of who x))) (sym c.in-LeavesSender.is)
+    (sender_left coded meaning z who a s.new.seat.me m s.ensures.alone knows c.in-LeavesSender.answer (subst (λ (x : Phase). IsInPhase z who x (seat_of who.number a)) c.in-LeavesSender.is c.requires.stands))
+
+pub returns-in-LeavesReceiver-clause-lanes : goal.returns-in-LeavesReceiver-clause-lanes
+returns-in-LeavesReceiver-clause-lanes g c = λ m knows. let coded = g.row.D.coded in let meaning = g.D.Desk.meaning in let who = c.args.who in let a = c.args.seat.now.me in let z = c.args.self.now.sizes in let s = c.leave-in-LeavesReceiver in
+    subst (λ (x : Phase). StepsLanes who phase.Ended m (after_deed meaning m (deed_of who x))) (sym c.in-LeavesReceiver.is)
+    (receiver_left coded meaning z who a s.new.seat.me m s.ensures.alone knows c.in-LeavesReceiver.answer (subst (λ (x : Phase). IsInPhase z who x (seat_of who.number a)) c.in-LeavesReceiver.is c.requires.stands))

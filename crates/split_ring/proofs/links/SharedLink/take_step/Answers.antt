@@ -128,22 +128,22 @@ pub returns-in-Err-hand_over-clause-alone : goal.returns-in-Err-hand_over-clause
 returns-in-Err-hand_over-clause-alone g c = steps_by g.row.D.coded g.D.Desk.meaning c.args.self.now.sizes c.args.who c.args.call.who c.args.seat.now.me c.hand_over.new.seat.me c.requires.stands.1 c.hand_over.ensures.alone
 
 pub returns-in-Ok-clause-next : goal.returns-in-Ok-clause-next
-returns-in-Ok-clause-next g c = (sym (ap (λ (s : TakeStage). take_steps s + 1) c.in-Turn.is), refl, tt, tt)
+returns-in-Ok-clause-next g c = (sym (ap (λ (s : TakeStage). take_steps s + 1) c.in-Turn.is), refl, tt, tt, refl)
 
 pub returns-in-Err-clause-next : goal.returns-in-Err-clause-next
-returns-in-Err-clause-next g c = (sym (ap (λ (s : TakeStage). take_steps s + 1) c.in-Turn.is), refl, tt, tt)
+returns-in-Err-clause-next g c = (sym (ap (λ (s : TakeStage). take_steps s + 1) c.in-Turn.is), refl, tt, tt, refl)
 
 pub returns-in-Ok-look_for_message-clause-next : goal.returns-in-Ok-look_for_message-clause-next
-returns-in-Ok-look_for_message-clause-next g c = (sym (ap (λ (s : TakeStage). take_steps s + 1) c.in-Era.is), refl, tt, tt)
+returns-in-Ok-look_for_message-clause-next g c = (sym (ap (λ (s : TakeStage). take_steps s + 1) c.in-Era.is), refl, tt, tt, refl)
 
 pub returns-in-Err-look_for_message-clause-next : goal.returns-in-Err-look_for_message-clause-next
-returns-in-Err-look_for_message-clause-next g c = (sym (ap (λ (s : TakeStage). take_steps s + 1) c.in-Era.is), refl, tt, tt)
+returns-in-Err-look_for_message-clause-next g c = (sym (ap (λ (s : TakeStage). take_steps s + 1) c.in-Era.is), refl, tt, tt, refl)
 
 pub returns-in-Look-clause-next : goal.returns-in-Look-clause-next
-returns-in-Look-clause-next g c = (sym (ap (λ (s : TakeStage). take_steps s + 1) c.in-Look.is), refl, tt, tt)
+returns-in-Look-clause-next g c = (sym (ap (λ (s : TakeStage). take_steps s + 1) c.in-Look.is), refl, tt, tt, refl)
 
 pub returns-in-Ok-hand_over-clause-next : goal.returns-in-Ok-hand_over-clause-next
-returns-in-Ok-hand_over-clause-next g c = (sym (ap (λ (s : TakeStage). take_steps s + 1) c.in-Buffer.is), refl, tt, tt)
+returns-in-Ok-hand_over-clause-next g c = (sym (ap (λ (s : TakeStage). take_steps s + 1) c.in-Buffer.is), refl, tt, tt, refl)
 
 pub returns-in-Err-hand_over-clause-next : goal.returns-in-Err-hand_over-clause-next
-returns-in-Err-hand_over-clause-next g c = (sym (ap (λ (s : TakeStage). take_steps s + 1) c.in-Buffer.is), refl, tt, tt)
+returns-in-Err-hand_over-clause-next g c = (sym (ap (λ (s : TakeStage). take_steps s + 1) c.in-Buffer.is), refl, tt, tt, refl)

@@ -1,50 +1,31 @@
-use Rattle.split_ring.proofs.TakeWalks.{takes_whole, take_seen, in_hand}
-use Rattle.std.proofs.Common.{refl, ◌+◌, ◌∷◌, []}
+use Rattle.split_ring.proofs.TakeWalks.{take_seen, in_hand}
+use Rattle.std.proofs.Common.{refl}
 use Rattle.split_ring.proofs.Focusing.{alone_leaves, caller_alone, caller_seat, caller_there, caller_again, both_alone}
-use Rattle.split_ring.specs.Focus.{seat_of}
-use Rattle.std.specs.Prelude.{Err}
-use Rattle.link_words.specs.declared.rule.Event.TheVariants.{Step}
-use Rattle.link_words.specs.declared.rule.Made.TheVariants as made
 use Rattle.split_ring.specs.Receives.{IsTake}
-use Rattle.split_ring.specs.declared.takes.TakeFault.TheVariants as fault
 use Rattle.split_ring.proofs.links.SharedLink.try_take.Goals as goal
 
-pub enter-requires-clause-seat : goal.enter-requires-clause-seat
-enter-requires-clause-seat g c = let q = c.requires in caller_seat c.args.self.now.table.shared.table_id c.args.self.now.sizes c.args.caller.now.id c.args.caller.now.seat.table_id c.args.caller.now.seat.me q
+pub take_in-requires-clause-seat : goal.take_in-requires-clause-seat
+take_in-requires-clause-seat g c = let q = c.requires in caller_seat c.args.self.now.table.shared.table_id c.args.self.now.sizes c.args.caller.now.id c.args.caller.now.seat.table_id c.args.caller.now.seat.me q
 
-pub enter-requires-clause-caller : goal.enter-requires-clause-caller
-enter-requires-clause-caller g c = let q = c.requires in caller_there c.args.self.now.table.shared.table_id c.args.self.now.sizes c.args.caller.now.id c.args.caller.now.seat.table_id c.args.caller.now.seat.me q
-
-pub returns-in-Err-clause-caller : goal.returns-in-Err-clause-caller
-returns-in-Err-clause-caller g c =
-    let table = c.args.self.now.table.shared.table_id in let z = c.args.self.now.sizes in let who = c.args.caller.now.id in let n = who.number in let q = c.requires in let a = c.args.caller.now.seat.me in
-    (refl, caller_again table z who c.enter.new.seat.table_id c.enter.new.seat.me c.enter.ensures.seat (alone_leaves n a c.enter.new.seat.me c.enter.ensures.alone.leaves (caller_alone table z who c.args.caller.now.seat.table_id a q)) q.low c.in-Err.ensures.busy.0)
+pub take_in-requires-clause-caller : goal.take_in-requires-clause-caller
+take_in-requires-clause-caller g c = let q = c.requires in caller_there c.args.self.now.table.shared.table_id c.args.self.now.sizes c.args.caller.now.id c.args.caller.now.seat.table_id c.args.caller.now.seat.me q
 
 pub returns-clause-caller : goal.returns-clause-caller
 returns-clause-caller g c =
-    let table = c.args.self.now.table.shared.table_id in let z = c.args.self.now.sizes in let who = c.args.caller.now.id in let n = who.number in let q = c.requires in let a = c.args.caller.now.seat.me in
-    (refl, caller_again table z who c.leave.new.seat.table_id c.leave.new.seat.me c.leave.ensures.seat (alone_leaves n c.take_on-answer.new.seat.me c.leave.new.seat.me c.leave.ensures.alone.leaves (c.take_on-answer.ensures.alone (alone_leaves n a c.enter.new.seat.me c.enter.ensures.alone.leaves (caller_alone table z who c.args.caller.now.seat.table_id a q)))) q.low c.leave.ensures.left.0)
+    let table = c.args.self.now.table.shared.table_id in let z = c.args.self.now.sizes in let who = c.args.caller.now.id in let q = c.requires in let a = c.args.caller.now.seat.me in let b = c.take_in.new.seat.me in
+    (refl, caller_again table z who c.take_in.new.seat.table_id b c.take_in.ensures.seat (alone_leaves who.number a b c.take_in.ensures.leaves (caller_alone table z who c.args.caller.now.seat.table_id a q)) q.low c.take_in.ensures.rests)
 
 pub returns-clause-walk : goal.returns-clause-walk
 returns-clause-walk g c =
-    let table = c.args.self.now.table.shared.table_id in let z = c.args.self.now.sizes in let who = c.args.caller.now.id in let n = who.number in let q = c.requires in let a = c.args.caller.now.seat.me in
-    let coded = g.row.D.coded in let meaning = g.D.Desk.meaning in
-    both_alone n a c.leave.new.seat.me (λ s t. IsTake coded meaning who c.take_on-answer.result s t) (caller_alone table z who c.args.caller.now.seat.table_id a q) (alone_leaves n c.take_on-answer.new.seat.me c.leave.new.seat.me c.leave.ensures.alone.leaves (c.take_on-answer.ensures.alone (alone_leaves n a c.enter.new.seat.me c.enter.ensures.alone.leaves (caller_alone table z who c.args.caller.now.seat.table_id a q)))) (takes_whole coded meaning who c.take_on-answer.result (seat_of n a) (seat_of n c.enter.new.seat.me) (seat_of n c.take_on-answer.new.seat.me) (seat_of n c.leave.new.seat.me) c.in_default.ensures.entered.1 c.take_on-answer.ensures.settled c.leave.ensures.left.1)
+    let who = c.args.caller.now.id in let a = c.args.caller.now.seat.me in let b = c.take_in.new.seat.me in let was = caller_alone c.args.self.now.table.shared.table_id c.args.self.now.sizes who c.args.caller.now.seat.table_id a c.requires in
+    both_alone who.number a b (λ s t. IsTake g.row.D.coded g.D.Desk.meaning who c.take_in.result s t) was (alone_leaves who.number a b c.take_in.ensures.leaves was) c.take_in.ensures.walk
 
 pub returns-clause-seen : goal.returns-clause-seen
 returns-clause-seen g c =
-    let table = c.args.self.now.table.shared.table_id in let z = c.args.self.now.sizes in let who = c.args.caller.now.id in let n = who.number in let q = c.requires in let a = c.args.caller.now.seat.me in
-    let coded = g.row.D.coded in let meaning = g.D.Desk.meaning in
-    take_seen coded meaning who c.take_on-answer.result a c.leave.new.seat.me (both_alone n a c.leave.new.seat.me (λ s t. IsTake coded meaning who c.take_on-answer.result s t) (caller_alone table z who c.args.caller.now.seat.table_id a q) (alone_leaves n c.take_on-answer.new.seat.me c.leave.new.seat.me c.leave.ensures.alone.leaves (c.take_on-answer.ensures.alone (alone_leaves n a c.enter.new.seat.me c.enter.ensures.alone.leaves (caller_alone table z who c.args.caller.now.seat.table_id a q)))) (takes_whole coded meaning who c.take_on-answer.result (seat_of n a) (seat_of n c.enter.new.seat.me) (seat_of n c.take_on-answer.new.seat.me) (seat_of n c.leave.new.seat.me) c.in_default.ensures.entered.1 c.take_on-answer.ensures.settled c.leave.ensures.left.1))
+    let who = c.args.caller.now.id in let a = c.args.caller.now.seat.me in let b = c.take_in.new.seat.me in let was = caller_alone c.args.self.now.table.shared.table_id c.args.self.now.sizes who c.args.caller.now.seat.table_id a c.requires in
+    take_seen g.row.D.coded g.D.Desk.meaning who c.take_in.result a b (both_alone who.number a b (λ s t. IsTake g.row.D.coded g.D.Desk.meaning who c.take_in.result s t) was (alone_leaves who.number a b c.take_in.ensures.leaves was) c.take_in.ensures.walk)
 
 pub returns-clause-held : goal.returns-clause-held
 returns-clause-held g c =
-    let table = c.args.self.now.table.shared.table_id in let z = c.args.self.now.sizes in let who = c.args.caller.now.id in let n = who.number in let q = c.requires in let a = c.args.caller.now.seat.me in
-    let coded = g.row.D.coded in let meaning = g.D.Desk.meaning in
-    in_hand coded meaning who c.take_on-answer.result a c.leave.new.seat.me (both_alone n a c.leave.new.seat.me (λ s t. IsTake coded meaning who c.take_on-answer.result s t) (caller_alone table z who c.args.caller.now.seat.table_id a q) (alone_leaves n c.take_on-answer.new.seat.me c.leave.new.seat.me c.leave.ensures.alone.leaves (c.take_on-answer.ensures.alone (alone_leaves n a c.enter.new.seat.me c.enter.ensures.alone.leaves (caller_alone table z who c.args.caller.now.seat.table_id a q)))) (takes_whole coded meaning who c.take_on-answer.result (seat_of n a) (seat_of n c.enter.new.seat.me) (seat_of n c.take_on-answer.new.seat.me) (seat_of n c.leave.new.seat.me) c.in_default.ensures.entered.1 c.take_on-answer.ensures.settled c.leave.ensures.left.1))
-
-pub returns-in-Err-clause-walk : goal.returns-in-Err-clause-walk
-returns-in-Err-clause-walk g c =
-    let table = c.args.self.now.table.shared.table_id in let z = c.args.self.now.sizes in let who = c.args.caller.now.id in let n = who.number in let q = c.requires in let a = c.args.caller.now.seat.me in
-    let coded = g.row.D.coded in let meaning = g.D.Desk.meaning in
-    both_alone n a c.enter.new.seat.me (λ s t. IsTake coded meaning who (Err (fault.Busy c.in-Err.holder)) s t) (caller_alone table z who c.args.caller.now.seat.table_id a q) (alone_leaves n a c.enter.new.seat.me c.enter.ensures.alone.leaves (caller_alone table z who c.args.caller.now.seat.table_id a q)) (record { walk = Step (made.Turn (c.in-Err.holder + 1)) ∷ []; is = refl; done = c.in-Err.ensures.busy.1 })
+    let who = c.args.caller.now.id in let a = c.args.caller.now.seat.me in let b = c.take_in.new.seat.me in let was = caller_alone c.args.self.now.table.shared.table_id c.args.self.now.sizes who c.args.caller.now.seat.table_id a c.requires in
+    in_hand g.row.D.coded g.D.Desk.meaning who c.take_in.result a b (both_alone who.number a b (λ s t. IsTake g.row.D.coded g.D.Desk.meaning who c.take_in.result s t) was (alone_leaves who.number a b c.take_in.ensures.leaves was) c.take_in.ensures.walk)

@@ -1,0 +1,157 @@
+-- The parts behind a later step are those of the state that it leaves.
+use Rattle.std.proofs.Common.{◌≡◌, ◌<◌, List, Option, Some, None, length, refl, sym, ap, subst, ◌∙◌, set, arith}
+use Rattle.std.specs.Prelude.{IfSome}
+use Rattle.rp_base.specs.declared.kinds.End.{End}
+use Rattle.lane_model.specs.declared.calls.Outcome.TheVariants as outcome
+use Rattle.lane_model.specs.Conditions.{MayStep}
+use Rattle.lane_model.specs.Links.{caller_step, end_of, form_step}
+use Rattle.channel_bus.specs.Sides.{side_meaning}
+use Rattle.split_ring.specs.Calls.{call_end}
+use Rattle.split_ring.specs.Phases.{outcome_said}
+use Rattle.managed_link.specs.Known.{LinkRings, lists_of, on_rings}
+use Rattle.managed_link.specs.Managed.{IsManaged, ShowsViews}
+use Rattle.managed_link.proofs.Advances.{outcome_on_lists}
+use Rattle.managed_link.proofs.Calling.{call_read}
+use Rattle.managed_link.proofs.KnownStates.{at_known, state_behind}
+use Rattle.managed_link.proofs.NextSteps.{last_managed, last_place, last_shows, next_call, next_carried, next_managed, next_room, next_settled, next_shows, next_small, next_stepped, next_told}
+use Rattle.managed_link.proofs.links.ManagedLink.next_step.Goals as goal
+
+pub advance_in-progress-requires-clause-call : goal.advance_in-progress-requires-clause-call
+advance_in-progress-requires-clause-call c =
+    let s = c.self.inside in let m = s.known.0 in let e = c.in-Some.side in let n = c.args.caller in let managed = c.self.invariant.0 in let shows = c.self.invariant.1 in
+    let used : end_of s.manager.users n ≡ Some e = sym c.end_of.ensures.end ∙ c.in-Some.is in let user : end_of m.callers n ≡ Some e = ap (λ (l : List (Option End)). end_of l n) (sym managed.state.users) ∙ used in
+    let low : n < 64 = subst (λ (o : Option End). IfSome o (λ _. n < 64)) c.in-Some.is c.end_of.ensures.within in let may = subst (λ (x : LinkRings). MayStep (lists_of x) n None) (sym c.self.view_is) c.requires in
+    let place = c.from-place.result in let at : place ≡ n = c.from-place.ensures in let slots = managed.slots in let within : place < length s.calls.items = omega (arith, at, low, slots) in
+    let found = next_call s.shared s.manager s.calls.items s.host s.remote s.era s.to_host s.to_remote m managed shows n e user low may in let call = found.0 in let here : c.index_mut.result.now ≡ Some call = sym (call_read s.calls.items s.calls.items n place c.index_mut.result.now refl at within c.index_mut.ensures.value) ∙ found.1 in
+    let k = next_carried s.shared s.manager s.calls.items s.host s.remote s.era s.to_host s.to_remote m managed shows n e user low may call found.1 in (e, call, here, k.0, k.1)
+
+pub learn_at-requires-clause-room : goal.learn_at-requires-clause-room
+learn_at-requires-clause-room c =
+    let s = c.self.inside in let m = s.known.0 in let e = c.in-Some.side in let n = c.args.caller in let managed = c.self.invariant.0 in let shows = c.self.invariant.1 in
+    let used : end_of s.manager.users n ≡ Some e = sym c.end_of.ensures.end ∙ c.in-Some.is in let user : end_of m.callers n ≡ Some e = ap (λ (l : List (Option End)). end_of l n) (sym managed.state.users) ∙ used in
+    let low : n < 64 = subst (λ (o : Option End). IfSome o (λ _. n < 64)) c.in-Some.is c.end_of.ensures.within in let may = subst (λ (x : LinkRings). MayStep (lists_of x) n None) (sym c.self.view_is) c.requires in
+    let place = c.from-place.result in let at : place ≡ n = c.from-place.ensures in let slots = managed.slots in let within : place < length s.calls.items = omega (arith, at, low, slots) in
+    let found = next_call s.shared s.manager s.calls.items s.host s.remote s.era s.to_host s.to_remote m managed shows n e user low may in let call = found.0 in let here : c.index_mut.result.now ≡ Some call = sym (call_read s.calls.items s.calls.items n place c.index_mut.result.now refl at within c.index_mut.ensures.value) ∙ found.1 in
+    let b = c.advance_in-progress in let taken = b.ensures e call m used here managed.state in
+    let ends = next_settled s.shared s.manager s.calls.items s.host s.remote s.era s.to_host s.to_remote m managed shows n e user low may call found.1 b.new.manager b.result b.new.slot taken c.in-At.step c.in-At.is place c.index.result.now c.settled_in.result at c.index.ensures c.settled_in.ensures in
+    next_room s.shared s.manager s.calls.items s.host s.remote s.era s.to_host s.to_remote m managed shows n e user low may call found.1 b.new.manager b.result b.new.slot taken c.in-At.step c.in-At.is c.settled_in.result ends
+
+pub learn_at-requires-clause-accepted : goal.learn_at-requires-clause-accepted
+learn_at-requires-clause-accepted c =
+    let s = c.self.inside in let m = s.known.0 in let e = c.in-Some.side in let n = c.args.caller in let managed = c.self.invariant.0 in let shows = c.self.invariant.1 in
+    let used : end_of s.manager.users n ≡ Some e = sym c.end_of.ensures.end ∙ c.in-Some.is in let user : end_of m.callers n ≡ Some e = ap (λ (l : List (Option End)). end_of l n) (sym managed.state.users) ∙ used in
+    let low : n < 64 = subst (λ (o : Option End). IfSome o (λ _. n < 64)) c.in-Some.is c.end_of.ensures.within in let may = subst (λ (x : LinkRings). MayStep (lists_of x) n None) (sym c.self.view_is) c.requires in
+    (next_small s.shared s.manager s.calls.items s.host s.remote s.era s.to_host s.to_remote m managed shows n e user low may).0
+
+pub learn_at-requires-clause-handed : goal.learn_at-requires-clause-handed
+learn_at-requires-clause-handed c =
+    let s = c.self.inside in let m = s.known.0 in let e = c.in-Some.side in let n = c.args.caller in let managed = c.self.invariant.0 in let shows = c.self.invariant.1 in
+    let used : end_of s.manager.users n ≡ Some e = sym c.end_of.ensures.end ∙ c.in-Some.is in let user : end_of m.callers n ≡ Some e = ap (λ (l : List (Option End)). end_of l n) (sym managed.state.users) ∙ used in
+    let low : n < 64 = subst (λ (o : Option End). IfSome o (λ _. n < 64)) c.in-Some.is c.end_of.ensures.within in let may = subst (λ (x : LinkRings). MayStep (lists_of x) n None) (sym c.self.view_is) c.requires in
+    (next_small s.shared s.manager s.calls.items s.host s.remote s.era s.to_host s.to_remote m managed shows n e user low may).1
+
+pub learn_at-requires-clause-returned : goal.learn_at-requires-clause-returned
+learn_at-requires-clause-returned c =
+    let s = c.self.inside in let m = s.known.0 in let e = c.in-Some.side in let n = c.args.caller in let managed = c.self.invariant.0 in let shows = c.self.invariant.1 in
+    let used : end_of s.manager.users n ≡ Some e = sym c.end_of.ensures.end ∙ c.in-Some.is in let user : end_of m.callers n ≡ Some e = ap (λ (l : List (Option End)). end_of l n) (sym managed.state.users) ∙ used in
+    let low : n < 64 = subst (λ (o : Option End). IfSome o (λ _. n < 64)) c.in-Some.is c.end_of.ensures.within in let may = subst (λ (x : LinkRings). MayStep (lists_of x) n None) (sym c.self.view_is) c.requires in
+    (next_small s.shared s.manager s.calls.items s.host s.remote s.era s.to_host s.to_remote m managed shows n e user low may).2
+
+pub invariant_of-self-inside : goal.invariant_of-self-inside
+invariant_of-self-inside c =
+    let s = c.self.inside in let m = s.known.0 in let e = c.in-Some.side in let n = c.args.caller in let managed = c.self.invariant.0 in let shows = c.self.invariant.1 in
+    let used : end_of s.manager.users n ≡ Some e = sym c.end_of.ensures.end ∙ c.in-Some.is in let user : end_of m.callers n ≡ Some e = ap (λ (l : List (Option End)). end_of l n) (sym managed.state.users) ∙ used in
+    let low : n < 64 = subst (λ (o : Option End). IfSome o (λ _. n < 64)) c.in-Some.is c.end_of.ensures.within in let may = subst (λ (x : LinkRings). MayStep (lists_of x) n None) (sym c.self.view_is) c.requires in
+    let place = c.from-place.result in let at : place ≡ n = c.from-place.ensures in let slots = managed.slots in let within : place < length s.calls.items = omega (arith, at, low, slots) in
+    let found = next_call s.shared s.manager s.calls.items s.host s.remote s.era s.to_host s.to_remote m managed shows n e user low may in let call = found.0 in let here : c.index_mut.result.now ≡ Some call = sym (call_read s.calls.items s.calls.items n place c.index_mut.result.now refl at within c.index_mut.ensures.value) ∙ found.1 in
+    let b = c.advance_in-progress in let taken = b.ensures e call m used here managed.state in
+    (((form_step on_rings side_meaning m n 0 None).state, (next_stepped s.shared s.manager s.calls.items s.host s.remote s.era s.to_host s.to_remote m managed shows n e user low may call found.1 b.new.manager b.result b.new.slot taken).state.known.copy), tt)
+
+pub invariant_of-self : goal.invariant_of-self
+invariant_of-self c =
+    let s = c.self.inside in let m = s.known.0 in let e = c.in-Some.side in let n = c.args.caller in let managed = c.self.invariant.0 in let shows = c.self.invariant.1 in
+    let used : end_of s.manager.users n ≡ Some e = sym c.end_of.ensures.end ∙ c.in-Some.is in let user : end_of m.callers n ≡ Some e = ap (λ (l : List (Option End)). end_of l n) (sym managed.state.users) ∙ used in
+    let low : n < 64 = subst (λ (o : Option End). IfSome o (λ _. n < 64)) c.in-Some.is c.end_of.ensures.within in let may = subst (λ (x : LinkRings). MayStep (lists_of x) n None) (sym c.self.view_is) c.requires in
+    let place = c.from-place.result in let at : place ≡ n = c.from-place.ensures in let slots = managed.slots in let within : place < length s.calls.items = omega (arith, at, low, slots) in
+    let found = next_call s.shared s.manager s.calls.items s.host s.remote s.era s.to_host s.to_remote m managed shows n e user low may in let call = found.0 in let here : c.index_mut.result.now ≡ Some call = sym (call_read s.calls.items s.calls.items n place c.index_mut.result.now refl at within c.index_mut.ensures.value) ∙ found.1 in
+    let b = c.advance_in-progress in let taken = b.ensures e call m used here managed.state in
+    let ends = next_settled s.shared s.manager s.calls.items s.host s.remote s.era s.to_host s.to_remote m managed shows n e user low may call found.1 b.new.manager b.result b.new.slot taken c.in-At.step c.in-At.is place c.index.result.now c.settled_in.result at c.index.ensures c.settled_in.ensures in
+    let l = c.learn_at in let t = l.ensures in
+    at_known (λ (x : LinkRings). IsManaged s.shared b.new.manager (set s.calls.items place b.new.slot) l.new.host l.new.remote x × ShowsViews s.era l.new.to_host l.new.to_remote x) b.new.manager (form_step on_rings side_meaning m n 0 None).state (next_stepped s.shared s.manager s.calls.items s.host s.remote s.era s.to_host s.to_remote m managed shows n e user low may call found.1 b.new.manager b.result b.new.slot taken).state (
+      next_managed s.shared s.manager s.calls.items s.host s.remote s.era s.to_host s.to_remote m managed shows n e user low may call found.1 b.new.manager b.result b.new.slot taken c.in-At.step c.in-At.is place c.settled_in.result l.new.host l.new.remote at ends t.listed t.among t.room t.beside,
+      next_shows s.shared s.manager s.calls.items s.host s.remote s.era s.to_host s.to_remote m managed shows n e user low may call found.1 b.new.manager b.result b.new.slot taken c.in-At.step c.in-At.is c.settled_in.result l.new.to_host l.new.to_remote ends t.incoming t.outgoing,
+    ) _ (assumption)
+
+pub end_at-requires : goal.end_at-requires
+end_at-requires c =
+    let s = c.self.inside in let m = s.known.0 in let e = c.in-Some.side in let n = c.args.caller in let managed = c.self.invariant.0 in let shows = c.self.invariant.1 in
+    let used : end_of s.manager.users n ≡ Some e = sym c.end_of.ensures.end ∙ c.in-Some.is in let user : end_of m.callers n ≡ Some e = ap (λ (l : List (Option End)). end_of l n) (sym managed.state.users) ∙ used in
+    let low : n < 64 = subst (λ (o : Option End). IfSome o (λ _. n < 64)) c.in-Some.is c.end_of.ensures.within in let may = subst (λ (x : LinkRings). MayStep (lists_of x) n None) (sym c.self.view_is) c.requires in
+    let place = c.from-place.result in let at : place ≡ n = c.from-place.ensures in let slots = managed.slots in let within : place < length s.calls.items = omega (arith, at, low, slots) in
+    let found = next_call s.shared s.manager s.calls.items s.host s.remote s.era s.to_host s.to_remote m managed shows n e user low may in let call = found.0 in let here : c.index_mut.result.now ≡ Some call = sym (call_read s.calls.items s.calls.items n place c.index_mut.result.now refl at within c.index_mut.ensures.value) ∙ found.1 in
+    let b = c.advance_in-progress in let taken = b.ensures e call m used here managed.state in
+    last_place s.shared s.manager s.calls.items s.host s.remote s.era s.to_host s.to_remote m managed shows n e user low may call found.1 b.new.manager b.result b.new.slot taken c.in-Done.answer c.in-Done.is
+
+pub invariant_of-self-inside-in-Done : goal.invariant_of-self-inside-in-Done
+invariant_of-self-inside-in-Done c =
+    let s = c.self.inside in let m = s.known.0 in let e = c.in-Some.side in let n = c.args.caller in let managed = c.self.invariant.0 in let shows = c.self.invariant.1 in
+    let used : end_of s.manager.users n ≡ Some e = sym c.end_of.ensures.end ∙ c.in-Some.is in let user : end_of m.callers n ≡ Some e = ap (λ (l : List (Option End)). end_of l n) (sym managed.state.users) ∙ used in
+    let low : n < 64 = subst (λ (o : Option End). IfSome o (λ _. n < 64)) c.in-Some.is c.end_of.ensures.within in let may = subst (λ (x : LinkRings). MayStep (lists_of x) n None) (sym c.self.view_is) c.requires in
+    let place = c.from-place.result in let at : place ≡ n = c.from-place.ensures in let slots = managed.slots in let within : place < length s.calls.items = omega (arith, at, low, slots) in
+    let found = next_call s.shared s.manager s.calls.items s.host s.remote s.era s.to_host s.to_remote m managed shows n e user low may in let call = found.0 in let here : c.index_mut.result.now ≡ Some call = sym (call_read s.calls.items s.calls.items n place c.index_mut.result.now refl at within c.index_mut.ensures.value) ∙ found.1 in
+    let b = c.advance_in-progress in let taken = b.ensures e call m used here managed.state in
+    (((form_step on_rings side_meaning m n 0 None).state, (next_stepped s.shared s.manager s.calls.items s.host s.remote s.era s.to_host s.to_remote m managed shows n e user low may call found.1 b.new.manager b.result b.new.slot taken).state.known.copy), tt)
+
+pub invariant_of-self-in-Done : goal.invariant_of-self-in-Done
+invariant_of-self-in-Done c =
+    let s = c.self.inside in let m = s.known.0 in let e = c.in-Some.side in let n = c.args.caller in let managed = c.self.invariant.0 in let shows = c.self.invariant.1 in
+    let used : end_of s.manager.users n ≡ Some e = sym c.end_of.ensures.end ∙ c.in-Some.is in let user : end_of m.callers n ≡ Some e = ap (λ (l : List (Option End)). end_of l n) (sym managed.state.users) ∙ used in
+    let low : n < 64 = subst (λ (o : Option End). IfSome o (λ _. n < 64)) c.in-Some.is c.end_of.ensures.within in let may = subst (λ (x : LinkRings). MayStep (lists_of x) n None) (sym c.self.view_is) c.requires in
+    let place = c.from-place.result in let at : place ≡ n = c.from-place.ensures in let slots = managed.slots in let within : place < length s.calls.items = omega (arith, at, low, slots) in
+    let found = next_call s.shared s.manager s.calls.items s.host s.remote s.era s.to_host s.to_remote m managed shows n e user low may in let call = found.0 in let here : c.index_mut.result.now ≡ Some call = sym (call_read s.calls.items s.calls.items n place c.index_mut.result.now refl at within c.index_mut.ensures.value) ∙ found.1 in
+    let b = c.advance_in-progress in let taken = b.ensures e call m used here managed.state in
+    let d = c.end_at in let v = c.free_turns in
+    at_known (λ (x : LinkRings). IsManaged s.shared b.new.manager (set (set s.calls.items place b.new.slot) place None) d.new.host d.new.remote x × ShowsViews s.era v.new.to_host v.new.to_remote x) b.new.manager (form_step on_rings side_meaning m n 0 None).state (next_stepped s.shared s.manager s.calls.items s.host s.remote s.era s.to_host s.to_remote m managed shows n e user low may call found.1 b.new.manager b.result b.new.slot taken).state (
+      last_managed s.shared s.manager s.calls.items s.host s.remote s.era s.to_host s.to_remote m managed shows n e user low may call found.1 b.new.manager b.result b.new.slot taken c.in-Done.answer c.in-Done.is place d.new.host d.new.remote at d.ensures.hands d.ensures.room d.ensures.beside,
+      last_shows s.shared s.manager s.calls.items s.host s.remote s.era s.to_host s.to_remote m managed shows n e user low may call found.1 b.new.manager b.result b.new.slot taken c.in-Done.answer c.in-Done.is v.new.to_host v.new.to_remote v.ensures.incoming v.ensures.outgoing,
+    ) _ (assumption)
+
+pub returns-in-At-clause-whole : goal.returns-in-At-clause-whole
+returns-in-At-clause-whole c =
+    let s = c.self.inside in let m = s.known.0 in let e = c.in-Some.side in let n = c.args.caller in let managed = c.self.invariant.0 in let shows = c.self.invariant.1 in
+    let used : end_of s.manager.users n ≡ Some e = sym c.end_of.ensures.end ∙ c.in-Some.is in let user : end_of m.callers n ≡ Some e = ap (λ (l : List (Option End)). end_of l n) (sym managed.state.users) ∙ used in
+    let low : n < 64 = subst (λ (o : Option End). IfSome o (λ _. n < 64)) c.in-Some.is c.end_of.ensures.within in let may = subst (λ (x : LinkRings). MayStep (lists_of x) n None) (sym c.self.view_is) c.requires in
+    let place = c.from-place.result in let at : place ≡ n = c.from-place.ensures in let slots = managed.slots in let within : place < length s.calls.items = omega (arith, at, low, slots) in
+    let found = next_call s.shared s.manager s.calls.items s.host s.remote s.era s.to_host s.to_remote m managed shows n e user low may in let call = found.0 in let here : c.index_mut.result.now ≡ Some call = sym (call_read s.calls.items s.calls.items n place c.index_mut.result.now refl at within c.index_mut.ensures.value) ∙ found.1 in
+    let b = c.advance_in-progress in let taken = b.ensures e call m used here managed.state in
+    state_behind (λ (x : LinkRings). (form_step on_rings side_meaning x n 0 None).state) b.new.manager m c.args.self.now _ (next_stepped s.shared s.manager s.calls.items s.host s.remote s.era s.to_host s.to_remote m managed shows n e user low may call found.1 b.new.manager b.result b.new.slot taken).state c.self.view_is (assumption)
+
+pub returns-in-At-clause-outcome : goal.returns-in-At-clause-outcome
+returns-in-At-clause-outcome c =
+    let s = c.self.inside in let m = s.known.0 in let e = c.in-Some.side in let n = c.args.caller in let managed = c.self.invariant.0 in let shows = c.self.invariant.1 in
+    let used : end_of s.manager.users n ≡ Some e = sym c.end_of.ensures.end ∙ c.in-Some.is in let user : end_of m.callers n ≡ Some e = ap (λ (l : List (Option End)). end_of l n) (sym managed.state.users) ∙ used in
+    let low : n < 64 = subst (λ (o : Option End). IfSome o (λ _. n < 64)) c.in-Some.is c.end_of.ensures.within in let may = subst (λ (x : LinkRings). MayStep (lists_of x) n None) (sym c.self.view_is) c.requires in
+    let place = c.from-place.result in let at : place ≡ n = c.from-place.ensures in let slots = managed.slots in let within : place < length s.calls.items = omega (arith, at, low, slots) in
+    let found = next_call s.shared s.manager s.calls.items s.host s.remote s.era s.to_host s.to_remote m managed shows n e user low may in let call = found.0 in let here : c.index_mut.result.now ≡ Some call = sym (call_read s.calls.items s.calls.items n place c.index_mut.result.now refl at within c.index_mut.ensures.value) ∙ found.1 in
+    let b = c.advance_in-progress in let taken = b.ensures e call m used here managed.state in
+    outcome_on_lists m n 0 None (outcome.At c.in-At.step) (sym (ap outcome_said c.in-At.is) ∙ next_told s.shared s.manager s.calls.items s.host s.remote s.era s.to_host s.to_remote m managed shows n e user low may call found.1 b.new.manager b.result b.new.slot taken) ∙ ap (λ (x : LinkRings). (caller_step side_meaning (lists_of x) n 0 None).outcome) c.self.view_is
+
+pub returns-in-Done-clause-whole : goal.returns-in-Done-clause-whole
+returns-in-Done-clause-whole c =
+    let s = c.self.inside in let m = s.known.0 in let e = c.in-Some.side in let n = c.args.caller in let managed = c.self.invariant.0 in let shows = c.self.invariant.1 in
+    let used : end_of s.manager.users n ≡ Some e = sym c.end_of.ensures.end ∙ c.in-Some.is in let user : end_of m.callers n ≡ Some e = ap (λ (l : List (Option End)). end_of l n) (sym managed.state.users) ∙ used in
+    let low : n < 64 = subst (λ (o : Option End). IfSome o (λ _. n < 64)) c.in-Some.is c.end_of.ensures.within in let may = subst (λ (x : LinkRings). MayStep (lists_of x) n None) (sym c.self.view_is) c.requires in
+    let place = c.from-place.result in let at : place ≡ n = c.from-place.ensures in let slots = managed.slots in let within : place < length s.calls.items = omega (arith, at, low, slots) in
+    let found = next_call s.shared s.manager s.calls.items s.host s.remote s.era s.to_host s.to_remote m managed shows n e user low may in let call = found.0 in let here : c.index_mut.result.now ≡ Some call = sym (call_read s.calls.items s.calls.items n place c.index_mut.result.now refl at within c.index_mut.ensures.value) ∙ found.1 in
+    let b = c.advance_in-progress in let taken = b.ensures e call m used here managed.state in
+    state_behind (λ (x : LinkRings). (form_step on_rings side_meaning x n 0 None).state) b.new.manager m c.args.self.now _ (next_stepped s.shared s.manager s.calls.items s.host s.remote s.era s.to_host s.to_remote m managed shows n e user low may call found.1 b.new.manager b.result b.new.slot taken).state c.self.view_is (assumption)
+
+pub returns-in-Done-clause-outcome : goal.returns-in-Done-clause-outcome
+returns-in-Done-clause-outcome c =
+    let s = c.self.inside in let m = s.known.0 in let e = c.in-Some.side in let n = c.args.caller in let managed = c.self.invariant.0 in let shows = c.self.invariant.1 in
+    let used : end_of s.manager.users n ≡ Some e = sym c.end_of.ensures.end ∙ c.in-Some.is in let user : end_of m.callers n ≡ Some e = ap (λ (l : List (Option End)). end_of l n) (sym managed.state.users) ∙ used in
+    let low : n < 64 = subst (λ (o : Option End). IfSome o (λ _. n < 64)) c.in-Some.is c.end_of.ensures.within in let may = subst (λ (x : LinkRings). MayStep (lists_of x) n None) (sym c.self.view_is) c.requires in
+    let place = c.from-place.result in let at : place ≡ n = c.from-place.ensures in let slots = managed.slots in let within : place < length s.calls.items = omega (arith, at, low, slots) in
+    let found = next_call s.shared s.manager s.calls.items s.host s.remote s.era s.to_host s.to_remote m managed shows n e user low may in let call = found.0 in let here : c.index_mut.result.now ≡ Some call = sym (call_read s.calls.items s.calls.items n place c.index_mut.result.now refl at within c.index_mut.ensures.value) ∙ found.1 in
+    let b = c.advance_in-progress in let taken = b.ensures e call m used here managed.state in
+    ap outcome.Ended c.end_at.ensures.end ∙ (outcome_on_lists m n 0 None (outcome.Ended (call_end c.in-Done.answer)) (sym (ap outcome_said c.in-Done.is) ∙ next_told s.shared s.manager s.calls.items s.host s.remote s.era s.to_host s.to_remote m managed shows n e user low may call found.1 b.new.manager b.result b.new.slot taken) ∙ ap (λ (x : LinkRings). (caller_step side_meaning (lists_of x) n 0 None).outcome) c.self.view_is)

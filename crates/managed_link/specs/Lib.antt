@@ -1,0 +1,7 @@
+pub mod EndCodes
+pub mod Known
+pub mod Hands
+pub mod Settles
+pub mod Steps
+pub mod Views
+pub mod Managed

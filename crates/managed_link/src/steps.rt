@@ -1,0 +1,232 @@
+//! The steps of the calls of a managed link.
+ghost use Rattle.std.specs.Prelude.{◌≡◌, ◌<◌, ◌^◌, map, true, None, Some, IfSome, MatchOption, vec_capacity};
+ghost use Rattle.rp_base.specs.declared.kinds.End.{End};
+ghost use Rattle.lane_model.specs.Answers.{given_back, outcome_of, wish_of};
+ghost use Rattle.lane_model.specs.Conditions.{MayStep};
+ghost use Rattle.lane_model.specs.Lanes.{holds};
+ghost use Rattle.lane_model.specs.Links.{caller_step, end_of, form_step};
+ghost use Rattle.channel_bus.specs.Sides.{side_meaning};
+ghost use Rattle.link_words.specs.Words.{other};
+ghost use Rattle.split_ring.specs.Callers.{IsManagerOf, IsStateOf};
+ghost use Rattle.split_ring.specs.Calls.{call_end};
+ghost use Rattle.split_ring.specs.Carried.{Carries};
+ghost use Rattle.split_ring.specs.Phases.{IsUnderWay};
+ghost use Rattle.managed_link.specs.declared.callers.CarriedCall.{CarriedCall};
+ghost use Rattle.managed_link.specs.EndCodes.{end_coded};
+ghost use Rattle.managed_link.specs.Hands.{AreSome, IsPutIn, IsTakenOut, holding_of};
+ghost use Rattle.managed_link.specs.Known.{LinkRings, lists_of, on_rings};
+ghost use Rattle.managed_link.specs.Managed.{caller_id};
+ghost use Rattle.managed_link.specs.Settles.{CanGive, HasRoomFor, answer_buffer};
+ghost use Rattle.managed_link.specs.Steps.{AdvancesCall, hands_learnt, held_learnt, incoming_begun, incoming_learnt, of_end, outgoing_begun, outgoing_learnt, settled_in};
+ghost use Rattle.managed_link.specs.Views.{if_other};
+
+use crate::callers::CarriedCall;
+use crate::hands::Hand;
+use crate::links::ManagedLink;
+use crate::settles::{ask_for, ended_with, learn};
+use crate::views::LaneView;
+use channel_bus::Side;
+use lane_model::{Answer, Ask, CallEnd, Progress, Step, Wish};
+use rp_base::{CallerNo, End, Inc};
+use split_ring::{Manager, SharedLink};
+
+impl ManagedLink {
+    /// Step 1 of a call of this caller: takes the turn that it needs. Where another has it, the call ends, and `end` says how.
+    pub fn first_step(
+        &mut self,
+        caller: CallerNo,
+        follows: Inc,
+        wished: &Wish,
+        end: &mut CallEnd,
+    ) -> Step
+        requires { MayStep (lists_of self.old) caller (Some wished.now) }
+        ensures whole { self.new ≡ (form_step on_rings side_meaning self.old caller follows (Some wished.now)).state }
+        ensures outcome { outcome_of result end.new ≡ (caller_step side_meaning (lists_of self.old) caller follows (Some wished.now)).outcome }
+    {
+        let Some(side) = self.manager.end_of(caller) else {
+            unreachable!()
+        };
+        let ask = ask_at(side, caller, wished, &mut self.host, &mut self.remote);
+        let mut call = self.shared.begin_call(ask);
+        match self
+            .shared
+            .advance_by(&mut self.manager, caller, follows, &mut call)
+        {
+            Progress::At(step) => {
+                mark_turn(side, caller, wished, &mut self.to_host, &mut self.to_remote);
+                self.calls[usize::from(caller)] = Some(CarriedCall { follows, call });
+                Step::At(step)
+            }
+            Progress::Done(answer) => {
+                *end = end_at(side, answer, &mut self.host, &mut self.remote);
+                Step::Ended
+            }
+        }
+    }
+
+    /// The next step of the call that this caller has under way. Where the call ends, `end` says how.
+    pub fn next_step(&mut self, caller: CallerNo, end: &mut CallEnd) -> Step
+        requires { MayStep (lists_of self.old) caller None }
+        ensures whole { self.new ≡ (form_step on_rings side_meaning self.old caller 0 None).state }
+        ensures outcome { outcome_of result end.new ≡ (caller_step side_meaning (lists_of self.old) caller 0 None).outcome }
+    {
+        let place = usize::from(caller);
+        let Some(side) = self.manager.end_of(caller) else {
+            unreachable!()
+        };
+        let progress = advance_in(
+            &self.shared,
+            &mut self.manager,
+            caller,
+            &mut self.calls[place],
+        );
+        match progress {
+            Progress::At(step) => {
+                learn_at(
+                    side,
+                    caller,
+                    settled_in(&self.calls[place]),
+                    &mut self.to_host,
+                    &mut self.to_remote,
+                    &mut self.host,
+                    &mut self.remote,
+                );
+                Step::At(step)
+            }
+            Progress::Done(answer) => {
+                self.calls[place] = None;
+                free_turns(side, caller, &mut self.to_host, &mut self.to_remote);
+                *end = end_at(side, answer, &mut self.host, &mut self.remote);
+                Step::Ended
+            }
+        }
+    }
+}
+
+/// The next step of the call of this caller, which is in this slot.
+fn advance_in(
+    shared: &SharedLink<Side>,
+    manager: &mut Manager,
+    caller: CallerNo,
+    slot: &mut Option<CarriedCall>,
+) -> Progress
+    requires manager { IsManagerOf shared.now manager.old }
+    requires call { (end : End) × (carried : CarriedCall) × (slot.old ≡ Some carried) × Carries shared.now manager.old (caller_id caller end carried.follows) carried.call.phase × IsUnderWay carried.call.phase }
+    ensures { (end : End) (carried : CarriedCall) (m : LinkRings) → end_of manager.old.users caller ≡ Some end → slot.old ≡ Some carried → IsStateOf end_coded manager.old m
+        → AdvancesCall shared.now manager.old (caller_id caller end carried.follows) carried.call.phase m result manager.new slot.new }
+{
+    match slot {
+        Some(carried) => { shared.advance_by(manager, caller, carried.follows, &mut carried.call) }
+        None => unreachable!(),
+    }
+}
+
+/// How the call in this slot ends, where that is settled.
+fn settled_in(slot: &Option<CarriedCall>) -> Option<CallEnd>
+    ensures { result ≡ settled_in slot.now }
+{
+    match slot {
+        Some(carried) => carried.call.settled(),
+        None => None,
+    }
+}
+
+/// What a caller of this end asks that wishes this. The buffer that it gives back goes with it.
+fn ask_at(
+    side: End,
+    caller: CallerNo,
+    wished: &Wish,
+    host: &mut Vec<Hand>,
+    remote: &mut Vec<Hand>,
+) -> Ask
+    requires { CanGive (of_end side host.old remote.old).items caller wished.now }
+    ensures wish { wish_of result ≡ wished.now }
+    ensures hands { MatchOption (given_back result) ((of_end side host.new remote.new).items ≡ (of_end side host.old remote.old).items)
+        (λ held. IsTakenOut held.number caller (Some held) (of_end side host.old remote.old).items (of_end side host.new remote.new).items) }
+    ensures room { vec_capacity (of_end side host.new remote.new) ≡ vec_capacity (of_end side host.old remote.old) }
+    ensures beside { of_end (other side) host.new remote.new ≡ of_end (other side) host.old remote.old }
+{
+    match side {
+        End::Host => ask_for(host, caller, wished),
+        End::Remote => ask_for(remote, caller, wished),
+    }
+}
+
+/// A caller of this end has the turn that it needs for what it wishes.
+fn mark_turn(
+    side: End,
+    caller: CallerNo,
+    wished: &Wish,
+    to_host: &mut LaneView,
+    to_remote: &mut LaneView,
+)
+    ensures incoming { of_end side to_host.new to_remote.new ≡ incoming_begun wished.now caller (of_end side to_host.old to_remote.old) }
+    ensures outgoing { of_end (other side) to_host.new to_remote.new ≡ outgoing_begun wished.now caller (of_end (other side) to_host.old to_remote.old) }
+{
+    match (side, wished) {
+        (End::Host, Wish::Send(_)) => to_remote.sender = Some(caller),
+        (End::Remote, Wish::Send(_)) => to_host.sender = Some(caller),
+        (End::Host, _) => to_host.receiver = Some(caller),
+        (End::Remote, _) => to_remote.receiver = Some(caller),
+    }
+}
+
+/// The turns that a caller of this end has are free.
+fn free_turns(side: End, caller: CallerNo, to_host: &mut LaneView, to_remote: &mut LaneView)
+    ensures incoming { of_end side to_host.new to_remote.new ≡ record (of_end side to_host.old to_remote.old) { receiver = if_other (of_end side to_host.old to_remote.old).receiver caller } }
+    ensures outgoing { of_end (other side) to_host.new to_remote.new ≡ record (of_end (other side) to_host.old to_remote.old) { sender = if_other (of_end (other side) to_host.old to_remote.old).sender caller } }
+{
+    match side {
+        End::Host => {
+            to_host.free_receiver(caller);
+            to_remote.free_sender(caller);
+        }
+        End::Remote => {
+            to_remote.free_receiver(caller);
+            to_host.free_sender(caller);
+        }
+    }
+}
+
+/// A call of a caller of this end has settled how it ends, or not yet: what is known beside the words of the lanes follows.
+fn learn_at(
+    side: End,
+    caller: CallerNo,
+    settled: Option<CallEnd>,
+    to_host: &mut LaneView,
+    to_remote: &mut LaneView,
+    host: &mut Vec<Hand>,
+    remote: &mut Vec<Hand>,
+)
+    requires room { IfSome settled (λ ended. HasRoomFor ended (of_end side host.old remote.old)) }
+    requires accepted { (of_end (other side) to_host.old to_remote.old).accepted < 2 ^ 60 }
+    requires handed { (of_end side to_host.old to_remote.old).handed < 2 ^ 60 }
+    requires returned { (of_end side to_host.old to_remote.old).returned < 2 ^ 60 }
+    ensures incoming { of_end side to_host.new to_remote.new ≡ incoming_learnt settled (of_end side to_host.old to_remote.old) }
+    ensures outgoing { of_end (other side) to_host.new to_remote.new ≡ outgoing_learnt settled (of_end (other side) to_host.old to_remote.old) }
+    ensures listed { map holding_of (of_end side host.new remote.new).items ≡ held_learnt settled caller (map holding_of (of_end side host.old remote.old).items) }
+    ensures among { AreSome (hands_learnt settled caller (of_end side host.old remote.old).items) (of_end side host.new remote.new).items }
+    ensures room { vec_capacity (of_end side host.new remote.new) ≡ vec_capacity (of_end side host.old remote.old) }
+    ensures beside { of_end (other side) host.new remote.new ≡ of_end (other side) host.old remote.old }
+{
+    let Some(ended) = settled else { return };
+    match side {
+        End::Host => learn(caller, &ended, to_host, to_remote, host),
+        End::Remote => learn(caller, &ended, to_remote, to_host, remote),
+    }
+}
+
+/// How a call of a caller of this end ended with this answer. The buffer in it is in hand again.
+fn end_at(side: End, answer: Answer, host: &mut Vec<Hand>, remote: &mut Vec<Hand>) -> CallEnd
+    requires { IfSome (answer_buffer answer) (λ held. holds (map holding_of (of_end side host.old remote.old).items) held.number held.caller ≡ true) }
+    ensures end { result ≡ call_end answer }
+    ensures hands { MatchOption (answer_buffer answer) ((of_end side host.new remote.new).items ≡ (of_end side host.old remote.old).items)
+        (λ held. IsPutIn held (of_end side host.old remote.old).items (of_end side host.new remote.new).items) }
+    ensures room { vec_capacity (of_end side host.new remote.new) ≡ vec_capacity (of_end side host.old remote.old) }
+    ensures beside { of_end (other side) host.new remote.new ≡ of_end (other side) host.old remote.old }
+{
+    match side {
+        End::Host => ended_with(host, answer),
+        End::Remote => ended_with(remote, answer),
+    }
+}
