@@ -37,7 +37,7 @@ fn no_calls(alloc: Global) -> Result<Vec<Option<CarriedCall>>, NoMemory>
 }
 
 impl ManagedLink {
-    /// A new link of these ends, live in its first incarnation, with no caller. It takes all its room at once, so no later call but a reopening and a snapshot takes memory.
+    /// A new link of these ends, live in its first incarnation, with no caller. It takes all its room at once, so of the later calls a reopening, a snapshot and a list of channels alone take memory.
     ///
     /// Errors: only for want of memory.
     pub fn make(
