@@ -22,7 +22,7 @@ use Rattle.ring_core.specs.declared.states.RingState.{RingState}
 use Rattle.channel_bus.specs.Sides.{EndState, side_meaning}
 use Rattle.link_bench.specs.declared.benches.Reach.{Reach}
 use Rattle.link_bench.specs.declared.benches.Reach.TheVariants as reach
-use Rattle.link_bench.specs.Benches.{RingsState, Walk, call_steps, later_steps, lists_of, on_rings, step_on, walk_on}
+use Rattle.link_bench.specs.Benches.{LinkRings, Walk, call_steps, later_steps, lists_of, on_rings, step_on, walk_on}
 use Rattle.link_bench.proofs.Lists.{is_rings}
 use Rattle.link_bench.proofs.Walks.{goes_on_at}
 use Rattle.act_laws.specs.Deeds.{Deeds, call_moves, deeds_then, later_moves, no_deeds, reach_takes}
@@ -43,7 +43,7 @@ pub link_both : (link : LinkState EndState) (one other : List Move)
 link_both link [] other = refl
 link_both link (move ∷ moves) other = link_both (link_after_move side_meaning link move) moves other
 
-pub rings_both : (rings : RingsState) (one other : List Move)
+pub rings_both : (rings : LinkRings) (one other : List Move)
     → form_moves on_rings side_meaning rings (one ++ other) ≡ form_moves on_rings side_meaning (form_moves on_rings side_meaning rings one) other
 rings_both rings [] other = refl
 rings_both rings (move ∷ moves) other = rings_both (form_move on_rings side_meaning rings move) moves other
@@ -58,25 +58,25 @@ takes_both link (move ∷ moves) other end =
 -- ---- what deeds leave
 
 -- these deeds leave this of the rings of a link
-pub record Lands (rings : RingsState) (deeds : Deeds) (after : RingsState) : Type 0 where
+pub record Lands (rings : LinkRings) (deeds : Deeds) (after : LinkRings) : Type 0 where
   pub whole : AreWholeMoves deeds.moves
   pub may : MayMoves side_meaning (lists_of rings) deeds.moves
   pub leads : form_moves on_rings side_meaning rings deeds.moves ≡ after
   pub takes : (end : End) → moves_takes side_meaning (lists_of rings) deeds.moves end ≡ deeds.takes end
 
-pub lands_none : (rings : RingsState) → Lands rings no_deeds rings
+pub lands_none : (rings : LinkRings) → Lands rings no_deeds rings
 lands_none rings = record { whole = tt; may = tt; leads = refl; takes = λ end. refl }
 
-module _ (rings : RingsState) (one : Deeds) (mid : RingsState) (first : Lands rings one mid) where
+module _ (rings : LinkRings) (one : Deeds) (mid : LinkRings) (first : Lands rings one mid) where
   -- what they leave of the lists
   pub lands_lists : link_after_moves side_meaning (lists_of rings) one.moves ≡ lists_of mid
   lands_lists = sym (moves_agree on_rings side_meaning is_rings rings one.moves first.whole) ∙ ap lists_of first.leads
 
-  pub lands_then : (other : Deeds) (after : RingsState) → Lands mid other after → Lands rings (deeds_then one other) after
+  pub lands_then : (other : Deeds) (after : LinkRings) → Lands mid other after → Lands rings (deeds_then one other) after
   lands_then other after second = record {
     whole = whole_both one.moves other.moves first.whole second.whole;
     may = may_both (lists_of rings) one.moves other.moves first.may (subst (λ (l : LinkState EndState). MayMoves side_meaning l other.moves) (sym lands_lists) second.may);
-    leads = rings_both rings one.moves other.moves ∙ ap (λ (r : RingsState). form_moves on_rings side_meaning r other.moves) first.leads ∙ second.leads;
+    leads = rings_both rings one.moves other.moves ∙ ap (λ (r : LinkRings). form_moves on_rings side_meaning r other.moves) first.leads ∙ second.leads;
     takes = λ end.
         takes_both (lists_of rings) one.moves other.moves end
         ∙ ap (λ (l : List Handing). l ++ moves_takes side_meaning (link_after_moves side_meaning (lists_of rings) one.moves) other.moves end) (first.takes end)
@@ -86,7 +86,7 @@ module _ (rings : RingsState) (one : Deeds) (mid : RingsState) (first : Lands ri
 
 -- ---- one step
 
-same_callers : (link : RingsState) (found : Option End) (step : Lanes (RingState EndState) → Stepped (Lanes (RingState EndState))) → (on_lanes link found step).state.callers ≡ link.callers
+same_callers : (link : LinkRings) (found : Option End) (step : Lanes (RingState EndState) → Stepped (Lanes (RingState EndState))) → (on_lanes link found step).state.callers ≡ link.callers
 same_callers link (Some side.Host) step = refl
 same_callers link (Some side.Remote) step = refl
 same_callers link None step = refl
@@ -100,13 +100,13 @@ abbrev AreFrom : ℕ → Move → (ℕ → List Move) → Type 0
 AreFrom caller first moves = (moves 0 ≡ []) × ((more : ℕ) → first ∷ later_moves more caller ≡ moves (suc more))
 
 -- a call made so many steps, which left this
-pub record Walks (rings : RingsState) (steps caller : ℕ) (moves : ℕ → List Move) (walk : Walk (RingState EndState)) : Type 0 where
+pub record Walks (rings : LinkRings) (steps caller : ℕ) (moves : ℕ → List Move) (walk : Walk (RingState EndState)) : Type 0 where
   pub count : ℕ
   pub counted : walk.steps ≡ steps + count
   pub lands : Lands rings (record { moves = moves count; takes = reach_takes (lists_of walk.link) caller walk.reach }) walk.link
 
 -- no step
-pub walks_none : (rings : RingsState) (steps caller : ℕ) (moves : ℕ → List Move) (came : Reach) → moves 0 ≡ [] → ((end : End) → reach_takes (lists_of rings) caller came end ≡ [])
+pub walks_none : (rings : LinkRings) (steps caller : ℕ) (moves : ℕ → List Move) (came : Reach) → moves 0 ≡ [] → ((end : End) → reach_takes (lists_of rings) caller came end ≡ [])
     → Walks rings steps caller moves (record { link = rings; steps = steps; reach = came })
 walks_none rings steps caller moves came none silent = record {
   count = 0;
@@ -120,9 +120,9 @@ pub both_if : {A B : Type 0} (b : Bool) (P : A → B → Type 0) (one two : A) (
 both_if true P one two first second is other = is
 both_if false P one two first second is other = other
 
-module _ (rings : RingsState) (steps caller follows : ℕ) (wished : Option Wish) (may : MayStep (lists_of rings) caller wished)
+module _ (rings : LinkRings) (steps caller follows : ℕ) (wished : Option Wish) (may : MayStep (lists_of rings) caller wished)
     (moves : ℕ → List Move) (from : AreFrom caller (Step caller follows wished) moves) where
-  abbrev stepped : Stepped RingsState
+  abbrev stepped : Stepped LinkRings
   stepped = step_on on_rings rings caller follows wished
 
   same_after : lists_of stepped.state ≡ (caller_step side_meaning (lists_of rings) caller follows wished).state
@@ -168,7 +168,7 @@ module _ (rings : RingsState) (steps caller follows : ℕ) (wished : Option Wish
 -- ---- calls
 
 -- the later steps of a call
-pub later_walks : (more last steps : ℕ) (rings : RingsState) (caller : ℕ) → MayStep (lists_of rings) caller None
+pub later_walks : (more last steps : ℕ) (rings : LinkRings) (caller : ℕ) → MayStep (lists_of rings) caller None
     → Walks rings steps caller (λ count. later_moves count caller) (later_steps on_rings more last steps rings caller)
 unfolding later_steps
 later_walks zero last steps rings caller may = walks_none rings steps caller _ (reach.At last) refl (λ end. refl)
@@ -180,7 +180,7 @@ later_walks (suc more) last steps rings caller may =
     (λ done next. later_walks more done (steps + 1) after caller next))
 
 -- a call from its first step on
-pub call_walks : (more steps : ℕ) (rings : RingsState) (caller follows : ℕ) (wanted : Wish) → MayStep (lists_of rings) caller (Some wanted)
+pub call_walks : (more steps : ℕ) (rings : LinkRings) (caller follows : ℕ) (wanted : Wish) → MayStep (lists_of rings) caller (Some wanted)
     → Walks rings steps caller (λ count. call_moves count caller follows wanted) (call_steps on_rings more steps rings caller follows wanted)
 unfolding call_steps
 call_walks more steps rings caller follows wanted may =
@@ -191,7 +191,7 @@ call_walks more steps rings caller follows wanted may =
     (λ done next. later_walks more done (steps + 1) after caller next))
 
 -- as many steps as the run counts
-pub counted_lands : (rings : RingsState) (steps caller : ℕ) (moves : ℕ → List Move) (walk : Walk (RingState EndState)) → Walks rings steps caller moves walk
+pub counted_lands : (rings : LinkRings) (steps caller : ℕ) (moves : ℕ → List Move) (walk : Walk (RingState EndState)) → Walks rings steps caller moves walk
     → Lands rings (record { moves = moves (walk.steps - steps); takes = reach_takes (lists_of walk.link) caller walk.reach }) walk.link
 counted_lands rings steps caller moves walk walks =
     let counted = walks.counted in

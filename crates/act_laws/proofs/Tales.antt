@@ -15,7 +15,7 @@ use Rattle.lane_laws.proofs.Told.{way_told}
 use Rattle.lane_laws.proofs.WayFacts.{shut_begins, shut_hands_none, shut_most, told_due, told_once}
 use Rattle.channel_bus.specs.Laws.{side_laws}
 use Rattle.channel_bus.specs.Sides.{EndState, side_meaning}
-use Rattle.link_bench.specs.Benches.{BenchState, RingsState, link_in}
+use Rattle.link_bench.specs.Benches.{BenchState, LinkRings, link_in}
 use Rattle.act_laws.specs.Accounts.{Account, IsAccount, IsLate, new_account, with_deeds}
 use Rattle.act_laws.specs.Deeds.{Deeds}
 use Rattle.act_laws.proofs.ActLands.{LandsAt}
@@ -136,7 +136,7 @@ pub record IsSoundTale (end : End) (bench : BenchState) (account : Account) : Ty
 
 pub rings_kept : (bench : BenchState) (deeds : Deeds) (left : BenchState) → LandsAt bench deeds left → HasSoundRings bench.rings → HasSoundRings left.rings
 rings_kept bench deeds left lands sound =
-    subst (λ (r : RingsState). HasSoundRings r) lands.leads (moves_kept side_meaning bench.rings deeds.moves lands.whole sound lands.may)
+    subst (λ (r : LinkRings). HasSoundRings r) lands.leads (moves_kept side_meaning bench.rings deeds.moves lands.whole sound lands.may)
 
 pub sound_kept : (end : End) (bench : BenchState) (account : Account) → IsSoundTale end bench account → (deeds : Deeds) (left : BenchState) → LandsAt bench deeds left
     → IsSoundTale end left (with_deeds end (link_in bench).era.is_live account deeds)

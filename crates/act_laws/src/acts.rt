@@ -11,7 +11,7 @@ ghost use Rattle.link_bench.specs.declared.acts.LinkAct.{LinkAct};
 ghost use Rattle.link_bench.specs.Acts.{IsFitAct, link_act};
 ghost use Rattle.link_bench.specs.BenchCrashes.{after_close, after_reclaim, after_reopen};
 ghost use Rattle.link_bench.specs.BenchEnds.{bench_to_reopen, crashed_bench};
-ghost use Rattle.link_bench.specs.Benches.{BenchState, RingsState, call_steps, later_steps, link_in, lists_of, new_bench_of, on_lists, on_rings, walk_lists, with_new_caller};
+ghost use Rattle.link_bench.specs.Benches.{BenchState, LinkRings, call_steps, later_steps, link_in, lists_of, new_bench_of, on_lists, on_rings, walk_lists, with_new_caller};
 ghost use Rattle.link_bench.specs.Watchers.{nobody_sees};
 ghost use Rattle.lane_laws.specs.Moves.{Close};
 ghost use Rattle.core_actors.specs.Actors.{ActorsState};
@@ -47,9 +47,9 @@ pub fn lists_alone()
     ensures new { (config : LinkConfig) (host remote : EndState) → link_in (new_bench_of config host remote) ≡ opened_link config host remote }
     ensures caller { (bench : BenchState) (end : End) (number : Option ℕ)
         → link_in (with_new_caller bench end number) ≡ record (link_in bench) { callers = with_caller (link_in bench).callers end number } }
-    ensures call { (more steps : ℕ) (rings : RingsState) (caller follows : ℕ) (wanted : Wish)
+    ensures call { (more steps : ℕ) (rings : LinkRings) (caller follows : ℕ) (wanted : Wish)
         → walk_lists on_rings (call_steps on_rings more steps rings caller follows wanted) ≡ call_steps on_lists more steps (lists_of rings) caller follows wanted }
-    ensures later { (more last steps : ℕ) (rings : RingsState) (caller : ℕ)
+    ensures later { (more last steps : ℕ) (rings : LinkRings) (caller : ℕ)
         → walk_lists on_rings (later_steps on_rings more last steps rings caller) ≡ later_steps on_lists more last steps (lists_of rings) caller }
     ensures close { (bench : BenchState) → link_in (after_close bench) ≡ link_after_close (link_in bench) (link_in bench).era.inc }
     ensures reclaim { (bench : BenchState) (caller : ℕ) → link_in (after_reclaim bench caller) ≡ link_after_reclaim on_lists (link_in bench) caller }

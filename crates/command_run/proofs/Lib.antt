@@ -6,3 +6,4 @@ pub mod AskedNames
 pub mod Shelves
 pub mod Placing
 pub mod RingRows
+pub mod FoundChannels

@@ -15,7 +15,7 @@ use Rattle.link_bench.specs.declared.benches.Reach.TheVariants as reach
 use Rattle.link_bench.specs.declared.benches.BenchFault.{BenchFault}
 use Rattle.link_bench.specs.declared.benches.BenchFault.TheVariants as fault
 use Rattle.channel_bus.specs.Sides.{EndState}
-use Rattle.link_bench.specs.Benches.{message_on}
+use Rattle.link_bench.specs.Benches.{message_for}
 
 -- the end of a take, by the verdict; the addresses and the payload are the fields of the message
 abbrev pub took_event : List ℕ → ℕ → ℕ → List ℕ → Verdict → Event
@@ -38,7 +38,7 @@ refused_event name caller (bind_fault.NotBound address) = event.NotBound name ca
 abbrev pub end_event : List ℕ → LinkState EndState → ℕ → CallEnd → Event
 end_event name link caller (end.Sent number) = event.Sent name caller number
 end_event name link caller (end.Took number judged) =
-    took_event name caller number (message_on link (end_of link.callers caller) number) judged
+    took_event name caller number (message_for link (end_of link.callers caller) number) judged
 end_event name link caller (end.Gave number) = event.Gave name caller number
 end_event name link caller (end.Bound endpoint) = event.Bound name caller endpoint
 end_event name link caller (end.Unbound endpoint) = event.Unbound name caller endpoint

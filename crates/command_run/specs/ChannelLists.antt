@@ -1,7 +1,10 @@
 -- What is told of the channels of a link (own).
-use Rattle.std.specs.Prelude.{ℕ, List, [], ◌∷◌, map, Option, Some, None}
+use Rattle.std.specs.Prelude.{ℕ, List, [], ◌∷◌, map, Option, Some, None, Result, Ok, Err, Vec}
+use Rattle.std.specs.declared.alloc.Global.{Global}
 use Rattle.lane_model.specs.Lanes.{holder}
 use Rattle.name_service.specs.declared.channels.Channel.{Channel}
+use Rattle.vring_layout.specs.declared.snapshots.SnapshotFault.{SnapshotFault}
+use Rattle.vring_layout.specs.declared.snapshots.SnapshotFault.TheVariants as snapshot_fault
 use Rattle.journal.specs.declared.events.Event.{Event}
 use Rattle.journal.specs.declared.events.Event.TheVariants as event
 use Rattle.link_bench.specs.Benches.{BenchState, link_in}
@@ -9,6 +12,12 @@ use Rattle.link_bench.specs.Benches.{BenchState, link_in}
 -- a channel, with the endpoint that was bound for it
 abbrev pub channel_event : List ℕ → Channel → Event
 channel_event name channel = event.Channel name channel.name channel.address channel.endpoint
+
+-- what is told of the channels that a link answers; want of memory tells nothing
+abbrev pub found_channels : List ℕ → Result (Vec Channel Global) SnapshotFault → Option (List Event)
+found_channels name (Ok channels) = Some (map (channel_event name) channels.items)
+found_channels name (Err (snapshot_fault.StillTurn caller)) = Some (event.StillTurn name caller ∷ [])
+found_channels name (Err snapshot_fault.NoMemory) = None
 
 -- the channels of the host end, where no caller has the turn behind which they stand
 abbrev pub listed_channels : List ℕ → BenchState → Option ℕ → List Event

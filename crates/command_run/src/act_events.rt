@@ -2,7 +2,9 @@ ghost use Rattle.std.specs.Prelude.{◌≡◌, ◌++◌, IfOk, OnOk};
 ghost use Rattle.journal.specs.Lines.{transcript};
 ghost use Rattle.command_run.specs.CallEvents.{reach_events};
 ghost use Rattle.command_run.specs.Effects.{answer_ending, answer_events, limit_stop, reclaim_event, turn_ending, turn_events};
-ghost use Rattle.link_bench.specs.Benches.{link_in};
+ghost use Rattle.link_bench.specs.Acts.{HoldsAnswerTaken};
+ghost use Rattle.link_bench.specs.Benches.{HoldsReachTaken, link_in};
+ghost use Rattle.link_bench.specs.Turns.{HoldsEndTaken};
 
 use crate::call_events::{end_event, fault_event};
 use crate::logs::event;
@@ -19,6 +21,7 @@ pub(crate) fn tell_answer(
     answer: ActAnswer,
     log: &mut RunLog,
 ) -> Result<Option<Stop>, NoMemory>
+    requires { HoldsAnswerTaken (link_in bench.now) answer }
     ensures told { OnOk result (log.new ≡ record log.old { lines = log.old.lines ++ transcript (answer_events name (link_in bench.now) answer) }) }
     ensures ending { IfOk result (λ ending. ending ≡ answer_ending answer) }
 {
@@ -38,13 +41,14 @@ pub(crate) fn tell_answer(
 }
 
 /// Tells how far a call came.
-fn tell_reach(
+pub(crate) fn tell_reach(
     name: Name,
     bench: &Bench,
     caller: CallerNo,
     reach: Reach,
     log: &mut RunLog,
 ) -> Result<Option<Stop>, NoMemory>
+    requires { HoldsReachTaken (link_in bench.now) caller reach }
     ensures told { OnOk result (log.new ≡ record log.old { lines = log.old.lines ++ transcript (reach_events name (link_in bench.now) caller reach) }) }
     ensures ending { IfOk result (λ ending. ending ≡ limit_stop reach) }
 {
@@ -65,6 +69,7 @@ fn tell_turns(
     ended: TurnEnd,
     log: &mut RunLog,
 ) -> Result<Option<Stop>, NoMemory>
+    requires { HoldsEndTaken (link_in bench.now) ended }
     ensures told { OnOk result (log.new ≡ record log.old { lines = log.old.lines ++ transcript (turn_events name (link_in bench.now) turns ended) }) }
     ensures ending { IfOk result (λ ending. ending ≡ turn_ending ended) }
 {

@@ -1,6 +1,6 @@
 ghost use Rattle.std.specs.Prelude.{◌≡◌, IfOk};
 ghost use Rattle.command_run.specs.CallEvents.{end_event, fault_event, refused_event, took_event};
-ghost use Rattle.link_bench.specs.Benches.{link_in};
+ghost use Rattle.link_bench.specs.Benches.{HoldsTaken, link_in};
 
 use crate::logs::event;
 use crash_recover::{Bench, BenchFault};
@@ -29,6 +29,7 @@ pub(crate) fn end_event(
     caller: CallerNo,
     end: CallEnd,
 ) -> Result<Event, NoMemory>
+    requires { HoldsTaken (link_in bench.now) caller end }
     ensures { IfOk result (λ event. event ≡ end_event name (link_in bench.now) caller end) }
 {
     Ok(match end {

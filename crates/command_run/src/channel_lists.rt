@@ -1,20 +1,22 @@
-ghost use Rattle.std.specs.Prelude.{◌≡◌, ◌++◌, OnOk, map};
+ghost use Rattle.std.specs.Prelude.{◌≡◌, ◌++◌, IsSomeAnd, OnOk, map};
 ghost use Rattle.journal.specs.Lines.{transcript};
-ghost use Rattle.command_run.specs.ChannelLists.{channel_event, channels_events};
+ghost use Rattle.command_run.specs.ChannelLists.{channel_event, found_channels};
 
 use crate::logs::{RunLog, event};
-use crash_recover::Bench;
 use journal::Event;
 use name_service::Channel;
 use rp_base::{Name, NoMemory};
 use vring_layout::SnapshotFault;
 
-/// Tells the channels that the host end of a link knows, unless the turn is out behind which they stand.
-#[tactic(auto, unfolding(crate::specs::ChannelLists::channels_events))]
-pub(crate) fn tell_channels(name: Name, bench: &Bench, log: &mut RunLog) -> Result<(), NoMemory>
-    ensures { OnOk result (log.new ≡ record log.old { lines = log.old.lines ++ transcript (channels_events name bench.now) }) }
+/// Tells the channels that the host end of a link knows, or who has the turn behind which they stand.
+pub(crate) fn tell_channels(
+    name: Name,
+    found: Result<Vec<Channel>, SnapshotFault>,
+    log: &mut RunLog,
+) -> Result<(), NoMemory>
+    ensures { OnOk result (IsSomeAnd (found_channels name found) (λ events. log.new ≡ record log.old { lines = log.old.lines ++ transcript events })) }
 {
-    match bench.channels(log.alloc()) {
+    match found {
         Ok(channels) => tell_list(name, channels.as_slice(), log),
         Err(SnapshotFault::StillTurn(caller)) => log.tell(&event!(StillTurn, name, [caller])),
         Err(SnapshotFault::NoMemory) => Err(NoMemory),

@@ -1,19 +1,20 @@
-ghost use Rattle.std.specs.Prelude.{◌≡◌, ◌==◌, ◌≤◌, ◌+◌, ◌||◌, ◌⊎◌, ◌∷◌, ◌++◌, not, true, IfOk, IfErr, OnOk};
+ghost use Rattle.std.specs.Prelude.{◌≡◌, ◌==◌, ◌≤◌, ◌+◌, ◌||◌, ◌⊎◌, ◌∷◌, ◌++◌, not, true, IfOk, IfErr, IfSome, OnOk};
 ghost use Rattle.journal.specs.declared.events.Event.TheVariants as event;
 ghost use Rattle.journal.specs.Lines.{transcript};
 ghost use Rattle.command_run.specs.Logs.{CutsCore, DrivesHanding, DrivesOn, HandsCoreEffect, HasCoreEffect, Keeps};
 ghost use Rattle.command_run.specs.Fetches.{EndsCut, IfWrite};
 ghost use Rattle.rp_base.specs.declared.limits.TheConstants.{STEPS_MOST};
-ghost use Rattle.core_actors.specs.ActorSteps.{drive_of_progress};
+ghost use Rattle.core_actors.specs.ActorSteps.{HoldsDrivenTaken, drive_of_progress};
+ghost use Rattle.link_bench.specs.Benches.{HoldsTaken, link_in};
 ghost use Rattle.crash_recover.specs.Drives.{drive_step, is_idle};
 ghost use Rattle.remote_code.specs.Faults.{fault_number};
 ghost use Rattle.rp_base.specs.declared.kinds.CrashKind.TheVariants as kind;
 ghost use Rattle.command_run.specs.CoreDrives.{actor_end_events, crash_events, drive_effect, drive_end, drive_steps, driven_events, is_crashed, is_over, rest_event, step_events};
 
-use crate::call_events::end_event;
+use crate::act_events::tell_reach;
 use crate::logs::event;
 use crate::{CommandFault, NamedCore, RunLog, Stop};
-use crash_recover::DriveProgress;
+use crash_recover::{DriveProgress, Reach};
 use journal::Event;
 use lane_model::CallEnd;
 use remote_code::WorkerFault;
@@ -204,6 +205,7 @@ impl NamedCore {
         is_quiet: bool,
         log: &mut RunLog,
     ) -> Result<(), NoMemory>
+        requires { IfSome self.now.core.bench (λ bench. HoldsDrivenTaken (link_in bench) (drive_of_progress progress end.now)) }
         ensures { IfOk result (λ _. Keeps log.old log.new (driven_events self.now.name is_quiet self.now.core.bench (drive_of_progress progress end.now))) }
     {
         match progress {
@@ -233,12 +235,14 @@ impl NamedCore {
         end: &CallEnd,
         log: &mut RunLog,
     ) -> Result<(), NoMemory>
+        requires { IfSome self.now.core.bench (λ bench. HoldsTaken (link_in bench) caller end.now) }
         ensures { IfOk result (λ _. Keeps log.old log.new (actor_end_events self.now.name caller end.now self.now.core.bench)) }
     {
         let Some(bench) = self.core.link() else {
             return Ok(());
         };
-        log.tell(&end_event(log.alloc(), self.name, bench, caller, *end)?)
+        tell_reach(self.name, bench, caller, Reach::Ended(*end), log)?;
+        Ok(())
     }
 
     /// Tells a crash of the core, whose link was closed by it.

@@ -1,11 +1,13 @@
 ghost use Rattle.std.specs.Prelude.{◌≡◌, ◌≤◌, IfOk};
 ghost use Rattle.link_bench.specs.Acts.{IsFitAct, bare_act};
 ghost use Rattle.command_run.specs.Acts.{IsFitView};
+ghost use Rattle.command_run.specs.declared.acts.LinkView.TheVariants as view;
 ghost use Rattle.command_run.specs.Logs.{HasCoreEffect};
 ghost use Rattle.command_run.specs.CoreLinks.{core_link_effect, core_ring_effect, core_turn_holder, core_view_effect, found_view_effect};
 
 use crate::act_events::tell_answer;
-use crate::links::tell_view;
+use crate::channel_lists::tell_channels;
+use crate::links::tell_books;
 use crate::logs::event;
 use crate::rings::tell_bytes;
 use crate::{LinkView, NamedCore, RunLog, Stop};
@@ -51,21 +53,35 @@ impl NamedCore {
     {
         match view {
             LinkView::Ring { lane } => self.tell_ring(lane, log),
-            LinkView::Books | LinkView::Channels => self.show_link(view, log),
+            LinkView::Books => self.tell_books(log),
+            LinkView::Channels => self.tell_channels(log),
         }
     }
 
-    /// Tells what the core's link shows, as any link does.
-    fn show_link(&mut self, view: LinkView, log: &mut RunLog) -> Result<Option<Stop>, NoMemory>
-        requires { IsFitView view }
+    /// Tells the counts of both lanes of the core's link.
+    fn tell_books(&mut self, log: &mut RunLog) -> Result<Option<Stop>, NoMemory>
         ensures same { self.new ≡ self.old }
-        ensures effect { IfOk result (λ ending. HasCoreEffect (found_view_effect self.old.name self.old.core log.old.steps view self.old.core.bench) self.new.core log.old log.new ending) }
+        ensures effect { IfOk result (λ ending. HasCoreEffect (found_view_effect self.old.name self.old.core log.old.steps view.Books self.old.core.bench) self.new.core log.old log.new ending) }
     {
         let name = self.name;
         let Some(bench) = self.core.link() else {
             return self.tell(&Event::NoLink { name }, log);
         };
-        tell_view(name, bench, view, log)?;
+        tell_books(name, bench, log)?;
+        Ok(None)
+    }
+
+    /// Tells the channels that the host end of the core's link knows.
+    #[tactic(auto, unfolding(crate::specs::LinkCommands::view_events))]
+    fn tell_channels(&mut self, log: &mut RunLog) -> Result<Option<Stop>, NoMemory>
+        ensures same { self.new ≡ self.old }
+        ensures effect { IfOk result (λ ending. HasCoreEffect (found_view_effect self.old.name self.old.core log.old.steps view.Channels self.old.core.bench) self.new.core log.old log.new ending) }
+    {
+        let name = self.name;
+        if self.core.link().is_none() {
+            return self.tell(&Event::NoLink { name }, log);
+        }
+        tell_channels(name, self.core.channels(log.alloc()), log)?;
         Ok(None)
     }
 

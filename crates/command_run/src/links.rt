@@ -2,6 +2,7 @@ ghost use Rattle.std.specs.Prelude.{◌≡◌, ◌++◌, IfOk, OnOk};
 ghost use Rattle.journal.specs.Lines.{transcript};
 ghost use Rattle.journal.specs.declared.events.Event.TheVariants as event;
 ghost use Rattle.link_bench.specs.Acts.{IsFitAct, bare_act};
+ghost use Rattle.command_run.specs.declared.acts.LinkView.TheVariants as view;
 ghost use Rattle.command_run.specs.Acts.{IsFitNamed, IsFitView, bare_named_act};
 ghost use Rattle.command_run.specs.Effects.{act_effect, tells};
 ghost use Rattle.command_run.specs.LinkCommands.{link_effect, manager_effect, view_events};
@@ -49,7 +50,7 @@ impl NamedBench {
             NamedAct::Link(act) => self.act(act, log),
             NamedAct::Manage(act) => self.manage(*act, log),
             NamedAct::Show(view) => {
-                tell_view(self.name, &self.bench, *view, log)?;
+                tell_view(self.name, &mut self.bench, *view, log)?;
                 Ok(None)
             }
             NamedAct::Core(_) => self.tell(&Event::Unknown { name: self.name }, log),
@@ -95,23 +96,30 @@ impl NamedBench {
 
 /// Tells what a link shows.
 #[tactic(auto, unfolding(crate::specs::LinkCommands::view_events))]
-pub(crate) fn tell_view(
+fn tell_view(
     name: Name,
-    bench: &Bench,
+    bench: &mut Bench,
     view: LinkView,
     log: &mut RunLog,
 ) -> Result<(), NoMemory>
     requires { IsFitView view }
-    ensures { OnOk result (log.new ≡ record log.old { lines = log.old.lines ++ transcript (view_events name bench.now view) }) }
+    ensures same { bench.new ≡ bench.old }
+    ensures told { OnOk result (log.new ≡ record log.old { lines = log.old.lines ++ transcript (view_events name bench.old view) }) }
 {
     match view {
-        LinkView::Books => {
-            log.tell(&lane_event(name, 0, bench.counts(0)))?;
-            log.tell(&lane_event(name, 1, bench.counts(1)))
-        }
+        LinkView::Books => tell_books(name, bench, log),
         LinkView::Ring { lane } => tell_ring(name, bench, lane, log),
-        LinkView::Channels => tell_channels(name, bench, log),
+        LinkView::Channels => tell_channels(name, bench.channels(log.alloc()), log),
     }
+}
+
+/// Tells the counts of both lanes of a link.
+#[tactic(auto, unfolding(crate::specs::LinkCommands::view_events))]
+pub(crate) fn tell_books(name: Name, bench: &Bench, log: &mut RunLog) -> Result<(), NoMemory>
+    ensures { OnOk result (log.new ≡ record log.old { lines = log.old.lines ++ transcript (view_events name bench.now view.Books) }) }
+{
+    log.tell(&lane_event(name, 0, bench.counts(0)))?;
+    log.tell(&lane_event(name, 1, bench.counts(1)))
 }
 
 /// The counts of a lane: messages accepted and handed over, buffers given back.

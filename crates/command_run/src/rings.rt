@@ -15,12 +15,13 @@ const ROW: usize = 16;
 #[tactic(auto, unfolding(crate::specs::RingDumps::bench_ring_events))]
 pub(crate) fn tell_ring(
     name: Name,
-    bench: &Bench,
+    bench: &mut Bench,
     lane: u64,
     log: &mut RunLog,
 ) -> Result<(), NoMemory>
     requires { lane ≤ 1 }
-    ensures { OnOk result (log.new ≡ record log.old { lines = log.old.lines ++ transcript (bench_ring_events name bench.now lane) }) }
+    ensures same { bench.new ≡ bench.old }
+    ensures told { OnOk result (log.new ≡ record log.old { lines = log.old.lines ++ transcript (bench_ring_events name bench.old lane) }) }
 {
     if let Some(caller) = bench.turn_holder() {
         return log.tell(&event!(StillTurn, name, [caller]));

@@ -14,7 +14,7 @@ use Rattle.lane_model.specs.declared.calls.CallEnd.TheVariants as ended
 use Rattle.lane_model.specs.Links.{end_of}
 use Rattle.host_driver.specs.Drivers.{DriversState, created_answer, after_created, delivered_answer, after_delivered, after_destroyed}
 use Rattle.remote_core.specs.Workers.{WorkerState, after_take}
-use Rattle.link_bench.specs.Benches.{BenchState, link_in, message_on}
+use Rattle.link_bench.specs.Benches.{BenchState, link_in, message_for}
 use Rattle.core_actors.specs.Actors.{ActorsState}
 
 -- ---- the drivers
@@ -92,7 +92,7 @@ taken_number end = None
 -- the message of the number that a caller was handed, or no byte
 abbrev pub message_of_number : BenchState → ℕ → Option ℕ → List ℕ
 message_of_number bench caller None = []
-message_of_number bench caller (Some number) = message_on (link_in bench) (end_of (link_in bench).callers caller) number
+message_of_number bench caller (Some number) = message_for (link_in bench) (end_of (link_in bench).callers caller) number
 
 -- the message that a caller was handed by a call that ended so, or no byte
 abbrev pub message_of : BenchState → ℕ → CallEnd → List ℕ

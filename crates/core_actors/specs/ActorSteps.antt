@@ -1,6 +1,8 @@
 -- What the actors of a core do on its link, step by step, and when they have nothing to do (own).
 use Rattle.std.specs.Prelude.{ℕ, ◌==◌, Bool, true, false, not, ◌&&◌, ◌||◌, List, [], ◌∷◌, ◌++◌, length, drop, Option, Some, None, is_some, if◌then◌else◌}
 use Rattle.addr_translate.specs.Maps.{Mapping}
+use Rattle.channel_bus.specs.Sides.{EndState}
+use Rattle.lane_model.specs.Links.{LinkState}
 use Rattle.lane_model.specs.declared.calls.Wish.{Wish}
 use Rattle.lane_model.specs.declared.calls.Wish.TheVariants as wish
 use Rattle.lane_model.specs.declared.calls.CallEnd.{CallEnd}
@@ -9,7 +11,7 @@ use Rattle.remote_core.specs.declared.workers.Work.{Work}
 use Rattle.remote_core.specs.declared.workers.Work.TheVariants as work
 use Rattle.link_bench.specs.declared.benches.Reach.{Reach}
 use Rattle.link_bench.specs.declared.benches.Reach.TheVariants as reach
-use Rattle.link_bench.specs.Benches.{BenchState, BenchWalk, is_in_call, begin_fault, advance_walk, counts_of, start_walk}
+use Rattle.link_bench.specs.Benches.{BenchState, BenchWalk, HoldsTaken, is_in_call, begin_fault, advance_walk, counts_of, start_walk}
 use Rattle.core_actors.specs.declared.actors.Actor.{Actor}
 use Rattle.core_actors.specs.declared.actors.Actor.TheVariants as actor
 use Rattle.core_actors.specs.declared.progress.Driven.{Driven}
@@ -27,6 +29,14 @@ drive_of_progress progress.Stepped end = driven.Stepped
 drive_of_progress (progress.Ended caller) end = driven.Ended caller end
 drive_of_progress (progress.Worker fault) end = driven.Worker fault
 drive_of_progress (progress.Crashed kind) end = driven.Crashed kind
+
+-- where a step ended a call that was handed a message, the call's caller holds its buffer and is in no call
+abbrev pub HoldsDrivenTaken : LinkState EndState → Driven → Type 0
+HoldsDrivenTaken link driven.Idle = Unit {0}
+HoldsDrivenTaken link driven.Stepped = Unit {0}
+HoldsDrivenTaken link (driven.Ended caller end) = HoldsTaken link caller end
+HoldsDrivenTaken link (driven.Worker fault) = Unit {0}
+HoldsDrivenTaken link (driven.Crashed kind) = Unit {0}
 
 -- whether a step found that there was nothing to do
 abbrev pub is_rest : DriveProgress → Bool

@@ -3,7 +3,7 @@ ghost use Rattle.std.specs.VecDeque.{deque_len, deque_capacity};
 ghost use Rattle.rp_base.specs.declared.limits.TheConstants.{MESSAGE_MOST};
 ghost use Rattle.lane_model.specs.declared.calls.CallEnd.TheVariants as ended;
 ghost use Rattle.core_actors.specs.Actors.{actors_view};
-ghost use Rattle.link_bench.specs.Benches.{reach_of};
+ghost use Rattle.link_bench.specs.Benches.{HoldsReachTaken, HoldsTaken, link_in, reach_of};
 ghost use Rattle.core_actors.specs.ActorEnds.{actors_after_drivers, actors_after_end, after_endpoint, after_verdict, endpoint_answer, host_after_call, is_tried_again, message_of, taken_number, verdict_answer, worker_after_call};
 ghost use Rattle.core_actors.specs.ActorSteps.{host_after_step, host_at_step_as, worker_after_step};
 
@@ -41,7 +41,8 @@ impl Actors {
 
     /// Has the host actor see how far its call came, on the link that it is made on.
     pub(crate) fn reach_host(&mut self, bench: &Bench, progress: Progress, end: &CallEnd)
-        requires { deque_len self.old.host_calls + 2 ≤ deque_capacity self.old.host_calls }
+        requires taken { HoldsReachTaken (link_in bench.now) 0 (reach_of progress end.now) }
+        requires room { deque_len self.old.host_calls + 2 ≤ deque_capacity self.old.host_calls }
         ensures { actors_view self.new ≡ host_after_step (actors_view self.old) bench.now (reach_of progress end.now) }
     {
         match progress {
@@ -57,7 +58,8 @@ impl Actors {
     /// Has the host actor and its drivers see the end of its call on this link.
     #[inline(never)]
     fn end_host(&mut self, bench: &Bench, end: &CallEnd)
-        requires { deque_len self.old.host_calls + 2 ≤ deque_capacity self.old.host_calls }
+        requires taken { HoldsTaken (link_in bench.now) 0 end.now }
+        requires room { deque_len self.old.host_calls + 2 ≤ deque_capacity self.old.host_calls }
         ensures { actors_view self.new ≡ actors_after_drivers (host_after_call (actors_view self.old) end.now) (message_of bench.now 0 end.now) end.now }
     {
         self.end_host_call(end);
@@ -83,6 +85,7 @@ impl Actors {
     ///
     /// Errors: only for want of memory. The actors are as they were then.
     fn hear_end(&mut self, bench: &Bench, caller: CallerNo, end: &CallEnd) -> Result<(), NoMemory>
+        requires { HoldsTaken (link_in bench.now) caller end.now }
         ensures heard { OnOk result (actors_view self.new ≡ actors_after_end bench.now caller end.now (actors_view self.old)) }
         ensures unchanged { OnErr result (actors_view self.new ≡ actors_view self.old) }
     {
@@ -98,7 +101,8 @@ impl Actors {
 
     /// The same where there is room for what a driver may send.
     pub(crate) fn see_call(&mut self, bench: &Bench, caller: CallerNo, end: &CallEnd)
-        requires { deque_len self.old.host_calls < deque_capacity self.old.host_calls }
+        requires taken { HoldsTaken (link_in bench.now) caller end.now }
+        requires room { deque_len self.old.host_calls < deque_capacity self.old.host_calls }
         ensures { actors_view self.new ≡ actors_after_end bench.now caller end.now (actors_view self.old) }
     {
         match bench.end_of(caller) {
@@ -135,7 +139,8 @@ impl Actors {
 
     /// Has the worker see how far its call came, on the link that it is made on.
     pub(crate) fn reach_worker(&mut self, bench: &Bench, progress: Progress, end: &CallEnd)
-        requires { deque_len self.old.worker_calls < deque_capacity self.old.worker_calls }
+        requires taken { HoldsReachTaken (link_in bench.now) 1 (reach_of progress end.now) }
+        requires room { deque_len self.old.worker_calls < deque_capacity self.old.worker_calls }
         ensures { actors_view self.new ≡ worker_after_step (actors_view self.old) bench.now (reach_of progress end.now) }
     {
         match progress {
@@ -166,6 +171,7 @@ impl Actors {
 
 /// The message that a caller of a bench was handed by a call that ended so, or no byte.
 fn message_of<'a>(bench: &'a Bench, caller: CallerNo, end: &CallEnd) -> &'a [u8]
+    requires { HoldsTaken (link_in bench.now) caller end.now }
     ensures message { result.now ≡ message_of bench.now caller end.now }
     ensures short { length result.now ≤ MESSAGE_MOST }
 {

@@ -1,12 +1,14 @@
 ghost use Rattle.std.specs.Prelude.{◌≡◌, ◌<◌, length, false, is_some, None, IfOk, OnErr, OnOk};
+ghost use Rattle.channel_bus.specs.Sides.{EndState};
+ghost use Rattle.lane_model.specs.Links.{LinkState};
 ghost use Rattle.lane_model.specs.declared.calls.CallEnd.{CallEnd};
 ghost use Rattle.remote_core.specs.Works.{memory_after, work_of};
 ghost use Rattle.core_actors.specs.Actors.{actors_view};
 ghost use Rattle.core_actors.specs.declared.actors.Actor.TheVariants as actor;
-ghost use Rattle.link_bench.specs.Benches.{advance_walk, begin_fault, is_in_call, reach_of, reach_of_done, step_fault};
+ghost use Rattle.link_bench.specs.Benches.{HoldsReachTaken, advance_walk, begin_fault, is_in_call, link_in, reach_of, reach_of_done, step_fault};
 ghost use Rattle.link_bench.specs.Watchers.{watcher_after};
 ghost use Rattle.core_actors.specs.ActorEnds.{actors_after_end};
-ghost use Rattle.core_actors.specs.ActorSteps.{actors_after_record, begun_step, drive_of_progress, drive_of_reach, drive_of_work, first_or_take, host_after_step, host_at_step, is_rest, link_step, with_next_after, worker_after_step};
+ghost use Rattle.core_actors.specs.ActorSteps.{HoldsDrivenTaken, actors_after_record, begun_step, drive_of_progress, drive_of_reach, drive_of_work, first_or_take, host_after_step, host_at_step, is_rest, link_step, with_next_after, worker_after_step};
 
 use crate::actors::{Actor, Actors};
 use crate::progress::DriveProgress;
@@ -37,6 +39,7 @@ fn link_step(
     requires calling { goes_on ≡ is_in_call bench.old caller }
     ensures bench { bench.new ≡ (link_step bench.old caller (first_or_take calls.now.items)).bench }
     ensures reach { reach_of result end.new ≡ (link_step bench.old caller (first_or_take calls.now.items)).reach }
+    ensures taken { HoldsReachTaken (link_in bench.new) caller (reach_of result end.new) }
 {
     if goes_on {
         return bench.advance(caller, 0, &mut 0, end);
@@ -54,6 +57,7 @@ fn begin_step(bench: &mut Bench, caller: CallerNo, wished: &Wish, end: &mut Call
     requires calling { is_in_call bench.old caller ≡ false }
     ensures bench { bench.new ≡ (begun_step bench.old caller wished.now).bench }
     ensures reach { reach_of result end.new ≡ (begun_step bench.old caller wished.now).reach }
+    ensures taken { HoldsReachTaken (link_in bench.new) caller (reach_of result end.new) }
 {
     if is_refused(bench, caller, wished) {
         return Progress::Limit;
@@ -90,6 +94,7 @@ impl Actors {
         ensures actors { OnOk result (let walk = link_step bench.old 0 (first_or_take (actors_view self.old).host_calls) in
             actors_view self.new ≡ host_after_step (host_at_step bench.old (with_next_after actor.Host (actors_view self.old))) walk.bench walk.reach) }
         ensures driven { IfOk result (λ progress. drive_of_progress progress end.new ≡ drive_of_reach 0 (link_step bench.old 0 (first_or_take (actors_view self.old).host_calls)).reach) }
+        ensures taken { IfOk result (λ progress. HoldsDrivenTaken (link_in bench.new) (drive_of_progress progress end.new)) }
         ensures works { IfOk result (λ progress. is_rest progress ≡ false) }
         ensures same { OnErr result (bench.new ≡ bench.old) }
         ensures unchanged { OnErr result (actors_view self.new ≡ actors_view self.old) }
@@ -118,6 +123,7 @@ impl Actors {
         ensures actors { OnOk result (let walk = link_step bench.old 1 (first_or_take (actors_view self.old).worker_calls) in
             actors_view self.new ≡ worker_after_step (with_next_after actor.Worker (actors_view self.old)) walk.bench walk.reach) }
         ensures driven { IfOk result (λ progress. drive_of_progress progress end.new ≡ drive_of_reach 1 (link_step bench.old 1 (first_or_take (actors_view self.old).worker_calls)).reach) }
+        ensures taken { IfOk result (λ progress. HoldsDrivenTaken (link_in bench.new) (drive_of_progress progress end.new)) }
         ensures works { IfOk result (λ progress. is_rest progress ≡ false) }
         ensures same { OnErr result (bench.new ≡ bench.old) }
         ensures unchanged { OnErr result (actors_view self.new ≡ actors_view self.old) }
@@ -139,6 +145,7 @@ impl Actors {
         ensures memory { length load.new.memory ≡ length load.old.memory }
         ensures actors { OnOk result (actors_view self.new ≡ actors_after_record (with_next_after actor.Worker (actors_view self.old)) load.old.memory load.old.map linked) }
         ensures driven { IfOk result (λ progress. (end : CallEnd) → drive_of_progress progress end ≡ drive_of_work (work_of load.old.memory load.old.map linked (actors_view self.old).worker)) }
+        ensures taken { IfOk result (λ progress. (link : LinkState EndState) (end : CallEnd) → HoldsDrivenTaken link (drive_of_progress progress end)) }
         ensures works { IfOk result (λ progress. is_rest progress ≡ false) }
         ensures same { OnErr result (load.new ≡ load.old) }
         ensures unchanged { OnErr result (actors_view self.new ≡ actors_view self.old) }
@@ -170,6 +177,7 @@ impl Actors {
         ensures actors { OnOk result (let walk = advance_walk bench.old 0 0 caller in
             actors_view self.new ≡ watcher_after actors_after_end walk.bench caller walk.reach (actors_view self.old)) }
         ensures done { IfOk result (λ done. reach_of_done done ≡ (advance_walk bench.old 0 0 caller).reach) }
+        ensures taken { IfOk result (λ done. HoldsReachTaken (link_in bench.new) caller (reach_of_done done)) }
         ensures same { OnErr result (bench.new ≡ bench.old) }
         ensures unchanged { OnErr result (actors_view self.new ≡ actors_view self.old) }
     {
@@ -185,6 +193,7 @@ impl Actors {
 /// What a step on the link was, by how far its call came.
 fn progress_by(caller: CallerNo, progress: Progress) -> DriveProgress
     ensures driven { (end : CallEnd) → drive_of_progress result end ≡ drive_of_reach caller (reach_of progress end) }
+    ensures taken { (link : LinkState EndState) (end : CallEnd) → HoldsReachTaken link caller (reach_of progress end) → HoldsDrivenTaken link (drive_of_progress result end) }
     ensures works { is_rest result ≡ false }
 {
     match progress {

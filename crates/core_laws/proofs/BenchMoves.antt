@@ -19,7 +19,7 @@ use Rattle.channel_bus.specs.Sides.{EndState, side_meaning}
 use Rattle.channel_bus.specs.Laws.{side_laws}
 use Rattle.link_bench.specs.declared.benches.BegunCall.{BegunCall}
 use Rattle.link_bench.specs.declared.benches.Reach.TheVariants as reach
-use Rattle.link_bench.specs.Benches.{AreFitCalls, BenchState, BenchWalk, IsSendable, RingsState, advance_steps, advance_walk, begin_fault, begin_walk, begun_call_of, bench_walk, call_steps, is_in_call, link_in, lists_of, new_bench_of, on_rings, ready_fault, wish_fault, with_begun, with_new_caller}
+use Rattle.link_bench.specs.Benches.{AreFitCalls, BenchState, BenchWalk, IsSendable, LinkRings, advance_steps, advance_walk, begin_fault, begin_walk, begun_call_of, bench_walk, call_steps, is_in_call, link_in, lists_of, new_bench_of, on_rings, ready_fault, wish_fault, with_begun, with_new_caller}
 use Rattle.link_bench.specs.BenchCrashes.{after_close, after_reclaim, after_reopen, reclaim_leaves, reclaim_leaves_at}
 use Rattle.core_laws.specs.BenchMoves.{ComesBy, IsReachedBench}
 use Rattle.link_bench.proofs.Begun.{begin_may, fit_after, fit_cleared, fit_put, neither_fault, none_begun, none_in_none}
@@ -73,7 +73,7 @@ pub calling_may : (link : LinkState EndState) (caller : ℕ) → is_calling link
 calling_may link caller is = record { may = calling_at link (end_of link.callers caller) caller is }
 
 -- a link that steps of a caller left who has begun no call
-left_reached : (bench : BenchState) (after : RingsState) (caller : ℕ) → IsReachedBench bench → begun_call_of bench caller ≡ None
+left_reached : (bench : BenchState) (after : LinkRings) (caller : ℕ) → IsReachedBench bench → begun_call_of bench caller ≡ None
     → Leaves (link_in bench) (lists_of after) caller → IsReachedBench (record bench { rings = after })
 left_reached bench after caller reached none leaves = record {
   link = reached_by (link_in bench) (lists_of after) reached.link leaves.came;

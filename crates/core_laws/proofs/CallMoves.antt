@@ -6,7 +6,7 @@ use Rattle.lane_model.specs.Conditions.{MayStep}
 use Rattle.lane_laws.specs.Moves.{Step}
 use Rattle.lane_model.proofs.Others.{others_may}
 use Rattle.channel_bus.specs.Sides.{EndState, side_meaning}
-use Rattle.link_bench.specs.Benches.{OthersMay, RingsState, call_steps, later_steps, lists_of, on_rings}
+use Rattle.link_bench.specs.Benches.{OthersMay, LinkRings, call_steps, later_steps, lists_of, on_rings}
 use Rattle.link_bench.proofs.KeptWalks.{call_keeps, later_keeps, next_may}
 use Rattle.core_laws.specs.BenchMoves.{ComesBy}
 use Rattle.core_laws.proofs.LinkMoves.{comes_none, comes_move, comes_then}
@@ -37,14 +37,14 @@ then_step before caller link follows wished may first =
     }
 
 -- the later steps of a call
-pub later_leaves : (more last steps : ℕ) (rings : RingsState) (caller : ℕ) → MayStep (lists_of rings) caller None
+pub later_leaves : (more last steps : ℕ) (rings : LinkRings) (caller : ℕ) → MayStep (lists_of rings) caller None
     → Leaves (lists_of rings) (lists_of (later_steps on_rings more last steps rings caller).link) caller
 later_leaves more last steps rings caller may =
     later_keeps (λ (link : LinkState EndState). Leaves (lists_of rings) link caller) (λ (link : LinkState EndState) (wished : Option Wish). MayStep link caller wished) caller
     (then_step (lists_of rings) caller) (next_may caller) more last steps rings may (leaves_none (lists_of rings) caller)
 
 -- a call from its first step on
-pub call_leaves : (more steps : ℕ) (rings : RingsState) (caller follows : ℕ) (wanted : Wish) → MayStep (lists_of rings) caller (Some wanted)
+pub call_leaves : (more steps : ℕ) (rings : LinkRings) (caller follows : ℕ) (wanted : Wish) → MayStep (lists_of rings) caller (Some wanted)
     → Leaves (lists_of rings) (lists_of (call_steps on_rings more steps rings caller follows wanted).link) caller
 call_leaves more steps rings caller follows wanted may =
     call_keeps (λ (link : LinkState EndState). Leaves (lists_of rings) link caller) (λ (link : LinkState EndState) (wished : Option Wish). MayStep link caller wished) caller

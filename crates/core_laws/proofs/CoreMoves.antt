@@ -30,7 +30,7 @@ use Rattle.remote_core.specs.Works.{work_of}
 use Rattle.memory_pool.specs.declared.regions.Region.{Region}
 use Rattle.host_driver.specs.Drivers.{Declared}
 use Rattle.core_actors.specs.Actors.{ActorsState, driver_names}
-use Rattle.link_bench.specs.Benches.{BenchState, BenchWalk, IsSendable, RingsState, advance_walk, begin_fault, is_in_call, link_in, on_rings, start_walk}
+use Rattle.link_bench.specs.Benches.{BenchState, BenchWalk, IsSendable, LinkRings, advance_walk, begin_fault, is_in_call, link_in, on_rings, start_walk}
 use Rattle.link_bench.specs.BenchCrashes.{after_close, after_reclaim, after_reopen}
 use Rattle.crash_recover.specs.CoreBoots.{config_of, core_bench, fresh_end}
 use Rattle.link_bench.specs.BenchEnds.{crashed_bench, is_first, is_remote, with_fresh_caller, without_one, without_other, without_others, without_remote, bench_to_reopen, with_new_host_unless, reopen_refusal_of, reopen_refusal_by}
@@ -61,7 +61,7 @@ record Shut (bench : BenchState) : Type 0 where
   pub shut : (link_in bench).era.is_live ≡ false
 
 -- a reclaim leaves the era
-same_era : (link : RingsState) (found : Option End) (caller : ℕ) → link.era.is_live ≡ false → (without_caller on_rings link found caller).era.is_live ≡ false
+same_era : (link : LinkRings) (found : Option End) (caller : ℕ) → link.era.is_live ≡ false → (without_caller on_rings link found caller).era.is_live ≡ false
 same_era link None caller shut = shut
 same_era link (Some side.Host) caller shut = shut
 same_era link (Some side.Remote) caller shut = shut

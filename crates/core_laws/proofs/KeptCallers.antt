@@ -11,7 +11,7 @@ use Rattle.lane_model.specs.Recoveries.{without_caller}
 use Rattle.lane_model.proofs.CrashMay.{freed}
 use Rattle.channel_bus.specs.Sides.{EndState, side_meaning}
 use Rattle.link_bench.specs.BenchCrashes.{after_close, after_reclaim}
-use Rattle.link_bench.specs.Benches.{BenchState, RingsState, link_in, on_rings}
+use Rattle.link_bench.specs.Benches.{BenchState, LinkRings, link_in, on_rings}
 use Rattle.link_bench.specs.BenchEnds.{crashed_bench, is_first, is_remote, with_fresh_caller, without_one, without_other, without_others, without_remote}
 use Rattle.core_laws.specs.KeptCores.{AreOwnUsed, end_after_crash}
 use Rattle.core_laws.proofs.KeptCrashes.{close_leaves, cleared, host_is_no_remote, is_remote_end, no_end, remote_again}
@@ -22,7 +22,7 @@ use Rattle.core_laws.proofs.KeptCrashes.{close_leaves, cleared, host_is_no_remot
 abbrev callers_without : List (Option End) → ℕ → List (Option End)
 callers_without callers caller = cond (is_remote (end_of callers caller)) (cond (eqb caller 1) callers (slice_set callers caller None)) callers
 
-gone_callers : (link : RingsState) (found : Option End) (caller : ℕ) (end : End) → found ≡ Some end → (without_caller on_rings link found caller).callers ≡ slice_set link.callers caller None
+gone_callers : (link : LinkRings) (found : Option End) (caller : ℕ) (end : End) → found ≡ Some end → (without_caller on_rings link found caller).callers ≡ slice_set link.callers caller None
 gone_callers link None caller end is = no_end end is
 gone_callers link (Some side.Host) caller end is = refl
 gone_callers link (Some side.Remote) caller end is = refl

@@ -23,7 +23,7 @@ use Rattle.lane_laws.proofs.LinkRuns.{moves_sound}
 use Rattle.channel_bus.specs.Sides.{EndState, side_meaning}
 use Rattle.link_bench.specs.BenchCrashes.{after_close, after_reclaim}
 use Rattle.core_laws.specs.BenchMoves.{IsReached}
-use Rattle.link_bench.specs.Benches.{BenchState, RingsState, link_in}
+use Rattle.link_bench.specs.Benches.{BenchState, LinkRings, link_in}
 use Rattle.link_bench.specs.BenchEnds.{crashed_bench, is_first, is_remote, with_fresh_caller, without_one, without_other, without_others, without_remote}
 use Rattle.link_bench.proofs.Lists.{close_lists, reclaim_lists}
 use Rattle.core_laws.specs.KeptCores.{AreOwnUsed, crash_reaches, IsKeptBench, IsKeptLink, IsUnmanaged, IsUnmanagedTurn}
@@ -272,10 +272,10 @@ reached_sound link reached =
 own_era : (inc : ℕ) (live : Bool) → eqb inc inc && live ≡ false → live ≡ false
 own_era inc live none = elim (eqb_tells inc inc) [ inl same ↦ subst (λ (is : Bool). is && live ≡ false) same.0 none | inr other ↦ absurd (other.1 refl) ]
 
-pub close_shut : (link : RingsState) → (link_after_close link link.era.inc).era.is_live ≡ false
+pub close_shut : (link : LinkRings) → (link_after_close link link.era.inc).era.is_live ≡ false
 close_shut link =
     cond_both (is_live_in link.era link.era.inc) (record link { era = record { inc = link.era.inc; is_live = false } }) link
-    (λ (left : RingsState). left.era.is_live ≡ false) (λ _. refl) (λ none. own_era link.era.inc link.era.is_live none)
+    (λ (left : LinkRings). left.era.is_live ≡ false) (λ _. refl) (λ none. own_era link.era.inc link.era.is_live none)
 
 -- a close leaves the incarnation, the callers and the lanes
 pub record IsClosed (before after : LinkState EndState) : Type 0 where

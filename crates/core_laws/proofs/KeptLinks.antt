@@ -33,7 +33,7 @@ use Rattle.lane_model.proofs.SoundLanes.{turn_step_has}
 use Rattle.channel_bus.specs.Sides.{EndState, side_meaning}
 use Rattle.link_bench.specs.declared.benches.BegunCall.{BegunCall}
 use Rattle.link_bench.specs.declared.benches.Reach.TheVariants as reach
-use Rattle.link_bench.specs.Benches.{BenchState, BenchWalk, RingsState, advance_steps, advance_walk, begun_call_of, bench_walk, call_steps, call_walk, later_steps, link_in, lists_of, on_rings, start_walk, with_begun}
+use Rattle.link_bench.specs.Benches.{BenchState, BenchWalk, LinkRings, advance_steps, advance_walk, begun_call_of, bench_walk, call_steps, call_walk, later_steps, link_in, lists_of, on_rings, start_walk, with_begun}
 use Rattle.link_bench.proofs.KeptWalks.{call_keeps, later_keeps}
 use Rattle.core_laws.specs.KeptCores.{IsKeptBench, IsKeptLink, IsUnmanagedLane, IsUnmanagedTurn}
 
@@ -150,11 +150,11 @@ module _ (life : CoreLife) where
   next (outcome.At step) = tt
   next (outcome.Ended ended) = tt
 
-  later_kept : (more last steps : ℕ) (rings : RingsState) (caller : ℕ) → IsKeptLink life (lists_of rings) → IsKeptLink life (lists_of (later_steps on_rings more last steps rings caller).link)
+  later_kept : (more last steps : ℕ) (rings : LinkRings) (caller : ℕ) → IsKeptLink life (lists_of rings) → IsKeptLink life (lists_of (later_steps on_rings more last steps rings caller).link)
   later_kept more last steps rings caller is =
       later_keeps (IsKeptLink life) any caller (λ link follows wished _ is. step_kept link caller follows wished is) (λ link follows wished _. next _) more last steps rings tt is
 
-  call_kept : (more steps : ℕ) (rings : RingsState) (caller follows : ℕ) (wanted : Wish) → IsKeptLink life (lists_of rings)
+  call_kept : (more steps : ℕ) (rings : LinkRings) (caller follows : ℕ) (wanted : Wish) → IsKeptLink life (lists_of rings)
       → IsKeptLink life (lists_of (call_steps on_rings more steps rings caller follows wanted).link)
   call_kept more steps rings caller follows wanted is =
       call_keeps (IsKeptLink life) any caller (λ link follows wished _ is. step_kept link caller follows wished is) (λ link follows wished _. next _) more steps rings follows wanted tt is

@@ -29,7 +29,7 @@ use Rattle.lane_model.proofs.Steps.{same}
 use Rattle.channel_bus.specs.Sides.{EndState, side_meaning}
 use Rattle.link_bench.specs.declared.benches.Reach.{Reach}
 use Rattle.link_bench.specs.declared.benches.Reach.TheVariants as reach
-use Rattle.link_bench.specs.Benches.{Walk, RingsState, call_steps, later_steps, lists_of, on_lists, on_rings, walk_on}
+use Rattle.link_bench.specs.Benches.{Walk, LinkRings, call_steps, later_steps, lists_of, on_lists, on_rings, walk_on}
 use Rattle.link_bench.specs.BenchHolds.{is_host}
 use Rattle.link_bench.proofs.KeptWalks.{call_keeps, later_keeps, next_may}
 use Rattle.link_bench.proofs.Lists.{call_lists, later_lists}
@@ -94,13 +94,13 @@ module _ (other caller : ℕ) (mine : End) (is_first : Bool) (calls : List Wish)
       → AreFitLanes (lanes_of (caller_step side_meaning link other follows wished).state mine) caller is_first calls
   other_step link follows wished may are = other_at link (end_of link.callers other) other follows wished caller mine is_first calls differ may.may are
 
-  pub other_later : (more last steps : ℕ) (rings : RingsState) → MayStep (lists_of rings) other None → AreFitLanes (lanes_of (lists_of rings) mine) caller is_first calls
+  pub other_later : (more last steps : ℕ) (rings : LinkRings) → MayStep (lists_of rings) other None → AreFitLanes (lanes_of (lists_of rings) mine) caller is_first calls
       → AreFitLanes (lanes_of (lists_of (later_steps on_rings more last steps rings other).link) mine) caller is_first calls
   other_later =
       later_keeps (λ (link : LinkState EndState). AreFitLanes (lanes_of link mine) caller is_first calls) (λ (link : LinkState EndState) (wished : Option Wish). MayStep link other wished) other
       other_step (next_may other)
 
-  pub other_call : (more steps : ℕ) (rings : RingsState) (follows : ℕ) (wanted : Wish) → MayStep (lists_of rings) other (Some wanted)
+  pub other_call : (more steps : ℕ) (rings : LinkRings) (follows : ℕ) (wanted : Wish) → MayStep (lists_of rings) other (Some wanted)
       → AreFitLanes (lanes_of (lists_of rings) mine) caller is_first calls
       → AreFitLanes (lanes_of (lists_of (call_steps on_rings more steps rings other follows wanted).link) mine) caller is_first calls
   other_call =
@@ -253,7 +253,7 @@ by_reach : (done : Outcome) (lanes : Lanes (LaneState EndState)) (caller : ℕ) 
 by_reach (outcome.At step) lanes caller is_first calls follows = follows
 by_reach (outcome.Ended ended) lanes caller is_first calls follows = follows
 
-module _ (caller : ℕ) (end : End) (is_first : Bool) (calls : List Wish) (rings : RingsState) (user : end_of rings.callers caller ≡ Some end) where
+module _ (caller : ℕ) (end : End) (is_first : Bool) (calls : List Wish) (rings : LinkRings) (user : end_of rings.callers caller ≡ Some end) where
   pub own_later : SoundLink (lists_of rings) → MayStep (lists_of rings) caller None → AreFitLanes (lanes_of (lists_of rings) end) caller is_first calls
       → let walk = later_steps on_rings 1 0 0 rings caller in ReachFollows walk.reach (lanes_of (lists_of walk.link) end) caller is_first calls
   own_later sound may are =

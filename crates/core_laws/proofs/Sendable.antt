@@ -35,7 +35,7 @@ use Rattle.lane_model.specs.declared.calls.Wish.{Wish}
 use Rattle.lane_model.specs.declared.calls.Wish.TheVariants as wish
 use Rattle.lane_model.specs.Links.{end_of, LinkState}
 use Rattle.channel_bus.specs.Sides.{EndState}
-use Rattle.link_bench.specs.Benches.{BenchState, IsSendable, link_in, message_on}
+use Rattle.link_bench.specs.Benches.{BenchState, IsSendable, link_in, message_for}
 use Rattle.core_laws.specs.BenchMoves.{IsShortLink}
 use Rattle.core_actors.specs.ActorEnds.{calls_after_end, channel_answer, end_answer, endpoint_answer, gives_of, is_tried_again, message_of, message_of_number, sends_of, taken_number, verdict_answer}
 use Rattle.core_actors.specs.ActorSteps.{wishes_of_work}
@@ -224,7 +224,7 @@ end_short drivers message (ended.Refused why) short = tt
 
 -- ---- what a caller was handed
 
-taken_short : (link : LinkState EndState) (found : Option End) (number : ℕ) → IsShortLink link → length (message_on link found number) ≤ MESSAGE_MOST
+taken_short : (link : LinkState EndState) (found : Option End) (number : ℕ) → IsShortLink link → length (message_for link found number) ≤ MESSAGE_MOST
 taken_short link (Some side.Host) number short = short.to_host.accepted number
 taken_short link (Some side.Remote) number short = short.to_remote.accepted number
 taken_short link None number short = omega arith

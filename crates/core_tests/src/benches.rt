@@ -94,7 +94,7 @@ fn sends(bench: &mut Bench, bytes: &[u8]) -> bool {
 }
 
 /// Whether the words of the link are those after one message of three bytes on lane 0.
-fn is_shown(bench: &Bench, alloc: Global) -> bool {
+fn is_shown(bench: &mut Bench, alloc: Global) -> bool {
     let Ok(snapshot) = bench.snapshot(alloc) else {
         return false;
     };
@@ -125,7 +125,7 @@ fn a_bench_goes_step_by_step(rt: HostRuntime) -> Result<(), Fail> {
     let mut bench = small_bench(alloc)?;
     assert!(rt; refuses(&mut bench));
     assert!(rt; sends(&mut bench, &[7, 5, 9]));
-    assert!(rt; is_shown(&bench, alloc));
+    assert!(rt; is_shown(&mut bench, alloc));
     assert!(rt; is_out(&mut bench, alloc));
     Ok(())
 }

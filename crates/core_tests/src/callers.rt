@@ -51,7 +51,7 @@ fn binds(core: &mut Core, alloc: Global, caller: CallerNo) -> bool {
 }
 
 /// Whether channels are refused since this caller has the turn.
-fn is_out(core: &Core, alloc: Global, caller: CallerNo) -> bool {
+fn is_out(core: &mut Core, alloc: Global, caller: CallerNo) -> bool {
     let Some(_) = core.link() else {
         return false;
     };
@@ -59,7 +59,7 @@ fn is_out(core: &Core, alloc: Global, caller: CallerNo) -> bool {
 }
 
 /// Whether there are channels to be told, and none is there.
-fn has_no_channel(core: &Core, alloc: Global) -> bool {
+fn has_no_channel(core: &mut Core, alloc: Global) -> bool {
     let Some(_) = core.link() else {
         return false;
     };
@@ -70,7 +70,7 @@ fn has_no_channel(core: &Core, alloc: Global) -> bool {
 }
 
 /// Whether the rings are those of a new link, the buffers of lane 1 behind the 16 of lane 0.
-fn is_shown(core: &Core, alloc: Global) -> bool {
+fn is_shown(core: &mut Core, alloc: Global) -> bool {
     let Some(_) = core.link() else {
         return false;
     };
@@ -102,11 +102,11 @@ fn a_caller_of_a_core_binds_an_endpoint(rt: HostRuntime) -> Result<(), Fail> {
     assert!(rt; is_no_caller(&mut core, 0));
     assert!(rt; begins(&mut core, 2));
     assert!(rt; goes_on(&mut core, alloc, 2, 1));
-    assert!(rt; is_out(&core, alloc, 2));
+    assert!(rt; is_out(&mut core, alloc, 2));
     assert!(rt; goes_on(&mut core, alloc, 2, 2));
     assert!(rt; binds(&mut core, alloc, 2));
-    assert!(rt; has_no_channel(&core, alloc));
-    assert!(rt; is_shown(&core, alloc));
+    assert!(rt; has_no_channel(&mut core, alloc));
+    assert!(rt; is_shown(&mut core, alloc));
     assert!(rt; is_kept(&mut core, 2));
     Ok(())
 }

@@ -1,5 +1,5 @@
-ghost use Rattle.std.specs.Prelude.{◌≡◌, true, None, Some, IfErr, IfOk, OnErr, OnOk, is_some};
-ghost use Rattle.link_bench.specs.Benches.{reach_of_done};
+ghost use Rattle.std.specs.Prelude.{◌≡◌, true, None, Some, IfErr, IfOk, IfSome, OnErr, OnOk, is_some};
+ghost use Rattle.link_bench.specs.Benches.{HoldsReachTaken, link_in, reach_of_done};
 ghost use Rattle.link_bench.specs.BenchRings.{IsSnapshotFault};
 ghost use Rattle.crash_recover.specs.CoreCallers.{IsStepFault, after_core_reclaim, core_begin_fault, core_channels, core_receiver, core_reclaim_answer, core_snapshot, core_step, core_step_fault, core_turn_holder, is_own, new_caller, with_core_call, with_core_caller};
 
@@ -78,6 +78,7 @@ impl Core {
         ensures may { OnOk result (core_step_fault self.old caller ≡ None) }
         ensures left { OnOk result (self.new ≡ (core_step self.old caller).core) }
         ensures done { IfOk result (λ done. reach_of_done done ≡ (core_step self.old caller).reach) }
+        ensures taken { IfOk result (λ done. IfSome self.new.bench (λ bench. HoldsReachTaken (link_in bench) caller (reach_of_done done))) }
         ensures refused { IfErr result (IsStepFault (core_step_fault self.old caller)) }
         ensures unchanged { OnErr result (self.new ≡ self.old) }
         ensures linked { is_some self.new.bench ≡ true }
@@ -116,13 +117,14 @@ impl Core {
     /// the image's device for RPMsg was given.
     ///
     /// Errors: those of [`Bench::snapshot`].
-    pub fn snapshot(&self, alloc: Global) -> Result<Snapshot, SnapshotFault>
-        requires { is_some self.now.bench ≡ true }
-        ensures free { OnOk result (core_turn_holder self.now ≡ None) }
-        ensures words { IfOk result (λ snapshot. core_snapshot self.now ≡ Some snapshot) }
-        ensures refused { IfErr result (IsSnapshotFault (core_turn_holder self.now)) }
+    pub fn snapshot(&mut self, alloc: Global) -> Result<Snapshot, SnapshotFault>
+        requires { is_some self.old.bench ≡ true }
+        ensures same { self.new ≡ self.old }
+        ensures free { OnOk result (core_turn_holder self.old ≡ None) }
+        ensures words { IfOk result (λ snapshot. core_snapshot self.old ≡ Some snapshot) }
+        ensures refused { IfErr result (IsSnapshotFault (core_turn_holder self.old)) }
     {
-        let Some(bench) = &self.bench else {
+        let Some(bench) = &mut self.bench else {
             unreachable!()
         };
         let Some(loaded) = &self.loaded else {
@@ -137,13 +139,14 @@ impl Core {
     /// The channels of the host end of the core's link, in the order of creation.
     ///
     /// Errors: those of [`Bench::channels`].
-    pub fn channels(&self, alloc: Global) -> Result<Vec<Channel>, SnapshotFault>
-        requires { is_some self.now.bench ≡ true }
-        ensures free { OnOk result (core_receiver self.now ≡ None) }
-        ensures channels { IfOk result (λ channels. core_channels self.now ≡ Some channels.items) }
-        ensures refused { IfErr result (IsSnapshotFault (core_receiver self.now)) }
+    pub fn channels(&mut self, alloc: Global) -> Result<Vec<Channel>, SnapshotFault>
+        requires { is_some self.old.bench ≡ true }
+        ensures same { self.new ≡ self.old }
+        ensures free { OnOk result (core_receiver self.old ≡ None) }
+        ensures channels { IfOk result (λ channels. core_channels self.old ≡ Some channels.items) }
+        ensures refused { IfErr result (IsSnapshotFault (core_receiver self.old)) }
     {
-        let Some(bench) = &self.bench else {
+        let Some(bench) = &mut self.bench else {
             unreachable!()
         };
         bench.channels(alloc)

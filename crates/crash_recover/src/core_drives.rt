@@ -1,7 +1,10 @@
-ghost use Rattle.std.specs.Prelude.{◌≡◌, false, OnErr, OnOk, IfOk};
+ghost use Rattle.std.specs.Prelude.{◌≡◌, false, OnErr, OnOk, IfOk, IfSome};
+ghost use Rattle.channel_bus.specs.Sides.{EndState};
+ghost use Rattle.lane_model.specs.Links.{LinkState};
 ghost use Rattle.lane_model.specs.declared.calls.CallEnd.{CallEnd};
 ghost use Rattle.core_actors.specs.declared.actors.Actor.TheVariants as actor;
-ghost use Rattle.core_actors.specs.ActorSteps.{drive_of_progress, host_is_idle, is_rest, worker_is_idle};
+ghost use Rattle.core_actors.specs.ActorSteps.{HoldsDrivenTaken, drive_of_progress, host_is_idle, is_rest, worker_is_idle};
+ghost use Rattle.link_bench.specs.Benches.{link_in};
 ghost use Rattle.crash_recover.specs.Drives.{core_with_report, drive_step, is_idle, record_run, record_step, step_or_rest, with_turn_after};
 
 use crate::cores::Core;
@@ -29,6 +32,7 @@ impl Core {
     /// Errors: only for want of memory. The core is as it was then.
     pub fn drive_step(&mut self, alloc: Global) -> Result<Driven, NoMemory>
         ensures driven { IfOk result (λ driven. driven ≡ (drive_step self.old).driven) }
+        ensures taken { IfOk result (λ driven. IfSome self.new.bench (λ bench. HoldsDrivenTaken (link_in bench) driven)) }
         ensures left { OnOk result (self.new ≡ (drive_step self.old).core) }
         ensures unchanged { OnErr result (self.new ≡ self.old) }
     {
@@ -44,6 +48,7 @@ impl Core {
     pub fn drive_on(&mut self, _alloc: Global, end: &mut CallEnd) -> Result<DriveProgress, NoMemory>
         ensures rests { IfOk result (λ progress. is_rest progress ≡ is_idle self.old) }
         ensures driven { IfOk result (λ progress. drive_of_progress progress end.new ≡ (drive_step self.old).driven) }
+        ensures taken { IfOk result (λ progress. IfSome self.new.bench (λ bench. HoldsDrivenTaken (link_in bench) (drive_of_progress progress end.new))) }
         ensures left { OnOk result (self.new ≡ (drive_step self.old).core) }
         ensures unchanged { OnErr result (self.new ≡ self.old) }
     {
@@ -64,6 +69,7 @@ impl Core {
     fn host_step(&mut self, end: &mut CallEnd) -> Result<DriveProgress, NoMemory>
         ensures rests { IfOk result (λ progress. is_rest progress ≡ host_is_idle self.old.bench self.old.actors) }
         ensures driven { IfOk result (λ progress. drive_of_progress progress end.new ≡ (step_or_rest actor.Host self.old).driven) }
+        ensures taken { IfOk result (λ progress. IfSome self.new.bench (λ bench. HoldsDrivenTaken (link_in bench) (drive_of_progress progress end.new))) }
         ensures left { OnOk result (self.new ≡ (step_or_rest actor.Host self.old).core) }
         ensures unchanged { OnErr result (self.new ≡ self.old) }
     {
@@ -82,6 +88,7 @@ impl Core {
     fn worker_step(&mut self, end: &mut CallEnd) -> Result<DriveProgress, NoMemory>
         ensures rests { IfOk result (λ progress. is_rest progress ≡ worker_is_idle self.old.bench self.old.actors) }
         ensures driven { IfOk result (λ progress. drive_of_progress progress end.new ≡ (step_or_rest actor.Worker self.old).driven) }
+        ensures taken { IfOk result (λ progress. IfSome self.new.bench (λ bench. HoldsDrivenTaken (link_in bench) (drive_of_progress progress end.new))) }
         ensures left { OnOk result (self.new ≡ (step_or_rest actor.Worker self.old).core) }
         ensures unchanged { OnErr result (self.new ≡ self.old) }
     {
@@ -108,6 +115,7 @@ impl Core {
     fn record_step(&mut self) -> Result<DriveProgress, NoMemory>
         ensures works { IfOk result (λ progress. is_rest progress ≡ false) }
         ensures driven { IfOk result (λ progress. (end : CallEnd) → drive_of_progress progress end ≡ (record_step (with_turn_after actor.Worker self.old)).driven) }
+        ensures taken { IfOk result (λ progress. (link : LinkState EndState) (end : CallEnd) → HoldsDrivenTaken link (drive_of_progress progress end)) }
         ensures left { OnOk result (self.new ≡ (record_step (with_turn_after actor.Worker self.old)).core) }
         ensures unchanged { OnErr result (self.new ≡ self.old) }
     {
@@ -121,6 +129,7 @@ impl Core {
     fn run_record(&mut self) -> Result<DriveProgress, NoMemory>
         ensures works { IfOk result (λ progress. is_rest progress ≡ false) }
         ensures driven { IfOk result (λ progress. (end : CallEnd) → drive_of_progress progress end ≡ (record_run (with_turn_after actor.Worker self.old) self.old.loaded).driven) }
+        ensures taken { IfOk result (λ progress. (link : LinkState EndState) (end : CallEnd) → HoldsDrivenTaken link (drive_of_progress progress end)) }
         ensures left { OnOk result (self.new ≡ (record_run (with_turn_after actor.Worker self.old) self.old.loaded).core) }
         ensures unchanged { OnErr result (self.new ≡ self.old) }
     {

@@ -30,7 +30,7 @@ use Rattle.link_bench.specs.declared.benches.BegunCall.{BegunCall}
 use Rattle.link_bench.specs.declared.benches.Reach.TheVariants as reach
 use Rattle.core_actors.specs.Actors.{ActorsState}
 use Rattle.core_laws.specs.BenchMoves.{IsReachedBench}
-use Rattle.link_bench.specs.Benches.{BenchState, BenchWalk, RingsState, Walk, advance_walk, begin_fault, begun_call_of, bench_walk, call_steps, is_in_call, later_steps, link_in, on_lists, start_walk}
+use Rattle.link_bench.specs.Benches.{BenchState, BenchWalk, LinkRings, Walk, advance_walk, begin_fault, begun_call_of, bench_walk, call_steps, is_in_call, later_steps, link_in, on_lists, start_walk}
 use Rattle.link_bench.proofs.Lists.{call_lists, later_lists}
 use Rattle.crash_recover.specs.Cores.{CoreState, LoadState}
 use Rattle.core_actors.specs.ActorEnds.{message_of, taken_number, worker_after_end}
@@ -126,7 +126,7 @@ call_is link caller follows wanted end user =
     one_call link caller follows wanted ∙ ap (λ step. record { link = step.state; steps = 1; reach = reach_by step.outcome }) (used_step link caller follows (Some wanted) end user)
 
 -- what a walk on lists leaves of a bench: over the same words, rings that stand for its link
-abbrev with_lists : RingsState → LinkState EndState → RingsState
+abbrev with_lists : LinkRings → LinkState EndState → LinkRings
 with_lists rings link =
     record { era = link.era; to_host = record rings.to_host { lane = link.to_host }; to_remote = record rings.to_remote { lane = link.to_remote }; callers = link.callers }
 

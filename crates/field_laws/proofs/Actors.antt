@@ -39,7 +39,7 @@ use Rattle.lane_model.specs.Links.{LinkState, end_of}
 use Rattle.channel_bus.specs.Sides.{EndState}
 use Rattle.link_bench.specs.declared.benches.Reach.{Reach}
 use Rattle.link_bench.specs.declared.benches.Reach.TheVariants as reach
-use Rattle.link_bench.specs.Benches.{BenchState, is_in_call, link_in, message_on}
+use Rattle.link_bench.specs.Benches.{BenchState, is_in_call, link_in, message_for}
 use Rattle.core_actors.specs.Actors.{ActorsState}
 use Rattle.core_actors.specs.ActorEnds.{actors_after_drivers, actors_after_end, actors_at_end, calls_after_end, channel_answer, end_answer, endpoint_answer, gives_of, host_after_call, is_tried_again, message_of, message_of_number, sends_of, taken_number, verdict_answer}
 use Rattle.core_actors.specs.ActorSteps.{actors_after_record, first_or_take, host_after_step, host_at_step, host_at_step_as, wishes_of_work, worker_after_step}
@@ -132,7 +132,7 @@ sends_fields (Some message) are = one_fields (wish.Send message) are
 
 -- ---- what a caller was handed
 
-pub taken_bytes_on : (link : LinkState EndState) (found : Option End) (number : ℕ) → IsFieldLink link → AreBytes (message_on link found number)
+pub taken_bytes_on : (link : LinkState EndState) (found : Option End) (number : ℕ) → IsFieldLink link → AreBytes (message_for link found number)
 taken_bytes_on link (Some side.Host) number is = is.to_host.accepted number
 taken_bytes_on link (Some side.Remote) number is = is.to_remote.accepted number
 taken_bytes_on link None number is = no_bytes

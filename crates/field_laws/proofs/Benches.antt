@@ -35,7 +35,7 @@ use Rattle.link_bench.specs.declared.benches.BegunCall.{BegunCall}
 use Rattle.link_bench.specs.declared.benches.Reach.TheVariants as reach
 use Rattle.link_bench.specs.BenchCrashes.{after_close, after_reclaim, after_reopen, reclaim_leaves, reclaim_leaves_at}
 use Rattle.link_bench.specs.BenchEnds.{bench_to_reopen, crashed_bench, is_first, is_remote, with_fresh_caller, with_new_host_unless, without_one, without_other, without_others, without_remote}
-use Rattle.link_bench.specs.Benches.{BenchState, BenchWalk, IsSendable, Walk, RingsState, advance_steps, advance_walk, begin_fault, begin_walk, begun_call_of, bench_walk, call_steps, call_walk, is_in_call, later_steps, link_in, lists_of, new_bench_of, on_lists, on_rings, start_walk, walk_lists, walk_on, with_begun, with_new_caller}
+use Rattle.link_bench.specs.Benches.{BenchState, BenchWalk, IsSendable, Walk, LinkRings, advance_steps, advance_walk, begin_fault, begin_walk, begun_call_of, bench_walk, call_steps, call_walk, is_in_call, later_steps, link_in, lists_of, new_bench_of, on_lists, on_rings, start_walk, walk_lists, walk_on, with_begun, with_new_caller}
 use Rattle.link_bench.proofs.Begun.{begin_may}
 use Rattle.link_bench.proofs.KeptWalks.{next_may}
 use Rattle.link_bench.proofs.Lists.{call_lists, close_lists, later_lists, reclaim_lists}
@@ -96,11 +96,11 @@ call_holds more steps link caller follows wanted may is wishes =
     (λ done told next. later_holds more done (steps + 1) step.state caller told next (step_holds link caller follows (Some wanted) may is wishes)))
 
 -- the same on rings
-later_on : (more last steps : ℕ) (rings : RingsState) (caller : ℕ) → last < 2 ^ 64 → MayStep (lists_of rings) caller None → HoldsLink (lists_of rings)
+later_on : (more last steps : ℕ) (rings : LinkRings) (caller : ℕ) → last < 2 ^ 64 → MayStep (lists_of rings) caller None → HoldsLink (lists_of rings)
     → HoldsWalk (walk_lists on_rings (later_steps on_rings more last steps rings caller))
 later_on more last steps rings caller small may is = subst HoldsWalk (sym (later_lists more last steps rings caller)) (later_holds more last steps (lists_of rings) caller small may is)
 
-call_on : (more steps : ℕ) (rings : RingsState) (caller follows : ℕ) (wanted : Wish) → MayStep (lists_of rings) caller (Some wanted) → HoldsLink (lists_of rings) → IsFieldWish wanted
+call_on : (more steps : ℕ) (rings : LinkRings) (caller follows : ℕ) (wanted : Wish) → MayStep (lists_of rings) caller (Some wanted) → HoldsLink (lists_of rings) → IsFieldWish wanted
     → HoldsWalk (walk_lists on_rings (call_steps on_rings more steps rings caller follows wanted))
 call_on more steps rings caller follows wanted may is wishes =
     subst HoldsWalk (sym (call_lists more steps rings caller follows wanted)) (call_holds more steps (lists_of rings) caller follows wanted may is wishes)

@@ -22,7 +22,7 @@ use Rattle.ring_core.specs.declared.states.Rings.{Rings}
 use Rattle.ring_core.specs.RingWords.{device_sends, ring_of, words_of}
 use Rattle.ring_core.specs.SoundRings.{IsSoundRings}
 use Rattle.channel_bus.specs.Sides.{EndState}
-use Rattle.link_bench.specs.Benches.{RingsState}
+use Rattle.link_bench.specs.Benches.{LinkRings}
 use Rattle.link_bench.specs.BenchRings.{lane_base, lane_bytes, lane_words}
 use Rattle.crash_recover.specs.CoreRings.{pair_bytes, ring_of_lane}
 
@@ -45,13 +45,13 @@ words_few align base state small sound =
     ring_few align (words_of rings base) small sized.ring sized.fits
     (length-map (ring_of rings sends) _ ∙ ring_long rings sends sized.forward_long sized.returns_long) (ring_long rings _ sized.forward_long sized.returns_long)
 
-lane_few : (align base lane : ℕ) (rings : RingsState) → align ≤ 65536 → HasSoundRings rings → length (ring_layout align (lane_words rings lane base)) ≤ 2 ^ 32
+lane_few : (align base lane : ℕ) (rings : LinkRings) → align ≤ 65536 → HasSoundRings rings → length (ring_layout align (lane_words rings lane base)) ≤ 2 ^ 32
 lane_few align base lane rings small sound =
     cond_both (lane == 0) (words_of rings.to_host.rings base) (words_of rings.to_remote.rings base) (λ words. length (ring_layout align words) ≤ 2 ^ 32)
     (λ _. words_few align base rings.to_host small sound.to_host) (λ _. words_few align base rings.to_remote small sound.to_remote)
 
 -- the bytes of a lane's ring of a link without memory
-pub bytes_few : (rings : RingsState) (lane : ℕ) → HasSoundRings rings → length (lane_bytes rings lane) ≤ 2 ^ 32
+pub bytes_few : (rings : LinkRings) (lane : ℕ) → HasSoundRings rings → length (lane_bytes rings lane) ≤ 2 ^ 32
 bytes_few rings lane sound = lane_few 4 (lane_base 0 rings.to_host.rings.sizes.capacity lane) lane rings (omega arith) sound
 
 align_small : (ring : Ring) → IsSoundRing ring → ring.align ≤ 65536
@@ -60,7 +60,7 @@ align_small ring sound =
     leb-true ring.align 65536 parts.1
 
 -- those of a lane's ring of a core's link
-pub pair_few : (rings : RingsState) (lane : ℕ) (pair : RingPair) → HasSoundRings rings → IsSoundPair pair → length (pair_bytes rings lane pair) ≤ 2 ^ 32
+pub pair_few : (rings : LinkRings) (lane : ℕ) (pair : RingPair) → HasSoundRings rings → IsSoundPair pair → length (pair_bytes rings lane pair) ≤ 2 ^ 32
 pair_few rings lane pair sound fit =
     let small = cond_both (lane == 0) pair.to_host pair.to_remote (λ (ring : Ring). ring.align ≤ 65536) (λ _. align_small pair.to_host fit.0) (λ _. align_small pair.to_remote fit.1) in
     lane_few (ring_of_lane pair lane).align (lane_base pair.base (ring_capacity pair.to_host.num) lane) lane rings small sound

@@ -40,7 +40,7 @@ use Rattle.link_bench.specs.declared.benches.Reach.TheVariants as reach
 use Rattle.link_bench.specs.declared.turns.TurnEnd.{TurnEnd}
 use Rattle.link_bench.specs.declared.turns.TurnEnd.TheVariants as turn_end
 use Rattle.link_bench.specs.Acts.{link_act}
-use Rattle.link_bench.specs.Benches.{BenchState, link_in, message_on}
+use Rattle.link_bench.specs.Benches.{BenchState, link_in, message_for}
 use Rattle.link_bench.specs.BenchCrashes.{after_close}
 use Rattle.link_bench.specs.BenchRings.{first_holder, lane_base, lane_bytes, lane_words, turn_holder}
 use Rattle.link_bench.specs.Watchers.{nobody_sees}
@@ -81,7 +81,7 @@ payload_short message short =
     let less = min-le_right (payload_length message) (length (drop 16 message)) in
     let rest = length-drop 16 message in omega (arith, is, less, rest, short)
 
-taken_short : (link : LinkState EndState) (found : Option End) (number : ℕ) → IsShortLink link → length (message_on link found number) ≤ 512
+taken_short : (link : LinkState EndState) (found : Option End) (number : ℕ) → IsShortLink link → length (message_for link found number) ≤ 512
 taken_short link (Some side.Host) number short = short.to_host.accepted number
 taken_short link (Some side.Remote) number short = short.to_remote.accepted number
 taken_short link None number short = omega arith
@@ -116,7 +116,7 @@ module _ (name : List ℕ) (named : IsName name) where
   pub end_spelled : (link : LinkState EndState) (caller : ℕ) (ended : CallEnd) → caller < 2 ^ 64 → IsShortLink link → IsFieldLink link → IsFieldEnd ended → IsSpelled (end_event name link caller ended)
   end_spelled link caller (end.Sent number) small short fields is = ((named, (small, (is, tt))), tt)
   end_spelled link caller (end.Took number judged) small short fields is =
-      took_spelled caller number (message_on link (end_of link.callers caller) number) judged small is.0 (taken_short link (end_of link.callers caller) number short)
+      took_spelled caller number (message_for link (end_of link.callers caller) number) judged small is.0 (taken_short link (end_of link.callers caller) number short)
       (taken_bytes_on link (end_of link.callers caller) number fields) is.1
   end_spelled link caller (end.Gave number) small short fields is = ((named, (small, (is, tt))), tt)
   end_spelled link caller (end.Bound endpoint) small short fields is = ((named, (small, (is, tt))), tt)

@@ -1,16 +1,15 @@
--- Whole calls that are made at once, as steps of the run.
+-- Whole calls that are made in one run, as steps of the run.
 use Rattle.std.proofs.Common.{◌≡◌, ◌≢◌, ◌≤◌, ◌<◌, ℕ, zero, suc, ◌+◌, eqb, false, Option, Some, None, refl, sym, ap, ◌∙◌, arith}
 use Rattle.rp_base.specs.declared.limits.TheConstants.{STEPS_MOST}
 use Rattle.lane_model.specs.declared.calls.CallEnd.{CallEnd}
 use Rattle.lane_model.specs.declared.calls.Outcome.{Outcome}
 use Rattle.lane_model.specs.declared.calls.Outcome.TheVariants as outcome
 use Rattle.lane_model.specs.declared.calls.Wish.{Wish}
-use Rattle.lane_model.specs.declared.calls.Wish.TheVariants as wish
 use Rattle.lane_model.specs.declared.lane_links.LaneLink.{LaneLink}
 use Rattle.lane_model.specs.Forms.{FormMeaning}
 use Rattle.lane_model.specs.Links.{LinkState, caller_step, form_step}
 use Rattle.lane_model.specs.Conditions.{MayStep}
-use Rattle.lane_model.specs.AtOnce.{FormEndsIn, EndsIn, steps_behind}
+use Rattle.lane_model.specs.AtOnce.{FormEndsIn, EndsIn}
 use Rattle.lane_model.proofs.Ends.{same_outcome}
 use Rattle.link_bench.specs.declared.benches.Reach.TheVariants as reach
 use Rattle.channel_bus.specs.Sides.{EndState}
@@ -71,11 +70,3 @@ others_end (suc n) link caller follows wished left end ends may other next diffe
     let state = (caller_step side_meaning link caller follows wished).state in
     others_end n state caller 0 None left end ends.2 (goes_on_at link state caller follows wished may refl ends.0 (sym ends.1)) other next differ
     (others_after link state caller follows wished may refl other next differ might)
-
--- no call has more than six steps behind its first
-pub behind_six : (wanted : Wish) → steps_behind wanted ≤ 6
-behind_six (wish.Send message) = omega arith
-behind_six wish.Take = omega arith
-behind_six (wish.Give number) = omega arith
-behind_six (wish.Bind address) = omega arith
-behind_six (wish.Unbind address) = omega arith

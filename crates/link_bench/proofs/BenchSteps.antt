@@ -8,11 +8,11 @@ use Rattle.channel_bus.specs.Sides.{EndState}
 use Rattle.link_bench.specs.declared.benches.BegunCall.{BegunCall}
 use Rattle.link_bench.specs.declared.benches.Progress.TheVariants as progress
 use Rattle.link_bench.specs.declared.benches.Reach.TheVariants as reach
-use Rattle.link_bench.specs.Benches.{BenchState, RingsState, Walk, advance_steps, advance_walk, begun_call_of, on_rings, reach_of, step_on}
+use Rattle.link_bench.specs.Benches.{BenchState, LinkRings, Walk, advance_steps, advance_walk, begun_call_of, on_rings, reach_of, step_on}
 use Rattle.link_bench.proofs.Walks.{call_done, later_after, later_done, later_none}
 
 -- a step behind which no other follows is done, or it ends the call
-one_after : (steps : ℕ) (rings : RingsState) (caller : ℕ) (done : Outcome) → (later_after on_rings 0 steps rings caller done).reach ≡ reach.Limit → ⊥
+one_after : (steps : ℕ) (rings : LinkRings) (caller : ℕ) (done : Outcome) → (later_after on_rings 0 steps rings caller done).reach ≡ reach.Limit → ⊥
 one_after steps rings caller (outcome.At step) limit =
     let at : reach.At step ≡ reach.Limit = ap (λ (walk : Walk (RingState EndState)). walk.reach) (sym (later_none on_rings step steps rings caller)) ∙ limit in absurd (cc)
 one_after steps rings caller (outcome.Ended end) limit = absurd (cc)

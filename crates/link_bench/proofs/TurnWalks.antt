@@ -1,24 +1,10 @@
 -- Turns of a pump, one after the other.
-use Rattle.std.proofs.Common.{◌≡◌, ℕ, suc, ◌+◌, ◌-◌, ◌<◌, ◌≤◌, true, false, cond, List, Option, None, refl, sym, ap, ◌∙◌, arith}
-use Rattle.std.specs.Option.{option_or}
+use Rattle.std.proofs.Common.{◌≡◌, ℕ, suc, ◌+◌, ◌-◌, ◌<◌, ◌≤◌, true, false, cond, refl, sym, ap, ◌∙◌, arith}
 use Rattle.link_bench.specs.declared.turns.TurnEnd.{TurnEnd}
 use Rattle.link_bench.specs.declared.turns.TurnEnd.TheVariants as turn_end
-use Rattle.lane_model.specs.declared.calls.Wish.TheVariants as wish
-use Rattle.link_bench.specs.declared.benches.BenchFault.{BenchFault}
-use Rattle.link_bench.specs.Benches.{BenchState, call_walk, ready_fault}
+use Rattle.link_bench.specs.Benches.{BenchState}
 use Rattle.link_bench.specs.Watchers.{Seeing}
-use Rattle.link_bench.specs.Turns.{Turns, Pumped, is_whole, one_turn, pump_turns, reach_number, tested_call, turn_call}
-
--- a send of a caller that may begin a call
-pub sent_turn : (bench : BenchState) (steps caller : ℕ) (message : List ℕ) → ready_fault bench caller ≡ None
-    → record {
-      bench = (call_walk bench steps caller (wish.Send message)).bench;
-      steps = (call_walk bench steps caller (wish.Send message)).steps;
-      number = reach_number caller (call_walk bench steps caller (wish.Send message)).reach;
-    } ≡ turn_call bench steps caller (wish.Send message)
-unfolding turn_call
-sent_turn bench steps caller message ready =
-    ap (λ (why : Option BenchFault). tested_call bench steps caller (wish.Send message) (option_or why None)) (sym ready)
+use Rattle.link_bench.specs.Turns.{Turns, Pumped, is_whole, one_turn, pump_turns}
 
 -- all turns are done
 abbrev pub whole_pump : {W : Type 0} → BenchState → W → ℕ → ℕ → Pumped W

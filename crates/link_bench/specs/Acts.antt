@@ -7,9 +7,10 @@ use Rattle.rp_base.specs.declared.limits.TheConstants.{MESSAGE_MOST, PAYLOAD_MOS
 use Rattle.rpmsg_header.specs.Headers.{header_bytes}
 use Rattle.lane_model.specs.declared.calls.Wish.{Wish}
 use Rattle.lane_model.specs.declared.calls.Wish.TheVariants as wish
-use Rattle.lane_model.specs.Links.{end_of, free_number}
+use Rattle.lane_model.specs.Links.{LinkState, end_of, free_number}
 use Rattle.lane_model.specs.Conditions.{is_holding}
 use Rattle.lane_model.specs.Recoveries.{link_reclaim_refusal}
+use Rattle.channel_bus.specs.Sides.{EndState}
 use Rattle.link_bench.specs.declared.acts.How.{How}
 use Rattle.link_bench.specs.declared.acts.How.TheVariants as how
 use Rattle.link_bench.specs.declared.acts.CallWish.{CallWish}
@@ -21,9 +22,9 @@ use Rattle.link_bench.specs.declared.acts.ActAnswer.TheVariants as answer
 use Rattle.link_bench.specs.declared.benches.BenchFault.{BenchFault}
 use Rattle.link_bench.specs.declared.benches.BenchFault.TheVariants as fault
 use Rattle.link_bench.specs.declared.bench_crashes.Reclaim.{Reclaim}
-use Rattle.link_bench.specs.Benches.{BenchState, BenchWalk, advance_walk, calling_fault, call_walk, is_in_call, link_in, ready_fault, step_fault, used_fault, with_begun, with_new_caller}
+use Rattle.link_bench.specs.Benches.{BenchState, BenchWalk, HoldsReachTaken, advance_walk, calling_fault, call_walk, is_in_call, link_in, ready_fault, step_fault, used_fault, with_begun, with_new_caller}
 use Rattle.link_bench.specs.BenchCrashes.{reclaim_answer, reclaim_leaves}
-use Rattle.link_bench.specs.Turns.{Pumped, pump_turns}
+use Rattle.link_bench.specs.Turns.{HoldsEndTaken, Pumped, pump_turns}
 use Rattle.link_bench.specs.Watchers.{Seeing, watcher_after}
 
 -- what a call wishes, with the bytes that it names in place of what code has of them
@@ -69,6 +70,18 @@ pub record HasActed {W : Type 0} (acted : Acted W) (left : BenchState) (seen : W
   pub watcher : seen ≡ acted.watcher
   pub steps : counted ≡ acted.steps
   pub answer : told ≡ acted.answer
+
+-- where an answer tells of a call that was handed a message, the call's caller holds its buffer and is in no call
+abbrev pub HoldsAnswerTaken : LinkState EndState → ActAnswer → Type 0
+HoldsAnswerTaken link (answer.Caller caller end) = Unit {0}
+HoldsAnswerTaken link answer.CallersFull = Unit {0}
+HoldsAnswerTaken link (answer.Refused caller why) = Unit {0}
+HoldsAnswerTaken link (answer.TooLong caller len) = Unit {0}
+HoldsAnswerTaken link (answer.WrongSide caller) = Unit {0}
+HoldsAnswerTaken link (answer.Begun caller) = Unit {0}
+HoldsAnswerTaken link (answer.Reached caller reached) = HoldsReachTaken link caller reached
+HoldsAnswerTaken link (answer.Pumped done ended) = HoldsEndTaken link ended
+HoldsAnswerTaken link (answer.Reclaimed caller came) = Unit {0}
 
 -- an answer, and no step
 abbrev pub answers : {W : Type 0} → BenchState → W → ℕ → ActAnswer → Acted W

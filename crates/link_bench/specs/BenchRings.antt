@@ -10,22 +10,22 @@ use Rattle.channel_bus.specs.Sides.{EndState}
 use Rattle.lane_model.specs.Lanes.{holder}
 use Rattle.lane_model.specs.Links.{LinkState}
 use Rattle.ring_core.specs.RingWords.{words_of}
-use Rattle.link_bench.specs.Benches.{BenchState, RingsState, link_in}
+use Rattle.link_bench.specs.Benches.{BenchState, LinkRings, link_in}
 
 -- where the buffers of a lane begin: those of lane 0, so many of 512 bytes, at the base, and those of lane 1 behind them
 abbrev pub lane_base : ℕ → ℕ → ℕ → ℕ
 lane_base base capacity lane = if lane == 0 then base else base + MESSAGE_MOST * capacity
 
 -- the words of a lane's rings over buffers that begin at an address
-abbrev pub lane_words : RingsState → ℕ → ℕ → RingWords
+abbrev pub lane_words : LinkRings → ℕ → ℕ → RingWords
 lane_words rings lane at = if lane == 0 then words_of rings.to_host.rings at else words_of rings.to_remote.rings at
 
 -- the bytes of a lane's ring over buffers that begin at an address, its used ring at a multiple of an alignment
-abbrev pub placed_bytes : RingsState → ℕ → ℕ → ℕ → List ℕ
+abbrev pub placed_bytes : LinkRings → ℕ → ℕ → ℕ → List ℕ
 placed_bytes rings lane at align = ring_layout align (lane_words rings lane at)
 
 -- the bytes of a lane's ring of a link that no memory was given: its buffers from address 0 on, its used ring at a multiple of four
-abbrev pub lane_bytes : RingsState → ℕ → List ℕ
+abbrev pub lane_bytes : LinkRings → ℕ → List ℕ
 lane_bytes rings lane = placed_bytes rings lane (lane_base 0 rings.to_host.rings.sizes.capacity lane) 4
 
 -- the first of two holders

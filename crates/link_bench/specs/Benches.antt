@@ -1,5 +1,5 @@
 -- A bench: a link with the calls that are begun and have done no step, and what its calls do (own).
-use Rattle.std.specs.Prelude.{◌≡◌, ◌≢◌, ◌≤◌, ℕ, zero, suc, ◌+◌, ◌==◌, ◌||◌, Bool, List, [], length, slice_get, slice_set, replicate, Option, Some, None, option_and_then, is_some, if◌then◌else◌}
+use Rattle.std.specs.Prelude.{◌≡◌, ◌≢◌, ◌≤◌, ℕ, zero, suc, ◌+◌, ◌==◌, ◌||◌, Bool, List, length, slice_get, slice_set, replicate, Option, Some, None, option_and_then, is_some, if◌then◌else◌}
 use Rattle.std.specs.Option.{option_or}
 use Rattle.rp_base.specs.declared.kinds.End.{End}
 use Rattle.rp_base.specs.declared.kinds.End.TheVariants as side
@@ -13,12 +13,15 @@ use Rattle.lane_model.specs.declared.calls.Outcome.TheVariants as outcome
 use Rattle.lane_model.specs.declared.calls.LinkConfig.{LinkConfig}
 use Rattle.lane_model.specs.declared.lane_links.LaneLink.{LaneLink}
 use Rattle.lane_model.specs.Forms.{FormMeaning, list_form}
-use Rattle.lane_model.specs.Lanes.{Stepped, message_at}
+use Rattle.lane_model.specs.Lanes.{Stepped}
 use Rattle.lane_model.specs.Links.{LinkState, caller_step, end_of, form_step, link_of, with_caller}
 use Rattle.lane_model.specs.Conditions.{MayStep, is_calling, is_holding}
 use Rattle.ring_core.specs.declared.states.RingState.{RingState}
 use Rattle.ring_core.specs.RingLinks.{opened_ring_link}
-use Rattle.ring_core.specs.RingSteps.{ring_form}
+use Rattle.managed_link.specs.Managed.{counts_to}
+pub use Rattle.managed_link.specs.Known.{LinkRings, lists_of, on_rings}
+pub use Rattle.managed_link.specs.Managed.{message_for}
+pub use Rattle.managed_link.specs.Taken.{HoldsTaken}
 use Rattle.link_bench.specs.declared.benches.BegunCall.{BegunCall}
 use Rattle.link_bench.specs.declared.benches.Progress.{Progress}
 use Rattle.link_bench.specs.declared.benches.Progress.TheVariants as progress
@@ -42,24 +45,13 @@ abbrev pub reach_of_done : Done → Reach
 reach_of_done (step_done.At step) = reach.At step
 reach_of_done (step_done.Ended end) = reach.Ended end
 
--- a link over rings: each lane has its lists and counts and, beside them, all words of its rings
-abbrev pub RingsState : Type 0
-RingsState = LaneLink (RingState EndState)
-
--- the form of a lane that has its lists alone, and the one that has the words of its rings too
+-- the form of a lane that has its lists alone
 abbrev pub on_lists : FormMeaning (LaneState EndState) EndState
 on_lists = list_form side_meaning
 
-abbrev pub on_rings : FormMeaning (RingState EndState) EndState
-on_rings = ring_form side_meaning
-
--- the lists and counts that a link over rings stands for
-abbrev pub lists_of : RingsState → LinkState EndState
-lists_of link = link_of on_rings link
-
 -- a link, and for each number of a caller the call that it has begun and of which no step is done
 pub record BenchState : Type 0 where
-  pub rings : RingsState
+  pub rings : LinkRings
   pub begun : List (Option BegunCall)
 
 -- the link of a bench: its lists and counts, without the words
@@ -208,13 +200,9 @@ step_fault bench caller = advance_fault (end_of (link_in bench).callers caller) 
 abbrev pub OthersMay : LinkState EndState → LinkState EndState → ℕ → Type 0
 OthersMay before after caller = (other : ℕ) (wanted : Option Wish) → caller ≢ other → MayStep before other wanted → MayStep after other wanted
 
--- how many messages were accepted, handed over and given back on a lane
-abbrev pub lane_counts : LaneState EndState → ℕ × ℕ × ℕ
-lane_counts state = (length state.lane.accepted, length state.lane.takers, state.lane.returned)
-
 -- the counts of lane 0, to the host, or of lane 1
 abbrev pub counts_of : BenchState → ℕ → ℕ × ℕ × ℕ
-counts_of bench lane = if lane == 0 then lane_counts (link_in bench).to_host else lane_counts (link_in bench).to_remote
+counts_of bench lane = counts_to (link_in bench) (if lane == 0 then side.Host else side.Remote)
 
 -- a message fits a buffer
 abbrev pub IsSendable : Wish → Type 0
@@ -224,8 +212,8 @@ IsSendable (wish.Give number) = Unit {0}
 IsSendable (wish.Bind address) = Unit {0}
 IsSendable (wish.Unbind address) = Unit {0}
 
--- the message of a number on the lane that an end takes from, or no byte
-abbrev pub message_on : LinkState EndState → Option End → ℕ → List ℕ
-message_on link (Some side.Host) number = message_at link.to_host.lane.accepted number
-message_on link (Some side.Remote) number = message_at link.to_remote.lane.accepted number
-message_on link None number = []
+-- where a call of this caller came to its end with a message, the caller holds its buffer and is in no call
+abbrev pub HoldsReachTaken : LinkState EndState → ℕ → Reach → Type 0
+HoldsReachTaken link caller (reach.At step) = Unit {0}
+HoldsReachTaken link caller (reach.Ended end) = HoldsTaken link caller end
+HoldsReachTaken link caller reach.Limit = Unit {0}

@@ -5,12 +5,14 @@ use Rattle.rpmsg_header.specs.Headers.{header_bytes}
 use Rattle.lane_model.specs.declared.calls.Wish.{Wish}
 use Rattle.lane_model.specs.declared.calls.Wish.TheVariants as wish
 use Rattle.lane_model.specs.declared.calls.CallEnd.TheVariants as end
+use Rattle.lane_model.specs.Links.{LinkState}
+use Rattle.channel_bus.specs.Sides.{EndState}
 use Rattle.link_bench.specs.declared.benches.BenchFault.{BenchFault}
 use Rattle.link_bench.specs.declared.benches.Reach.{Reach}
 use Rattle.link_bench.specs.declared.benches.Reach.TheVariants as reach
 use Rattle.link_bench.specs.declared.turns.TurnEnd.{TurnEnd}
 use Rattle.link_bench.specs.declared.turns.TurnEnd.TheVariants as turn_end
-use Rattle.link_bench.specs.Benches.{BenchState, call_walk, begin_fault}
+use Rattle.link_bench.specs.Benches.{BenchState, HoldsReachTaken, call_walk, begin_fault}
 use Rattle.link_bench.specs.Watchers.{Seeing, watcher_after}
 
 -- what a call of a turn leaves: the bench, the steps of the run until then, and the number of its message, or how the turn ends with it
@@ -97,6 +99,12 @@ pump_turns sees (suc more) done sender receiver bench watcher steps =
     let turn = one_turn sees sender receiver done bench watcher steps in
     if is_whole turn.ended then pump_turns sees more (done + 1) sender receiver turn.bench turn.watcher turn.steps
     else record { turns = turn; done = done }
+
+-- where a turn ended with a call that was handed a message, the call's caller holds its buffer and is in no call
+abbrev pub HoldsEndTaken : LinkState EndState → TurnEnd → Type 0
+HoldsEndTaken link turn_end.Whole = Unit {0}
+HoldsEndTaken link (turn_end.Fault caller why) = Unit {0}
+HoldsEndTaken link (turn_end.Reached caller reached) = HoldsReachTaken link caller reached
 
 -- how a call of a turn ended, as code has it: a number, or the end of the turn beside it
 abbrev pub number_of : Option ℕ → TurnEnd → Result ℕ TurnEnd

@@ -1,14 +1,16 @@
-ghost use Rattle.std.specs.Prelude.{◌≡◌, ◌<◌, ◌≤◌, ◌+◌, ◌++◌, IfOk, None, length};
-ghost use Rattle.rp_base.specs.declared.limits.TheConstants.{MESSAGE_MOST, STEPS_MOST};
-ghost use Rattle.link_bench.specs.Benches.{IsSendable, call_walk, reach_of, ready_fault};
-ghost use Rattle.link_bench.specs.Acts.{HasActed, IsFitAct, IsFitWish, bare_act, bare_wish, call_act, free_act, link_act, made_call, misfit, own_caller, own_in, pump_act, pump_refusal, side_refusal, step_act, walk_act, wish_of};
+ghost use Rattle.std.specs.Prelude.{◌≡◌, ◌<◌, ◌≤◌, IfOk, IfSome, None};
+ghost use Rattle.rp_base.specs.declared.limits.TheConstants.{STEPS_MOST};
+ghost use Rattle.lane_model.specs.Links.{LinkState};
+ghost use Rattle.channel_bus.specs.Sides.{EndState};
+ghost use Rattle.link_bench.specs.Benches.{HoldsReachTaken, IsSendable, link_in, reach_of, ready_fault};
+ghost use Rattle.link_bench.specs.Acts.{HasActed, HoldsAnswerTaken, IsFitAct, IsFitWish, bare_act, bare_wish, call_act, free_act, link_act, made_call, misfit, own_caller, own_in, pump_act, pump_refusal, side_refusal, step_act, walk_act, wish_of};
 
 use crate::bench_crashes::Reclaim;
 use crate::benches::{Bench, BenchFault, Progress, Reach};
-use crate::turns::TurnEnd;
+use crate::turns::{TurnEnd, message_of};
 use crate::watchers::Watcher;
 use lane_model::{CallEnd, Wish};
-use rp_base::{CallerNo, End, Message, NoMemory, PAYLOAD_MOST};
+use rp_base::{CallerNo, End, NoMemory, PAYLOAD_MOST};
 
 /// Whether a call is made whole, or begun and no step of it done.
 #[derive(Clone, Copy)]
@@ -115,6 +117,7 @@ impl Bench {
         requires fit { IsFitAct (bare_act (λ bytes. bytes.now) act.now) }
         requires steps { steps.old ≤ STEPS_MOST }
         ensures acted { IfOk result (HasActed (link_act W.sees own self.old (W.state watcher.old) steps.old (bare_act (λ bytes. bytes.now) act.now)) self.new (W.state watcher.new) steps.new) }
+        ensures taken { IfOk result (HoldsAnswerTaken (link_in self.new)) }
         ensures within { steps.new ≤ STEPS_MOST }
     {
         if let Some(caller) = self.own_in(own, act) {
@@ -153,6 +156,7 @@ impl Bench {
         requires fit { IsFitAct (bare_act (λ bytes. bytes.now) act.now) }
         requires steps { steps.old ≤ STEPS_MOST }
         ensures acted { IfOk result (HasActed (free_act W.sees self.old (W.state watcher.old) steps.old (bare_act (λ bytes. bytes.now) act.now)) self.new (W.state watcher.new) steps.new) }
+        ensures taken { IfOk result (HoldsAnswerTaken (link_in self.new)) }
         ensures within { steps.new ≤ STEPS_MOST }
     {
         match act {
@@ -190,6 +194,7 @@ impl Bench {
         requires fit { IsFitWish (bare_wish (λ bytes. bytes.now) wish.now) }
         requires steps { steps.old ≤ STEPS_MOST }
         ensures acted { IfOk result (HasActed (call_act W.sees self.old (W.state watcher.old) steps.old caller how (bare_wish (λ bytes. bytes.now) wish.now)) self.new (W.state watcher.new) steps.new) }
+        ensures taken { IfOk result (HoldsAnswerTaken (link_in self.new)) }
         ensures within { steps.new ≤ STEPS_MOST }
     {
         if let Some(fault) = self.ready_fault(caller) {
@@ -231,52 +236,20 @@ impl Bench {
         requires fit { IsFitWish (bare_wish (λ bytes. bytes.now) wish.now) }
         requires steps { steps.old ≤ STEPS_MOST }
         ensures acted { IfOk result (HasActed (made_call W.sees self.old (W.state watcher.old) steps.old caller how (wish_of (bare_wish (λ bytes. bytes.now) wish.now))) self.new (W.state watcher.new) steps.new) }
+        ensures taken { IfOk result (HoldsAnswerTaken (link_in self.new)) }
         ensures within { steps.new ≤ STEPS_MOST }
     {
+        let wished = wish_of(wish);
         match how {
             How::Whole => {
                 let mut end = CallEnd::Empty(0);
-                let progress = self.whole_call(caller, wish, steps, &mut end);
+                let progress = self.call(caller, &wished, steps, &mut end);
                 self.reach(watcher, caller, progress, end, *steps)
             }
             How::Begun => {
-                self.put_call(caller, wish_of(wish));
+                self.put_call(caller, wished);
                 Ok(ActAnswer::Begun(caller))
             }
-        }
-    }
-
-    /// A whole call of a caller that may make it.
-    fn whole_call(
-        &mut self,
-        caller: CallerNo,
-        wish: &CallWish<&[u8]>,
-        steps: &mut u64,
-        end: &mut CallEnd,
-    ) -> Progress
-        requires ready { ready_fault self.old caller ≡ None }
-        requires fits { misfit self.old caller (bare_wish (λ bytes. bytes.now) wish.now) ≡ None }
-        requires fit { IsFitWish (bare_wish (λ bytes. bytes.now) wish.now) }
-        requires steps { steps.old ≤ STEPS_MOST }
-        ensures bench { self.new ≡ (call_walk self.old steps.old caller (wish_of (bare_wish (λ bytes. bytes.now) wish.now))).bench }
-        ensures steps { steps.new ≡ (call_walk self.old steps.old caller (wish_of (bare_wish (λ bytes. bytes.now) wish.now))).steps }
-        ensures reach { reach_of result end.new ≡ (call_walk self.old steps.old caller (wish_of (bare_wish (λ bytes. bytes.now) wish.now))).reach }
-        ensures within { steps.new ≤ STEPS_MOST }
-    {
-        match wish {
-            CallWish::Send {
-                source,
-                destination,
-                payload,
-            } => {
-                let head = rpmsg_header::head(*source, *destination, payload.len() as u16);
-                self.send(caller, &head, payload, steps, end)
-            }
-            CallWish::Raw { message } => self.send(caller, &[], message, steps, end),
-            CallWish::Take => self.call(caller, &Wish::Take, steps, end),
-            CallWish::Give { number } => self.call(caller, &Wish::Give(*number), steps, end),
-            CallWish::Bind { address } => self.call(caller, &Wish::Bind(*address), steps, end),
-            CallWish::Unbind { address } => self.call(caller, &Wish::Unbind(*address), steps, end),
         }
     }
 
@@ -293,6 +266,7 @@ impl Bench {
         requires more { more < STEPS_MOST }
         requires steps { steps.old ≤ STEPS_MOST }
         ensures acted { IfOk result (HasActed (step_act W.sees self.old (W.state watcher.old) steps.old caller more) self.new (W.state watcher.new) steps.new) }
+        ensures taken { IfOk result (HoldsAnswerTaken (link_in self.new)) }
         ensures within { steps.new ≤ STEPS_MOST }
     {
         if let Some(fault) = self.step_fault(caller) {
@@ -312,7 +286,9 @@ impl Bench {
         end: CallEnd,
         steps: u64,
     ) -> Result<ActAnswer, NoMemory>
-        ensures { IfOk result (λ answer. HasActed (walk_act W.sees (W.state watcher.old) caller (record { bench = self.now; steps = steps; reach = reach_of progress end })) self.now (W.state watcher.new) steps answer) }
+        requires { HoldsReachTaken (link_in self.now) caller (reach_of progress end) }
+        ensures acted { IfOk result (λ answer. HasActed (walk_act W.sees (W.state watcher.old) caller (record { bench = self.now; steps = steps; reach = reach_of progress end })) self.now (W.state watcher.new) steps answer) }
+        ensures taken { IfOk result (HoldsAnswerTaken (link_in self.now)) }
     {
         let reach = match progress {
             Progress::At(step) => Reach::At(step),
@@ -340,6 +316,7 @@ impl Bench {
         requires count { count ≤ STEPS_MOST }
         requires steps { steps.old ≤ STEPS_MOST }
         ensures acted { IfOk result (HasActed (pump_act W.sees self.old (W.state watcher.old) steps.old sender receiver count) self.new (W.state watcher.new) steps.new) }
+        ensures taken { IfOk result (HoldsAnswerTaken (link_in self.new)) }
         ensures within { steps.new ≤ STEPS_MOST }
     {
         if let Some(answer) = self.pump_refusal(sender, receiver) {
@@ -355,7 +332,8 @@ impl Bench {
     fn pump_refusal(&self, sender: CallerNo, receiver: CallerNo) -> Option<ActAnswer>
         requires sender { sender < 64 }
         requires receiver { receiver < 64 }
-        ensures { result ≡ pump_refusal self.now sender receiver }
+        ensures refusal { result ≡ pump_refusal self.now sender receiver }
+        ensures taken { IfSome result (HoldsAnswerTaken (link_in self.now)) }
     {
         if self.end_of(sender).is_none() {
             return Some(ActAnswer::Refused(sender, BenchFault::NoCaller));
@@ -375,7 +353,8 @@ impl Bench {
 
 /// Two callers on one end make no turns.
 fn side_refusal(one: Option<End>, other: Option<End>, receiver: CallerNo) -> Option<ActAnswer>
-    ensures { result ≡ side_refusal one other receiver }
+    ensures refusal { result ≡ side_refusal one other receiver }
+    ensures taken { (link : LinkState EndState) → IfSome result (HoldsAnswerTaken link) }
 {
     match (one, other) {
         (Some(End::Host), Some(End::Host)) | (Some(End::Remote), Some(End::Remote)) => {
@@ -412,14 +391,4 @@ fn wish_of(wish: &CallWish<&[u8]>) -> Wish
         CallWish::Bind { address } => Wish::Bind(*address),
         CallWish::Unbind { address } => Wish::Unbind(*address),
     }
-}
-
-/// The message of a header and the bytes behind it.
-fn message_of(head: &[u8], body: &[u8]) -> Message
-    requires { length head.now + length body.now ≤ MESSAGE_MOST }
-    ensures { result ≡ head.now ++ body.now }
-{
-    let mut message = Message::empty();
-    message.set(head, body);
-    message
 }

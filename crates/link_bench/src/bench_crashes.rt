@@ -26,7 +26,7 @@ impl Bench {
     pub fn era(&self) -> Era
         ensures { result ≡ (link_in self.now).era }
     {
-        self.link.era
+        self.link.era()
     }
 
     /// Closes the incarnation that the link is in.
@@ -37,7 +37,7 @@ impl Bench {
         ensures done { IfOk result (λ _. link_close_refusal (link_in self.old).era (link_in self.old).era.inc ≡ None) }
         ensures refused { IfErr result (λ already. link_close_refusal (link_in self.old).era (link_in self.old).era.inc ≡ Some already.0) }
     {
-        let inc = self.link.era.inc;
+        let inc = self.link.era().inc;
         self.link.close(inc)
     }
 
@@ -63,7 +63,8 @@ impl Bench {
 
     /// Ends a caller that nothing keeps from being reclaimed.
     pub fn end_caller(&mut self, caller: CallerNo)
-        requires { caller < 64 }
+        requires caller { caller < 64 }
+        requires free { link_reclaim_refusal (link_in self.old) caller ≡ None }
         ensures { self.new ≡ after_reclaim self.old caller }
     {
         self.link.end_caller(caller);

@@ -1,4 +1,6 @@
-ghost use Rattle.std.specs.Prelude.{◌≡◌, None, IfNone};
+ghost use Rattle.std.specs.Prelude.{◌≡◌, ◌<◌, false, None, IfNone, IfSome};
+ghost use Rattle.lane_model.specs.Lanes.{holder};
+ghost use Rattle.lane_model.specs.Links.{end_of};
 ghost use Rattle.lane_model.specs.Recoveries.{link_reopen_refusal};
 ghost use Rattle.link_bench.specs.Benches.{link_in};
 ghost use Rattle.link_bench.specs.BenchEnds.{reopen_refusal_of, bench_to_reopen, crashed_bench, without_other, without_remote, without_remotes};
@@ -17,11 +19,12 @@ impl Bench {
         self.end_remotes();
     }
 
-    /// Ends all callers of the remote end: first the one that has its receiver's turn.
+    /// Ends all callers of the remote end of a closed link: first the one that has its receiver's turn.
     fn end_remotes(&mut self)
+        requires { (link_in self.old).era.is_live ≡ false }
         ensures { self.new ≡ without_remotes self.old }
     {
-        let first = self.link.to_remote.receiver_holder();
+        let first = self.link.receiver_holder(End::Remote);
         if let Some(holder) = first {
             self.end_remote(holder);
         }
@@ -32,6 +35,8 @@ impl Bench {
 
     /// Ends a caller of the remote end that was not ended first.
     fn end_other(&mut self, first: Option<CallerNo>, caller: CallerNo)
+        requires closed { (link_in self.old).era.is_live ≡ false }
+        requires free { holder (link_in self.old).to_remote.receiver ≡ None }
         ensures { self.new ≡ without_other first self.old caller }
     {
         match first {
@@ -40,9 +45,13 @@ impl Bench {
         }
     }
 
-    /// Ends a caller where it is one of the remote end. Caller 1 is made anew at once.
+    /// Ends a caller where it is one of the remote end. Caller 1 is made anew at once. No other has the
+    /// receiver's turn.
     fn end_remote(&mut self, caller: CallerNo)
-        ensures { self.new ≡ without_remote self.old caller }
+        requires closed { (link_in self.old).era.is_live ≡ false }
+        requires free { IfSome (holder (link_in self.old).to_remote.receiver) (λ other. other ≡ caller) }
+        ensures left { self.new ≡ without_remote self.old caller }
+        ensures low { IfSome (end_of (link_in self.old).callers caller) (λ _. caller < 64) }
     {
         if !matches!(self.end_of(caller), Some(End::Remote)) {
             return;

@@ -2,7 +2,6 @@ ghost use Rattle.std.specs.Prelude.{◌≡◌};
 ghost use Rattle.link_bench.specs.BenchHolds.{caller_out, holds, is_out};
 
 use crate::benches::Bench;
-use lane_model::LaneForm;
 use rp_base::{CALLERS_MOST, CallerNo, End};
 
 impl Bench {
@@ -10,9 +9,7 @@ impl Bench {
     pub fn holds(&self, caller: CallerNo) -> bool
         ensures { result ≡ holds self.now caller }
     {
-        self.end_of(caller).is_some()
-            && !self.is_in_call(caller)
-            && (self.link.to_host.has_held(caller) || self.link.to_remote.has_held(caller))
+        self.end_of(caller).is_some() && !self.is_in_call(caller) && self.link.has_held(caller)
     }
 
     /// Whether a caller of the host end is in a call or holds a buffer.

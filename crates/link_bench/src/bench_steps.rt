@@ -1,5 +1,5 @@
 ghost use Rattle.std.specs.Prelude.{◌≡◌, ◌<◌, None, IfErr, IfNone, IfOk, OnErr, OnOk};
-ghost use Rattle.link_bench.specs.Benches.{advance_walk, reach_of_done, step_fault};
+ghost use Rattle.link_bench.specs.Benches.{HoldsReachTaken, advance_walk, link_in, reach_of_done, step_fault};
 
 use crate::benches::{Bench, BenchFault, Progress};
 use lane_model::CallEnd;
@@ -34,6 +34,7 @@ impl Bench {
         ensures may { OnOk result (step_fault self.old caller ≡ None) }
         ensures left { OnOk result (self.new ≡ (advance_walk self.old 0 0 caller).bench) }
         ensures done { IfOk result (λ done. reach_of_done done ≡ (advance_walk self.old 0 0 caller).reach) }
+        ensures taken { IfOk result (λ done. HoldsReachTaken (link_in self.new) caller (reach_of_done done)) }
         ensures refused { IfErr result (λ why. step_fault self.old caller ≡ Some why) }
         ensures unchanged { OnErr result (self.new ≡ self.old) }
     {
@@ -49,6 +50,7 @@ impl Bench {
         requires may { step_fault self.old caller ≡ None }
         ensures left { self.new ≡ (advance_walk self.old 0 0 caller).bench }
         ensures done { reach_of_done result ≡ (advance_walk self.old 0 0 caller).reach }
+        ensures taken { HoldsReachTaken (link_in self.new) caller (reach_of_done result) }
     {
         let mut end = CallEnd::Gave(0);
         match self.advance(caller, 0, &mut 0, &mut end) {

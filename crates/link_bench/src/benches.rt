@@ -1,17 +1,17 @@
-ghost use Rattle.std.specs.Prelude.{◌≡◌, ◌<◌, ◌≤◌, ◌++◌, ◌+◌, length, true, IfOk, IfErr, IfNone, IfSome, Some, None};
+ghost use Rattle.std.specs.Prelude.{◌≡◌, ◌<◌, ◌≤◌, length, true, false, IfOk, IfErr, IfNone, IfSome, Some, None};
 ghost use Rattle.rp_base.specs.declared.limits.TheConstants.{BOOK_MOST, MESSAGE_MOST, STEPS_MOST};
-ghost use Rattle.lane_model.specs.declared.calls.Wish.TheVariants as wish;
 ghost use Rattle.lane_model.specs.Links.{end_of, free_number};
 ghost use Rattle.channel_bus.specs.Sides.{side_meaning};
 ghost use Rattle.lane_model.specs.Desks.{IsFreshDesk};
-ghost use Rattle.lane_model.specs.Conditions.{IsConfig, is_holding};
-ghost use Rattle.link_bench.specs.Benches.{IsSendable, advance_walk, begin_fault, call_walk, counts_of, is_in_call, link_in, message_on, new_bench_of, no_begun_calls, reach_of, ready_fault, start_walk, with_begun, with_new_caller};
+ghost use Rattle.lane_model.specs.Conditions.{IsConfig, is_calling, is_holding};
+ghost use Rattle.managed_link.specs.Managed.{message_for};
+ghost use Rattle.link_bench.specs.Benches.{HoldsReachTaken, IsSendable, advance_walk, begin_fault, call_walk, counts_of, is_in_call, link_in, new_bench_of, no_begun_calls, reach_of, ready_fault, start_walk, with_begun, with_new_caller};
 
-use crate::steps::{BenchLink, call_steps, later_steps};
-use crate::whole_steps::{whole_send, whole_steps};
+use crate::steps::{call_steps, later_steps};
+use crate::whole_steps::whole_steps;
 use channel_bus::Side;
-use lane_model::{CallEnd, LaneForm, LinkConfig, Wish};
-use ring_core::ring_link;
+use lane_model::{CallEnd, LinkConfig, Wish};
+use managed_link::ManagedLink;
 use rp_base::{CALLERS_MOST, CallerNo, End, Inc, NoMemory, STEPS_MOST};
 use std::alloc::Global;
 use std::marker::Model;
@@ -61,7 +61,7 @@ pub enum BenchFault {
 /// A link with the calls that are begun. It keeps what each caller holds, by the message's number.
 #[derive(Drop)]
 pub struct Bench {
-    pub(crate) link: BenchLink,
+    pub(crate) link: ManagedLink,
     pub(crate) begun: Vec<Option<BegunCall>>,
 }
 
@@ -92,7 +92,7 @@ impl Bench {
         ensures { IfOk result (λ bench. bench ≡ new_bench_of config host remote) }
     {
         Ok(Bench {
-            link: ring_link(alloc, config, host, remote)?,
+            link: ManagedLink::make(alloc, config, host, remote)?,
             begun: no_begun_calls(alloc)?,
         })
     }
@@ -110,7 +110,7 @@ impl Bench {
         ensures end { result ≡ end_of (link_in self.now).callers caller }
         ensures within { IfSome result (λ _. caller < 64) }
     {
-        self.link.end_of(u64::from(caller))
+        self.link.end_of(caller)
     }
 
     /// Whether a caller has begun a call that has not ended.
@@ -191,7 +191,7 @@ impl Bench {
     {
         show_sendable(&wished);
         self.begun[usize::from(caller)] = Some(BegunCall {
-            follows: self.link.era.inc,
+            follows: self.link.era().inc,
             wish: wished,
         });
     }
@@ -213,6 +213,7 @@ impl Bench {
         ensures bench { self.new ≡ (advance_walk self.old more steps.old caller).bench }
         ensures steps { steps.new ≡ (advance_walk self.old more steps.old caller).steps }
         ensures reach { reach_of result end.new ≡ (advance_walk self.old more steps.old caller).reach }
+        ensures taken { HoldsReachTaken (link_in self.new) caller (reach_of result end.new) }
         ensures within { steps.new ≤ STEPS_MOST }
     {
         let place = usize::from(caller);
@@ -248,10 +249,11 @@ impl Bench {
         ensures bench { self.new ≡ (call_walk self.old steps.old caller wished.now).bench }
         ensures steps { steps.new ≡ (call_walk self.old steps.old caller wished.now).steps }
         ensures reach { reach_of result end.new ≡ (call_walk self.old steps.old caller wished.now).reach }
+        ensures taken { HoldsReachTaken (link_in self.new) caller (reach_of result end.new) }
         ensures within { steps.new ≤ STEPS_MOST }
     {
         show_sendable(wished);
-        let follows = self.link.era.inc;
+        let follows = self.link.era().inc;
         whole_steps(&mut self.link, caller, follows, wished, steps, end)
     }
 
@@ -268,45 +270,22 @@ impl Bench {
         ensures bench { self.new ≡ (start_walk self.old steps.old caller wished.now).bench }
         ensures steps { steps.new ≡ (start_walk self.old steps.old caller wished.now).steps }
         ensures reach { reach_of result end.new ≡ (start_walk self.old steps.old caller wished.now).reach }
+        ensures taken { HoldsReachTaken (link_in self.new) caller (reach_of result end.new) }
         ensures within { steps.new ≤ STEPS_MOST }
     {
         show_sendable(wished);
-        let follows = self.link.era.inc;
+        let follows = self.link.era().inc;
         call_steps(&mut self.link, caller, follows, wished, 0, steps, end)
     }
 
-    /// Makes a whole send of the bytes of `head`, then those of `body`; `steps` counts its steps.
-    pub fn send(
-        &mut self,
-        caller: CallerNo,
-        head: &[u8],
-        body: &[u8],
-        steps: &mut u64,
-        end: &mut CallEnd,
-    ) -> Progress
-        requires ready { ready_fault self.old caller ≡ None }
-        requires fits { length head.now + length body.now ≤ MESSAGE_MOST }
-        requires steps { steps.old ≤ STEPS_MOST }
-        ensures bench { self.new ≡ (call_walk self.old steps.old caller (wish.Send (head.now ++ body.now))).bench }
-        ensures steps { steps.new ≡ (call_walk self.old steps.old caller (wish.Send (head.now ++ body.now))).steps }
-        ensures reach { reach_of result end.new ≡ (call_walk self.old steps.old caller (wish.Send (head.now ++ body.now))).reach }
-        ensures within { steps.new ≤ STEPS_MOST }
-    {
-        let follows = self.link.era.inc;
-        whole_send(&mut self.link, caller, follows, head, body, steps, end)
-    }
-
-    /// The message of a number on the lane that a caller takes from, or no byte where there is none.
+    /// The message of this number, which a caller that is in no call holds.
     pub fn taken_message(&self, caller: CallerNo, number: u64) -> &[u8]
-        ensures message { result.now ≡ message_on (link_in self.now) (end_of (link_in self.now).callers caller) number }
+        requires holding { is_holding (link_in self.now) caller number ≡ true }
+        requires rests { is_calling (link_in self.now) caller ≡ false }
+        ensures message { result.now ≡ message_for (link_in self.now) (end_of (link_in self.now).callers caller) number }
         ensures short { length result.now ≤ MESSAGE_MOST }
     {
-        let message = match self.end_of(caller) {
-            Some(End::Host) => self.link.to_host.message(number),
-            Some(End::Remote) => self.link.to_remote.message(number),
-            None => None,
-        };
-        message.unwrap_or(&[])
+        self.link.held_message(caller, number)
     }
 
     /// How many messages were accepted, handed over and given back on a lane: 0 to the host, 1 to the
@@ -316,12 +295,10 @@ impl Bench {
         ensures counts { result ≡ counts_of self.now lane }
         ensures few { result.0 ≤ BOOK_MOST }
     {
-        let counted = if lane == 0 {
-            &self.link.to_host
-        } else {
-            &self.link.to_remote
-        };
-        (counted.accepted(), counted.handed(), counted.returned())
+        match lane {
+            0 => self.link.counts(End::Host),
+            _ => self.link.counts(End::Remote),
+        }
     }
 }
 

@@ -6,6 +6,7 @@ mod bench_crashes;
 mod bench_ends;
 mod bench_holds;
 mod bench_rings;
+mod bench_shares;
 mod bench_steps;
 mod benches;
 mod steps;

@@ -1,16 +1,17 @@
-ghost use Rattle.std.specs.Prelude.{◌≡◌, ◌<◌, ◌≤◌, IfOk, IfSome, OnOk, length};
-ghost use Rattle.rp_base.specs.declared.limits.TheConstants.{PAYLOAD_MOST, STEPS_MOST};
+ghost use Rattle.std.specs.Prelude.{◌≡◌, ◌<◌, ◌≤◌, ◌+◌, ◌++◌, IfNone, IfOk, IfSome, MatchOption, OnOk, length};
+ghost use Rattle.rp_base.specs.declared.limits.TheConstants.{MESSAGE_MOST, PAYLOAD_MOST, STEPS_MOST};
 ghost use Rattle.lane_model.specs.declared.calls.Wish.TheVariants as wish;
 ghost use Rattle.byteorder.specs.Endian.{little_bytes};
 ghost use Rattle.rpmsg_header.specs.Headers.{header_bytes};
-ghost use Rattle.link_bench.specs.Benches.{call_walk, reach_of};
+ghost use Rattle.link_bench.specs.Benches.{HoldsTaken, call_walk, link_in, reach_of};
 ghost use Rattle.link_bench.specs.declared.benches.Reach.TheVariants as reach;
-ghost use Rattle.link_bench.specs.Turns.{is_whole, number_of, one_turn, pump_turns, reach_number, take_turn, turn_call, turn_end_of};
+ghost use Rattle.link_bench.specs.declared.turns.TurnEnd.TheVariants as turn_end;
+ghost use Rattle.link_bench.specs.Turns.{HoldsEndTaken, is_whole, number_of, one_turn, pump_turns, reach_number, take_turn, turn_call, turn_end_of};
 
 use crate::benches::{Bench, BenchFault, Progress, Reach};
 use crate::watchers::Watcher;
 use lane_model::{CallEnd, Wish};
-use rp_base::{CallerNo, NoMemory};
+use rp_base::{CallerNo, Message, NoMemory};
 
 /// How a turn of a pump ended: a send, its take and its give.
 #[derive(Clone, Copy)]
@@ -54,6 +55,7 @@ impl Bench {
         ensures watcher { OnOk result (W.state watcher.new ≡ (pump_turns W.sees count 0 sender receiver self.old (W.state watcher.old) steps.old).turns.watcher) }
         ensures steps { OnOk result (steps.new ≡ (pump_turns W.sees count 0 sender receiver self.old (W.state watcher.old) steps.old).turns.steps) }
         ensures ended { OnOk result (ended.new ≡ (pump_turns W.sees count 0 sender receiver self.old (W.state watcher.old) steps.old).turns.ended) }
+        ensures taken { OnOk result (HoldsEndTaken (link_in self.new) ended.new) }
         ensures done { IfOk result (λ done. done ≡ (pump_turns W.sees count 0 sender receiver self.old (W.state watcher.old) steps.old).done) }
         ensures within { steps.new ≤ STEPS_MOST }
     {
@@ -86,6 +88,7 @@ impl Bench {
         ensures watcher { OnOk result (W.state watcher.new ≡ (one_turn W.sees sender receiver number self.old (W.state watcher.old) steps.old).watcher) }
         ensures steps { OnOk result (steps.new ≡ (one_turn W.sees sender receiver number self.old (W.state watcher.old) steps.old).steps) }
         ensures ended { OnOk result (ended.new ≡ (one_turn W.sees sender receiver number self.old (W.state watcher.old) steps.old).ended) }
+        ensures taken { OnOk result (HoldsEndTaken (link_in self.new) ended.new) }
         ensures within { steps.new ≤ STEPS_MOST }
     {
         match self.turn_send(sender, &turn_payload(number), steps, ended) {
@@ -109,6 +112,7 @@ impl Bench {
         ensures watcher { OnOk result (W.state watcher.new ≡ (take_turn W.sees receiver self.old (W.state watcher.old) steps.old).watcher) }
         ensures steps { OnOk result (steps.new ≡ (take_turn W.sees receiver self.old (W.state watcher.old) steps.old).steps) }
         ensures ended { OnOk result (ended.new ≡ (take_turn W.sees receiver self.old (W.state watcher.old) steps.old).ended) }
+        ensures taken { OnOk result (HoldsEndTaken (link_in self.new) ended.new) }
         ensures within { steps.new ≤ STEPS_MOST }
     {
         let mut end = CallEnd::Empty(0);
@@ -129,6 +133,7 @@ impl Bench {
         ensures bench { self.new ≡ (turn_call self.old steps.old receiver (wish.Give number)).bench }
         ensures steps { steps.new ≡ (turn_call self.old steps.old receiver (wish.Give number)).steps }
         ensures ended { ended.new ≡ turn_end_of (turn_call self.old steps.old receiver (wish.Give number)).number }
+        ensures taken { HoldsEndTaken (link_in self.new) ended.new }
         ensures within { steps.new ≤ STEPS_MOST }
     {
         let mut end = CallEnd::Empty(0);
@@ -139,7 +144,6 @@ impl Bench {
     }
 
     /// The send of a turn, from address 0 to 1024, with the tests that each call has.
-    #[tactic(auto, unfolding(crate::specs::Turns::turn_call))]
     fn turn_send(
         &mut self,
         sender: CallerNo,
@@ -153,16 +157,12 @@ impl Bench {
         ensures bench { self.new ≡ (turn_call self.old steps.old sender (wish.Send (header_bytes 0 1024 payload.now))).bench }
         ensures steps { steps.new ≡ (turn_call self.old steps.old sender (wish.Send (header_bytes 0 1024 payload.now))).steps }
         ensures number { number_of result ended.new ≡ (turn_call self.old steps.old sender (wish.Send (header_bytes 0 1024 payload.now))).number }
+        ensures taken { IfNone result (HoldsEndTaken (link_in self.new) ended.new) }
         ensures within { steps.new ≤ STEPS_MOST }
     {
-        if let Some(fault) = self.ready_fault(sender) {
-            *ended = TurnEnd::Fault(sender, fault);
-            return None;
-        }
         let head = rpmsg_header::head(0, 1024, payload.len() as u16);
-        let mut end = CallEnd::Empty(0);
-        let progress = self.send(sender, &head, payload, steps, &mut end);
-        reach_number(sender, progress, &end, ended)
+        let wished = Wish::Send(message_of(&head, payload));
+        self.turn_call(sender, &wished, steps, &mut CallEnd::Empty(0), ended)
     }
 
     /// A call of a turn, with the tests that each call has: the number of its message, with its end. Where it doesn't end well, `ended` says how.
@@ -182,6 +182,7 @@ impl Bench {
         ensures steps { steps.new ≡ (turn_call self.old steps.old caller wished.now).steps }
         ensures number { number_of result ended.new ≡ (turn_call self.old steps.old caller wished.now).number }
         ensures end { IfSome result (λ _. (call_walk self.old steps.old caller wished.now).reach ≡ reach.Ended end.new) }
+        ensures taken { MatchOption result (HoldsEndTaken (link_in self.new) ended.new) (λ _. HoldsTaken (link_in self.new) caller end.new) }
         ensures within { steps.new ≤ STEPS_MOST }
     {
         if let Some(fault) = self.begin_fault(caller, wished) {
@@ -209,7 +210,7 @@ fn reach_number(
     ended: &mut TurnEnd,
 ) -> Option<u64>
     ensures number { number_of result ended.new ≡ reach_number caller (reach_of progress end.now) }
-    ensures reach { IfSome result (λ _. reach_of progress end.now ≡ reach.Ended end.now) }
+    ensures reach { MatchOption result (ended.new ≡ turn_end.Reached caller (reach_of progress end.now)) (λ _. reach_of progress end.now ≡ reach.Ended end.now) }
 {
     let reach = match (progress, end) {
         (
@@ -222,4 +223,14 @@ fn reach_number(
     };
     *ended = TurnEnd::Reached(caller, reach);
     None
+}
+
+/// The message of a header and the bytes behind it.
+pub(crate) fn message_of(head: &[u8], body: &[u8]) -> Message
+    requires { length head.now + length body.now ≤ MESSAGE_MOST }
+    ensures { result ≡ head.now ++ body.now }
+{
+    let mut message = Message::empty();
+    message.set(head, body);
+    message
 }

@@ -5,6 +5,7 @@ use rp_base::{CallerNo, NoMemory};
 /// Who sees how the calls on a link end: nobody, or the actors of a core.
 pub trait Watcher {
     ghost use Rattle.std.specs.Prelude.{◌≡◌, OnOk};
+    ghost use Rattle.link_bench.specs.Benches.{HoldsTaken, link_in};
     ghost use Rattle.link_bench.specs.Watchers.{Seeing};
 
     /// What contracts tell apart of watchers.
@@ -20,6 +21,7 @@ pub trait Watcher {
     ///
     /// Errors: only for want of memory.
     fn see(&mut self, bench: &Bench, caller: CallerNo, end: &CallEnd) -> Result<(), NoMemory>
+        requires { HoldsTaken (link_in bench.now) caller end.now }
         ensures { OnOk result (state self.new ≡ sees bench.now caller end.now (state self.old)) };
 }
 

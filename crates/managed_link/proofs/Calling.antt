@@ -57,7 +57,7 @@ module _ (shared : SharedLink EndState) (manager : Manager) (m : LinkRings) (man
   carried_has n side.Host follows p carried = let told = known_of end_coded shared manager m (caller_id n side.Host follows) p manages state carried in either_is told.0 told.1
   carried_has n side.Remote follows p carried = let told = known_of end_coded shared manager m (caller_id n side.Remote follows) p manages state carried in either_is told.0 told.1
 
-  in_call : (n : ℕ) (end : End) (call : Option CarriedCall) → IsCarriedIn shared manager m n end call → is_in_call (lanes_of (lists_of m) end) n ≡ is_some call
+  pub in_call : (n : ℕ) (end : End) (call : Option CarriedCall) → IsCarriedIn shared manager m n end call → is_in_call (lanes_of (lists_of m) end) n ≡ is_some call
   in_call n end None carried = carried_has n end 0 phase.Ended (carried 0)
   in_call n end (Some c) carried = carried_has n end c.follows c.call.phase carried.0 ∙ begun_has (caller_id n end c.follows) m c.call.phase carried.1 carried.2
 

@@ -51,7 +51,7 @@ pub shows_closed : (era : Era) (to_host to_remote : LaneView) (m : LinkRings) (i
 shows_closed era to_host to_remote m inc live shows =
     let is : is_live_in m.era inc ≡ true = ap (λ (x : Era). is_live_in x inc) live ∙ ap (λ (b : Bool). b && true) (eq-eqb inc inc refl) in
     subst (λ (after : LinkRings). ShowsViews (record era { is_live = false }) to_host to_remote after) (sym (cond-true (is_live_in m.era inc) (closed_in m inc) m is))
-    (record { era_is = ap (λ (x : Era). record x { is_live = false }) (shows.era_is ∙ live); host_is = shows.host_is; remote_is = shows.remote_is })
+    (record { era_is = ap (λ (x : Era). record x { is_live = false }) (shows.era_is ∙ live); host_is = shows.host_is; remote_is = shows.remote_is; receivers = shows.receivers })
 
 -- and one that was refused leaves all
 pub refused_stays : (m : LinkRings) (inc : ℕ) → (m.era ≡ live_era inc → ⊥) → link_after_close m inc ≡ m

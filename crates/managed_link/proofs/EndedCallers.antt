@@ -45,8 +45,9 @@ use Rattle.managed_link.specs.declared.views.LaneView.{LaneView}
 use Rattle.managed_link.specs.EndCodes.{end_coded}
 use Rattle.managed_link.specs.Hands.{AreOthers, holding_of}
 use Rattle.managed_link.specs.Known.{LinkRings, lists_of, on_rings}
-use Rattle.managed_link.specs.Managed.{AreHandsOf, IsCarriedIn, IsLimited, IsManaged, ShowsViews, call_of, caller_id, view_of}
+use Rattle.managed_link.specs.Managed.{AreHandsOf, IsCarriedIn, IsLimited, IsManaged, IsOfCaller, ShowsViews, call_of, caller_id, view_of}
 use Rattle.managed_link.specs.Views.{if_other}
+use Rattle.managed_link.proofs.CallersTurns.{others_turn}
 use Rattle.managed_link.proofs.SameLanes.{HasSameBook, carried_kept, hand_kept, hands_kept}
 
 -- what the manager asks to end a caller of this number, whose call is this one
@@ -299,6 +300,7 @@ module _ (m : LinkRings) (caller : ℕ) where
       era_is = shows.era_is;
       host_is = in_is ∙ incoming_view to_host m.to_host.lane caller low shows.host_is;
       remote_is = out_is ∙ outgoing_view to_remote m.to_remote.lane caller low shows.remote_is;
+      receivers = (subst (λ (v : LaneView). IsOfCaller v.receiver) (sym in_is) (others_turn to_host.receiver caller shows.receivers.0), subst (λ (v : LaneView). IsOfCaller v.receiver) (sym out_is) shows.receivers.1);
     })
 
     pub shows_remote : (in' out' : LaneView) → end_of m.callers caller ≡ Some side.Remote → in' ≡ record to_remote { receiver = if_other to_remote.receiver caller } → out' ≡ record to_host { sender = if_other to_host.sender caller }
@@ -307,4 +309,5 @@ module _ (m : LinkRings) (caller : ℕ) where
       era_is = shows.era_is;
       host_is = out_is ∙ outgoing_view to_host m.to_host.lane caller low shows.host_is;
       remote_is = in_is ∙ incoming_view to_remote m.to_remote.lane caller low shows.remote_is;
+      receivers = (subst (λ (v : LaneView). IsOfCaller v.receiver) (sym out_is) shows.receivers.0, subst (λ (v : LaneView). IsOfCaller v.receiver) (sym in_is) (others_turn to_remote.receiver caller shows.receivers.1));
     })

@@ -38,11 +38,12 @@ use Rattle.managed_link.specs.Managed.{AreHandsOf, IsBegun, IsCarriedIn, IsManag
 use Rattle.managed_link.specs.Settles.{CanGive, answer_buffer}
 use Rattle.managed_link.specs.Steps.{HasStepped, incoming_begun, of_end, outgoing_begun}
 use Rattle.managed_link.proofs.CallSlots.{call_beside, call_set}
+use Rattle.managed_link.proofs.CallersTurns.{incoming_first, outgoing_first, same_receiver}
 use Rattle.managed_link.proofs.Calling.{rests_in}
 use Rattle.managed_link.proofs.StepBooks.{BooksGrow, books_grow}
 use Rattle.managed_link.proofs.StepGives.{begun_hands, can_give, own_ask, refused_hands, refused_held}
 use Rattle.managed_link.proofs.StepHands.{StepsCall, hands_beside, out_with}
-use Rattle.managed_link.proofs.StepManaged.{IsStepped, hands_at, idle_still, managed_after, may_begin, not_asked, sound_after, view_at, views_after}
+use Rattle.managed_link.proofs.StepManaged.{IsStepped, hands_at, idle_still, managed_after, may_begin, not_asked, sound_after, turn_at, view_at, views_after}
 use Rattle.managed_link.proofs.StepSettles.{has_begun}
 use Rattle.managed_link.proofs.StepTurns.{IsFirstStep, first_turns, lanes_at, same_era, same_users}
 
@@ -149,6 +150,8 @@ module _ (shared : SharedLink EndState) (manager : Manager) (calls : List (Optio
         begun_shows to_host' to_remote' incoming outgoing = views_after era to_host' to_remote' end After (shows.era_is ∙ sym (same_era m caller follows (Some wished)))
             (incoming ∙ (ap (incoming_begun wished caller) (view_at era to_host to_remote m shows end) ∙ sym (first.incoming number said_at)))
             (outgoing ∙ (ap (outgoing_begun wished caller) (view_at era to_host to_remote m shows (other end)) ∙ sym (first.outgoing number said_at)))
+            (same_receiver (incoming_begun wished caller (of_end end to_host to_remote)) (of_end end to_host' to_remote') (ap (λ (v : LaneView). v.receiver) incoming) (incoming_first wished caller (of_end end to_host to_remote) low (turn_at era to_host to_remote m shows end)))
+            (same_receiver (of_end (other end) to_host to_remote) (of_end (other end) to_host' to_remote') (ap (λ (v : LaneView). v.receiver) outgoing ∙ outgoing_first wished caller (of_end (other end) to_host to_remote)) (turn_at era to_host to_remote m shows (other end)))
 
       -- the call ends: another has the turn
       module _ (answer : Answer) (is : said ≡ progress.Done answer) where
@@ -177,3 +180,4 @@ module _ (shared : SharedLink EndState) (manager : Manager) (calls : List (Optio
         pub refused_shows : ShowsViews era to_host to_remote (form_step on_rings side_meaning m caller follows (Some wished)).state
         refused_shows = views_after era to_host to_remote end After (shows.era_is ∙ sym (same_era m caller follows (Some wished)))
             (view_at era to_host to_remote m shows end ∙ sym (first.incoming_refused (call_end answer) said_ended)) (view_at era to_host to_remote m shows (other end) ∙ sym (first.outgoing_refused (call_end answer) said_ended))
+            (turn_at era to_host to_remote m shows end) (turn_at era to_host to_remote m shows (other end))

@@ -17,7 +17,9 @@ pub mod CallSlots
 pub mod StepHands
 pub mod StepSettles
 pub mod StepGives
+pub mod CallersTurns
 pub mod StepManaged
+pub mod TakenMessages
 pub mod Advances
 pub mod FirstSteps
 pub mod NextSteps

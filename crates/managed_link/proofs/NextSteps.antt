@@ -34,19 +34,22 @@ use Rattle.managed_link.specs.declared.hands.Hand.{Hand}
 use Rattle.managed_link.specs.declared.views.LaneView.{LaneView}
 use Rattle.managed_link.specs.Hands.{AreSome, IsPutIn, holding_of}
 use Rattle.managed_link.specs.Known.{LinkRings, lists_of, on_rings}
-use Rattle.managed_link.specs.Managed.{AreHandsOf, IsBegun, IsCarriedIn, IsLimited, IsManaged, IsOwnAnswer, ShowsViews, call_of, caller_id}
+use Rattle.managed_link.specs.Managed.{AreHandsOf, IsBegun, IsCarriedIn, IsLimited, IsManaged, IsOfCaller, IsOwnAnswer, ShowsViews, call_of, caller_id}
 use Rattle.managed_link.specs.Settles.{HasRoomFor, answer_buffer}
 use Rattle.managed_link.specs.Steps.{AdvancesCall, HasStepped, hands_learnt, held_learnt, incoming_learnt, of_end, outgoing_learnt, settled_in}
+use Rattle.managed_link.specs.Taken.{HoldsTaken}
 use Rattle.managed_link.specs.Views.{if_other}
 use Rattle.managed_link.proofs.Advances.{later_stepped, later_wished}
 use Rattle.managed_link.proofs.CallSlots.{call_beside, call_set}
+use Rattle.managed_link.proofs.CallersTurns.{incoming_later, others_turn, outgoing_later, same_receiver}
 use Rattle.managed_link.proofs.Calling.{calling_is}
 use Rattle.managed_link.proofs.StepBooks.{BooksGrow, books_grow, lane_sound, same_lane}
 use Rattle.managed_link.proofs.StepGives.{ended_held, ended_hands}
 use Rattle.managed_link.proofs.StepHands.{StepsCall, hands_beside, out_with}
-use Rattle.managed_link.proofs.StepManaged.{IsStepped, alone_at, hands_at, idle_still, managed_after, may_go_on, not_asked, settled_room, sound_after, view_at, views_after}
+use Rattle.managed_link.proofs.StepManaged.{IsStepped, alone_at, hands_at, idle_still, managed_after, may_go_on, not_asked, settled_room, sound_after, turn_at, view_at, views_after}
 use Rattle.managed_link.proofs.StepSettles.{has_begun, incoming_known, later_hands, outgoing_known, view_from}
 use Rattle.managed_link.proofs.StepTurns.{IsLaterStep, lanes_at, later_turns, same_era, same_users}
+use Rattle.managed_link.proofs.TakenMessages.{holds_answer}
 
 some_call : {X : Type 0} (o : Option X) → is_some o ≡ true → (x : X) × (o ≡ Some x)
 some_call None is = absurd (cc)
@@ -191,6 +194,8 @@ module _ (shared : SharedLink EndState) (manager : Manager) (calls : List (Optio
         next_shows settled to_host' to_remote' ends incoming outgoing = views_after era to_host' to_remote' end After (shows.era_is ∙ sym (same_era m caller 0 None))
             (incoming ∙ ((λ i. incoming_learnt (ends i) (view_at era to_host to_remote m shows end i)) ∙ sym (incoming_known who p m After next_stepped.lanes (ap holder later.sender_beside) (later.receiver_stays number said_at))))
             (outgoing ∙ ((λ i. outgoing_learnt (ends i) (view_at era to_host to_remote m shows (other end) i)) ∙ sym (outgoing_known who p m After next_stepped.lanes (later.sender_stays number said_at) (ap holder later.receiver_beside))))
+            (same_receiver (of_end end to_host to_remote) (of_end end to_host' to_remote') (ap (λ (v : LaneView). v.receiver) incoming ∙ incoming_later settled (of_end end to_host to_remote)) (turn_at era to_host to_remote m shows end))
+            (same_receiver (of_end (other end) to_host to_remote) (of_end (other end) to_host' to_remote') (ap (λ (v : LaneView). v.receiver) outgoing ∙ outgoing_later settled (of_end (other end) to_host to_remote)) (turn_at era to_host to_remote m shows (other end)))
 
         pub next_room : (settled : Option CallEnd) → settled ≡ settled_end taken.call.phase → IfSome settled (λ ended. HasRoomFor ended (of_end end host remote))
         next_room settled ends = subst (λ (o : Option CallEnd). IfSome o (λ ended. HasRoomFor ended (of_end end host remote))) (sym ends) (room_in who m After calls (of_end end host remote) p next_stepped.lanes sound mine)
@@ -232,6 +237,9 @@ module _ (shared : SharedLink EndState) (manager : Manager) (calls : List (Optio
             (ended_hands who m After calls (Without place) (call_step (Without place) (none_others place at)) (of_end end host remote) (of_end end host' remote') mine answered own.0 (was_out ∙ own.1) put (same_lane m After left end) room)
             (theirs (Without place) host' remote' (none_others place at) beside)
 
+        pub last_taken : HoldsTaken (lists_of (form_step on_rings side_meaning m caller 0 None).state) caller (call_end answered)
+        last_taken = holds_answer shared manager' who After next_stepped.manages next_stepped.state (subst (CarriesOn shared manager' who p) done next_stepped.on) m answered own.0 (same_lane m After left end)
+
         pub last_shows : (to_host' to_remote' : LaneView) → of_end end to_host' to_remote' ≡ record (of_end end to_host to_remote) { receiver = if_other (of_end end to_host to_remote).receiver caller }
             → of_end (other end) to_host' to_remote' ≡ record (of_end (other end) to_host to_remote) { sender = if_other (of_end (other end) to_host to_remote).sender caller }
             → ShowsViews era to_host' to_remote' (form_step on_rings side_meaning m caller 0 None).state
@@ -240,6 +248,8 @@ module _ (shared : SharedLink EndState) (manager : Manager) (calls : List (Optio
             ∙ sym (λ i. view_from (same_lane m After left end i) (ap holder later.sender_beside i) (later.receiver_left (call_end answered) said_ended i))))
             (outgoing ∙ (ap (λ (v : LaneView). record v { sender = if_other v.sender caller }) (view_at era to_host to_remote m shows (other end))
             ∙ sym (λ i. view_from (same_lane m After left (other end) i) (later.sender_left (call_end answered) said_ended i) (ap holder later.receiver_beside i))))
+            (subst IsOfCaller (sym (ap (λ (v : LaneView). v.receiver) incoming)) (others_turn (of_end end to_host to_remote).receiver caller (turn_at era to_host to_remote m shows end)))
+            (same_receiver (of_end (other end) to_host to_remote) (of_end (other end) to_host' to_remote') (ap (λ (v : LaneView). v.receiver) outgoing) (turn_at era to_host to_remote m shows (other end)))
 
   -- the counts are small
   pub next_small : ((of_end (other end) to_host to_remote).accepted < 2 ^ 60) × ((of_end end to_host to_remote).handed < 2 ^ 60) × ((of_end end to_host to_remote).returned < 2 ^ 60)

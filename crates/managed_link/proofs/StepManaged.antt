@@ -41,7 +41,7 @@ use Rattle.managed_link.specs.declared.views.LaneView.{LaneView}
 use Rattle.managed_link.specs.EndCodes.{end_coded}
 use Rattle.managed_link.specs.Hands.{holding_of}
 use Rattle.managed_link.specs.Known.{LinkRings, lists_of, on_rings}
-use Rattle.managed_link.specs.Managed.{AreHandsOf, IsCarriedIn, IsLimited, IsManaged, ShowsViews, call_of, caller_id, view_of}
+use Rattle.managed_link.specs.Managed.{AreHandsOf, IsCarriedIn, IsLimited, IsManaged, IsOfCaller, ShowsViews, call_of, caller_id, view_of}
 use Rattle.managed_link.specs.Settles.{HasRoomFor}
 use Rattle.managed_link.specs.Steps.{of_end}
 use Rattle.managed_link.proofs.StepBooks.{BooksGrow, begun_stays, both_lanes, lane_sound}
@@ -115,9 +115,10 @@ module _ (shared : SharedLink EndState) (manager manager' : Manager) (calls call
     to_remote = hands side.Remote;
   }
 
-pub views_after : (era : Era) (to_host to_remote : LaneView) (end : End) (m : LinkRings) → era ≡ m.era → of_end end to_host to_remote ≡ view_of (lane_to m end).lane → of_end (other end) to_host to_remote ≡ view_of (lane_to m (other end)).lane → ShowsViews era to_host to_remote m
-views_after era to_host to_remote end m same mine theirs = let views = both_lanes (λ d. of_end d to_host to_remote ≡ view_of (lane_to m d).lane) end mine theirs in
-    record { era_is = same; host_is = views side.Host; remote_is = views side.Remote }
+pub views_after : (era : Era) (to_host to_remote : LaneView) (end : End) (m : LinkRings) → era ≡ m.era → of_end end to_host to_remote ≡ view_of (lane_to m end).lane → of_end (other end) to_host to_remote ≡ view_of (lane_to m (other end)).lane
+    → IsOfCaller (of_end end to_host to_remote).receiver → IsOfCaller (of_end (other end) to_host to_remote).receiver → ShowsViews era to_host to_remote m
+views_after era to_host to_remote end m same mine theirs own beside = let views = both_lanes (λ d. of_end d to_host to_remote ≡ view_of (lane_to m d).lane) end mine theirs in let turns = both_lanes (λ d. IsOfCaller (of_end d to_host to_remote).receiver) end own beside in
+    record { era_is = same; host_is = views side.Host; remote_is = views side.Remote; receivers = (turns side.Host, turns side.Remote) }
 
 -- a caller in no call is in none, whichever incarnation its next call follows
 pub idle_still : (shared : SharedLink EndState) (manager : Manager) (n : ℕ) (end : End) (follows other_follows : ℕ) → CarriesIdle shared manager (caller_id n end follows) → CarriesIdle shared manager (caller_id n end other_follows)
@@ -141,6 +142,10 @@ hands_at shared manager calls host remote m managed side.Remote = managed.to_rem
 pub view_at : (era : Era) (to_host to_remote : LaneView) (m : LinkRings) → ShowsViews era to_host to_remote m → (end : End) → of_end end to_host to_remote ≡ view_of (lane_to m end).lane
 view_at era to_host to_remote m shows side.Host = shows.host_is
 view_at era to_host to_remote m shows side.Remote = shows.remote_is
+
+pub turn_at : (era : Era) (to_host to_remote : LaneView) (m : LinkRings) → ShowsViews era to_host to_remote m → (end : End) → IsOfCaller (of_end end to_host to_remote).receiver
+turn_at era to_host to_remote m shows side.Host = shows.receivers.0
+turn_at era to_host to_remote m shows side.Remote = shows.receivers.1
 
 -- a caller of this end that may go on is in a call
 pub may_go_on : (m : LinkRings) (caller : ℕ) (end : End) → end_of m.callers caller ≡ Some end → MayStep (lists_of m) caller None → (is_calling (lists_of m) caller ≡ true) × (in_call caller (lanes_at m end) ≡ true)

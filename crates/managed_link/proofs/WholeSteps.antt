@@ -40,16 +40,19 @@ use Rattle.managed_link.specs.declared.views.LaneView.{LaneView}
 use Rattle.managed_link.specs.EndCodes.{end_coded}
 use Rattle.managed_link.specs.Hands.{holding_of}
 use Rattle.managed_link.specs.Known.{IsKnown, LinkRings, lists_of, on_rings}
-use Rattle.managed_link.specs.Managed.{AreHandsOf, IsCarriedIn, IsHandOf, IsManaged, ShowsViews, call_of, caller_id}
+use Rattle.managed_link.specs.Managed.{AreHandsOf, IsCarriedIn, IsHandOf, IsManaged, IsOwnAnswer, ShowsViews, call_of, caller_id}
 use Rattle.managed_link.specs.Settles.{HasRoomFor, incoming_view, outgoing_view}
 use Rattle.managed_link.specs.Steps.{of_end}
+use Rattle.managed_link.specs.Taken.{HoldsTaken}
+use Rattle.managed_link.proofs.CallersTurns.{incoming_settled, outgoing_settled, same_receiver}
 use Rattle.managed_link.proofs.Calling.{rests_in}
 use Rattle.managed_link.proofs.KnownStates.{at_known, state_one}
 use Rattle.managed_link.proofs.StepBooks.{BooksGrow, books_grow}
 use Rattle.managed_link.proofs.StepGives.{ended_hands}
 use Rattle.managed_link.proofs.StepHands.{StepsCall, hand_kept, hands_beside, hands_here, last_or_before, out_with}
-use Rattle.managed_link.proofs.StepManaged.{IsStepped, hands_at, idle_still, managed_after, may_begin, settled_room, view_at, views_after}
+use Rattle.managed_link.proofs.StepManaged.{IsStepped, hands_at, idle_still, managed_after, may_begin, settled_room, turn_at, view_at, views_after}
 use Rattle.managed_link.proofs.StepSettles.{has_begun, held_known, incoming_known, not_in_none, outgoing_known}
+use Rattle.managed_link.proofs.TakenMessages.{holds_answer}
 use Rattle.managed_link.proofs.WholeTurns.{KeepsHolders, whole_leaves}
 
 -- what the parts of a managed link keep
@@ -160,7 +163,9 @@ module _ {w : WholeCall} {said : Answer} (h : HasCalled w said) where
             (subst (AreHandsOf Left (other e) calls) (sym same) (hands_beside w.who m Left calls calls called_step (of_end (other e) w.link.host w.link.remote) (hands_at w.link.shared w.link.manager calls w.link.host w.link.remote m h.was.0 (other e)))),
         views_after w.link.era to_host to_remote e Left (views.era_is ∙ sym turns.era)
             (into ∙ (ap (incoming_view (call_end said)) (view e) ∙ sym (incoming_known w.who (phase.LeavesReceiver said) m Left State.settles turns.incoming_sender turns.incoming_receiver)))
-            (out ∙ (ap (outgoing_view (call_end said)) (view (other e)) ∙ sym (outgoing_known w.who (phase.LeavesReceiver said) m Left State.settles turns.outgoing_sender turns.outgoing_receiver))),
+            (out ∙ (ap (outgoing_view (call_end said)) (view (other e)) ∙ sym (outgoing_known w.who (phase.LeavesReceiver said) m Left State.settles turns.outgoing_sender turns.outgoing_receiver)))
+            (same_receiver (incoming w) (of_end e to_host to_remote) (ap (λ (v : LaneView). v.receiver) into ∙ incoming_settled (call_end said) (incoming w)) (turn_at w.link.era w.link.to_host w.link.to_remote m views e))
+            (same_receiver (outgoing w) (of_end (other e) to_host to_remote) (ap (λ (v : LaneView). v.receiver) out ∙ outgoing_settled (call_end said) (outgoing w)) (turn_at w.link.era w.link.to_host w.link.to_remote m views (other e))),
       )
 
   pub called_ends : (old new : LinkRings) (end : CallEnd) → w.link.known.0 ≡ old → IsKnown w.after new → end ≡ call_end said
@@ -251,3 +256,15 @@ pub is_taken : {w : WholeCall} (r : Result Taken TakeFault) (host remote : Vec H
     → of_end (other w.who.end) to_host to_remote ≡ outgoing w → (x : LinkRings) → IsKnown w.after x → IsManaged w.link.shared w.after w.link.calls.items host remote x × ShowsViews w.link.era to_host to_remote x
 is_taken {w} r host remote to_host to_remote h items room beside into out =
     is_link h host remote to_host to_remote (taken_hands r (of_end w.who.end host remote) h items room) beside into (out ∙ took_outgoing r (outgoing w))
+
+-- and its caller holds that buffer, and is in no call
+taken_own : {w : WholeCall} (r : Result Taken TakeFault) (h : HasCalled w (take_answer r)) → IsOwnAnswer w.who (Left h) (take_answer r)
+taken_own {w} (Ok taken) h = has_begun w.who phase.Ended (phase.LeavesReceiver (take_answer (Ok taken))) w.link.known.0 (Left h) h.told.2.settles (called_turns h).sound refl (λ asked is. cc)
+taken_own (Err (take_fault.Busy found)) h = tt
+taken_own (Err (take_fault.Dead era)) h = tt
+taken_own (Err (take_fault.Empty accepted)) h = tt
+
+pub has_taken : {w : WholeCall} (behind : ℕ) (old left : LinkRings) (ended : CallEnd) (r : Result Taken TakeFault) → HasCalled w (take_answer r) → ended ≡ call_end (take_answer r) → FormEndsIn behind on_rings side_meaning old w.who.number w.who.follows (Some w.wished) left ended
+    → IsKnown w.after left → HoldsTaken (lists_of left) w.who.number ended
+has_taken {w} behind old left ended r h is ends known = at_known (λ (x : LinkRings). HoldsTaken (lists_of x) w.who.number ended) w.after (Left h) h.told.2.state (subst (HoldsTaken (lists_of (Left h)) w.who.number) (sym is)
+    (holds_answer w.link.shared w.after w.who (Left h) h.manager.0 h.told.2.state h.idle (Left h) (take_answer r) (taken_own r h) refl)) left known

@@ -1,5 +1,5 @@
 -- What the parts of a managed link keep: the manager carries each caller, in its call or in none, and what the link's state says stands beside (own).
-use Rattle.std.specs.Prelude.{◌≡◌, ◌≤◌, ℕ, true, List, [], length, map, replicate, slice_get, Option, None, Some, option_and_then, Vec, vec_capacity}
+use Rattle.std.specs.Prelude.{◌≡◌, ◌≤◌, ◌<◌, ℕ, true, List, [], length, map, replicate, slice_get, Option, None, Some, IfSome, option_and_then, Vec, vec_capacity}
 use mathlib.Core.Option.{some}
 use lib.ListN.{get_elem?}
 use Rattle.std.specs.Option.{option_map}
@@ -16,6 +16,8 @@ use Rattle.lane_model.specs.HeldBuffers.{HeldBuffer}
 use Rattle.lane_model.specs.Lanes.{holder, holds, message_at}
 use Rattle.lane_model.specs.Links.{LinkState, end_of}
 use Rattle.lane_model.specs.Soundness.{SoundLink}
+use Rattle.rp_base.specs.Limits.{IsRingSize, ring_capacity}
+use Rattle.vring_layout.specs.declared.words.RingWords.{RingWords}
 use Rattle.channel_bus.specs.Sides.{EndState}
 use Rattle.link_words.specs.Passes.{HasNumber}
 use Rattle.link_words.specs.Words.{lane_to}
@@ -109,16 +111,25 @@ pub record IsManaged (shared : SharedLink EndState) (manager : Manager) (calls :
   pub to_host : AreHandsOf m side.Host calls host
   pub to_remote : AreHandsOf m side.Remote calls remote
 
--- what stands beside: the era, the counts of both lanes and who has their turns
+-- who has a turn, if any, is a caller, and not the manager
+abbrev pub IsOfCaller : Option ℕ → Type 0
+IsOfCaller found = IfSome found (λ caller. caller < 64)
+
+-- what stands beside: the era, the counts of both lanes and who has their turns; no receiver's turn is the manager's
 pub record ShowsViews (era : Era) (to_host to_remote : LaneView) (m : LinkRings) : Type 0 where
   pub era_is : era ≡ m.era
   pub host_is : to_host ≡ view_of m.to_host.lane
   pub remote_is : to_remote ≡ view_of m.to_remote.lane
+  pub receivers : IsOfCaller to_host.receiver × IsOfCaller to_remote.receiver
 
 -- the manager of this link carries every caller, and knows that the link is in this state
 pub record Manages (shared : SharedLink EndState) (manager : Manager) (m : LinkRings) : Type 0 where
   pub manages : IsManagerOf shared manager
   pub state : IsStateOf end_coded manager m
+
+-- the words of rings of a size that rings may have: an entry of either for each descriptor, and a buffer for each up to 256
+abbrev pub IsWholeRing : RingWords → Type 0
+IsWholeRing words = IsRingSize words.num × (words.capacity ≡ ring_capacity words.num) × (length words.avail ≡ words.num) × (length words.used ≡ words.num)
 
 -- the counts of the lane to an end
 abbrev pub counts_to : LinkState EndState → End → ℕ × ℕ × ℕ

@@ -1,5 +1,5 @@
 //! What is seen of a managed link: its era and counts, who has its turns, what a caller has in hand, the channels of an end, and its words.
-ghost use Rattle.std.specs.Prelude.{◌≡◌, ◌⊎◌, ◌≤◌, IfOk, IfErr, OnOk, None, Some, length, true, false};
+ghost use Rattle.std.specs.Prelude.{◌≡◌, ◌⊎◌, ◌≤◌, IfOk, IfErr, IfSome, OnOk, None, Some, length, true, false};
 ghost use Rattle.std.specs.Option.{option_map};
 ghost use Rattle.rp_base.specs.declared.limits.TheConstants.{BOOK_MOST, MESSAGE_MOST};
 ghost use Rattle.lane_model.specs.Conditions.{is_calling, is_holding};
@@ -9,7 +9,7 @@ ghost use Rattle.split_ring.specs.ManagerCalls.{snapshot_of};
 ghost use Rattle.split_ring.specs.States.{turns_out};
 ghost use Rattle.vring_layout.specs.declared.snapshots.SnapshotFault.TheVariants as snapshot_fault;
 ghost use Rattle.managed_link.specs.Known.{lists_of};
-ghost use Rattle.managed_link.specs.Managed.{Manages, counts_to, message_for, state_to};
+ghost use Rattle.managed_link.specs.Managed.{IsWholeRing, Manages, counts_to, message_for, state_to};
 
 use crate::hands::place_of;
 use crate::links::ManagedLink;
@@ -51,9 +51,10 @@ impl ManagedLink {
         }
     }
 
-    /// Who has the receiver's turn of the lane to an end.
+    /// Who has the receiver's turn of the lane to an end: a caller of that end.
     pub fn receiver_holder(&self, lane: End) -> Option<CallerNo>
-        ensures { result ≡ holder (state_to (lists_of self.now) lane).receiver }
+        ensures holder { result ≡ holder (state_to (lists_of self.now) lane).receiver }
+        ensures user { IfSome result (λ caller. end_of self.now.callers caller ≡ Some lane) }
     {
         match lane {
             End::Host => self.to_host.receiver,
@@ -109,6 +110,7 @@ impl ManagedLink {
         ensures same { self.new ≡ self.old }
         ensures free { OnOk result (turns_out self.old ≡ None) }
         ensures words { IfOk result (λ snapshot. snapshot ≡ snapshot_of self.old) }
+        ensures sized { IfOk result (λ snapshot. IsWholeRing snapshot.to_host × IsWholeRing snapshot.to_remote) }
         ensures refused { IfErr result (λ why. (option_map snapshot_fault.StillTurn (turns_out self.old) ≡ Some why) ⊎ ((why ≡ snapshot_fault.NoMemory) × (turns_out self.old ≡ None))) }
     {
         self.shared.snapshot(alloc, &mut self.manager)

@@ -18,6 +18,7 @@ ghost use Rattle.managed_link.specs.Known.{LinkRings, lists_of, on_rings};
 ghost use Rattle.managed_link.specs.Managed.{caller_id};
 ghost use Rattle.managed_link.specs.Settles.{CanGive, HasRoomFor, answer_buffer};
 ghost use Rattle.managed_link.specs.Steps.{AdvancesCall, hands_learnt, held_learnt, incoming_begun, incoming_learnt, of_end, outgoing_begun, outgoing_learnt, settled_in};
+ghost use Rattle.managed_link.specs.Taken.{HoldsStepTaken};
 ghost use Rattle.managed_link.specs.Views.{if_other};
 
 use crate::callers::CarriedCall;
@@ -42,6 +43,7 @@ impl ManagedLink {
         requires { MayStep (lists_of self.old) caller (Some wished.now) }
         ensures whole { self.new ≡ (form_step on_rings side_meaning self.old caller follows (Some wished.now)).state }
         ensures outcome { outcome_of result end.new ≡ (caller_step side_meaning (lists_of self.old) caller follows (Some wished.now)).outcome }
+        ensures taken { HoldsStepTaken (lists_of self.new) caller result end.new }
     {
         let Some(side) = self.manager.end_of(caller) else {
             unreachable!()
@@ -69,6 +71,7 @@ impl ManagedLink {
         requires { MayStep (lists_of self.old) caller None }
         ensures whole { self.new ≡ (form_step on_rings side_meaning self.old caller 0 None).state }
         ensures outcome { outcome_of result end.new ≡ (caller_step side_meaning (lists_of self.old) caller 0 None).outcome }
+        ensures taken { HoldsStepTaken (lists_of self.new) caller result end.new }
     {
         let place = usize::from(caller);
         let Some(side) = self.manager.end_of(caller) else {

@@ -9,6 +9,7 @@ ghost use Rattle.channel_bus.specs.Sides.{side_meaning};
 ghost use Rattle.managed_link.specs.Hands.{AreSome, IsPutIn, IsTakenOut, holding_of};
 ghost use Rattle.managed_link.specs.Known.{lists_of, on_rings};
 ghost use Rattle.managed_link.specs.Settles.{HasRoomFor, IsHere, incoming_view, outgoing_view};
+ghost use Rattle.managed_link.specs.Taken.{HoldsTaken};
 
 use crate::hands::{Hand, drop_hand, put_in, take_out};
 use crate::links::ManagedLink;
@@ -31,6 +32,7 @@ impl ManagedLink {
         requires steps { steps.old < 2 ^ 60 }
         ensures few { steps.new ≤ steps.old + 7 }
         ensures whole { (behind : ℕ) × (steps.new ≡ steps.old + behind + 1) × FormEndsIn behind on_rings side_meaning self.old caller follows (Some wished.now) self.new end.new }
+        ensures taken { HoldsTaken (lists_of self.new) caller end.new }
     {
         match wished {
             Wish::Send(message) => self.send(caller, follows, message, steps, end),
@@ -53,6 +55,7 @@ impl ManagedLink {
         requires steps { steps.old < 2 ^ 60 }
         ensures few { steps.new ≤ steps.old + 7 }
         ensures whole { (behind : ℕ) × (steps.new ≡ steps.old + behind + 1) × FormEndsIn behind on_rings side_meaning self.old caller follows (Some (wish.Send message.now)) self.new end.new }
+        ensures taken { HoldsTaken (lists_of self.new) caller end.new }
     {
         let sent = self
             .shared
@@ -70,6 +73,7 @@ impl ManagedLink {
         requires steps { steps.old < 2 ^ 60 }
         ensures few { steps.new ≤ steps.old + 6 }
         ensures whole { (behind : ℕ) × (steps.new ≡ steps.old + behind + 1) × FormEndsIn behind on_rings side_meaning self.old caller follows (Some wish.Take) self.new end.new }
+        ensures taken { HoldsTaken (lists_of self.new) caller end.new }
     {
         let taken = self
             .shared
@@ -94,6 +98,7 @@ impl ManagedLink {
         requires steps { steps.old < 2 ^ 60 }
         ensures few { steps.new ≤ steps.old + 4 }
         ensures whole { (behind : ℕ) × (steps.new ≡ steps.old + behind + 1) × FormEndsIn behind on_rings side_meaning self.old caller follows (Some (wish.Give number)) self.new end.new }
+        ensures taken { HoldsTaken (lists_of self.new) caller end.new }
     {
         match self.manager.end_of(caller) {
             Some(End::Host) => {
@@ -127,6 +132,7 @@ impl ManagedLink {
         requires steps { steps.old < 2 ^ 60 }
         ensures few { steps.new ≤ steps.old + 7 }
         ensures whole { (behind : ℕ) × (steps.new ≡ steps.old + behind + 1) × FormEndsIn behind on_rings side_meaning self.old caller follows (Some wished.now) self.new end.new }
+        ensures taken { HoldsTaken (lists_of self.new) caller end.new }
     {
         *steps += 1;
         if let Step::Ended = self.first_step(caller, follows, wished, end) {

@@ -33,7 +33,7 @@ use Rattle.link_bench.specs.declared.benches.Reach.{Reach}
 use Rattle.link_bench.specs.declared.benches.Reach.TheVariants as reach
 use Rattle.link_bench.specs.Acts.{Acted, answer_of_reclaim, answers, call_act, caller_act, first_refusal, free_act, link_act, made_call, misfit, own_in, pump_act, pump_refusal, reclaim_act, side_refusal, step_act, turns_act, unless_own, unless_refused, walk_act, wish_of}
 use Rattle.link_bench.specs.BenchCrashes.{reclaim_answer}
-use Rattle.link_bench.specs.Benches.{BenchState, BenchWalk, advance_steps, advance_walk, begun_call_of, call_walk, calling_fault, is_in_call, link_in, message_on, ready_fault, step_fault, used_fault}
+use Rattle.link_bench.specs.Benches.{BenchState, BenchWalk, advance_steps, advance_walk, begun_call_of, call_walk, calling_fault, is_in_call, link_in, message_for, ready_fault, step_fault, used_fault}
 use Rattle.link_bench.specs.Turns.{pump_turns}
 use Rattle.link_bench.specs.Watchers.{Seeing}
 use Rattle.command_run.specs.CallEvents.{end_event, took_event}
@@ -52,7 +52,7 @@ module _ (name : List ℕ) (link : LinkState EndState) (caller number : ℕ) (ju
   abbrev AtEnd : End → Option End → Type 0
   AtEnd end found =
       step_takes found end (record { state = link; outcome = outcome.Ended (ended.Took number judged) }) ≡ handing ∷ []
-      → took_event name caller number (message_on link found number) judged ≡ took_event name caller handing.sent.number handing.sent.message handing.verdict
+      → took_event name caller number (message_for link found number) judged ≡ took_event name caller handing.sent.number handing.sent.message handing.verdict
 
   at_end : (end : End) → AtEnd end (Some end)
   at_end side.Host told = took_line name caller number judged (slice_get link.to_host.lane.accepted number) handing told

@@ -18,6 +18,7 @@ returns-in_default-2 c =
     record {
       rests = works ∙ sym (and_right (host_is_idle core.bench core.actors) (worker_is_idle core.bench core.actors) busy);
       driven = did.driven ∙ sym (ap (λ (step : DriveStep). step.driven) drives);
+      taken = did.taken;
       left = did.left ∙ sym (ap (λ (step : DriveStep). step.core) drives);
       unchanged = tt;
     }

@@ -8,7 +8,7 @@ use Rattle.link_bench.proofs.benches.Bench.put_call.Goals as goal
 pub invariant_of-self : goal.invariant_of-self
 invariant_of-self c =
     let bench : BenchState = record { rings = c.self.inside.link; begun = c.self.inside.begun.items } in
-    let call : BegunCall = record { follows = c.self.inside.link.era.inc; wish = c.args.wished } in
+    let call : BegunCall = record { follows = c.era.result.inc; wish = c.args.wished } in
     let ready : begin_fault bench c.args.caller c.args.wished ≡ None =
     subst (λ (b : BenchState). begin_fault b c.args.caller c.args.wished ≡ None) (sym c.self.view_is) c.requires.ready in (
       length-set c.self.inside.begun.items c.from.result (Some call) ∙ c.self.invariant.0,

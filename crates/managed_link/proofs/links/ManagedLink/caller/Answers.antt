@@ -27,7 +27,7 @@ invariant_of-self c =
       subst (λ (k : Option _). IsManaged s.shared after s.calls.items s.host s.remote (enlisted m c.args.end k)) free
           (managed_enlisted s.shared s.manager after s.calls.items s.host s.remote m c.args.end c.enlist.ensures.others c.self.invariant.0 c.enlist.result free c.enlist.ensures.manager
           (subst (λ (k : Option _). IsStateOf end_coded after (enlisted m c.args.end k)) (sym free) (knows made)) c.enlist.ensures.carried),
-      record { era_is = c.self.invariant.1.era_is; host_is = c.self.invariant.1.host_is; remote_is = c.self.invariant.1.remote_is },
+      record { era_is = c.self.invariant.1.era_is; host_is = c.self.invariant.1.host_is; remote_is = c.self.invariant.1.remote_is; receivers = c.self.invariant.1.receivers },
     ) _ (assumption)
 
 pub returns-clause-left : goal.returns-clause-left

@@ -3,6 +3,7 @@ use Rattle.std.proofs.Common.{◌≡◌, ◌<◌, ℕ, List, Option, Some, refl,
 use Rattle.std.specs.Prelude.{IfSome}
 use Rattle.rp_base.specs.declared.kinds.End.{End}
 use Rattle.lane_model.specs.declared.calls.Outcome.TheVariants as outcome
+use Rattle.lane_model.specs.declared.calls.Step.TheVariants as step
 use Rattle.lane_model.specs.declared.calls.Wish.{Wish}
 use Rattle.lane_model.specs.Conditions.{MayStep}
 use Rattle.lane_model.specs.Links.{caller_step, end_of, form_step}
@@ -17,6 +18,7 @@ use Rattle.managed_link.specs.Managed.{IsManaged, ShowsViews, caller_id}
 use Rattle.managed_link.proofs.Advances.{first_stepped, first_wished, outcome_on_lists}
 use Rattle.managed_link.proofs.FirstSteps.{begun_managed, begun_shows, first_asks, first_gives, refused_managed, refused_place, refused_shows}
 use Rattle.managed_link.proofs.KnownStates.{at_known, state_behind}
+use Rattle.managed_link.proofs.TakenMessages.{first_takes}
 use Rattle.managed_link.proofs.links.ManagedLink.first_step.Goals.{in-Sends-1, in-Asked-1}
 use Rattle.managed_link.proofs.links.ManagedLink.first_step.Goals as goal
 
@@ -142,3 +144,6 @@ returns-in-Done-clause-outcome c =
     let a = c.ask_at-ask in let b = c.advance_by in let p = c.begin_call-call.result.phase in let asked = c.begin_call-call.ensures.asked in
     let state : IsStateOf the_code s.manager m = managed.state in let told = b.ensures.said m state ∙ ap (λ (o : Option Wish). (form_step on_rings side_meaning m n f o).outcome) (first_wished p a.result w asked a.ensures.wish) in
     ap outcome.Ended c.end_at.ensures.end ∙ (outcome_on_lists m n f (Some w) (outcome.Ended (call_end c.in-Done.answer)) (sym (ap outcome_said c.in-Done.is) ∙ told) ∙ ap (λ (x : LinkRings). (caller_step side_meaning (lists_of x) n f (Some w)).outcome) c.self.view_is)
+
+pub returns-in-Done-clause-taken : goal.returns-in-Done-clause-taken
+returns-in-Done-clause-taken c = first_takes (lists_of c.args.self.now) c.args.caller c.args.follows c.args.wished.now step.Ended c.end_at.result (returns-in-Done-clause-whole c) (returns-in-Done-clause-outcome c)

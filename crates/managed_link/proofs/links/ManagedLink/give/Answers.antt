@@ -8,6 +8,7 @@ use Rattle.split_ring.specs.Calls.{give_answer}
 use Rattle.split_ring.specs.ManagerCalls.{CallsState}
 use Rattle.managed_link.specs.EndCodes.{end_coded}
 use Rattle.managed_link.specs.Managed.{caller_id}
+use Rattle.managed_link.proofs.TakenMessages.{give_takes}
 use Rattle.managed_link.proofs.WholeGives.{has_place, is_given, is_here, may_give}
 use Rattle.managed_link.proofs.WholeSteps.{HasCalled, WholeCall, called_ends, user_from}
 use Rattle.managed_link.proofs.links.ManagedLink.give.Goals as goal
@@ -92,3 +93,9 @@ invariant_of-self-in-Some-Remote c = is_given c.give_by-given-in-Some-Remote.res
 
 pub returns-in-Some-Remote-clause-whole : goal.returns-in-Some-Remote-clause-whole
 returns-in-Some-Remote-clause-whole c = called_ends (told_remote (goal.at.returns-in-Some-Remote-clause-whole c).After-give_by-given-in-Some-Remote (user_from c.self.inside.manager c.args.caller _ _ side.Remote c.end_of.ensures.end c.in-Some-Remote.is c.in-Some-Remote.field-0-is)) c.args.self.now _ c.gave_end-in-Some-Remote.result c.self.view_is (assumption) c.gave_end-in-Some-Remote.ensures.end
+
+pub returns-in-Some-Host-clause-taken : goal.returns-in-Some-Host-clause-taken
+returns-in-Some-Host-clause-taken c = give_takes _ _ _ _ _ _ _ c.give_by-given.result c.gave_end.ensures.end (returns-in-Some-Host-clause-whole c).2
+
+pub returns-in-Some-Remote-clause-taken : goal.returns-in-Some-Remote-clause-taken
+returns-in-Some-Remote-clause-taken c = give_takes _ _ _ _ _ _ _ c.give_by-given-in-Some-Remote.result c.gave_end-in-Some-Remote.ensures.end (returns-in-Some-Remote-clause-whole c).2

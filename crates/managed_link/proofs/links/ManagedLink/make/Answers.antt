@@ -1,9 +1,10 @@
 -- The manager of a new link knows its state.
-use Rattle.std.proofs.Common.{◌≤◌, arith, true, refl, vec_capacity}
+use Rattle.std.proofs.Common.{◌≤◌, arith, true, refl, sym, subst, vec_capacity}
 use Rattle.rp_base.specs.Limits.{ring_capacity}
 use Rattle.ring_core.specs.RingLinks.{opened_ring_link}
+use Rattle.managed_link.specs.declared.views.LaneView.{LaneView}
 use Rattle.managed_link.specs.Known.{LinkRings}
-use Rattle.managed_link.specs.Managed.{IsManaged, ShowsViews}
+use Rattle.managed_link.specs.Managed.{IsManaged, IsOfCaller, ShowsViews}
 use Rattle.managed_link.proofs.KnownStates.{at_known, state_one}
 use Rattle.managed_link.proofs.NewLinks.{managed_new}
 use Rattle.managed_link.proofs.links.ManagedLink.make.Goals as goal
@@ -17,7 +18,7 @@ invariant_of-result-2 c =
     at_known (λ (x : LinkRings). IsManaged shared manager calls host remote x × ShowsViews (record { inc = c.args.config.first; is_live = true }) c.new.result c.new-2.result x) manager m c.in_ok-shared.ensures.state (
       managed_new shared manager calls host remote c.args.config c.args.host c.args.remote c.requires.config c.in_ok-shared.ensures.manager c.in_ok-shared.ensures.state c.in_ok-calls.ensures
           (c.in_ok-to_host.ensures.items, host_room) (c.in_ok-to_remote.ensures.items, remote_room),
-      record { era_is = refl; host_is = c.new.ensures; remote_is = c.new-2.ensures },
+      record { era_is = refl; host_is = c.new.ensures; remote_is = c.new-2.ensures; receivers = (subst (λ (v : LaneView). IsOfCaller v.receiver) (sym c.new.ensures) tt, subst (λ (v : LaneView). IsOfCaller v.receiver) (sym c.new-2.ensures) tt) },
     ) _ (assumption)
 
 pub returns : goal.returns

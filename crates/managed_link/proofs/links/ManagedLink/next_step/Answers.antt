@@ -10,10 +10,12 @@ use Rattle.split_ring.specs.Calls.{call_end}
 use Rattle.split_ring.specs.Phases.{outcome_said}
 use Rattle.managed_link.specs.Known.{LinkRings, lists_of, on_rings}
 use Rattle.managed_link.specs.Managed.{IsManaged, ShowsViews}
+use Rattle.managed_link.specs.Taken.{HoldsTaken}
 use Rattle.managed_link.proofs.Advances.{outcome_on_lists}
 use Rattle.managed_link.proofs.Calling.{call_read}
 use Rattle.managed_link.proofs.KnownStates.{at_known, state_behind}
-use Rattle.managed_link.proofs.NextSteps.{last_managed, last_place, last_shows, next_call, next_carried, next_managed, next_room, next_settled, next_shows, next_small, next_stepped, next_told}
+use Rattle.managed_link.proofs.NextSteps.{last_managed, last_place, last_shows, last_taken, next_call, next_carried, next_managed, next_room, next_settled, next_shows, next_small, next_stepped, next_told}
+use Rattle.managed_link.proofs.TakenMessages.{taken_behind}
 use Rattle.managed_link.proofs.links.ManagedLink.next_step.Goals as goal
 
 pub advance_in-progress-requires-clause-call : goal.advance_in-progress-requires-clause-call
@@ -155,3 +157,14 @@ returns-in-Done-clause-outcome c =
     let found = next_call s.shared s.manager s.calls.items s.host s.remote s.era s.to_host s.to_remote m managed shows n e user low may in let call = found.0 in let here : c.index_mut.result.now ≡ Some call = sym (call_read s.calls.items s.calls.items n place c.index_mut.result.now refl at within c.index_mut.ensures.value) ∙ found.1 in
     let b = c.advance_in-progress in let taken = b.ensures e call m used here managed.state in
     ap outcome.Ended c.end_at.ensures.end ∙ (outcome_on_lists m n 0 None (outcome.Ended (call_end c.in-Done.answer)) (sym (ap outcome_said c.in-Done.is) ∙ next_told s.shared s.manager s.calls.items s.host s.remote s.era s.to_host s.to_remote m managed shows n e user low may call found.1 b.new.manager b.result b.new.slot taken) ∙ ap (λ (x : LinkRings). (caller_step side_meaning (lists_of x) n 0 None).outcome) c.self.view_is)
+
+pub returns-in-Done-clause-taken : goal.returns-in-Done-clause-taken
+returns-in-Done-clause-taken c =
+    let s = c.self.inside in let m = s.known.0 in let e = c.in-Some.side in let n = c.args.caller in let managed = c.self.invariant.0 in let shows = c.self.invariant.1 in
+    let used : end_of s.manager.users n ≡ Some e = sym c.end_of.ensures.end ∙ c.in-Some.is in let user : end_of m.callers n ≡ Some e = ap (λ (l : List (Option End)). end_of l n) (sym managed.state.users) ∙ used in
+    let low : n < 64 = subst (λ (o : Option End). IfSome o (λ _. n < 64)) c.in-Some.is c.end_of.ensures.within in let may = subst (λ (x : LinkRings). MayStep (lists_of x) n None) (sym c.self.view_is) c.requires in
+    let place = c.from-place.result in let at : place ≡ n = c.from-place.ensures in let slots = managed.slots in let within : place < length s.calls.items = omega (arith, at, low, slots) in
+    let found = next_call s.shared s.manager s.calls.items s.host s.remote s.era s.to_host s.to_remote m managed shows n e user low may in let call = found.0 in let here : c.index_mut.result.now ≡ Some call = sym (call_read s.calls.items s.calls.items n place c.index_mut.result.now refl at within c.index_mut.ensures.value) ∙ found.1 in
+    let b = c.advance_in-progress in let taken = b.ensures e call m used here managed.state in
+    taken_behind (λ (x : LinkRings). (form_step on_rings side_meaning x n 0 None).state) m c.args.self.now n c.end_at.result (returns-in-Done-clause-whole c) c.self.view_is
+    (subst (HoldsTaken (lists_of (form_step on_rings side_meaning m n 0 None).state) n) (sym c.end_at.ensures.end) (last_taken s.shared s.manager s.calls.items s.host s.remote s.era s.to_host s.to_remote m managed shows n e user low may call found.1 b.new.manager b.result b.new.slot taken c.in-Done.answer c.in-Done.is))

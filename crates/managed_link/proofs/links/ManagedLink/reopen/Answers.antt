@@ -1,9 +1,10 @@
 -- Where nothing refuses the reopening only memory may be wanting, and the state stays then; else it is the next incarnation's.
-use Rattle.std.proofs.Common.{◌≡◌, ◌+◌, ℕ, None, true, refl, sym, ap, ◌∙◌, inr}
+use Rattle.std.proofs.Common.{◌≡◌, ◌+◌, ℕ, None, true, refl, sym, ap, subst, ◌∙◌, inr}
 use Rattle.std.proofs.lemmas.Result.{err_from_is_err_and}
 use Rattle.lane_model.specs.Recoveries.{link_after_reopen, link_reopen_refusal}
+use Rattle.managed_link.specs.declared.views.LaneView.{LaneView}
 use Rattle.managed_link.specs.Known.{LinkRings, lists_of, on_rings}
-use Rattle.managed_link.specs.Managed.{IsManaged, ShowsViews}
+use Rattle.managed_link.specs.Managed.{IsManaged, IsOfCaller, ShowsViews}
 use Rattle.managed_link.proofs.KnownStates.{at_known, state_behind}
 use Rattle.managed_link.proofs.Reopenings.{managed_reopened, only_memory}
 use Rattle.managed_link.proofs.SameLanes.{managed_kept}
@@ -34,7 +35,7 @@ invariant_of-self-2 c =
     let s = c.self.inside in let m = s.known.0 in let after = c.reopen.new.manager in let told = c.in_ok-books.ensures.state m c.self.invariant.0.state in
     at_known (λ (x : LinkRings). IsManaged s.shared after s.calls.items s.host s.remote x × ShowsViews (record { inc = c.in_ok-books.books.inc + 1; is_live = true }) c.new-self-inside.result c.new-self-inside-2.result x) after (link_after_reopen on_rings m) told.3 (
       managed_reopened s.shared s.manager after s.calls.items s.host s.remote m told.0 c.reopen.ensures.manager.0 told.3 (λ who p. c.reopen.ensures.others who p) c.self.invariant.0,
-      record { era_is = ap (λ (n : ℕ). record { inc = n + 1; is_live = true }) told.1; host_is = c.new-self-inside.ensures; remote_is = c.new-self-inside-2.ensures },
+      record { era_is = ap (λ (n : ℕ). record { inc = n + 1; is_live = true }) told.1; host_is = c.new-self-inside.ensures; remote_is = c.new-self-inside-2.ensures; receivers = (subst (λ (v : LaneView). IsOfCaller v.receiver) (sym c.new-self-inside.ensures) tt, subst (λ (v : LaneView). IsOfCaller v.receiver) (sym c.new-self-inside-2.ensures) tt) },
     ) _ (assumption)
 
 pub returns-clause-whole : goal.returns-clause-whole

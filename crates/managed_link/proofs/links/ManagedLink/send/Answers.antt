@@ -6,6 +6,7 @@ use Rattle.lane_model.specs.declared.calls.Wish.TheVariants as wish
 use Rattle.lane_model.specs.Links.{end_of}
 use Rattle.split_ring.specs.Calls.{send_answer}
 use Rattle.managed_link.specs.Managed.{caller_id}
+use Rattle.managed_link.proofs.TakenMessages.{send_takes}
 use Rattle.managed_link.proofs.WholeSteps.{HasCalled, WholeCall, called_ends, is_sent, may_call, user_at}
 use Rattle.managed_link.proofs.links.ManagedLink.send.Goals as goal
 use Rattle.managed_link.proofs.links.ManagedLink.send.Goals.{After-send_by-sent}
@@ -44,3 +45,9 @@ invariant_of-self-in-Some-Remote c = is_sent c.send_by-sent.result c.sent_end-in
 
 pub returns-in-Some-Remote-clause-whole : goal.returns-in-Some-Remote-clause-whole
 returns-in-Some-Remote-clause-whole c = called_ends (told (goal.at.returns-in-Some-Remote-clause-whole c).After-send_by-sent side.Remote _ _ c.end_of.ensures.end c.in-Some-Remote.is c.in-Some-Remote.field-0-is) c.args.self.now _ c.sent_end-in-Some-Remote.result c.self.view_is (assumption) c.sent_end-in-Some-Remote.ensures.end
+
+pub returns-in-Some-Host-clause-taken : goal.returns-in-Some-Host-clause-taken
+returns-in-Some-Host-clause-taken c = send_takes _ _ _ _ _ _ _ c.send_by-sent.result c.sent_end.ensures.end (returns-in-Some-Host-clause-whole c).2
+
+pub returns-in-Some-Remote-clause-taken : goal.returns-in-Some-Remote-clause-taken
+returns-in-Some-Remote-clause-taken c = send_takes _ _ _ _ _ _ _ c.send_by-sent.result c.sent_end-in-Some-Remote.ensures.end (returns-in-Some-Remote-clause-whole c).2

@@ -6,7 +6,7 @@ use Rattle.lane_model.specs.declared.calls.Wish.TheVariants as wish
 use Rattle.lane_model.specs.Links.{end_of}
 use Rattle.split_ring.specs.Calls.{take_answer}
 use Rattle.managed_link.specs.Managed.{caller_id}
-use Rattle.managed_link.proofs.WholeSteps.{HasCalled, WholeCall, called_ends, has_room, is_taken, may_call, user_at}
+use Rattle.managed_link.proofs.WholeSteps.{HasCalled, WholeCall, called_ends, has_room, has_taken, is_taken, may_call, user_at}
 use Rattle.managed_link.proofs.links.ManagedLink.take.Goals as goal
 use Rattle.managed_link.proofs.links.ManagedLink.take.Goals.{After-take_by-taken}
 
@@ -50,3 +50,9 @@ invariant_of-self-in-Some-Remote c = is_taken c.take_by-taken.result c.self.insi
 
 pub returns-in-Some-Remote-clause-whole : goal.returns-in-Some-Remote-clause-whole
 returns-in-Some-Remote-clause-whole c = called_ends (told (goal.at.returns-in-Some-Remote-clause-whole c).After-take_by-taken side.Remote _ _ c.end_of.ensures.end c.in-Some-Remote.is c.in-Some-Remote.field-0-is) c.args.self.now _ c.took_end-in-Some-Remote.result c.self.view_is (assumption) c.took_end-in-Some-Remote.ensures.end
+
+pub returns-in-Some-Host-clause-taken : goal.returns-in-Some-Host-clause-taken
+returns-in-Some-Host-clause-taken c = has_taken _ _ _ _ c.take_by-taken.result (told (goal.at.returns-in-Some-Host-clause-taken c).After-take_by-taken side.Host _ _ c.end_of.ensures.end c.in-Some-Host.is c.in-Some-Host.field-0-is) c.took_end.ensures.end (returns-in-Some-Host-clause-whole c).2 (assumption)
+
+pub returns-in-Some-Remote-clause-taken : goal.returns-in-Some-Remote-clause-taken
+returns-in-Some-Remote-clause-taken c = has_taken _ _ _ _ c.take_by-taken.result (told (goal.at.returns-in-Some-Remote-clause-taken c).After-take_by-taken side.Remote _ _ c.end_of.ensures.end c.in-Some-Remote.is c.in-Some-Remote.field-0-is) c.took_end-in-Some-Remote.ensures.end (returns-in-Some-Remote-clause-whole c).2 (assumption)

@@ -1,0 +1,16 @@
+-- What is told of the channels of a core's link is what its state says.
+use Rattle.std.proofs.Common.{None, rules, subst, sym}
+use Rattle.crash_recover.specs.Cores.{CoreState}
+use Rattle.command_run.specs.declared.acts.LinkView.TheVariants as view
+use Rattle.command_run.specs.CoreLinks.{found_view_effect}
+use Rattle.command_run.specs.Logs.{HasCoreEffect}
+use Rattle.command_run.specs.NamedCores.{NamedCoreState}
+use Rattle.command_run.proofs.FoundChannels.{core_told}
+use Rattle.command_run.proofs.cores.NamedCore.tell_channels.Goals as goal
+
+pub returns-clause-effect : goal.returns-clause-effect
+returns-clause-effect c =
+    let s = c.self.inside in let log = c.args.log.now in let after = c.tell_channels.new.log in let found = c.channels.ensures in
+    let shown = core_told s.name s.core log after c.channels.result (search rules) found.free found.channels found.refused c.in_ok-tell_channels.ensures in
+    subst (λ (named : NamedCoreState). HasCoreEffect (found_view_effect named.name named.core log.steps view.Channels named.core.bench) c.channels.new.self log after None) c.self.view_is
+    (subst (λ (core : CoreState). HasCoreEffect (found_view_effect s.name s.core log.steps view.Channels s.core.bench) core log after None) (sym found.same) shown)
