@@ -24,7 +24,6 @@ pub mod Advances
 pub mod FirstSteps
 pub mod NextSteps
 pub mod WholeTurns
-pub mod GiveEnds
 pub mod Walks
 pub mod WholeSteps
 pub mod WholeGives

@@ -47,7 +47,7 @@ use Rattle.managed_link.proofs.StepHands.{StepsCall, hand_kept, hands_here, hand
 use Rattle.managed_link.proofs.StepSettles.{not_in_none, only_one}
 
 -- a buffer put in or taken out leaves the list of what is held
-pub taken_listed : (number caller : ℕ) (out : Option HeldBuffer) (hands hands' : List Hand) → IsTakenOut number caller out hands hands' → map holding_of hands' ≡ map holding_of hands
+taken_listed : (number caller : ℕ) (out : Option HeldBuffer) (hands hands' : List Hand) → IsTakenOut number caller out hands hands' → map holding_of hands' ≡ map holding_of hands
 taken_listed number caller out hands hands' taken = ap (map holding_of) taken.4 ∙ map_replaced holding_of hands taken.0 taken.1 (record taken.1 { held = None }) taken.2.here refl
 
 pub put_listed : (held : HeldBuffer) (hands hands' : List Hand) → IsPutIn held hands hands' → map holding_of hands' ≡ map holding_of hands
@@ -210,15 +210,21 @@ same_number : (end : End) → incoming_number end ≡ lane_number end
 same_number side.Host = refl
 same_number side.Remote = refl
 
-pub own_ask : (who : CallerId) (m : LinkRings) (calls : List (Option CarriedCall)) (hands taken : Vec Hand Global) (asked : Ask) (me : SeatState) → AreHandsOf m who.end calls hands → hands_of who.number (lane_to m who.end).lane.lane.held ≡ (pass_in me).hands
-    → MatchOption (given_back asked) (taken.items ≡ hands.items) (λ held. IsTakenOut held.number who.number (Some held) hands.items taken.items) → IsOwnAsk who asked me
-own_ask who m calls hands taken (ask.Give held) me of knows out = let at : IsHandAt hands.items held.number who.number out.0 out.1 = out.2 in
-    let own : IsHandOf m who.end calls out.1 (Some held) = subst (λ (o : Option HeldBuffer). IsHandOf m who.end calls out.1 o) (sym out.3) (of.own out.0 out.1 at.here) in record {
+-- so a buffer that is here is one that its caller may give back
+pub own_held : (who : CallerId) (m : LinkRings) (calls : List (Option CarriedCall)) (hands : Vec Hand Global) (held : HeldBuffer) (place : ℕ) (hand : Hand) (me : SeatState) → AreHandsOf m who.end calls hands
+    → hands_of who.number (lane_to m who.end).lane.lane.held ≡ (pass_in me).hands → IsHandAt hands.items held.number who.number place hand → Some held ≡ hand.held → IsOwnAsk who (ask.Give held) me
+own_held who m calls hands held place hand me of knows at here =
+    let own : IsHandOf m who.end calls hand (Some held) = subst (λ (o : Option HeldBuffer). IsHandOf m who.end calls hand o) (sym here) (of.own place hand at.here) in record {
       lane = own.0.lane ∙ same_number who.end;
       caller = own.0.caller ∙ at.by_caller;
       numbered = subst (λ (hands : List ℕ). HasNumber hands held.number) knows
-          (one_of (lane_to m who.end).lane.lane.held held.number who.number ((λ i. holds (sym of.listed i) (sym at.numbered i) (sym at.by_caller i)) ∙ held_at hands.items out.0 out.1 at.here));
+          (one_of (lane_to m who.end).lane.lane.held held.number who.number ((λ i. holds (sym of.listed i) (sym at.numbered i) (sym at.by_caller i)) ∙ held_at hands.items place hand at.here));
     }
+
+-- and what goes out with a call that asks this
+pub own_ask : (who : CallerId) (m : LinkRings) (calls : List (Option CarriedCall)) (hands taken : Vec Hand Global) (asked : Ask) (me : SeatState) → AreHandsOf m who.end calls hands → hands_of who.number (lane_to m who.end).lane.lane.held ≡ (pass_in me).hands
+    → MatchOption (given_back asked) (taken.items ≡ hands.items) (λ held. IsTakenOut held.number who.number (Some held) hands.items taken.items) → IsOwnAsk who asked me
+own_ask who m calls hands taken (ask.Give held) me of knows out = own_held who m calls hands held out.0 out.1 me of knows out.2 out.3
 own_ask who m calls hands taken (ask.Send message) me of knows out = tt
 own_ask who m calls hands taken ask.Take me of knows out = tt
 own_ask who m calls hands taken (ask.Bind address) me of knows out = tt

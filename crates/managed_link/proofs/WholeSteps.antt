@@ -87,12 +87,9 @@ incoming w = of_end w.who.end w.link.to_host w.link.to_remote
 abbrev pub outgoing : WholeCall → LaneView
 outgoing w = of_end (other w.who.end) w.link.to_host w.link.to_remote
 
--- the end of a caller, by what the manager answers before its call, and behind it
-pub user_from : (manager : Manager) (n : ℕ) (answered : Option End) (found e : End) → answered ≡ end_of manager.users n → answered ≡ Some found → found ≡ e → end_of manager.users n ≡ Some e
-user_from manager n answered found e is here at = sym is ∙ (here ∙ ap (λ (end : End). Some end) at)
-
+-- the end of a caller before its call, by what the manager answers behind it
 pub user_at : (before after : Manager) (n : ℕ) (answered : Option End) (found e : End) → after.users ≡ before.users → answered ≡ end_of after.users n → answered ≡ Some found → found ≡ e → end_of before.users n ≡ Some e
-user_at before after n answered found e same is here at = ap (λ (users : List (Option End)). end_of users n) (sym same) ∙ user_from after n answered found e is here at
+user_at before after n answered found e same is here at = ap (λ (users : List (Option End)). end_of users n) (sym same) ∙ (sym is ∙ (here ∙ ap (λ (end : End). Some end) at))
 
 -- a caller that may begin a call is in none: the manager carries it so, and no buffer is out with it
 module _ (s : Inside) (n : ℕ) (wished : Wish) (is : IsLink s) (may : MayStep (lists_of s.known.0) n (Some wished)) where
@@ -120,7 +117,7 @@ module _ {w : WholeCall} {said : Answer} (h : HasCalled w said) where
   abbrev pub Left : LinkRings
   Left = State.left
 
-  pub called_user : end_of w.link.known.0.callers w.who.number ≡ Some w.who.end
+  called_user : end_of w.link.known.0.callers w.who.number ≡ Some w.who.end
   called_user = ap (λ (callers : List (Option End)). end_of callers w.who.number) (sym h.was.0.state.users ∙ sym h.manager.1) ∙ h.idle.user
 
   called_grow : BooksGrow w.who w.link.known.0 Left

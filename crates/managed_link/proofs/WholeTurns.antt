@@ -39,7 +39,7 @@ may_behind m caller follows wished number said may =
     subst (λ (s : LinkState EndState). MayStep s caller None) (sym (step_agrees on_rings side_meaning (is_ring_form side_meaning) m caller follows wished))
     (may_again side_meaning (lists_of m) caller follows wished number (sym said ∙ same_outcome on_rings side_meaning m caller follows wished) may)
 
-pub user_behind : (m : LinkRings) (e : End) (caller follows : ℕ) (wished : Option Wish) → end_of m.callers caller ≡ Some e → end_of (After m caller follows wished).callers caller ≡ Some e
+user_behind : (m : LinkRings) (e : End) (caller follows : ℕ) (wished : Option Wish) → end_of m.callers caller ≡ Some e → end_of (After m caller follows wished).callers caller ≡ Some e
 user_behind m e caller follows wished user = ap (λ (callers : List (Option End)). end_of callers caller) (same_users m caller follows wished) ∙ user
 
 -- a call under way that has ended: its caller's turn is free, and the other turns are as they were
@@ -92,11 +92,11 @@ was_free : (had : Option ℕ) (number : ℕ) → begun_outcome had ≡ outcome.A
 was_free None number on = refl
 was_free (Some h) number on = cc
 
-pub first_said : (m : LinkRings) (e : End) (caller follows : ℕ) (wished : Wish) → end_of m.callers caller ≡ Some e → (form_step on_rings side_meaning m caller follows (Some wished)).outcome ≡ begun_outcome (holder_for e wished m)
+first_said : (m : LinkRings) (e : End) (caller follows : ℕ) (wished : Wish) → end_of m.callers caller ≡ Some e → (form_step on_rings side_meaning m caller follows (Some wished)).outcome ≡ begun_outcome (holder_for e wished m)
 first_said m e caller follows wished user =
     ap (λ (o : Option End). (on_lanes m o (λ (lanes : Lanes (RingState EndState)). lanes_step on_rings side_meaning m.era lanes caller follows (Some wished))).outcome) user ∙ first_says m e caller follows wished
 
-pub free_at : (m : LinkRings) (e : End) (caller follows : ℕ) (wished : Wish) (number : ℕ) → end_of m.callers caller ≡ Some e → (form_step on_rings side_meaning m caller follows (Some wished)).outcome ≡ outcome.At number
+free_at : (m : LinkRings) (e : End) (caller follows : ℕ) (wished : Wish) (number : ℕ) → end_of m.callers caller ≡ Some e → (form_step on_rings side_meaning m caller follows (Some wished)).outcome ≡ outcome.At number
     → holder_for e wished m ≡ None
 free_at m e caller follows wished number user on = was_free (holder_for e wished m) number (sym (first_said m e caller follows wished user) ∙ on)
 

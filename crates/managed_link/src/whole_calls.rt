@@ -1,22 +1,23 @@
 //! Whole calls of a managed link: each is its steps, made in one run where that is shorter.
-ghost use Rattle.std.specs.Prelude.{◌≡◌, ◌∷◌, ◌++◌, ◌+◌, ◌<◌, ◌≤◌, ◌^◌, ℕ, [], length, map, true, Some, IfErr, IfOk, MatchResult, vec_capacity};
+ghost use Rattle.std.specs.Prelude.{◌≡◌, ◌∷◌, ◌++◌, ◌+◌, ◌<◌, ◌≤◌, ◌^◌, ℕ, [], length, map, Some, MatchResult, vec_capacity};
 ghost use Rattle.lane_model.specs.declared.calls.Wish.TheVariants as wish;
 ghost use Rattle.lane_model.specs.AtOnce.{FormEndsIn};
 ghost use Rattle.lane_model.specs.Conditions.{MayStep};
-ghost use Rattle.lane_model.specs.Lanes.{holds, without};
+ghost use Rattle.lane_model.specs.HeldBuffers.{HeldBuffer};
 ghost use Rattle.split_ring.specs.Calls.{call_end, give_answer, send_answer, take_answer};
+ghost use Rattle.split_ring.specs.Receives.{given_of, lane_number, took};
 ghost use Rattle.channel_bus.specs.Sides.{side_meaning};
-ghost use Rattle.managed_link.specs.Hands.{AreSome, IsPutIn, IsTakenOut, holding_of};
+ghost use Rattle.managed_link.specs.Hands.{AreSome, holding_of};
 ghost use Rattle.managed_link.specs.Known.{lists_of, on_rings};
-ghost use Rattle.managed_link.specs.Settles.{HasRoomFor, IsHere, incoming_view, outgoing_view};
+ghost use Rattle.managed_link.specs.Settles.{HasRoomFor, held_behind, incoming_view, outgoing_view};
 ghost use Rattle.managed_link.specs.Taken.{HoldsTaken};
 
-use crate::hands::{Hand, drop_hand, put_in, take_out};
+use crate::hands::{Hand, drop_hand};
 use crate::links::ManagedLink;
 use crate::views::LaneView;
 use lane_model::{CallEnd, Held, Step, Wish};
-use rp_base::{CallerNo, End, Inc, Message};
-use split_ring::{GiveBusy, SendFault, TakeFault, Taken};
+use rp_base::{Buffer, CallerNo, End, Inc, Message};
+use split_ring::{CallerId, Handing, SendFault, TakeFault};
 
 impl ManagedLink {
     /// A whole call of this caller; `steps` counts its steps. Then `end` says how it ended.
@@ -68,6 +69,7 @@ impl ManagedLink {
     }
 
     /// A whole take of this caller.
+    #[inline(never)]
     fn take(&mut self, caller: CallerNo, follows: Inc, steps: &mut u64, end: &mut CallEnd)
         requires may { MayStep (lists_of self.old) caller (Some wish.Take) }
         requires steps { steps.old < 2 ^ 60 }
@@ -75,17 +77,33 @@ impl ManagedLink {
         ensures whole { (behind : ℕ) × (steps.new ≡ steps.old + behind + 1) × FormEndsIn behind on_rings side_meaning self.old caller follows (Some wish.Take) self.new end.new }
         ensures taken { HoldsTaken (lists_of self.new) caller end.new }
     {
+        let mut message = Message::empty();
         let taken = self
             .shared
-            .take_by(&mut self.manager, caller, follows, steps);
+            .take_by(&mut self.manager, caller, follows, &mut message, steps);
         *end = match self.manager.end_of(caller) {
-            Some(End::Host) => took_end(caller, taken, &mut self.to_host, &mut self.host),
-            Some(End::Remote) => took_end(caller, taken, &mut self.to_remote, &mut self.remote),
+            Some(End::Host) => {
+                let who = CallerId {
+                    number: caller,
+                    end: End::Host,
+                    follows,
+                };
+                took_end(who, taken, message, &mut self.to_host, &mut self.host)
+            }
+            Some(End::Remote) => {
+                let who = CallerId {
+                    number: caller,
+                    end: End::Remote,
+                    follows,
+                };
+                took_end(who, taken, message, &mut self.to_remote, &mut self.remote)
+            }
             None => unreachable!(),
         };
     }
 
     /// A whole give of this caller.
+    #[inline(never)]
     fn give(
         &mut self,
         caller: CallerNo,
@@ -100,26 +118,18 @@ impl ManagedLink {
         ensures whole { (behind : ℕ) × (steps.new ≡ steps.old + behind + 1) × FormEndsIn behind on_rings side_meaning self.old caller follows (Some (wish.Give number)) self.new end.new }
         ensures taken { HoldsTaken (lists_of self.new) caller end.new }
     {
-        match self.manager.end_of(caller) {
-            Some(End::Host) => {
-                let held = hand_out(&mut self.host, number, caller);
-                let given = self
-                    .shared
-                    .give_by(&mut self.manager, caller, follows, held, steps);
-                *end = gave_end(caller, given, &mut self.to_host, &mut self.host);
-            }
-            Some(End::Remote) => {
-                let held = hand_out(&mut self.remote, number, caller);
-                let given = self
-                    .shared
-                    .give_by(&mut self.manager, caller, follows, held, steps);
-                *end = gave_end(caller, given, &mut self.to_remote, &mut self.remote);
-            }
+        let given = self
+            .shared
+            .give_by(&mut self.manager, caller, follows, number, steps);
+        *end = match self.manager.end_of(caller) {
+            Some(End::Host) => gave_end(caller, given, &mut self.to_host, &mut self.host),
+            Some(End::Remote) => gave_end(caller, given, &mut self.to_remote, &mut self.remote),
             None => unreachable!(),
-        }
+        };
     }
 
     /// A binding or an unbinding of this caller, step by step.
+    #[inline(never)]
     fn walk(
         &mut self,
         caller: CallerNo,
@@ -166,30 +176,54 @@ fn sent_end(sent: Result<u64, SendFault>, outgoing: &mut LaneView) -> CallEnd
     }
 }
 
-/// How a take of this caller ended with this answer. A buffer that it was handed is here.
+/// The number of the lane to an end.
+fn lane_number(end: End) -> u8
+    ensures { result ≡ lane_number end }
+{
+    match end {
+        End::Host => 0,
+        End::Remote => 1,
+    }
+}
+
+/// How a take of this caller ended with this answer, which read the bytes into this message. A buffer that it was handed is here.
+#[inline(always)]
 fn took_end(
-    caller: CallerNo,
-    taken: Result<Taken, TakeFault>,
+    who: CallerId,
+    taken: Result<Handing, TakeFault>,
+    message: Message,
     incoming: &mut LaneView,
     hands: &mut Vec<Hand>,
 ) -> CallEnd
     requires handed { incoming.old.handed < 2 ^ 60 }
-    requires room { HasRoomFor (call_end (take_answer taken)) hands.old }
-    ensures end { result ≡ call_end (take_answer taken) }
-    ensures incoming { incoming.new ≡ incoming_view (call_end (take_answer taken)) incoming.old }
-    ensures hands { MatchResult taken (λ ok. hands.new.items ≡ hands.old.items ++ record { caller = caller; number = ok.held.number; held = Some ok.held } ∷ []) (λ _. hands.new.items ≡ hands.old.items) }
+    requires room { HasRoomFor (call_end (take_answer (took who message taken))) hands.old }
+    ensures end { result ≡ call_end (take_answer (took who message taken)) }
+    ensures incoming { incoming.new ≡ incoming_view (call_end (take_answer (took who message taken))) incoming.old }
+    ensures hands { MatchResult (took who message taken) (λ ok. hands.new.items ≡ hands.old.items ++ record { caller = who.number; number = ok.held.number; held = Some ok.held } ∷ []) (λ _. hands.new.items ≡ hands.old.items) }
     ensures room { vec_capacity hands.new ≡ vec_capacity hands.old }
 {
     match taken {
-        Ok(taken) => {
-            let number = taken.held.number();
-            hands.push_reserved(Hand {
-                caller,
+        Ok(handing) => {
+            let Handing {
                 number,
-                held: Some(taken.held),
+                buffer,
+                verdict,
+            } = handing;
+            hands.push_reserved(Hand {
+                caller: who.number,
+                number,
+                held: Some(Held::of(
+                    lane_number(who.end),
+                    who.number,
+                    number,
+                    Buffer {
+                        id: buffer,
+                        message,
+                    },
+                )),
             });
             incoming.handed += 1;
-            CallEnd::Took(number, taken.verdict)
+            CallEnd::Took(number, verdict)
         }
         Err(TakeFault::Busy(holder)) => CallEnd::Busy(holder),
         Err(TakeFault::Dead(era)) => CallEnd::Dead(era),
@@ -197,32 +231,18 @@ fn took_end(
     }
 }
 
-/// The buffer of the message of this number goes out with the call that gives it back.
-fn hand_out(hands: &mut Vec<Hand>, number: u64, caller: CallerNo) -> Held
-    requires { IsHere hands.old.items number caller }
-    ensures out { IsTakenOut number caller (Some result) hands.old.items hands.new.items }
-    ensures number { result.number ≡ number }
-    ensures room { vec_capacity hands.new ≡ vec_capacity hands.old }
-{
-    match take_out(hands, number, caller) {
-        Some(held) => held,
-        None => unreachable!(),
-    }
-}
-
-/// How a give of this caller ended with this answer. A buffer that it didn't give back is here.
+/// How a give of this caller ended with this answer. The buffer stays in hand where another had the turn.
 fn gave_end(
     caller: CallerNo,
-    given: Result<u64, GiveBusy>,
+    given: Result<u64, CallerNo>,
     incoming: &mut LaneView,
     hands: &mut Vec<Hand>,
 ) -> CallEnd
-    requires returned { incoming.old.returned < 2 ^ 60 }
-    requires back { IfErr given (λ busy. holds (map holding_of hands.old.items) busy.held.number busy.held.caller ≡ true) }
-    ensures end { result ≡ call_end (give_answer given) }
-    ensures incoming { incoming.new ≡ incoming_view (call_end (give_answer given)) incoming.old }
-    ensures listed { IfOk given (λ number. map holding_of hands.new.items ≡ without (map holding_of hands.old.items) number caller) }
-    ensures hands { MatchResult given (λ _. AreSome hands.old.items hands.new.items) (λ busy. IsPutIn busy.held hands.old.items hands.new.items) }
+    requires { incoming.old.returned < 2 ^ 60 }
+    ensures end { (held : HeldBuffer) → result ≡ call_end (give_answer (given_of held given)) }
+    ensures incoming { incoming.new ≡ incoming_view result incoming.old }
+    ensures listed { map holding_of hands.new.items ≡ held_behind result caller (map holding_of hands.old.items) }
+    ensures some { AreSome hands.old.items hands.new.items }
     ensures room { vec_capacity hands.new ≡ vec_capacity hands.old }
 {
     match given {
@@ -231,9 +251,6 @@ fn gave_end(
             incoming.returned += 1;
             CallEnd::Gave(number)
         }
-        Err(busy) => {
-            put_in(hands, busy.held);
-            CallEnd::Busy(busy.holder)
-        }
+        Err(holder) => CallEnd::Busy(holder),
     }
 }

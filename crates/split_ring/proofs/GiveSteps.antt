@@ -137,11 +137,7 @@ give_seen coded meaning end held (Ok number) me me' give =
     newest side.Host inc made own = ap (λ (b : Bool). (cond b (greatest (counts_told (Gave made)) (seen side.Host inc own)) (seen side.Host inc own)).returned) (eq-eqb inc inc refl)
     newest side.Remote inc made own = ap (λ (b : Bool). (cond b (greatest (counts_told (Gave made)) (seen side.Remote inc own)) (seen side.Remote inc own)).returned) (eq-eqb inc inc refl)
 
--- where the turn is another's the buffer comes back, and is in hand still
-pub comes_back : {D : Type 0} (coded : Coded D) (meaning : DeskMeaning D) (end : End) (held : HeldBuffer) (answer : Result ℕ GiveBusy) (me me' : SeatState) → IsGive coded meaning end held answer me me' → IfErr answer (λ busy. busy.held ≡ held)
-comes_back coded meaning end held (Ok number) me me' give = tt
-comes_back coded meaning end held (Err busy) me me' give = give.is.1
-
+-- where the turn is another's the buffer is in hand still
 pub held_yet : {D : Type 0} (coded : Coded D) (meaning : DeskMeaning D) (who : CallerId) (held : HeldBuffer) (answer : Result ℕ GiveBusy) (me me' : SeatState) → IsGive coded meaning who.end held answer me me' → IsHeldBy who held me → IfErr answer (λ busy. IsHeldBy who busy.held me')
 held_yet coded meaning who held (Ok number) me me' give holds = tt
 held_yet coded meaning who held (Err busy) me me' give holds = subst (λ (b : HeldBuffer). IsHeldBy who b me') (sym give.is.1) (held_still who held me me' give.done.in_hand holds)

@@ -28,6 +28,7 @@ use Rattle.split_ring.specs.Sends.{live_era}
 use Rattle.split_ring.specs.Turns.{MayLeave, receive_call, receive_slots}
 use Rattle.split_ring.specs.Walks.{HasDone, one_more}
 use Rattle.split_ring.specs.declared.callers.CallerId.{CallerId}
+use Rattle.split_ring.specs.declared.takes.Handing.{Handing}
 use Rattle.split_ring.specs.declared.takes.Taken.{Taken}
 use Rattle.split_ring.specs.declared.takes.TakeCall.{TakeCall}
 use Rattle.split_ring.specs.declared.takes.TakeFault.{TakeFault}
@@ -61,6 +62,18 @@ pub record IsHandedTo {D : Type 0} (meaning : DeskMeaning D) (who : CallerId) (n
   pub said : taken.held.message ≡ message
   pub desk : D
   pub judged : taken.verdict ≡ meaning.verdict desk number message
+
+-- a message that was handed over in the lane to its caller's end, with its bytes
+abbrev pub taken_of : CallerId → Handing → List ℕ → Taken
+taken_of who handing message = record {
+  held = record { lane = lane_number who.end; caller = who.number; number = handing.number; buffer = handing.buffer; message = message };
+  verdict = handing.verdict;
+}
+
+-- the answer of a take that read the bytes into a message beside it
+abbrev pub took : {F : Type 0} → CallerId → List ℕ → Result Handing F → Result Taken F
+took who message (Ok handing) = Ok (taken_of who handing message)
+took who message (Err fault) = Err fault
 
 -- the end of a take at its second look at the era, behind which the message of this number is handed over or not
 abbrev pub handing_end : ℕ → Result Taken Era → CallEnd
@@ -122,6 +135,11 @@ pub record IsGiveAt (who : CallerId) (returned : ℕ) (work : Work) (me : SeatSt
   pub back : side.returned ≡ returned
   pub most : returned ≤ BOOK_MOST
   pub at : IsAt me (receive_call who work side 0 []) (receive_slots who side)
+
+-- the answer of a give that was told the number of this buffer's message alone
+abbrev pub given_of : HeldBuffer → Result ℕ ℕ → Result ℕ GiveBusy
+given_of held (Ok number) = Ok number
+given_of held (Err holder) = Err (record { holder = holder; held = held })
 
 -- the steps of a whole give in this incarnation with its answer, the newest first; where the turn is another's the buffer comes back
 abbrev pub IsGiveWalk : End → ℕ → HeldBuffer → Result ℕ GiveBusy → List Event → Type 0

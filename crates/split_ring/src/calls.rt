@@ -27,7 +27,7 @@ use crate::binds::{DeskAsk, DeskFault, desk_result};
 use crate::callers::{Caller, CallerId};
 use crate::links::SharedLink;
 use crate::sends::{SendCall, SendFault};
-use crate::takes::TakeCall;
+use crate::takes::{TakeCall, taken_of};
 use crate::turns::other;
 use lane_model::{
     Answer, Ask, CallEnd, Desk, GiveStage, Held, LaneTurn, Progress, SendStage, TakeStage,
@@ -342,13 +342,19 @@ impl<D: Desk> SharedLink<D> {
                     Progress::At(4),
                 )
             }
-            TakeStage::Buffer => match self.hand_over(seat, &call, buffer) {
-                Ok(taken) => (
-                    Phase::LeavesReceiver(Answer::Took(taken.held, taken.verdict)),
-                    Progress::At(5),
-                ),
-                Err(era) => (Phase::LeavesReceiver(Answer::Dead(era)), Progress::At(5)),
-            },
+            TakeStage::Buffer => {
+                let mut message = Message::empty();
+                match self.hand_over(seat, &call, buffer, &mut message) {
+                    Ok(handing) => {
+                        let taken = taken_of(call.who, handing, message);
+                        (
+                            Phase::LeavesReceiver(Answer::Took(taken.held, taken.verdict)),
+                            Progress::At(5),
+                        )
+                    }
+                    Err(era) => (Phase::LeavesReceiver(Answer::Dead(era)), Progress::At(5)),
+                }
+            }
         }
     }
 

@@ -6,6 +6,7 @@ ghost use Rattle.lane_model.specs.declared.lane_links.LaneLink.{LaneLink};
 ghost use Rattle.lane_model.specs.declared.recoveries.LaneTurn.TheVariants as lane_turn;
 ghost use Rattle.lane_model.specs.declared.stages.GiveStage.TheVariants as give_stage;
 ghost use Rattle.lane_model.specs.declared.stages.Work.TheVariants as work;
+ghost use Rattle.lane_model.specs.HeldBuffers.{HeldBuffer};
 ghost use Rattle.ring_core.specs.declared.states.RingState.{RingState};
 ghost use Rattle.link_words.specs.declared.rule.Call.TheVariants.{Rests};
 ghost use Rattle.link_words.specs.declared.rule.Counted.TheVariants.{Gave};
@@ -17,7 +18,7 @@ ghost use Rattle.link_words.specs.PlacedLinks.{KnowsState};
 ghost use Rattle.link_words.specs.Steps.{hands_but};
 ghost use Rattle.split_ring.specs.Callers.{Holds, IsCallerOf, IsAfterCall, MakesGive, GiveAbove};
 ghost use Rattle.split_ring.specs.Calls.{give_answer};
-ghost use Rattle.split_ring.specs.Receives.{IsGive, IsGiveAt, IsHeldBy};
+ghost use Rattle.split_ring.specs.Receives.{given_of, IsGive, IsGiveAt, IsHeldBy};
 ghost use Rattle.split_ring.specs.Focus.{IsOrderlySeat, LeavesOthers, StepsAlone, seat_of};
 ghost use Rattle.split_ring.specs.Runs.{RunsCall};
 ghost use Rattle.split_ring.specs.Seats.{IsAt, IsCaller, pass_in};
@@ -54,33 +55,37 @@ impl<D: Desk> SharedLink<D> {
         ensures held { IfErr result (λ busy. Holds caller.new busy.held) }
     {
         let mut steps = 0;
-        self.give_in(&mut caller.seat, caller.id, held, &mut steps)
+        match self.give_in(&mut caller.seat, caller.id, held.number(), &mut steps) {
+            Ok(number) => Ok(number),
+            Err(holder) => Err(GiveBusy { holder, held }),
+        }
     }
 
-    /// A whole give of this caller, whose pass is one of the seat's, and in no call; `steps` counts its steps.
+    /// A whole give of this caller, whose pass is one of the seat's, and in no call, by the number of its buffer's message; `steps` counts its steps.
+    ///
+    /// Errors: the holder, exactly where another had the receiver's turn.
     pub(crate) fn give_in(
         &self,
         seat: &mut LinkSeat,
         who: CallerId,
-        held: Held,
+        number: u64,
         steps: &mut u64,
-    ) -> Result<u64, GiveBusy>
+    ) -> Result<u64, CallerNo>
         requires seat { IsOrderlySeat self.now.table.shared.table_id self.now.sizes seat.old.table_id seat.old.me }
         requires caller { IsCaller self.now.table.shared.table_id self.now.sizes who seat.old.table_id (seat_of who.number seat.old.me) }
-        requires held { IsHeldBy who held (seat_of who.number seat.old.me) }
+        requires held { (held : HeldBuffer) × (held.number ≡ number) × IsHeldBy who held (seat_of who.number seat.old.me) }
         requires steps { steps.old < 2 ^ 60 }
         ensures seat { IsOrderlySeat self.now.table.shared.table_id self.now.sizes seat.new.table_id seat.new.me }
         ensures rests { IsAt (seat_of who.number seat.new.me) (Rests who.end) [] }
-        ensures walk { IsGive D.row.coded D.meaning who.end held result (seat_of who.number seat.old.me) (seat_of who.number seat.new.me) }
+        ensures walk { (held : HeldBuffer) → held.number ≡ number → IsGive D.row.coded D.meaning who.end held (given_of held result) (seat_of who.number seat.old.me) (seat_of who.number seat.new.me) }
         ensures leaves { LeavesOthers who.number seat.old.me seat.new.me }
-        ensures run { (m : LaneLink (RingState D)) → KnowsState D.row.coded seat.old.me.0 m
-            → (behind : ℕ) × (steps.new ≡ steps.old + behind + 1) × RunsCall D.row.coded D.meaning who m (wish.Give held.number) behind (give_answer result) seat.new.me }
+        ensures run { (held : HeldBuffer) → held.number ≡ number → (m : LaneLink (RingState D)) → KnowsState D.row.coded seat.old.me.0 m
+            → (behind : ℕ) × (steps.new ≡ steps.old + behind + 1) × RunsCall D.row.coded D.meaning who m (wish.Give held.number) behind (give_answer (given_of held result)) seat.new.me }
         ensures few { steps.new ≤ steps.old + 4 }
     {
-        let number = held.number();
         if let Err(holder) = self.enter(seat, who, Intent::give(number)) {
             *steps += 1;
-            return Err(GiveBusy { holder, held });
+            return Err(holder);
         }
         let returned = self.store_given(seat, who, number);
         self.publish_given(seat, who, number, returned);

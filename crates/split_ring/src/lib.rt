@@ -36,6 +36,6 @@ pub use lane_model::{Books, ReopenFault};
 pub use links::SharedLink;
 pub use reclaims::{Parts, ReclaimFault};
 pub use sends::SendFault;
-pub use takes::{TakeFault, Taken};
+pub use takes::{Handing, TakeFault, Taken};
 pub use vring_layout::{Snapshot, SnapshotFault};
 pub use waits::Pauses;

@@ -46,14 +46,13 @@ pub(crate) fn fill(slot: &mut Slot, message: &Message)
     }
 }
 
-/// A copy of the message in the buffer.
-pub(crate) fn message_in(slot: &Slot) -> Message
+/// The message in the buffer is read. It writes as many bytes as the message has.
+pub(crate) fn read_message(slot: &Slot, message: &mut Message)
     requires { (x : List ℕ) × (slot.now ≡ Buffer x) }
-    ensures { (x : List ℕ) → slot.now ≡ Buffer x → result ≡ x }
+    ensures { (x : List ℕ) → slot.now ≡ Buffer x → message.new ≡ x }
 {
-    match slot {
-        Slot::Buffer(message) => message.copy(),
-        _ => Message::empty(),
+    if let Slot::Buffer(found) = slot {
+        message.set(found.bytes(), &[]);
     }
 }
 

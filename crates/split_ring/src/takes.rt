@@ -21,7 +21,7 @@ ghost use Rattle.link_words.specs.Words.{receiver_slot};
 ghost use Rattle.split_ring.specs.declared.calls.Phase.TheVariants as phase;
 ghost use Rattle.split_ring.specs.Callers.{Holds, IsCallerOf, IsAfterCall, MakesTake, TakeNotBelow};
 ghost use Rattle.split_ring.specs.Calls.{take_answer};
-ghost use Rattle.split_ring.specs.Receives.{handing_end, lane_number, message_look, IsTakeAt, HasBufferOut, IsHandedTo, IsTake, HasSettledTake};
+ghost use Rattle.split_ring.specs.Receives.{handing_end, lane_number, message_look, taken_of, took, IsTakeAt, HasBufferOut, IsHandedTo, IsTake, HasSettledTake};
 ghost use Rattle.split_ring.specs.Focus.{IsOrderlySeat, LeavesOthers, StaysAlone, StepsAlone, seat_of};
 ghost use Rattle.split_ring.specs.Runs.{HasRun, RunsCall};
 ghost use Rattle.split_ring.specs.Seats.{IsAt, IsCaller};
@@ -31,7 +31,7 @@ ghost use Rattle.split_ring.specs.Walks.{HasDone, same_hands, one_more};
 
 use crate::callers::{Caller, CallerId};
 use crate::links::SharedLink;
-use crate::slots::{handed_in, message_in};
+use crate::slots::{handed_in, read_message};
 use crate::turns::{era_of, is_live_in};
 use lane_model::{Desk, Held, LaneTurn};
 use link_words::{EraUse, IndexUse, Intent, LinkSeat, Ring, Slot};
@@ -41,6 +41,14 @@ use rp_base::{Buffer, CallerNo, End, Era, Message, Verdict};
 #[derive(Drop)]
 pub struct Taken {
     pub held: Held,
+    pub verdict: Verdict,
+}
+
+/// What is told of a message that was handed over, beside its bytes.
+#[derive(Drop)]
+pub struct Handing {
+    pub number: u64,
+    pub buffer: u16,
     pub verdict: Verdict,
 }
 
@@ -83,6 +91,39 @@ pub(crate) fn lane_number(end: End) -> u8
     }
 }
 
+/// The message of these bytes that was handed to this caller, in its buffer.
+pub(crate) fn taken_of(who: CallerId, handing: Handing, message: Message) -> Taken
+    ensures { result ≡ taken_of who handing message }
+{
+    let Handing {
+        number,
+        buffer,
+        verdict,
+    } = handing;
+    let filled = Buffer {
+        id: buffer,
+        message,
+    };
+    Taken {
+        held: Held::of(lane_number(who.end), who.number, number, filled),
+        verdict,
+    }
+}
+
+/// The same for the answer of a take.
+pub(crate) fn took(
+    who: CallerId,
+    answer: Result<Handing, TakeFault>,
+    message: Message,
+) -> Result<Taken, TakeFault>
+    ensures { result ≡ took who message answer }
+{
+    match answer {
+        Ok(handing) => Ok(taken_of(who, handing, message)),
+        Err(fault) => Err(fault),
+    }
+}
+
 /// How many messages are accepted and not handed over, by the forward index.
 fn waiting_messages(index: u64, handed: u64) -> u64
     requires { (index < 65536) × (handed ≤ BOOK_MOST) }
@@ -105,53 +146,72 @@ impl<D: Desk> SharedLink<D> {
         ensures seen { TakeNotBelow caller.old result }
         ensures held { IfOk result (λ taken. Holds caller.new taken.held) }
     {
-        let mut steps = 0;
-        self.take_in(&mut caller.seat, caller.id, &mut steps)
+        let mut message = Message::empty();
+        let answer = self.take_into(caller, &mut message);
+        took(caller.id, answer, message)
     }
 
-    /// A whole take of this caller, whose pass is one of the seat's, and in no call; `steps` counts its steps.
+    /// The same attempt, which reads the bytes of what it is handed into this message.
+    pub(crate) fn take_into(
+        &self,
+        caller: &mut Caller,
+        message: &mut Message,
+    ) -> Result<Handing, TakeFault>
+        requires { IsCallerOf self.now caller.old }
+        ensures caller { IsAfterCall self.now caller.old caller.new }
+        ensures walk { MakesTake D.row.coded D.meaning caller.old (took caller.old.id message.new result) caller.new }
+        ensures seen { TakeNotBelow caller.old (took caller.old.id message.new result) }
+        ensures held { IfOk (took caller.old.id message.new result) (λ taken. Holds caller.new taken.held) }
+    {
+        let mut steps = 0;
+        self.take_in(&mut caller.seat, caller.id, message, &mut steps)
+    }
+
+    /// A whole take of this caller, whose pass is one of the seat's, and in no call, which reads the bytes of what it is handed into this message; `steps` counts its steps.
     pub(crate) fn take_in(
         &self,
         seat: &mut LinkSeat,
         who: CallerId,
+        message: &mut Message,
         steps: &mut u64,
-    ) -> Result<Taken, TakeFault>
+    ) -> Result<Handing, TakeFault>
         requires seat { IsOrderlySeat self.now.table.shared.table_id self.now.sizes seat.old.table_id seat.old.me }
         requires caller { IsCaller self.now.table.shared.table_id self.now.sizes who seat.old.table_id (seat_of who.number seat.old.me) }
         requires steps { steps.old < 2 ^ 60 }
         ensures seat { IsOrderlySeat self.now.table.shared.table_id self.now.sizes seat.new.table_id seat.new.me }
         ensures rests { IsAt (seat_of who.number seat.new.me) (Rests who.end) [] }
-        ensures walk { IsTake D.row.coded D.meaning who result (seat_of who.number seat.old.me) (seat_of who.number seat.new.me) }
+        ensures walk { IsTake D.row.coded D.meaning who (took who message.new result) (seat_of who.number seat.old.me) (seat_of who.number seat.new.me) }
         ensures leaves { LeavesOthers who.number seat.old.me seat.new.me }
         ensures run { (m : LaneLink (RingState D)) → KnowsState D.row.coded seat.old.me.0 m
-            → (behind : ℕ) × (steps.new ≡ steps.old + behind + 1) × RunsCall D.row.coded D.meaning who m wish.Take behind (take_answer result) seat.new.me }
+            → (behind : ℕ) × (steps.new ≡ steps.old + behind + 1) × RunsCall D.row.coded D.meaning who m wish.Take behind (take_answer (took who message.new result)) seat.new.me }
         ensures few { steps.new ≤ steps.old + 6 }
     {
         if let Err(holder) = self.enter(seat, who, Intent::take()) {
             *steps += 1;
             return Err(TakeFault::Busy(holder));
         }
-        let answer = self.take_on(seat, who, steps);
+        let answer = self.take_on(seat, who, message, steps);
         self.leave(seat, who.number, who.end, LaneTurn::Receiver);
         *steps += 2;
         answer
     }
 
-    /// The steps of a take behind its first, up to the one that settles its end; `steps` counts them.
+    /// The steps of a take behind its first, up to the one that settles its end, with the bytes in this message; `steps` counts them.
     fn take_on(
         &self,
         seat: &mut LinkSeat,
         who: CallerId,
+        message: &mut Message,
         steps: &mut u64,
-    ) -> Result<Taken, TakeFault>
+    ) -> Result<Handing, TakeFault>
         requires seat { IsOrderlySeat self.now.table.shared.table_id self.now.sizes seat.old.table_id seat.old.me }
         requires turn { HasReceiver who (work.Take take_stage.Turn) (seat_of who.number seat.old.me) }
         requires steps { steps.old < 2 ^ 60 }
         ensures seat { IsOrderlySeat self.now.table.shared.table_id self.now.sizes seat.new.table_id seat.new.me }
-        ensures settled { HasSettledTake D.row.coded D.meaning who result (seat_of who.number seat.old.me) (seat_of who.number seat.new.me) }
+        ensures settled { HasSettledTake D.row.coded D.meaning who (took who message.new result) (seat_of who.number seat.old.me) (seat_of who.number seat.new.me) }
         ensures leaves { LeavesOthers who.number seat.old.me seat.new.me }
         ensures run { (m : LaneLink (RingState D)) → KnowsState D.row.coded seat.old.me.0 m
-            → (count : ℕ) × (steps.new ≡ steps.old + count) × HasRun D.row.coded D.meaning who self.now.sizes count (phase.LeavesReceiver (take_answer result)) m seat.new.me }
+            → (count : ℕ) × (steps.new ≡ steps.old + count) × HasRun D.row.coded D.meaning who self.now.sizes count (phase.LeavesReceiver (take_answer (took who message.new result))) m seat.new.me }
         ensures few { steps.new ≤ steps.old + 4 }
     {
         let call = self.take_begun(seat, who);
@@ -165,8 +225,8 @@ impl<D: Desk> SharedLink<D> {
         }
         let buffer = self.take_filled(seat, &call);
         *steps += 4;
-        match self.hand_over(seat, &call, buffer) {
-            Ok(taken) => Ok(taken),
+        match self.hand_over(seat, &call, buffer, message) {
+            Ok(handing) => Ok(handing),
             Err(era) => Err(TakeFault::Dead(era)),
         }
     }
@@ -248,8 +308,8 @@ impl<D: Desk> SharedLink<D> {
         (entry % 4_294_967_296) as u32
     }
 
-    /// Step 5 of a take: in its incarnation, live, the message is handed to the caller, and the desk
-    /// judges it.
+    /// Step 5 of a take: its bytes are read into this message, and in its incarnation, live, it is handed
+    /// to the caller, and the desk judges it.
     ///
     /// Errors: the era that was found, exactly where it is another or a closed one.
     pub(crate) fn hand_over(
@@ -257,31 +317,31 @@ impl<D: Desk> SharedLink<D> {
         seat: &mut LinkSeat,
         call: &TakeCall,
         buffer: u32,
-    ) -> Result<Taken, Era>
+        message: &mut Message,
+    ) -> Result<Handing, Era>
         requires seat { IsOrderlySeat self.now.table.shared.table_id self.now.sizes seat.old.table_id seat.old.me }
-        requires call { (message : List ℕ) × HasBufferOut self.now.sizes call.now (work.Take take_stage.Buffer) buffer message (seat_of call.now.who.number seat.old.me) }
+        requires call { (said : List ℕ) × HasBufferOut self.now.sizes call.now (work.Take take_stage.Buffer) buffer said (seat_of call.now.who.number seat.old.me) }
         ensures seat { IsOrderlySeat self.now.table.shared.table_id self.now.sizes seat.new.table_id seat.new.me }
-        ensures left { IsLeaving lane_turn.Receiver call.now.who.end (handing_end call.now.handed result) (seat_of call.now.who.number seat.new.me) }
-        ensures handed { IfOk result (λ taken. (message : List ℕ) × IsHandedTo D.meaning call.now.who call.now.handed message taken
-            × HasDone D.row.coded D.meaning (Step (made.Era (live_era call.now.who.follows)) ∷ Take call.now.who.end call.now.who.follows call.now.handed message ∷ []) (one_more call.now.handed) (seat_of call.now.who.number seat.old.me) (seat_of call.now.who.number seat.new.me)) }
-        ensures dead { IfErr result (λ era. (era ≢ live_era call.now.who.follows) × HasDone D.row.coded D.meaning (Step (made.Era era) ∷ []) same_hands (seat_of call.now.who.number seat.old.me) (seat_of call.now.who.number seat.new.me)) }
-        ensures out { IfOk result (λ taken. HasBufferOut self.now.sizes call.now (work.Take take_stage.Buffer) buffer taken.held.message (seat_of call.now.who.number seat.old.me)) }
+        ensures left { IsLeaving lane_turn.Receiver call.now.who.end (handing_end call.now.handed (took call.now.who message.new result)) (seat_of call.now.who.number seat.new.me) }
+        ensures handed { IfOk (took call.now.who message.new result) (λ taken. (said : List ℕ) × IsHandedTo D.meaning call.now.who call.now.handed said taken
+            × HasDone D.row.coded D.meaning (Step (made.Era (live_era call.now.who.follows)) ∷ Take call.now.who.end call.now.who.follows call.now.handed said ∷ []) (one_more call.now.handed) (seat_of call.now.who.number seat.old.me) (seat_of call.now.who.number seat.new.me)) }
+        ensures dead { IfErr (took call.now.who message.new result) (λ era. (era ≢ live_era call.now.who.follows) × HasDone D.row.coded D.meaning (Step (made.Era era) ∷ []) same_hands (seat_of call.now.who.number seat.old.me) (seat_of call.now.who.number seat.new.me)) }
+        ensures out { IfOk (took call.now.who message.new result) (λ taken. HasBufferOut self.now.sizes call.now (work.Take take_stage.Buffer) buffer taken.held.message (seat_of call.now.who.number seat.old.me)) }
         ensures alone { StepsAlone D.row.coded D.meaning call.now.who.number (Steps call.now.who.number 0 None) seat.old.me seat.new.me }
     {
         let who = call.who;
         let table = &self.table.shared;
         let slot = self.buffer_slot(who.end, buffer);
-        let message = message_in(seat.slot_mut(table, slot));
+        read_message(seat.slot_mut(table, slot), message);
         let era = era_of(self.load_era(seat, who.number, EraUse::Hand));
         if is_live_in(era, who.follows) {
             let side = seat.slot_mut(table, receiver_slot(who.end));
-            let verdict = self.judge(side, who.number, buffer, &message);
-            let filled = Buffer {
-                id: (buffer % 65_536) as u16,
-                message,
-            };
-            let held = Held::of(lane_number(who.end), who.number, call.handed, filled);
-            Ok(Taken { held, verdict })
+            let verdict = self.judge(side, who.number, buffer, message);
+            Ok(Handing {
+                number: call.handed,
+                buffer: (buffer % 65_536) as u16,
+                verdict,
+            })
         } else {
             Err(era)
         }

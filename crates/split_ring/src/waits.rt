@@ -1,12 +1,14 @@
 //! Calls that wait: each is tried again where another had the turn.
-ghost use Rattle.std.specs.Prelude.{◌≡◌, IfOk};
+ghost use Rattle.std.specs.Prelude.{◌≡◌, ℕ, List, IfOk};
+ghost use Rattle.split_ring.specs.declared.callers.CallerId.{CallerId};
 ghost use Rattle.split_ring.specs.Callers.{Holds, IsCallerOf, IsAfterCall, SendNotBelow, TakeNotBelow, WaitsToSend, WaitsToTake};
+ghost use Rattle.split_ring.specs.Receives.{took};
 ghost use Rattle.split_ring.specs.Waits.{is_send_busy, is_take_busy};
 
 use crate::callers::Caller;
 use crate::links::SharedLink;
 use crate::sends::SendFault;
-use crate::takes::{TakeFault, Taken};
+use crate::takes::{Handing, TakeFault, Taken, took};
 use crossbeam_utils::Backoff;
 use lane_model::Desk;
 use rp_base::Message;
@@ -54,8 +56,8 @@ fn is_send_busy(answer: &Result<u64, SendFault>) -> bool
 }
 
 /// Whether another had the receiver's turn.
-fn is_take_busy(answer: &Result<Taken, TakeFault>) -> bool
-    ensures { result ≡ is_take_busy answer.now }
+fn is_take_busy(answer: &Result<Handing, TakeFault>) -> bool
+    ensures { (who : CallerId) (message : List ℕ) → result ≡ is_take_busy (took who message answer.now) }
 {
     match answer {
         Err(TakeFault::Busy(_)) => true,
@@ -102,11 +104,12 @@ impl<D: Desk> SharedLink<D> {
         ensures seen { TakeNotBelow caller.old result }
         ensures held { IfOk result (λ taken. Holds caller.new taken.held) }
     {
+        let mut message = Message::empty();
         let mut pauses = Pauses::new();
         for _ in rt.forever() {
-            let answer = self.try_take(caller);
+            let answer = self.take_into(caller, &mut message);
             if !is_take_busy(&answer) {
-                return answer;
+                return took(caller.id, answer, message);
             }
             pauses.pause();
         }

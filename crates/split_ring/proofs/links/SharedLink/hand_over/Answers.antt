@@ -1,6 +1,5 @@
 use Rattle.std.proofs.Common.{◌≡◌, ℕ, ◌∷◌, [], List, refl, sym, ap, ◌∙◌, subst}
 use Rattle.atomic_table.specs.Table.{rest}
-use Rattle.lane_model.specs.HeldBuffers.{HeldBuffer}
 use Rattle.lane_model.specs.declared.calls.CallEnd.TheVariants as end
 use Rattle.lane_model.specs.declared.stages.TakeStage.TheVariants as take_stage
 use Rattle.lane_model.specs.declared.stages.Turn.TheVariants as turn
@@ -95,7 +94,7 @@ returns-then-is_live_in-clause-left g c =
     let h : Handed coded meaning z call x b m me1 me2 = hands_live coded meaning z me1 me2 call y b m c.era_of-era.result c.requires.seat.told out1 c.load_era.ensures.told step c.era_of-era.ensures (sym c.is_live_in.ensures ∙ c.if-is_live_in.true) in
     let after : Call = Receives who.end (turn.Leaving who.number (end.Took x.handed (meaning.verdict h.desk x.handed m))) (handed_side coded meaning h.desk x who.number b m) b m in
     let full3 : SeatState = (full2.0, (c.receiver_slot.result, c.judge-verdict.new.slot) ∷ rest full2.1) in let me3 = seat_of n full3 in
-    let said : c.message_in-message.result ≡ m = c.message_in-message.ensures m (inside_alone n full (receive_call who w x b m) (buffer_slot z.to_host.capacity who.end b) k (Buffer m) c.slot_mut.result.now (receive_slots who x) out.at c.slot_mut.ensures.value) in
+    let said : c.read_message.new.message ≡ m = c.read_message.ensures m (inside_alone n full (receive_call who w x b m) (buffer_slot z.to_host.capacity who.end b) k (Buffer m) c.slot_mut.result.now (receive_slots who x) out.at c.slot_mut.ensures.value) in
     let judged = c.judge-verdict.ensures.judged x h.desk (inside_alone n full2 after (receiver_slot who.end) c.receiver_slot.result (Receiver x) c.slot_mut-side.result.now [] h.at c.slot_mut-side.ensures.value) h.right.code in
     subst (λ (ended : CallEnd). IsLeaving lane_turn.Receiver who.end ended me3) (λ i. end.Took (out.handed i) ((ap (meaning.verdict h.desk x.handed) (sym said) ∙ sym judged.0) i)) (
       who.number,
@@ -116,14 +115,14 @@ returns-then-is_live_in-clause-handed g c =
     let h : Handed coded meaning z call x b m me1 me2 = hands_live coded meaning z me1 me2 call y b m c.era_of-era.result c.requires.seat.told out1 c.load_era.ensures.told step c.era_of-era.ensures (sym c.is_live_in.ensures ∙ c.if-is_live_in.true) in
     let after : Call = Receives who.end (turn.Leaving who.number (end.Took x.handed (meaning.verdict h.desk x.handed m))) (handed_side coded meaning h.desk x who.number b m) b m in
     let full3 : SeatState = (full2.0, (c.receiver_slot.result, c.judge-verdict.new.slot) ∷ rest full2.1) in let me3 = seat_of n full3 in
-    let said : c.message_in-message.result ≡ m = c.message_in-message.ensures m (inside_alone n full (receive_call who w x b m) (buffer_slot z.to_host.capacity who.end b) k (Buffer m) c.slot_mut.result.now (receive_slots who x) out.at c.slot_mut.ensures.value) in
+    let said : c.read_message.new.message ≡ m = c.read_message.ensures m (inside_alone n full (receive_call who w x b m) (buffer_slot z.to_host.capacity who.end b) k (Buffer m) c.slot_mut.result.now (receive_slots who x) out.at c.slot_mut.ensures.value) in
     let judged = c.judge-verdict.ensures.judged x h.desk (inside_alone n full2 after (receiver_slot who.end) c.receiver_slot.result (Receiver x) c.slot_mut-side.result.now [] h.at c.slot_mut-side.ensures.value) h.right.code in (
       m,
       record {
-        lane = ap (λ (q : HeldBuffer). q.lane) c.of-held.ensures ∙ c.lane_number.ensures;
-        caller = ap (λ (q : HeldBuffer). q.caller) c.of-held.ensures;
-        numbered = ap (λ (q : HeldBuffer). q.number) c.of-held.ensures;
-        said = ap (λ (q : HeldBuffer). q.message) c.of-held.ensures ∙ said;
+        lane = refl;
+        caller = refl;
+        numbered = refl;
+        said = said;
         desk = h.desk;
         judged = judged.0 ∙ (λ i. meaning.verdict h.desk (out.handed i) (said i));
       },
@@ -163,5 +162,5 @@ pub returns-then-is_live_in-clause-out : goal.returns-then-is_live_in-clause-out
 returns-then-is_live_in-clause-out g c =
     let full = c.args.seat.now.me in let n = c.args.call.now.who.number in let me = seat_of n full in let call = c.args.call.now in let who = call.who in let z = c.args.self.now.sizes in let b = c.args.buffer in
     let m = c.requires.call.0 in let out = c.requires.call.1 in let x = out.side in let w = work.Take take_stage.Buffer in let k = c.buffer_slot-slot.result in
-    let said : c.message_in-message.result ≡ m = c.message_in-message.ensures m (inside_alone n full (receive_call who w x b m) (buffer_slot z.to_host.capacity who.end b) k (Buffer m) c.slot_mut.result.now (receive_slots who x) out.at c.slot_mut.ensures.value) in
-    subst (λ (l : List ℕ). HasBufferOut z call w b l me) (sym (ap (λ (q : HeldBuffer). q.message) c.of-held.ensures ∙ said)) out
+    let said : c.read_message.new.message ≡ m = c.read_message.ensures m (inside_alone n full (receive_call who w x b m) (buffer_slot z.to_host.capacity who.end b) k (Buffer m) c.slot_mut.result.now (receive_slots who x) out.at c.slot_mut.ensures.value) in
+    subst (λ (l : List ℕ). HasBufferOut z call w b l me) (sym said) out

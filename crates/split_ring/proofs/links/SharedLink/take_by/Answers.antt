@@ -1,9 +1,13 @@
-use Rattle.std.proofs.Common.{refl}
+use Rattle.std.proofs.Common.{refl, subst}
 use Rattle.lane_model.specs.declared.calls.Wish.TheVariants as wish
+use Rattle.split_ring.specs.declared.callers.CallerId.{CallerId}
 use Rattle.split_ring.specs.declared.callers.Manager.{Manager}
 use Rattle.split_ring.specs.Calls.{take_answer}
+use Rattle.split_ring.specs.ManagerCalls.{CallsState}
+use Rattle.split_ring.specs.Receives.{took}
+use Rattle.split_ring.proofs.CarriedLinks.{caller_id}
 use Rattle.split_ring.proofs.Runs.{idle_caller, idle_seat}
-use Rattle.split_ring.proofs.WholeCalls.{HasCalled, called_caller, called_manager, called_others, called_state, carried_idle}
+use Rattle.split_ring.proofs.WholeCalls.{HasCalled, called_caller, called_manager, called_others, called_state, carried_idle, carried_is}
 use Rattle.split_ring.proofs.links.SharedLink.take_by.Goals as goal
 
 pub carried_id-who-requires : goal.carried_id-who-requires
@@ -52,4 +56,9 @@ returns-clause-state g c = λ end user m known.
     let after : Manager = record { seat = c.take_in.new.seat; users = before.users; out = before.out } in
     let h : HasCalled link before after who = record { carrier = c.requires.manager; carries = carries; leaves = c.take_in.ensures.leaves; seat = c.take_in.ensures.seat; rests = c.take_in.ensures.rests; out = refl; users = refl } in
     let run = c.take_in.ensures.run m known.known in
-    (run.0, run.1, called_state link before after who h c.args.caller c.args.inc c.carried_id-who.ensures end user g.row.D.coded g.D.Desk.meaning m wish.Take run.0 (take_answer c.take_in.result) known run.2)
+    let coded = g.row.D.coded in let meaning = g.D.Desk.meaning in let read = c.take_in.new.message in let answer = c.take_in.result in (
+      run.0,
+      run.1,
+      subst (λ (w : CallerId). CallsState coded meaning m (caller_id c.args.caller end c.args.inc) wish.Take run.0 (take_answer (took w read answer)) after) (carried_is before c.args.caller c.args.inc who c.carried_id-who.ensures end user)
+          (called_state link before after who h c.args.caller c.args.inc c.carried_id-who.ensures end user coded meaning m wish.Take run.0 (take_answer (took who read answer)) known run.2),
+    )

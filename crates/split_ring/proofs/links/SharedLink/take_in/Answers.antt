@@ -9,6 +9,7 @@ use Rattle.link_words.specs.Deeds.{Steps, after_deed}
 use Rattle.split_ring.specs.Calls.{take_answer}
 use Rattle.split_ring.specs.Focus.{StepsAlone, seat_of}
 use Rattle.split_ring.specs.Phases.{holder_for}
+use Rattle.split_ring.specs.Receives.{took}
 use Rattle.split_ring.proofs.ReceiveRuns.{receive_whole}
 use Rattle.split_ring.proofs.Runs.{whole_refused}
 use Rattle.link_words.specs.declared.rule.Event.TheVariants.{Step}
@@ -20,7 +21,7 @@ returns-in-Err-clause-walk g c = record { walk = Step (made.Turn (c.in-Err.holde
 
 pub returns-clause-walk : goal.returns-clause-walk
 returns-clause-walk g c =
-    let n = c.args.who.number in takes_whole g.row.D.coded g.D.Desk.meaning c.args.who c.take_on-answer.result (seat_of n c.args.seat.now.me) (seat_of n c.enter.new.seat.me) (seat_of n c.take_on-answer.new.seat.me) (seat_of n c.leave.new.seat.me)
+    let n = c.args.who.number in takes_whole g.row.D.coded g.D.Desk.meaning c.args.who (took c.args.who c.take_on-answer.new.message c.take_on-answer.result) (seat_of n c.args.seat.now.me) (seat_of n c.enter.new.seat.me) (seat_of n c.take_on-answer.new.seat.me) (seat_of n c.leave.new.seat.me)
     c.in_default.ensures.entered.1 c.take_on-answer.ensures.settled c.leave.ensures.left.1
 
 pub returns-in-Err-clause-leaves : goal.returns-in-Err-clause-leaves
@@ -44,4 +45,4 @@ pub returns-clause-run : goal.returns-clause-run
 returns-clause-run g c = λ m known.
     let coded = g.row.D.coded in let meaning = g.D.Desk.meaning in let z = c.args.self.now.sizes in let who = c.args.who in let a = c.args.seat.now.me in let b = c.enter.new.seat.me in let d = c.take_on-answer.new.seat.me in let e = c.leave.new.seat.me in
     let run = c.take_on-answer.ensures.run (after_deed meaning m (Steps who.number who.follows (Some c.take.result))) (c.enter.ensures.alone.knows m known) in let count = run.1 in
-    (suc run.0, omega (arith, count), receive_whole coded meaning z m who c.take.result wish.Take run.0 (take_answer c.take_on-answer.result) a b d e c.take.ensures c.enter.ensures.alone c.requires.caller.rests c.in_default.ensures.entered.0 run.2 c.leave.ensures.alone known)
+    (suc run.0, omega (arith, count), receive_whole coded meaning z m who c.take.result wish.Take run.0 (take_answer (took who c.take_on-answer.new.message c.take_on-answer.result)) a b d e c.take.ensures c.enter.ensures.alone c.requires.caller.rests c.in_default.ensures.entered.0 run.2 c.leave.ensures.alone known)

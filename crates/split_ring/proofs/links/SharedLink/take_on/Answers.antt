@@ -11,7 +11,7 @@ use Rattle.split_ring.proofs.ReceiveRuns.{take_begins, take_goes}
 use Rattle.split_ring.specs.declared.callers.CallerId.{CallerId}
 use Rattle.split_ring.specs.Focus.{LeavesOthers, seat_of}
 use Rattle.split_ring.proofs.SeatEnds.{leaves_then, stays_leaves}
-use Rattle.split_ring.specs.Receives.{HasSettledTake}
+use Rattle.split_ring.specs.Receives.{taken_of, HasSettledTake}
 use Rattle.std.specs.Prelude.{Ok, Err}
 use Rattle.split_ring.specs.declared.takes.TakeFault.TheVariants as fault
 use Rattle.split_ring.proofs.links.SharedLink.take_on.Goals as goal
@@ -33,11 +33,10 @@ returns-in-Err-look_for_message-clause-settled g c =
 
 pub returns-in-Ok-clause-settled : goal.returns-in-Ok-clause-settled
 returns-in-Ok-clause-settled g c =
-    let coded = g.row.D.coded in let meaning = g.D.Desk.meaning in let call = c.take_begun-call.result in
-    subst (λ (w : CallerId). HasSettledTake coded meaning c.args.who (Ok c.in-Ok.taken) (seat_of w.number c.args.seat.now.me) (seat_of w.number c.hand_over.new.seat.me)) c.take_begun-call.ensures.call.1 (
-    settled_as coded meaning call c.args.who (Ok c.in-Ok.taken) (seat_of call.who.number c.args.seat.now.me) (seat_of call.who.number c.hand_over.new.seat.me) c.take_begun-call.ensures.call.1
-    (handed coded meaning call c.take_filled-buffer.result c.in-Ok.taken (seat_of call.who.number c.args.seat.now.me) (seat_of call.who.number c.take_begun-call.new.seat.me) (seat_of call.who.number c.find_take_era.new.seat.me) (seat_of call.who.number c.look_for_message.new.seat.me) (seat_of call.who.number c.take_filled-buffer.new.seat.me) (seat_of call.who.number c.hand_over.new.seat.me)
-    c.take_begun-call.ensures.still c.in_default.ensures.live.1 c.in_default-look_for_message.ensures.message.1 c.take_filled-buffer.ensures.done c.in-Ok.ensures.left c.in-Ok.ensures.handed))
+    let coded = g.row.D.coded in let meaning = g.D.Desk.meaning in let call = c.take_begun-call.result in let handing = c.in-Ok.handing in let message = c.hand_over.new.message in
+    subst (λ (w : CallerId). HasSettledTake coded meaning w (Ok (taken_of w handing message)) (seat_of w.number c.args.seat.now.me) (seat_of w.number c.hand_over.new.seat.me)) c.take_begun-call.ensures.call.1
+    (handed coded meaning call c.take_filled-buffer.result (taken_of call.who handing message) (seat_of call.who.number c.args.seat.now.me) (seat_of call.who.number c.take_begun-call.new.seat.me) (seat_of call.who.number c.find_take_era.new.seat.me) (seat_of call.who.number c.look_for_message.new.seat.me) (seat_of call.who.number c.take_filled-buffer.new.seat.me) (seat_of call.who.number c.hand_over.new.seat.me)
+    c.take_begun-call.ensures.still c.in_default.ensures.live.1 c.in_default-look_for_message.ensures.message.1 c.take_filled-buffer.ensures.done c.in-Ok.ensures.left c.in-Ok.ensures.handed)
 
 pub returns-in-Err-hand_over-clause-settled : goal.returns-in-Err-hand_over-clause-settled
 returns-in-Err-hand_over-clause-settled g c =
@@ -88,8 +87,8 @@ returns-in-Ok-clause-run g c = λ m known.
     let r1 = take_goes coded meaning z m 0 take_stage.Turn call 0 (phase.Takes take_stage.Era call 0) b d r0 c.find_take_era.ensures.alone (refl, refl, tt, tt, refl) (c.in_default.ensures.live.0, refl) tt in
     let e = c.look_for_message.new.seat.me in let r2 = take_goes coded meaning z m 1 take_stage.Era call 0 (phase.Takes take_stage.Look call 0) d e r1 c.look_for_message.ensures.alone (refl, refl, tt, tt, refl) (c.in_default-look_for_message.ensures.message.0, refl) tt in
     let buffer = c.take_filled-buffer.result in let f = c.take_filled-buffer.new.seat.me in let r3 = take_goes coded meaning z m 2 take_stage.Look call 0 (phase.Takes take_stage.Buffer call buffer) e f r2 c.take_filled-buffer.ensures.alone (refl, refl, tt, tt, refl) (c.take_filled-buffer.ensures.out, refl) tt in
-    let h = c.hand_over.new.seat.me in let taken = c.in-Ok.taken in let handed = c.in-Ok.ensures.handed.1 in
-    (4, refl, subst (λ (w : CallerId). HasRun coded meaning w z 4 (phase.LeavesReceiver (answer.Took taken.held taken.verdict)) m h) c.take_begun-call.ensures.call.1 (take_goes coded meaning z m 3 take_stage.Buffer call buffer (phase.LeavesReceiver (answer.Took taken.held taken.verdict)) f h r3 c.hand_over.ensures.alone (refl, refl, tt, tt, refl) (subst (λ (k : ℕ). IsLeaving lane_turn.Receiver call.who.end (ends.Took k taken.verdict) (seat_of call.who.number h)) (sym handed.numbered) c.in-Ok.ensures.left) (record { lane = handed.lane; caller = handed.caller; out = c.in-Ok.ensures.out })))
+    let h = c.hand_over.new.seat.me in let handing = c.in-Ok.handing in let message = c.hand_over.new.message in let taken = taken_of call.who handing message in let handed = c.in-Ok.ensures.handed.1 in
+    (4, refl, subst (λ (w : CallerId). HasRun coded meaning w z 4 (phase.LeavesReceiver (answer.Took (taken_of w handing message).held handing.verdict)) m h) c.take_begun-call.ensures.call.1 (take_goes coded meaning z m 3 take_stage.Buffer call buffer (phase.LeavesReceiver (answer.Took taken.held taken.verdict)) f h r3 c.hand_over.ensures.alone (refl, refl, tt, tt, refl) (subst (λ (k : ℕ). IsLeaving lane_turn.Receiver call.who.end (ends.Took k taken.verdict) (seat_of call.who.number h)) (sym handed.numbered) c.in-Ok.ensures.left) (record { lane = handed.lane; caller = handed.caller; out = c.in-Ok.ensures.out })))
 
 pub returns-in-Err-hand_over-clause-run : goal.returns-in-Err-hand_over-clause-run
 returns-in-Err-hand_over-clause-run g c = λ m known.

@@ -4,7 +4,9 @@ use Rattle.lane_model.specs.declared.calls.Progress.TheVariants as progress
 use Rattle.lane_model.specs.declared.stages.TakeStage.{TakeStage}
 use Rattle.lane_model.specs.declared.stages.TakeStage.TheVariants as take_stage
 use Rattle.split_ring.specs.declared.calls.Phase.TheVariants as phase
-use Rattle.split_ring.specs.Calls.{TakeStands}
+use Rattle.split_ring.specs.declared.takes.Taken.{Taken}
+use Rattle.split_ring.specs.Calls.{TakeStands, Advances}
+use Rattle.split_ring.specs.Receives.{taken_of}
 use Rattle.split_ring.proofs.CallSteps.{take_by, take_live, take_dead, take_found, take_empty, take_buffer, take_late, take_handed, steps_by}
 use Rattle.split_ring.specs.declared.callers.CallerId.{CallerId}
 use Rattle.split_ring.specs.Focus.{seat_of}
@@ -98,8 +100,10 @@ returns-in-Look-clause-step g c =
 
 pub returns-in-Ok-hand_over-clause-step : goal.returns-in-Ok-hand_over-clause-step
 returns-in-Ok-hand_over-clause-step g c =
-    let coded = g.row.D.coded in let meaning = g.D.Desk.meaning in let z = c.args.self.now.sizes in let full = c.args.seat.now.me in let me = seat_of c.args.call.who.number full in let who = c.args.who in let call = c.args.call in let b = c.args.buffer in let was = c.requires.stands in let q : TakeStands z call b c.args.stage me × (call.who ≡ who) = (subst (λ (w : CallerId). TakeStands z call b c.args.stage (seat_of w.number full)) (sym was.1) was.0, was.1) in let taken = c.in-Ok-hand_over.taken in
-    let full' = c.hand_over.new.seat.me in let me' = seat_of c.args.call.who.number full' in let after = phase.LeavesReceiver (answer.Took taken.held taken.verdict) in take_by coded meaning z who c.args.stage take_stage.Buffer call b (progress.At 5) after full full' c.in-Buffer.is q.1 (take_handed coded meaning z call b taken me me' c.in-Ok-hand_over.ensures.left c.in-Ok-hand_over.ensures.handed)
+    let coded = g.row.D.coded in let meaning = g.D.Desk.meaning in let z = c.args.self.now.sizes in let full = c.args.seat.now.me in let me = seat_of c.args.call.who.number full in let who = c.args.who in let call = c.args.call in let b = c.args.buffer in let was = c.requires.stands in let q : TakeStands z call b c.args.stage me × (call.who ≡ who) = (subst (λ (w : CallerId). TakeStands z call b c.args.stage (seat_of w.number full)) (sym was.1) was.0, was.1) in let taken = taken_of call.who c.in-Ok-hand_over.handing c.hand_over.new.message in
+    let full' = c.hand_over.new.seat.me in let me' = seat_of c.args.call.who.number full' in let after = phase.LeavesReceiver (answer.Took taken.held taken.verdict) in
+    subst (λ (t : Taken). Advances coded meaning z who (phase.Takes c.args.stage call b) (progress.At 5) (phase.LeavesReceiver (answer.Took t.held t.verdict)) (seat_of who.number full) (seat_of who.number full')) (sym c.taken_of-taken.ensures)
+    (take_by coded meaning z who c.args.stage take_stage.Buffer call b (progress.At 5) after full full' c.in-Buffer.is q.1 (take_handed coded meaning z call b taken me me' c.in-Ok-hand_over.ensures.left c.in-Ok-hand_over.ensures.handed))
 
 pub returns-in-Err-hand_over-clause-step : goal.returns-in-Err-hand_over-clause-step
 returns-in-Err-hand_over-clause-step g c =
