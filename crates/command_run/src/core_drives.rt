@@ -4,7 +4,7 @@ ghost use Rattle.journal.specs.Lines.{transcript};
 ghost use Rattle.command_run.specs.Logs.{CutsCore, DrivesHanding, DrivesOn, HandsCoreEffect, HasCoreEffect, Keeps};
 ghost use Rattle.command_run.specs.Fetches.{EndsCut, IfWrite};
 ghost use Rattle.rp_base.specs.declared.limits.TheConstants.{STEPS_MOST};
-ghost use Rattle.core_actors.specs.ActorSteps.{HoldsDrivenTaken, drive_of_progress};
+ghost use Rattle.core_actors.specs.ActorSteps.{HoldsDrivenTaken};
 ghost use Rattle.link_bench.specs.Benches.{HoldsTaken, link_in};
 ghost use Rattle.crash_recover.specs.Drives.{drive_step, is_idle};
 ghost use Rattle.remote_code.specs.Faults.{fault_number};
@@ -14,7 +14,7 @@ ghost use Rattle.command_run.specs.CoreDrives.{actor_end_events, crash_events, d
 use crate::act_events::tell_reach;
 use crate::logs::event;
 use crate::{CommandFault, NamedCore, RunLog, Stop};
-use crash_recover::{DriveProgress, Reach};
+use crash_recover::{Driven, Reach};
 use journal::Event;
 use lane_model::CallEnd;
 use remote_code::WorkerFault;
@@ -125,20 +125,16 @@ impl NamedCore {
         ensures within { IfOk result (λ left. left ≤ count) }
         ensures over { IfOk result (λ left. (left + most ≡ count) ⊎ (is_over self.old.name self.new.core log.new.steps ≡ true)) }
     {
-        let mut end = CallEnd::Gave(0);
-        let mut steps = log.steps();
+        let mut driven = Driven::Idle;
         for done in 0..most {
-            if self.is_over(steps) {
-                log.set_steps(steps);
+            if self.is_over(log.steps()) {
                 return Ok(count - done);
             }
-            if !self.drive_on(is_quiet, &mut end, log)? {
-                log.set_steps(steps);
+            if !self.drive_on(is_quiet, &mut driven, log)? {
                 return Ok(count - done);
             }
-            steps += 1;
+            log.count();
         }
-        log.set_steps(steps);
         Ok(count - most)
     }
 
@@ -177,13 +173,13 @@ impl NamedCore {
         }
     }
 
-    /// One step of the actors: tells what it was, and answers whether they had something to do. Where
-    /// it ends a call, `end` says how.
+    /// One step of the actors, which `driven` says: tells what it was, and answers whether they had
+    /// something to do.
     #[inline(always)]
     fn drive_on(
         &mut self,
         is_quiet: bool,
-        end: &mut CallEnd,
+        driven: &mut Driven,
         log: &mut RunLog,
     ) -> Result<bool, NoMemory>
         ensures name { self.new.name ≡ self.old.name }
@@ -191,29 +187,23 @@ impl NamedCore {
         ensures core { IfOk result (λ _. self.new.core ≡ (drive_step self.old.core).core) }
         ensures told { IfOk result (λ _. Keeps log.old log.new (step_events self.old.name is_quiet (drive_step self.old.core))) }
     {
-        let progress = self.core.drive_on(log.alloc(), end)?;
-        self.tell_progress(progress, end, is_quiet, log)?;
-        Ok(!progress.is_rest())
+        self.core.drive_on(log.alloc(), driven)?;
+        self.tell_driven(driven, is_quiet, log)?;
+        Ok(!driven.is_rest())
     }
 
-    /// Tells what a step of the actors was, of which `end` is the end of its call.
+    /// Tells what a step of the actors was.
     #[inline(always)]
-    fn tell_progress(
-        &self,
-        progress: DriveProgress,
-        end: &CallEnd,
-        is_quiet: bool,
-        log: &mut RunLog,
-    ) -> Result<(), NoMemory>
-        requires { IfSome self.now.core.bench (λ bench. HoldsDrivenTaken (link_in bench) (drive_of_progress progress end.now)) }
-        ensures { IfOk result (λ _. Keeps log.old log.new (driven_events self.now.name is_quiet self.now.core.bench (drive_of_progress progress end.now))) }
+    fn tell_driven(&self, driven: &Driven, is_quiet: bool, log: &mut RunLog) -> Result<(), NoMemory>
+        requires { IfSome self.now.core.bench (λ bench. HoldsDrivenTaken (link_in bench) driven.now) }
+        ensures { IfOk result (λ _. Keeps log.old log.new (driven_events self.now.name is_quiet self.now.core.bench driven.now)) }
     {
-        match progress {
-            DriveProgress::Rest | DriveProgress::Nothing | DriveProgress::Stepped => Ok(()),
-            DriveProgress::Ended(_) if is_quiet => Ok(()),
-            DriveProgress::Ended(caller) => self.tell_end(caller, end, log),
-            DriveProgress::Worker(fault) => self.tell_fault(fault, log),
-            DriveProgress::Crashed(kind) => self.tell_crash(kind, log),
+        match driven {
+            Driven::Idle | Driven::Stepped => Ok(()),
+            Driven::Ended(_, _) if is_quiet => Ok(()),
+            Driven::Ended(caller, end) => self.tell_end(*caller, end, log),
+            Driven::Worker(fault) => self.tell_fault(*fault, log),
+            Driven::Crashed(kind) => self.tell_crash(*kind, log),
         }
     }
 

@@ -27,10 +27,8 @@ impl NamedCore {
         ensures name { self.new.name ≡ self.old.name }
         ensures effect { IfOk result (λ ending. HasCoreEffect (core_link_effect self.old.name self.old.core log.old.steps (bare_act (λ bytes. bytes.now) act.now) self.old.core.bench) self.new.core log.old log.new ending) }
     {
-        let mut steps = log.steps();
-        match self.core.act(log.alloc(), act, &mut steps) {
+        match self.core.act(log.alloc(), act, &mut log.steps) {
             Ok(Some(answer)) => {
-                log.set_steps(steps);
                 let Some(bench) = self.core.link() else {
                     unreachable!()
                 };

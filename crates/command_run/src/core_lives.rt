@@ -230,7 +230,7 @@ impl NamedCore {
         ensures { OnOk result (log.new ≡ record { lines = log.old.lines ++ line (event.Closed self.now.name inc); steps = log.old.steps + 1 }) }
     {
         let name = self.name;
-        log.set_steps(log.steps() + 1);
+        log.count();
         log.tell(&event!(Closed, name, [inc]))
     }
 }

@@ -63,12 +63,8 @@ impl NamedBench {
         ensures name { self.new.name ≡ self.old.name }
         ensures effect { IfOk result (λ ending. HasEffect (act_effect self.old.name self.old.bench log.old.steps (bare_act (λ bytes. bytes.now) act.now)) self.new.bench log.old log.new ending) }
     {
-        let mut steps = log.steps();
-        match self.bench.act(0, &mut Nobody, act, &mut steps) {
-            Ok(answer) => {
-                log.set_steps(steps);
-                tell_answer(self.name, &self.bench, answer, log)
-            }
+        match self.bench.act(0, &mut Nobody, act, &mut log.steps) {
+            Ok(answer) => tell_answer(self.name, &self.bench, answer, log),
             Err(error) => Err(error),
         }
     }

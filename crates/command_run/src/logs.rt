@@ -1,12 +1,13 @@
-ghost use Rattle.std.specs.Prelude.{◌≡◌, ◌++◌, ◌≤◌, [], OnOk, OnErr};
-ghost use Rattle.std.specs.Io.KnownBytes.{Appends};
+ghost use Rattle.std.specs.Prelude.{◌≡◌, ◌+◌, ◌==◌, ◌++◌, ◌≤◌, [], not, if◌then◌else◌, OnOk, OnErr};
 ghost use Rattle.rp_base.specs.declared.limits.TheConstants.{STEPS_MOST};
+ghost use Rattle.std.specs.Io.KnownBytes.{Appends};
 ghost use Rattle.rp_io.specs.Causes.{Rose};
 ghost use Rattle.rp_io.specs.Contents.{AppendsFront};
 ghost use Rattle.journal.specs.Lines.{line};
 ghost use Rattle.command_run.specs.Logs.{Hands};
 ghost use Rattle.journal.specs.Notices.{notice_line};
 
+use crash_recover::StepCount;
 use journal::{Event, Notice, push_notice};
 use rp_base::NoMemory;
 use rp_io::{Failed, Sink, write_whole};
@@ -31,19 +32,15 @@ pub(crate) use event;
 pub struct RunLog {
     alloc: Global,
     kept: Vec<u8>,
-    steps: u64,
+    pub(crate) steps: StepCount,
 }
 
 impl Model for RunLog {
-    ghost use Rattle.std.specs.Prelude.{◌≤◌};
-    ghost use Rattle.rp_base.specs.declared.limits.TheConstants.{STEPS_MOST};
     ghost use Rattle.command_run.specs.Logs.{LogState};
 
     ghost Value = { LogState };
 
     ghost view = { λ l. record { lines = l.kept.items; steps = l.steps } };
-
-    ghost invariant = { λ l. l.steps ≤ STEPS_MOST };
 }
 
 impl RunLog {
@@ -54,7 +51,7 @@ impl RunLog {
         RunLog {
             alloc,
             kept: Vec::new(alloc),
-            steps: 0,
+            steps: StepCount::new(),
         }
     }
 
@@ -68,15 +65,15 @@ impl RunLog {
         ensures steps { result ≡ self.now.steps }
         ensures within { result ≤ STEPS_MOST }
     {
-        self.steps
+        self.steps.steps()
     }
 
-    /// So many steps are done now.
-    pub(crate) fn set_steps(&mut self, steps: u64)
-        requires { steps ≤ STEPS_MOST }
-        ensures { self.new ≡ record self.old { steps = steps } }
+    /// Counts one step more, where the run has one left, and answers whether it has.
+    pub(crate) fn count(&mut self) -> bool
+        ensures spent { (self.old.steps == STEPS_MOST) ≡ not result }
+        ensures counted { self.new ≡ record self.old { steps = if result then self.old.steps + 1 else self.old.steps } }
     {
-        self.steps = steps;
+        self.steps.count()
     }
 
     /// Keeps the line of an event. Where memory ran out, what is kept is as it was.

@@ -145,7 +145,6 @@ impl Objects {
     fn set_quiet(&mut self, switch: Switch, log: &mut RunLog) -> Result<Option<Stop>, NoMemory>
         ensures { IfOk result (λ ending. HasRunEffect (quiet_effect (record { objects = self.old; steps = log.old.steps }) switch) self.new log.old log.new ending) }
     {
-        let _ = log.steps();
         self.is_quiet = is_on(switch);
         Ok(None)
     }

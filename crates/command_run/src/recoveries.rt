@@ -6,7 +6,7 @@ use crate::logs::event;
 use crate::{NamedBench, RunLog, Stop};
 use journal::Event;
 use lane_model::{Already, ReopenFault};
-use rp_base::{Era, NoMemory, STEPS_MOST};
+use rp_base::{Era, NoMemory};
 
 impl NamedBench {
     /// Closes the link, in one step.
@@ -15,11 +15,9 @@ impl NamedBench {
         ensures name { self.new.name ≡ self.old.name }
         ensures effect { IfOk result (λ ending. HasEffect (close_effect self.old.name self.old.bench log.old.steps) self.new.bench log.old log.new ending) }
     {
-        let steps = log.steps();
-        if steps == STEPS_MOST {
+        if !log.count() {
             return Ok(Some(Stop::StepLimit));
         }
-        log.set_steps(steps + 1);
         let name = self.name;
         let inc = self.bench.era().inc;
         match self.bench.close() {

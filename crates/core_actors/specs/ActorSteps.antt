@@ -5,7 +5,6 @@ use Rattle.channel_bus.specs.Sides.{EndState}
 use Rattle.lane_model.specs.Links.{LinkState}
 use Rattle.lane_model.specs.declared.calls.Wish.{Wish}
 use Rattle.lane_model.specs.declared.calls.Wish.TheVariants as wish
-use Rattle.lane_model.specs.declared.calls.CallEnd.{CallEnd}
 use Rattle.remote_core.specs.Works.{work_of, after_work}
 use Rattle.remote_core.specs.declared.workers.Work.{Work}
 use Rattle.remote_core.specs.declared.workers.Work.TheVariants as work
@@ -16,19 +15,8 @@ use Rattle.core_actors.specs.declared.actors.Actor.{Actor}
 use Rattle.core_actors.specs.declared.actors.Actor.TheVariants as actor
 use Rattle.core_actors.specs.declared.progress.Driven.{Driven}
 use Rattle.core_actors.specs.declared.progress.Driven.TheVariants as driven
-use Rattle.core_actors.specs.declared.progress.DriveProgress.{DriveProgress}
-use Rattle.core_actors.specs.declared.progress.DriveProgress.TheVariants as progress
 use Rattle.core_actors.specs.Actors.{ActorsState, other_actor}
 use Rattle.core_actors.specs.ActorEnds.{actors_after_drivers, host_after_call, message_of, worker_after_call}
-
--- what a step was, by what it answers and by the end of a call beside it
-abbrev pub drive_of_progress : DriveProgress → CallEnd → Driven
-drive_of_progress progress.Rest end = driven.Idle
-drive_of_progress progress.Nothing end = driven.Idle
-drive_of_progress progress.Stepped end = driven.Stepped
-drive_of_progress (progress.Ended caller) end = driven.Ended caller end
-drive_of_progress (progress.Worker fault) end = driven.Worker fault
-drive_of_progress (progress.Crashed kind) end = driven.Crashed kind
 
 -- where a step ended a call that was handed a message, the call's caller holds its buffer and is in no call
 abbrev pub HoldsDrivenTaken : LinkState EndState → Driven → Type 0
@@ -39,13 +27,9 @@ HoldsDrivenTaken link (driven.Worker fault) = Unit {0}
 HoldsDrivenTaken link (driven.Crashed kind) = Unit {0}
 
 -- whether a step found that there was nothing to do
-abbrev pub is_rest : DriveProgress → Bool
-is_rest progress.Rest = true
-is_rest progress.Nothing = false
-is_rest progress.Stepped = false
-is_rest (progress.Ended caller) = false
-is_rest (progress.Worker fault) = false
-is_rest (progress.Crashed kind) = false
+abbrev pub is_rest : Driven → Bool
+is_rest driven.Idle = true
+is_rest other = false
 
 -- the first step of a call. One that can't begin does nothing; no run gets there
 abbrev pub begun_step : BenchState → ℕ → Wish → BenchWalk

@@ -3,14 +3,14 @@ ghost use Rattle.std.specs.VecDeque.{deque_len, deque_capacity};
 ghost use Rattle.rp_base.specs.declared.limits.TheConstants.{MESSAGE_MOST};
 ghost use Rattle.lane_model.specs.declared.calls.CallEnd.TheVariants as ended;
 ghost use Rattle.core_actors.specs.Actors.{actors_view};
-ghost use Rattle.link_bench.specs.Benches.{HoldsReachTaken, HoldsTaken, link_in, reach_of};
+ghost use Rattle.link_bench.specs.Benches.{HoldsReachTaken, HoldsTaken, link_in};
 ghost use Rattle.core_actors.specs.ActorEnds.{actors_after_drivers, actors_after_end, after_endpoint, after_verdict, endpoint_answer, host_after_call, is_tried_again, message_of, taken_number, verdict_answer, worker_after_call};
 ghost use Rattle.core_actors.specs.ActorSteps.{host_after_step, host_at_step_as, worker_after_step};
 
 use crate::actors::Actors;
 use host_driver::Drivers;
 use lane_model::{CallEnd, Wish};
-use link_bench::{Bench, Progress, Watcher};
+use link_bench::{Bench, Reach, Watcher};
 use rp_base::{CallerNo, End, Endpoint, Message, Name, NoMemory, NsKind, Verdict};
 
 impl Watcher for Actors {
@@ -40,15 +40,15 @@ impl Actors {
     }
 
     /// Has the host actor see how far its call came, on the link that it is made on.
-    pub(crate) fn reach_host(&mut self, bench: &Bench, progress: Progress, end: &CallEnd)
-        requires taken { HoldsReachTaken (link_in bench.now) 0 (reach_of progress end.now) }
+    pub(crate) fn reach_host(&mut self, bench: &Bench, reach: &Reach)
+        requires taken { HoldsReachTaken (link_in bench.now) 0 reach.now }
         requires room { deque_len self.old.host_calls + 2 ≤ deque_capacity self.old.host_calls }
-        ensures { actors_view self.new ≡ host_after_step (actors_view self.old) bench.now (reach_of progress end.now) }
+        ensures { actors_view self.new ≡ host_after_step (actors_view self.old) bench.now reach.now }
     {
-        match progress {
-            Progress::At(_) => {}
-            Progress::Ended => self.end_host(bench, end),
-            Progress::Limit => {
+        match reach {
+            Reach::At(_) => {}
+            Reach::Ended(end) => self.end_host(bench, end),
+            Reach::Limit => {
                 self.host_calls.pop_front();
                 self.is_taking = false;
             }
@@ -138,15 +138,15 @@ impl Actors {
     }
 
     /// Has the worker see how far its call came, on the link that it is made on.
-    pub(crate) fn reach_worker(&mut self, bench: &Bench, progress: Progress, end: &CallEnd)
-        requires taken { HoldsReachTaken (link_in bench.now) 1 (reach_of progress end.now) }
+    pub(crate) fn reach_worker(&mut self, bench: &Bench, reach: &Reach)
+        requires taken { HoldsReachTaken (link_in bench.now) 1 reach.now }
         requires room { deque_len self.old.worker_calls < deque_capacity self.old.worker_calls }
-        ensures { actors_view self.new ≡ worker_after_step (actors_view self.old) bench.now (reach_of progress end.now) }
+        ensures { actors_view self.new ≡ worker_after_step (actors_view self.old) bench.now reach.now }
     {
-        match progress {
-            Progress::At(_) => {}
-            Progress::Ended => self.end_worker(message_of(bench, 1, end), end),
-            Progress::Limit => {
+        match reach {
+            Reach::At(_) => {}
+            Reach::Ended(end) => self.end_worker(message_of(bench, 1, end), end),
+            Reach::Limit => {
                 self.worker_calls.pop_front();
             }
         }

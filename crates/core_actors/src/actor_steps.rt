@@ -1,20 +1,19 @@
 ghost use Rattle.std.specs.Prelude.{◌≡◌, ◌<◌, length, false, is_some, None, IfOk, OnErr, OnOk};
 ghost use Rattle.channel_bus.specs.Sides.{EndState};
 ghost use Rattle.lane_model.specs.Links.{LinkState};
-ghost use Rattle.lane_model.specs.declared.calls.CallEnd.{CallEnd};
 ghost use Rattle.remote_core.specs.Works.{memory_after, work_of};
 ghost use Rattle.core_actors.specs.Actors.{actors_view};
 ghost use Rattle.core_actors.specs.declared.actors.Actor.TheVariants as actor;
-ghost use Rattle.link_bench.specs.Benches.{HoldsReachTaken, advance_walk, begin_fault, is_in_call, link_in, reach_of, reach_of_done, step_fault};
+ghost use Rattle.link_bench.specs.Benches.{HoldsReachTaken, advance_walk, begin_fault, is_in_call, link_in, step_fault};
 ghost use Rattle.link_bench.specs.Watchers.{watcher_after};
 ghost use Rattle.core_actors.specs.ActorEnds.{actors_after_end};
-ghost use Rattle.core_actors.specs.ActorSteps.{HoldsDrivenTaken, actors_after_record, begun_step, drive_of_progress, drive_of_reach, drive_of_work, first_or_take, host_after_step, host_at_step, is_rest, link_step, with_next_after, worker_after_step};
+ghost use Rattle.core_actors.specs.ActorSteps.{HoldsDrivenTaken, actors_after_record, begun_step, drive_of_reach, drive_of_work, first_or_take, host_after_step, host_at_step, is_rest, link_step, with_next_after, worker_after_step};
 
 use crate::actors::{Actor, Actors};
-use crate::progress::DriveProgress;
+use crate::progress::Driven;
 use fw_load::Loaded;
-use lane_model::{CallEnd, Wish};
-use link_bench::{Bench, Done, Progress};
+use lane_model::Wish;
+use link_bench::{Bench, Reach, StepCount};
 use remote_core::Task;
 use rp_base::{CallerNo, NoMemory};
 use std::collections::VecDeque;
@@ -26,43 +25,45 @@ const HOST_CALLER: CallerNo = 0;
 const WORKER_CALLER: CallerNo = 1;
 
 /// A step of an actor: a call under way does one step, else the first of these calls, or a take
-/// where there is none, begins and does its first, unless it can't begin. `end` says how it ended.
+/// where there is none, begins and does its first, unless it can't begin. `reach` says how far it came.
 #[inline(always)]
 fn link_step(
     bench: &mut Bench,
     caller: CallerNo,
     goes_on: bool,
     calls: &VecDeque<Wish>,
-    end: &mut CallEnd,
-) -> Progress
+    reach: &mut Reach,
+)
     requires caller { caller < 64 }
     requires calling { goes_on ≡ is_in_call bench.old caller }
     ensures bench { bench.new ≡ (link_step bench.old caller (first_or_take calls.now.items)).bench }
-    ensures reach { reach_of result end.new ≡ (link_step bench.old caller (first_or_take calls.now.items)).reach }
-    ensures taken { HoldsReachTaken (link_in bench.new) caller (reach_of result end.new) }
+    ensures reach { reach.new ≡ (link_step bench.old caller (first_or_take calls.now.items)).reach }
+    ensures taken { HoldsReachTaken (link_in bench.new) caller reach.new }
 {
     if goes_on {
-        return bench.advance(caller, 0, &mut 0, end);
+        bench.advance(caller, 0, &mut StepCount::new(), reach);
+        return;
     }
     match calls.front() {
-        Some(first) => begin_step(bench, caller, first, end),
-        None => begin_step(bench, caller, &Wish::Take, end),
+        Some(first) => begin_step(bench, caller, first, reach),
+        None => begin_step(bench, caller, &Wish::Take, reach),
     }
 }
 
 /// Begins a call of a caller in none, and does its first step. One that can't begin does nothing.
 #[inline(never)]
-fn begin_step(bench: &mut Bench, caller: CallerNo, wished: &Wish, end: &mut CallEnd) -> Progress
+fn begin_step(bench: &mut Bench, caller: CallerNo, wished: &Wish, reach: &mut Reach)
     requires caller { caller < 64 }
     requires calling { is_in_call bench.old caller ≡ false }
     ensures bench { bench.new ≡ (begun_step bench.old caller wished.now).bench }
-    ensures reach { reach_of result end.new ≡ (begun_step bench.old caller wished.now).reach }
-    ensures taken { HoldsReachTaken (link_in bench.new) caller (reach_of result end.new) }
+    ensures reach { reach.new ≡ (begun_step bench.old caller wished.now).reach }
+    ensures taken { HoldsReachTaken (link_in bench.new) caller reach.new }
 {
     if is_refused(bench, caller, wished) {
-        return Progress::Limit;
+        *reach = Reach::Limit;
+        return;
     }
-    bench.start(caller, wished, &mut 0, end)
+    bench.start(caller, wished, &mut StepCount::new(), reach);
 }
 
 /// Whether a caller that is in no call can't begin this one.
@@ -79,7 +80,7 @@ fn is_refused(bench: &Bench, caller: CallerNo, wished: &Wish) -> bool
 
 impl Actors {
     /// A step of the host actor on a core's link, where it has something to do. The next turn is the
-    /// worker's. Where the step ends a call, `end` says how.
+    /// worker's. `driven` says what the step was.
     ///
     /// Errors: only for want of memory. The link and the actors are as they were then.
     #[inline(always)]
@@ -87,28 +88,33 @@ impl Actors {
         &mut self,
         bench: &mut Bench,
         goes_on: bool,
-        end: &mut CallEnd,
-    ) -> Result<DriveProgress, NoMemory>
+        driven: &mut Driven,
+    ) -> Result<(), NoMemory>
         requires { goes_on ≡ is_in_call bench.old 0 }
         ensures bench { OnOk result (bench.new ≡ (link_step bench.old 0 (first_or_take (actors_view self.old).host_calls)).bench) }
         ensures actors { OnOk result (let walk = link_step bench.old 0 (first_or_take (actors_view self.old).host_calls) in
             actors_view self.new ≡ host_after_step (host_at_step bench.old (with_next_after actor.Host (actors_view self.old))) walk.bench walk.reach) }
-        ensures driven { IfOk result (λ progress. drive_of_progress progress end.new ≡ drive_of_reach 0 (link_step bench.old 0 (first_or_take (actors_view self.old).host_calls)).reach) }
-        ensures taken { IfOk result (λ progress. HoldsDrivenTaken (link_in bench.new) (drive_of_progress progress end.new)) }
-        ensures works { IfOk result (λ progress. is_rest progress ≡ false) }
+        ensures driven { OnOk result (driven.new ≡ drive_of_reach 0 (link_step bench.old 0 (first_or_take (actors_view self.old).host_calls)).reach) }
+        ensures taken { OnOk result (HoldsDrivenTaken (link_in bench.new) driven.new) }
+        ensures works { OnOk result (is_rest driven.new ≡ false) }
         ensures same { OnErr result (bench.new ≡ bench.old) }
         ensures unchanged { OnErr result (actors_view self.new ≡ actors_view self.old) }
     {
         self.make_host_room(2)?;
         self.next = Actor::Worker;
         self.begin_host(goes_on);
-        let progress = link_step(bench, HOST_CALLER, goes_on, &self.host_calls, end);
-        self.reach_host(bench, progress, end);
-        Ok(progress_by(HOST_CALLER, progress))
+        let mut reach = Reach::Limit;
+        link_step(bench, HOST_CALLER, goes_on, &self.host_calls, &mut reach);
+        self.reach_host(bench, &reach);
+        match &reach {
+            Reach::At(_) | Reach::Limit => *driven = Driven::Stepped,
+            Reach::Ended(end) => *driven = Driven::Ended(HOST_CALLER, *end),
+        }
+        Ok(())
     }
 
     /// A step of the worker on a core's link, where it makes a call. The next turn is the host actor's.
-    /// Where the step ends the call, `end` says how.
+    /// `driven` says what the step was.
     ///
     /// Errors: only for want of memory. The link and the actors are as they were then.
     #[inline(always)]
@@ -116,37 +122,54 @@ impl Actors {
         &mut self,
         bench: &mut Bench,
         goes_on: bool,
-        end: &mut CallEnd,
-    ) -> Result<DriveProgress, NoMemory>
+        driven: &mut Driven,
+    ) -> Result<(), NoMemory>
         requires { goes_on ≡ is_in_call bench.old 1 }
         ensures bench { OnOk result (bench.new ≡ (link_step bench.old 1 (first_or_take (actors_view self.old).worker_calls)).bench) }
         ensures actors { OnOk result (let walk = link_step bench.old 1 (first_or_take (actors_view self.old).worker_calls) in
             actors_view self.new ≡ worker_after_step (with_next_after actor.Worker (actors_view self.old)) walk.bench walk.reach) }
-        ensures driven { IfOk result (λ progress. drive_of_progress progress end.new ≡ drive_of_reach 1 (link_step bench.old 1 (first_or_take (actors_view self.old).worker_calls)).reach) }
-        ensures taken { IfOk result (λ progress. HoldsDrivenTaken (link_in bench.new) (drive_of_progress progress end.new)) }
-        ensures works { IfOk result (λ progress. is_rest progress ≡ false) }
+        ensures driven { OnOk result (driven.new ≡ drive_of_reach 1 (link_step bench.old 1 (first_or_take (actors_view self.old).worker_calls)).reach) }
+        ensures taken { OnOk result (HoldsDrivenTaken (link_in bench.new) driven.new) }
+        ensures works { OnOk result (is_rest driven.new ≡ false) }
         ensures same { OnErr result (bench.new ≡ bench.old) }
         ensures unchanged { OnErr result (actors_view self.new ≡ actors_view self.old) }
     {
         self.make_worker_room()?;
         self.next = Actor::Host;
-        let progress = link_step(bench, WORKER_CALLER, goes_on, &self.worker_calls, end);
-        self.reach_worker(bench, progress, end);
-        Ok(progress_by(WORKER_CALLER, progress))
+        let mut reach = Reach::Limit;
+        link_step(
+            bench,
+            WORKER_CALLER,
+            goes_on,
+            &self.worker_calls,
+            &mut reach,
+        );
+        self.reach_worker(bench, &reach);
+        match &reach {
+            Reach::At(_) | Reach::Limit => *driven = Driven::Stepped,
+            Reach::Ended(end) => *driven = Driven::Ended(WORKER_CALLER, *end),
+        }
+        Ok(())
     }
 
     /// The worker runs one record of an image that is loaded. The next turn is the host actor's.
+    /// `driven` says what the step was.
     ///
     /// Errors: only for want of memory. Memory and actors are as they were then.
     #[inline(never)]
-    pub fn run_record(&mut self, load: &mut Loaded, linked: bool) -> Result<DriveProgress, NoMemory>
+    pub fn run_record(
+        &mut self,
+        load: &mut Loaded,
+        linked: bool,
+        driven: &mut Driven,
+    ) -> Result<(), NoMemory>
         requires { length load.old.memory ≡ load.old.map.memory_len }
         ensures loaded { OnOk result (load.new ≡ record load.old { memory = memory_after load.old.memory load.old.map linked (actors_view self.old).worker }) }
         ensures memory { length load.new.memory ≡ length load.old.memory }
         ensures actors { OnOk result (actors_view self.new ≡ actors_after_record (with_next_after actor.Worker (actors_view self.old)) load.old.memory load.old.map linked) }
-        ensures driven { IfOk result (λ progress. (end : CallEnd) → drive_of_progress progress end ≡ drive_of_work (work_of load.old.memory load.old.map linked (actors_view self.old).worker)) }
-        ensures taken { IfOk result (λ progress. (link : LinkState EndState) (end : CallEnd) → HoldsDrivenTaken link (drive_of_progress progress end)) }
-        ensures works { IfOk result (λ progress. is_rest progress ≡ false) }
+        ensures driven { OnOk result (driven.new ≡ drive_of_work (work_of load.old.memory load.old.map linked (actors_view self.old).worker)) }
+        ensures taken { OnOk result ((link : LinkState EndState) → HoldsDrivenTaken link driven.new) }
+        ensures works { OnOk result (is_rest driven.new ≡ false) }
         ensures same { OnErr result (load.new ≡ load.old) }
         ensures unchanged { OnErr result (actors_view self.new ≡ actors_view self.old) }
     {
@@ -157,47 +180,36 @@ impl Actors {
             .worker
             .work(&mut load.memory, &load.map, linked, &mut wish)
         {
-            Task::Nothing | Task::Halted => Ok(DriveProgress::Stepped),
+            Task::Nothing | Task::Halted => *driven = Driven::Stepped,
             Task::Asked => {
                 self.worker_calls.push_back_reserved(wish);
-                Ok(DriveProgress::Stepped)
+                *driven = Driven::Stepped;
             }
-            Task::Crash(kind) => Ok(DriveProgress::Crashed(kind)),
-            Task::Fault(fault) => Ok(DriveProgress::Worker(fault)),
+            Task::Crash(kind) => *driven = Driven::Crashed(kind),
+            Task::Fault(fault) => *driven = Driven::Worker(fault),
         }
+        Ok(())
     }
 
     /// One step of the call that a caller of a core's link is in, of which the drivers see the end.
     ///
     /// Errors: only for want of memory. The link and the actors are as they were then.
-    pub fn step_of(&mut self, bench: &mut Bench, caller: CallerNo) -> Result<Done, NoMemory>
+    pub fn step_of(&mut self, bench: &mut Bench, caller: CallerNo) -> Result<Reach, NoMemory>
         requires caller { caller < 64 }
         requires may { step_fault bench.old caller ≡ None }
         ensures bench { OnOk result (bench.new ≡ (advance_walk bench.old 0 0 caller).bench) }
         ensures actors { OnOk result (let walk = advance_walk bench.old 0 0 caller in
             actors_view self.new ≡ watcher_after actors_after_end walk.bench caller walk.reach (actors_view self.old)) }
-        ensures done { IfOk result (λ done. reach_of_done done ≡ (advance_walk bench.old 0 0 caller).reach) }
-        ensures taken { IfOk result (λ done. HoldsReachTaken (link_in bench.new) caller (reach_of_done done)) }
+        ensures reach { IfOk result (λ reach. reach ≡ (advance_walk bench.old 0 0 caller).reach) }
+        ensures taken { IfOk result (HoldsReachTaken (link_in bench.new) caller) }
         ensures same { OnErr result (bench.new ≡ bench.old) }
         ensures unchanged { OnErr result (actors_view self.new ≡ actors_view self.old) }
     {
         self.make_host_room(1)?;
-        let done = bench.next_step(caller);
-        if let Done::Ended(end) = &done {
+        let reach = bench.next_step(caller);
+        if let Reach::Ended(end) = &reach {
             self.see_call(bench, caller, end);
         }
-        Ok(done)
-    }
-}
-
-/// What a step on the link was, by how far its call came.
-fn progress_by(caller: CallerNo, progress: Progress) -> DriveProgress
-    ensures driven { (end : CallEnd) → drive_of_progress result end ≡ drive_of_reach caller (reach_of progress end) }
-    ensures taken { (link : LinkState EndState) (end : CallEnd) → HoldsReachTaken link caller (reach_of progress end) → HoldsDrivenTaken link (drive_of_progress result end) }
-    ensures works { is_rest result ≡ false }
-{
-    match progress {
-        Progress::At(_) | Progress::Limit => DriveProgress::Stepped,
-        Progress::Ended => DriveProgress::Ended(caller),
+        Ok(reach)
     }
 }

@@ -8,4 +8,4 @@ mod idle_actors;
 mod progress;
 
 pub use actors::{Actor, Actors};
-pub use progress::{DriveProgress, Driven};
+pub use progress::Driven;

@@ -2,7 +2,7 @@ ghost use Rattle.std.specs.Prelude.{IfSome};
 ghost use Rattle.lane_model.specs.Conditions.{IsConfig};
 
 use channel_bus::Side;
-use crash_recover::{Bench, BenchFault, Done};
+use crash_recover::{Bench, BenchFault, Reach};
 use lane_model::{Books, CallEnd, LinkConfig, ReopenFault, Wish};
 use rp_base::{CallerNo, End, Message, Verdict, is_ring_size};
 use std::alloc::Global;
@@ -43,9 +43,9 @@ pub(crate) fn finish(bench: &mut Bench, caller: CallerNo, wished: Wish) -> Optio
     }
     for count in 1..8 {
         match bench.step(caller) {
-            Ok(Done::At(step)) if step == count => {}
-            Ok(Done::Ended(end)) => return Some((count, end)),
-            Ok(Done::At(_)) | Err(_) => return None,
+            Ok(Reach::At(step)) if step == count => {}
+            Ok(Reach::Ended(end)) => return Some((count, end)),
+            Ok(Reach::At(_) | Reach::Limit) | Err(_) => return None,
         }
     }
     None
@@ -115,7 +115,7 @@ fn is_shown(bench: &mut Bench, alloc: Global) -> bool {
 /// Whether a snapshot is refused once caller 1 has a turn.
 fn is_out(bench: &mut Bench, alloc: Global) -> bool {
     bench.begin(1, Wish::Take).is_ok()
-        && matches!(bench.step(1), Ok(Done::At(1)))
+        && matches!(bench.step(1), Ok(Reach::At(1)))
         && matches!(bench.snapshot(alloc), Err(SnapshotFault::StillTurn(1)))
 }
 

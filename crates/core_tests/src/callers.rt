@@ -1,5 +1,5 @@
 use crate::stores::store_of;
-use crash_recover::{BenchFault, Core, Done, Reclaim};
+use crash_recover::{BenchFault, Core, Reach, Reclaim};
 use lane_model::{CallEnd, Wish};
 use memory_pool::Regions;
 use rp_base::{CallerNo, End};
@@ -36,7 +36,7 @@ fn goes_on(core: &mut Core, alloc: Global, caller: CallerNo, number: u8) -> bool
     let Some(_) = core.link() else {
         return false;
     };
-    matches!(core.step(alloc, caller), Ok(Done::At(step)) if step == number)
+    matches!(core.step(alloc, caller), Ok(Reach::At(step)) if step == number)
 }
 
 /// Whether a step of this caller ends its call, and an endpoint is bound.
@@ -46,7 +46,7 @@ fn binds(core: &mut Core, alloc: Global, caller: CallerNo) -> bool {
     };
     matches!(
         core.step(alloc, caller),
-        Ok(Done::Ended(CallEnd::Bound(endpoint))) if endpoint.address == 1024
+        Ok(Reach::Ended(CallEnd::Bound(endpoint))) if endpoint.address == 1024
     )
 }
 

@@ -4,21 +4,10 @@ use Rattle.std.proofs.lemmas.Bool.{and_right}
 use Rattle.core_actors.specs.declared.actors.Actor.{Actor}
 use Rattle.core_actors.specs.declared.actors.Actor.TheVariants as actor
 use Rattle.core_actors.specs.declared.progress.Driven.TheVariants as driven
-use Rattle.core_actors.specs.declared.progress.DriveProgress.{DriveProgress}
-use Rattle.core_actors.specs.declared.progress.DriveProgress.TheVariants as progress
 use Rattle.core_actors.specs.Actors.{other_actor}
 use Rattle.crash_recover.specs.Cores.{CoreState}
-use Rattle.core_actors.specs.ActorSteps.{host_is_idle, is_rest, worker_is_idle}
+use Rattle.core_actors.specs.ActorSteps.{host_is_idle, worker_is_idle}
 use Rattle.crash_recover.specs.Drives.{DriveStep, actor_step, drive_step, is_idle, is_idle_actor, step_or_rest, with_turn_after}
-
--- a step that found something to do
-pub does_something : (step : DriveProgress) → (step ≡ progress.Rest → ⊥) → is_rest step ≡ false
-does_something progress.Rest works = absurd (works refl)
-does_something progress.Nothing works = refl
-does_something progress.Stepped works = refl
-does_something (progress.Ended caller) works = refl
-does_something (progress.Worker fault) works = refl
-does_something (progress.Crashed kind) works = refl
 
 -- the step of this actor, or that of the other where this one has nothing to do
 step_of : CoreState → Actor → Bool → DriveStep

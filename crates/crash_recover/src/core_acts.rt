@@ -1,11 +1,10 @@
-ghost use Rattle.std.specs.Prelude.{◌≤◌, IfOk, IfSome};
-ghost use Rattle.rp_base.specs.declared.limits.TheConstants.{STEPS_MOST};
+ghost use Rattle.std.specs.Prelude.{IfOk, IfSome};
 ghost use Rattle.link_bench.specs.Acts.{HoldsAnswerTaken, IsFitAct, bare_act};
 ghost use Rattle.link_bench.specs.Benches.{link_in};
 ghost use Rattle.crash_recover.specs.CoreActs.{HasCoreActed, core_act};
 
 use crate::cores::Core;
-use link_bench::{ActAnswer, LinkAct};
+use link_bench::{ActAnswer, LinkAct, StepCount};
 use rp_base::{CallerNo, NoMemory};
 use std::alloc::Global;
 
@@ -22,13 +21,11 @@ impl Core {
         &mut self,
         _alloc: Global,
         act: &LinkAct<&[u8]>,
-        steps: &mut u64,
+        steps: &mut StepCount,
     ) -> Result<Option<ActAnswer>, NoMemory>
         requires fit { IsFitAct (bare_act (λ bytes. bytes.now) act.now) }
-        requires steps { steps.old ≤ STEPS_MOST }
         ensures acted { IfOk result (HasCoreActed (core_act self.old steps.old (bare_act (λ bytes. bytes.now) act.now)) self.new steps.new) }
         ensures taken { IfOk result (λ found. IfSome found (λ answer. IfSome self.new.bench (λ bench. HoldsAnswerTaken (link_in bench) answer))) }
-        ensures within { steps.new ≤ STEPS_MOST }
     {
         let Some(bench) = &mut self.bench else {
             return Ok(None);

@@ -1,11 +1,11 @@
 ghost use Rattle.std.specs.Prelude.{◌≡◌, true, None, Some, IfErr, IfOk, IfSome, OnErr, OnOk, is_some};
-ghost use Rattle.link_bench.specs.Benches.{HoldsReachTaken, link_in, reach_of_done};
+ghost use Rattle.link_bench.specs.Benches.{HoldsReachTaken, link_in};
 ghost use Rattle.link_bench.specs.BenchRings.{IsSnapshotFault};
 ghost use Rattle.crash_recover.specs.CoreCallers.{IsStepFault, after_core_reclaim, core_begin_fault, core_channels, core_receiver, core_reclaim_answer, core_snapshot, core_step, core_step_fault, core_turn_holder, is_own, new_caller, with_core_call, with_core_caller};
 
 use crate::cores::Core;
 use lane_model::Wish;
-use link_bench::{BenchFault, Done, Reclaim};
+use link_bench::{BenchFault, Reach, Reclaim};
 use name_service::Channel;
 use rp_base::{CallerNo, End, NoMemory, ring_capacity};
 use std::alloc::Global;
@@ -73,12 +73,12 @@ impl Core {
     ///
     /// Errors: [`BenchFault::NoCaller`] for the core's own callers, else those of [`Bench::step`],
     /// then [`StepFault::NoMemory`], where a driver may send. The core is as it was then.
-    pub fn step(&mut self, _alloc: Global, caller: CallerNo) -> Result<Done, StepFault>
+    pub fn step(&mut self, _alloc: Global, caller: CallerNo) -> Result<Reach, StepFault>
         requires { is_some self.old.bench ≡ true }
         ensures may { OnOk result (core_step_fault self.old caller ≡ None) }
         ensures left { OnOk result (self.new ≡ (core_step self.old caller).core) }
-        ensures done { IfOk result (λ done. reach_of_done done ≡ (core_step self.old caller).reach) }
-        ensures taken { IfOk result (λ done. IfSome self.new.bench (λ bench. HoldsReachTaken (link_in bench) caller (reach_of_done done))) }
+        ensures reach { IfOk result (λ reach. reach ≡ (core_step self.old caller).reach) }
+        ensures taken { IfOk result (λ reach. IfSome self.new.bench (λ bench. HoldsReachTaken (link_in bench) caller reach)) }
         ensures refused { IfErr result (IsStepFault (core_step_fault self.old caller)) }
         ensures unchanged { OnErr result (self.new ≡ self.old) }
         ensures linked { is_some self.new.bench ≡ true }

@@ -1,15 +1,13 @@
 ghost use Rattle.std.specs.Prelude.{◌≡◌, false, OnErr, OnOk, IfOk, IfSome};
 ghost use Rattle.channel_bus.specs.Sides.{EndState};
 ghost use Rattle.lane_model.specs.Links.{LinkState};
-ghost use Rattle.lane_model.specs.declared.calls.CallEnd.{CallEnd};
 ghost use Rattle.core_actors.specs.declared.actors.Actor.TheVariants as actor;
-ghost use Rattle.core_actors.specs.ActorSteps.{HoldsDrivenTaken, drive_of_progress, host_is_idle, is_rest, worker_is_idle};
+ghost use Rattle.core_actors.specs.ActorSteps.{HoldsDrivenTaken, host_is_idle, is_rest, worker_is_idle};
 ghost use Rattle.link_bench.specs.Benches.{link_in};
 ghost use Rattle.crash_recover.specs.Drives.{core_with_report, drive_step, is_idle, record_run, record_step, step_or_rest, with_turn_after};
 
 use crate::cores::Core;
-use core_actors::{Actor, DriveProgress, Driven};
-use lane_model::CallEnd;
+use core_actors::{Actor, Driven};
 use rp_base::{CrashKind, NoMemory};
 use std::alloc::Global;
 
@@ -36,100 +34,109 @@ impl Core {
         ensures left { OnOk result (self.new ≡ (drive_step self.old).core) }
         ensures unchanged { OnErr result (self.new ≡ self.old) }
     {
-        let mut end = CallEnd::Gave(0);
-        let progress = self.drive_on(alloc, &mut end)?;
-        Ok(progress.driven(end))
+        let mut driven = Driven::Idle;
+        self.drive_on(alloc, &mut driven)?;
+        Ok(driven)
     }
 
-    /// The same step. It answers in short what it was, and where it ends a call, `end` says how.
+    /// The same step; `driven` says what it was.
     ///
     /// Errors: only for want of memory. The core is as it was then.
     #[inline]
-    pub fn drive_on(&mut self, _alloc: Global, end: &mut CallEnd) -> Result<DriveProgress, NoMemory>
-        ensures rests { IfOk result (λ progress. is_rest progress ≡ is_idle self.old) }
-        ensures driven { IfOk result (λ progress. drive_of_progress progress end.new ≡ (drive_step self.old).driven) }
-        ensures taken { IfOk result (λ progress. IfSome self.new.bench (λ bench. HoldsDrivenTaken (link_in bench) (drive_of_progress progress end.new))) }
+    pub fn drive_on(&mut self, _alloc: Global, driven: &mut Driven) -> Result<(), NoMemory>
+        ensures rests { OnOk result (is_rest driven.new ≡ is_idle self.old) }
+        ensures driven { OnOk result (driven.new ≡ (drive_step self.old).driven) }
+        ensures taken { OnOk result (IfSome self.new.bench (λ bench. HoldsDrivenTaken (link_in bench) driven.new)) }
         ensures left { OnOk result (self.new ≡ (drive_step self.old).core) }
         ensures unchanged { OnErr result (self.new ≡ self.old) }
     {
         match self.actors.next() {
-            Actor::Host => match self.host_step(end)? {
-                DriveProgress::Rest => self.worker_step(end),
-                progress => Ok(progress),
-            },
-            Actor::Worker => match self.worker_step(end)? {
-                DriveProgress::Rest => self.host_step(end),
-                progress => Ok(progress),
-            },
+            Actor::Host => {
+                self.host_step(driven)?;
+                if driven.is_rest() {
+                    self.worker_step(driven)?;
+                }
+            }
+            Actor::Worker => {
+                self.worker_step(driven)?;
+                if driven.is_rest() {
+                    self.host_step(driven)?;
+                }
+            }
         }
+        Ok(())
     }
 
     /// A step of the host actor, unless it has nothing to do. The next turn is the worker's then.
     #[inline(always)]
-    fn host_step(&mut self, end: &mut CallEnd) -> Result<DriveProgress, NoMemory>
-        ensures rests { IfOk result (λ progress. is_rest progress ≡ host_is_idle self.old.bench self.old.actors) }
-        ensures driven { IfOk result (λ progress. drive_of_progress progress end.new ≡ (step_or_rest actor.Host self.old).driven) }
-        ensures taken { IfOk result (λ progress. IfSome self.new.bench (λ bench. HoldsDrivenTaken (link_in bench) (drive_of_progress progress end.new))) }
+    fn host_step(&mut self, driven: &mut Driven) -> Result<(), NoMemory>
+        ensures rests { OnOk result (is_rest driven.new ≡ host_is_idle self.old.bench self.old.actors) }
+        ensures driven { OnOk result (driven.new ≡ (step_or_rest actor.Host self.old).driven) }
+        ensures taken { OnOk result (IfSome self.new.bench (λ bench. HoldsDrivenTaken (link_in bench) driven.new)) }
         ensures left { OnOk result (self.new ≡ (step_or_rest actor.Host self.old).core) }
         ensures unchanged { OnErr result (self.new ≡ self.old) }
     {
         let Some(bench) = &mut self.bench else {
-            return Ok(DriveProgress::Rest);
+            *driven = Driven::Idle;
+            return Ok(());
         };
         let goes_on = bench.is_caller_busy(0);
         if !goes_on && self.actors.rests_between(bench) {
-            return Ok(DriveProgress::Rest);
+            *driven = Driven::Idle;
+            return Ok(());
         }
-        self.actors.host_step(bench, goes_on, end)
+        self.actors.host_step(bench, goes_on, driven)
     }
 
     /// A step of the worker, unless it has nothing to do. The next turn is the host actor's then.
     #[inline(always)]
-    fn worker_step(&mut self, end: &mut CallEnd) -> Result<DriveProgress, NoMemory>
-        ensures rests { IfOk result (λ progress. is_rest progress ≡ worker_is_idle self.old.bench self.old.actors) }
-        ensures driven { IfOk result (λ progress. drive_of_progress progress end.new ≡ (step_or_rest actor.Worker self.old).driven) }
-        ensures taken { IfOk result (λ progress. IfSome self.new.bench (λ bench. HoldsDrivenTaken (link_in bench) (drive_of_progress progress end.new))) }
+    fn worker_step(&mut self, driven: &mut Driven) -> Result<(), NoMemory>
+        ensures rests { OnOk result (is_rest driven.new ≡ worker_is_idle self.old.bench self.old.actors) }
+        ensures driven { OnOk result (driven.new ≡ (step_or_rest actor.Worker self.old).driven) }
+        ensures taken { OnOk result (IfSome self.new.bench (λ bench. HoldsDrivenTaken (link_in bench) driven.new)) }
         ensures left { OnOk result (self.new ≡ (step_or_rest actor.Worker self.old).core) }
         ensures unchanged { OnErr result (self.new ≡ self.old) }
     {
         let Some(bench) = &mut self.bench else {
             if self.actors.is_halted() {
-                return Ok(DriveProgress::Rest);
+                *driven = Driven::Idle;
+                return Ok(());
             }
-            return self.record_step();
+            return self.record_step(driven);
         };
         let goes_on = bench.is_caller_busy(1);
         if !goes_on {
             if self.actors.waits(bench) {
-                return Ok(DriveProgress::Rest);
+                *driven = Driven::Idle;
+                return Ok(());
             }
             if !self.actors.has_worker_calls() {
-                return self.record_step();
+                return self.record_step(driven);
             }
         }
-        self.actors.worker_step(bench, goes_on, end)
+        self.actors.worker_step(bench, goes_on, driven)
     }
 
     /// The worker runs one record. A crash is reported.
     #[inline(always)]
-    fn record_step(&mut self) -> Result<DriveProgress, NoMemory>
-        ensures works { IfOk result (λ progress. is_rest progress ≡ false) }
-        ensures driven { IfOk result (λ progress. (end : CallEnd) → drive_of_progress progress end ≡ (record_step (with_turn_after actor.Worker self.old)).driven) }
-        ensures taken { IfOk result (λ progress. (link : LinkState EndState) (end : CallEnd) → HoldsDrivenTaken link (drive_of_progress progress end)) }
+    fn record_step(&mut self, driven: &mut Driven) -> Result<(), NoMemory>
+        ensures works { OnOk result (is_rest driven.new ≡ false) }
+        ensures driven { OnOk result (driven.new ≡ (record_step (with_turn_after actor.Worker self.old)).driven) }
+        ensures taken { OnOk result ((link : LinkState EndState) → HoldsDrivenTaken link driven.new) }
         ensures left { OnOk result (self.new ≡ (record_step (with_turn_after actor.Worker self.old)).core) }
         ensures unchanged { OnErr result (self.new ≡ self.old) }
     {
-        let progress = self.run_record()?;
-        self.report_crash(progress);
-        Ok(progress)
+        self.run_record(driven)?;
+        self.report_crash(driven);
+        Ok(())
     }
 
     /// The worker runs one record. A crash is not reported yet.
     #[inline(always)]
-    fn run_record(&mut self) -> Result<DriveProgress, NoMemory>
-        ensures works { IfOk result (λ progress. is_rest progress ≡ false) }
-        ensures driven { IfOk result (λ progress. (end : CallEnd) → drive_of_progress progress end ≡ (record_run (with_turn_after actor.Worker self.old) self.old.loaded).driven) }
-        ensures taken { IfOk result (λ progress. (link : LinkState EndState) (end : CallEnd) → HoldsDrivenTaken link (drive_of_progress progress end)) }
+    fn run_record(&mut self, driven: &mut Driven) -> Result<(), NoMemory>
+        ensures works { OnOk result (is_rest driven.new ≡ false) }
+        ensures driven { OnOk result (driven.new ≡ (record_run (with_turn_after actor.Worker self.old) self.old.loaded).driven) }
+        ensures taken { OnOk result ((link : LinkState EndState) → HoldsDrivenTaken link driven.new) }
         ensures left { OnOk result (self.new ≡ (record_run (with_turn_after actor.Worker self.old) self.old.loaded).core) }
         ensures unchanged { OnErr result (self.new ≡ self.old) }
     {
@@ -137,27 +144,25 @@ impl Core {
         let linked = self.bench.is_some();
         let Some(loaded) = &mut self.loaded else {
             self.actors.pass_turn(Actor::Host);
-            return Ok(DriveProgress::Nothing);
+            *driven = Driven::Stepped;
+            return Ok(());
         };
-        let progress = self.actors.run_record(loaded, linked)?;
-        Ok(progress)
+        self.actors.run_record(loaded, linked, driven)?;
+        Ok(())
     }
 
     /// Reports the crash that a step of the worker was, if it was one.
-    fn report_crash(&mut self, progress: DriveProgress)
-        ensures { (end : CallEnd) → self.new ≡ core_with_report (drive_of_progress progress end) self.old }
+    fn report_crash(&mut self, driven: &Driven)
+        ensures { self.new ≡ core_with_report driven.now self.old }
     {
-        match progress {
-            DriveProgress::Worker(_) => {
+        match driven {
+            Driven::Worker(_) => {
                 let _ = self.report(CrashKind::Fatal);
             }
-            DriveProgress::Crashed(kind) => {
-                let _ = self.report(kind);
+            Driven::Crashed(kind) => {
+                let _ = self.report(*kind);
             }
-            DriveProgress::Rest
-            | DriveProgress::Nothing
-            | DriveProgress::Stepped
-            | DriveProgress::Ended(_) => {}
+            Driven::Idle | Driven::Stepped | Driven::Ended(_, _) => {}
         }
     }
 }

@@ -14,12 +14,12 @@ mod core_recoveries;
 mod core_rings;
 mod cores;
 
-pub use core_actors::{Actor, Actors, DriveProgress, Driven};
+pub use core_actors::{Actor, Actors, Driven};
 pub use core_answers::{Crash, Leave, Start};
 pub use core_callers::StepFault;
 pub use core_faults::{AddFault, CALLER_OUT, CoreFault, RINGS_CHANGED};
 pub use cores::Core;
 pub use link_bench::{
-    ActAnswer, BegunCall, Bench, BenchFault, CallWish, Done, How, LinkAct, Nobody, Progress, Reach,
-    Reclaim, TurnEnd, Watcher,
+    ActAnswer, BegunCall, Bench, BenchFault, CallWish, How, LinkAct, Nobody, Reach, Reclaim,
+    StepCount, TurnEnd, Watcher,
 };

@@ -1,14 +1,12 @@
 -- One step of a call of a bench.
 use Rattle.std.proofs.Common.{◌≡◌, ℕ, Option, Some, None, refl, sym, ap, ◌∙◌}
-use Rattle.lane_model.specs.declared.calls.CallEnd.{CallEnd}
 use Rattle.lane_model.specs.declared.calls.Outcome.{Outcome}
 use Rattle.lane_model.specs.declared.calls.Outcome.TheVariants as outcome
 use Rattle.ring_core.specs.declared.states.RingState.{RingState}
 use Rattle.channel_bus.specs.Sides.{EndState}
 use Rattle.link_bench.specs.declared.benches.BegunCall.{BegunCall}
-use Rattle.link_bench.specs.declared.benches.Progress.TheVariants as progress
 use Rattle.link_bench.specs.declared.benches.Reach.TheVariants as reach
-use Rattle.link_bench.specs.Benches.{BenchState, LinkRings, Walk, advance_steps, advance_walk, begun_call_of, on_rings, reach_of, step_on}
+use Rattle.link_bench.specs.Benches.{BenchState, LinkRings, Walk, advance_steps, advance_walk, begun_call_of, on_rings, step_on}
 use Rattle.link_bench.proofs.Walks.{call_done, later_after, later_done, later_none}
 
 -- a step behind which no other follows is done, or it ends the call
@@ -29,5 +27,5 @@ step_of bench caller None limit =
     (ap (λ (walk : Walk (RingState EndState)). walk.reach) (sym (later_done on_rings 1 0 0 0 bench.rings caller refl refl step.state step.outcome refl refl)) ∙ limit)
 
 -- the first step of a run finds a step left
-pub step_left : (bench : BenchState) (caller : ℕ) (end : CallEnd) → reach_of progress.Limit end ≡ (advance_walk bench 0 0 caller).reach → ⊥
-step_left bench caller end is = step_of bench caller (begun_call_of bench caller) (sym is)
+pub step_left : (bench : BenchState) (caller : ℕ) → (advance_walk bench 0 0 caller).reach ≡ reach.Limit → ⊥
+step_left bench caller = step_of bench caller (begun_call_of bench caller)

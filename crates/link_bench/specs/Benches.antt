@@ -23,27 +23,12 @@ pub use Rattle.managed_link.specs.Known.{LinkRings, lists_of, on_rings}
 pub use Rattle.managed_link.specs.Managed.{message_for}
 pub use Rattle.managed_link.specs.Taken.{HoldsTaken}
 use Rattle.link_bench.specs.declared.benches.BegunCall.{BegunCall}
-use Rattle.link_bench.specs.declared.benches.Progress.{Progress}
-use Rattle.link_bench.specs.declared.benches.Progress.TheVariants as progress
 use Rattle.link_bench.specs.declared.benches.Reach.{Reach}
 use Rattle.link_bench.specs.declared.benches.Reach.TheVariants as reach
-use Rattle.link_bench.specs.declared.bench_steps.Done.{Done}
-use Rattle.link_bench.specs.declared.bench_steps.Done.TheVariants as step_done
 use Rattle.link_bench.specs.declared.benches.BenchFault.{BenchFault}
 use Rattle.link_bench.specs.declared.benches.BenchFault.TheVariants as fault
 use Rattle.channel_bus.specs.Sides.{EndState}
 use Rattle.channel_bus.specs.Sides.{side_meaning}
-
--- how far a call came, by what its steps answer and by its end beside it
-abbrev pub reach_of : Progress → CallEnd → Reach
-reach_of (progress.At step) end = reach.At step
-reach_of progress.Ended end = reach.Ended end
-reach_of progress.Limit end = reach.Limit
-
--- how far a call came by one step that was done
-abbrev pub reach_of_done : Done → Reach
-reach_of_done (step_done.At step) = reach.At step
-reach_of_done (step_done.Ended end) = reach.Ended end
 
 -- the form of a lane that has its lists alone
 abbrev pub on_lists : FormMeaning (LaneState EndState) EndState

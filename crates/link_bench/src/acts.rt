@@ -2,14 +2,15 @@ ghost use Rattle.std.specs.Prelude.{◌≡◌, ◌<◌, ◌≤◌, IfOk, IfSome,
 ghost use Rattle.rp_base.specs.declared.limits.TheConstants.{STEPS_MOST};
 ghost use Rattle.lane_model.specs.Links.{LinkState};
 ghost use Rattle.channel_bus.specs.Sides.{EndState};
-ghost use Rattle.link_bench.specs.Benches.{HoldsReachTaken, IsSendable, link_in, reach_of, ready_fault};
+ghost use Rattle.link_bench.specs.Benches.{HoldsReachTaken, IsSendable, link_in, ready_fault};
 ghost use Rattle.link_bench.specs.Acts.{HasActed, HoldsAnswerTaken, IsFitAct, IsFitWish, bare_act, bare_wish, call_act, free_act, link_act, made_call, misfit, own_caller, own_in, pump_act, pump_refusal, side_refusal, step_act, walk_act, wish_of};
 
 use crate::bench_crashes::Reclaim;
-use crate::benches::{Bench, BenchFault, Progress, Reach};
+use crate::benches::{Bench, BenchFault, Reach};
+use crate::step_counts::StepCount;
 use crate::turns::{TurnEnd, message_of};
 use crate::watchers::Watcher;
-use lane_model::{CallEnd, Wish};
+use lane_model::Wish;
 use rp_base::{CallerNo, End, NoMemory, PAYLOAD_MOST};
 
 /// Whether a call is made whole, or begun and no step of it done.
@@ -112,13 +113,11 @@ impl Bench {
         own: CallerNo,
         watcher: &mut W,
         act: &LinkAct<&[u8]>,
-        steps: &mut u64,
+        steps: &mut StepCount,
     ) -> Result<ActAnswer, NoMemory>
         requires fit { IsFitAct (bare_act (λ bytes. bytes.now) act.now) }
-        requires steps { steps.old ≤ STEPS_MOST }
         ensures acted { IfOk result (HasActed (link_act W.sees own self.old (W.state watcher.old) steps.old (bare_act (λ bytes. bytes.now) act.now)) self.new (W.state watcher.new) steps.new) }
         ensures taken { IfOk result (HoldsAnswerTaken (link_in self.new)) }
-        ensures within { steps.new ≤ STEPS_MOST }
     {
         if let Some(caller) = self.own_in(own, act) {
             return Ok(ActAnswer::Refused(caller, BenchFault::NoCaller));
@@ -151,13 +150,11 @@ impl Bench {
         &mut self,
         watcher: &mut W,
         act: &LinkAct<&[u8]>,
-        steps: &mut u64,
+        steps: &mut StepCount,
     ) -> Result<ActAnswer, NoMemory>
         requires fit { IsFitAct (bare_act (λ bytes. bytes.now) act.now) }
-        requires steps { steps.old ≤ STEPS_MOST }
         ensures acted { IfOk result (HasActed (free_act W.sees self.old (W.state watcher.old) steps.old (bare_act (λ bytes. bytes.now) act.now)) self.new (W.state watcher.new) steps.new) }
         ensures taken { IfOk result (HoldsAnswerTaken (link_in self.new)) }
-        ensures within { steps.new ≤ STEPS_MOST }
     {
         match act {
             LinkAct::Caller { end } => match self.caller(*end) {
@@ -188,14 +185,12 @@ impl Bench {
         caller: CallerNo,
         how: How,
         wish: &CallWish<&[u8]>,
-        steps: &mut u64,
+        steps: &mut StepCount,
     ) -> Result<ActAnswer, NoMemory>
         requires caller { caller < 64 }
         requires fit { IsFitWish (bare_wish (λ bytes. bytes.now) wish.now) }
-        requires steps { steps.old ≤ STEPS_MOST }
         ensures acted { IfOk result (HasActed (call_act W.sees self.old (W.state watcher.old) steps.old caller how (bare_wish (λ bytes. bytes.now) wish.now)) self.new (W.state watcher.new) steps.new) }
         ensures taken { IfOk result (HoldsAnswerTaken (link_in self.new)) }
-        ensures within { steps.new ≤ STEPS_MOST }
     {
         if let Some(fault) = self.ready_fault(caller) {
             return Ok(ActAnswer::Refused(caller, fault));
@@ -228,23 +223,21 @@ impl Bench {
         caller: CallerNo,
         how: How,
         wish: &CallWish<&[u8]>,
-        steps: &mut u64,
+        steps: &mut StepCount,
     ) -> Result<ActAnswer, NoMemory>
         requires caller { caller < 64 }
         requires ready { ready_fault self.old caller ≡ None }
         requires fits { misfit self.old caller (bare_wish (λ bytes. bytes.now) wish.now) ≡ None }
         requires fit { IsFitWish (bare_wish (λ bytes. bytes.now) wish.now) }
-        requires steps { steps.old ≤ STEPS_MOST }
         ensures acted { IfOk result (HasActed (made_call W.sees self.old (W.state watcher.old) steps.old caller how (wish_of (bare_wish (λ bytes. bytes.now) wish.now))) self.new (W.state watcher.new) steps.new) }
         ensures taken { IfOk result (HoldsAnswerTaken (link_in self.new)) }
-        ensures within { steps.new ≤ STEPS_MOST }
     {
         let wished = wish_of(wish);
         match how {
             How::Whole => {
-                let mut end = CallEnd::Empty(0);
-                let progress = self.call(caller, &wished, steps, &mut end);
-                self.reach(watcher, caller, progress, end, *steps)
+                let mut reach = Reach::Limit;
+                self.call(caller, &wished, steps, &mut reach);
+                self.reach(watcher, caller, reach, steps)
             }
             How::Begun => {
                 self.put_call(caller, wished);
@@ -260,21 +253,19 @@ impl Bench {
         watcher: &mut W,
         caller: CallerNo,
         more: u64,
-        steps: &mut u64,
+        steps: &mut StepCount,
     ) -> Result<ActAnswer, NoMemory>
         requires caller { caller < 64 }
         requires more { more < STEPS_MOST }
-        requires steps { steps.old ≤ STEPS_MOST }
         ensures acted { IfOk result (HasActed (step_act W.sees self.old (W.state watcher.old) steps.old caller more) self.new (W.state watcher.new) steps.new) }
         ensures taken { IfOk result (HoldsAnswerTaken (link_in self.new)) }
-        ensures within { steps.new ≤ STEPS_MOST }
     {
         if let Some(fault) = self.step_fault(caller) {
             return Ok(ActAnswer::Refused(caller, fault));
         }
-        let mut end = CallEnd::Empty(0);
-        let progress = self.advance(caller, more, steps, &mut end);
-        self.reach(watcher, caller, progress, end, *steps)
+        let mut reach = Reach::Limit;
+        self.advance(caller, more, steps, &mut reach);
+        self.reach(watcher, caller, reach, steps)
     }
 
     /// A call of a caller came so far, at this count of steps, and the watcher sees its end.
@@ -282,22 +273,16 @@ impl Bench {
         &self,
         watcher: &mut W,
         caller: CallerNo,
-        progress: Progress,
-        end: CallEnd,
-        steps: u64,
+        reach: Reach,
+        steps: &StepCount,
     ) -> Result<ActAnswer, NoMemory>
-        requires { HoldsReachTaken (link_in self.now) caller (reach_of progress end) }
-        ensures acted { IfOk result (λ answer. HasActed (walk_act W.sees (W.state watcher.old) caller (record { bench = self.now; steps = steps; reach = reach_of progress end })) self.now (W.state watcher.new) steps answer) }
+        requires { HoldsReachTaken (link_in self.now) caller reach }
+        ensures acted { IfOk result (λ answer. HasActed (walk_act W.sees (W.state watcher.old) caller (record { bench = self.now; steps = steps.now; reach = reach })) self.now (W.state watcher.new) steps.now answer) }
         ensures taken { IfOk result (HoldsAnswerTaken (link_in self.now)) }
     {
-        let reach = match progress {
-            Progress::At(step) => Reach::At(step),
-            Progress::Ended => {
-                watcher.see(self, caller, &end)?;
-                Reach::Ended(end)
-            }
-            Progress::Limit => Reach::Limit,
-        };
+        if let Reach::Ended(end) = &reach {
+            watcher.see(self, caller, end)?;
+        }
         Ok(ActAnswer::Reached(caller, reach))
     }
 
@@ -309,15 +294,13 @@ impl Bench {
         sender: CallerNo,
         receiver: CallerNo,
         count: u64,
-        steps: &mut u64,
+        steps: &mut StepCount,
     ) -> Result<ActAnswer, NoMemory>
         requires sender { sender < 64 }
         requires receiver { receiver < 64 }
         requires count { count ≤ STEPS_MOST }
-        requires steps { steps.old ≤ STEPS_MOST }
         ensures acted { IfOk result (HasActed (pump_act W.sees self.old (W.state watcher.old) steps.old sender receiver count) self.new (W.state watcher.new) steps.new) }
         ensures taken { IfOk result (HoldsAnswerTaken (link_in self.new)) }
-        ensures within { steps.new ≤ STEPS_MOST }
     {
         if let Some(answer) = self.pump_refusal(sender, receiver) {
             return Ok(answer);

@@ -1,18 +1,10 @@
-ghost use Rattle.std.specs.Prelude.{◌≡◌, ◌<◌, None, IfErr, IfNone, IfOk, OnErr, OnOk};
-ghost use Rattle.link_bench.specs.Benches.{HoldsReachTaken, advance_walk, link_in, reach_of_done, step_fault};
+ghost use Rattle.std.specs.Prelude.{◌≡◌, ◌≢◌, ◌<◌, None, IfErr, IfNone, IfOk, OnErr, OnOk};
+ghost use Rattle.link_bench.specs.Benches.{HoldsReachTaken, advance_walk, link_in, step_fault};
+ghost use Rattle.link_bench.specs.declared.benches.Reach.TheVariants as reached;
 
-use crate::benches::{Bench, BenchFault, Progress};
-use lane_model::CallEnd;
+use crate::benches::{Bench, BenchFault, Reach};
+use crate::step_counts::StepCount;
 use rp_base::CallerNo;
-
-/// How far a call came by a step.
-#[derive(Clone, Copy)]
-pub enum Done {
-    /// Its step of this number is done, and it goes on.
-    At(u8),
-    /// It has ended.
-    Ended(CallEnd),
-}
 
 impl Bench {
     /// Why this caller can do no step of a call, if it can't: it isn't in use, or it is in no call.
@@ -27,14 +19,16 @@ impl Bench {
         }
     }
 
-    /// Does one step of the call that a caller is in. A call that was begun does its first.
+    /// Does one step of the call that a caller is in, which is never [`Reach::Limit`]. A call that was
+    /// begun does its first.
     ///
     /// Errors: as [`Bench::step_fault`] answers. The bench is as it was then.
-    pub fn step(&mut self, caller: CallerNo) -> Result<Done, BenchFault>
+    pub fn step(&mut self, caller: CallerNo) -> Result<Reach, BenchFault>
         ensures may { OnOk result (step_fault self.old caller ≡ None) }
         ensures left { OnOk result (self.new ≡ (advance_walk self.old 0 0 caller).bench) }
-        ensures done { IfOk result (λ done. reach_of_done done ≡ (advance_walk self.old 0 0 caller).reach) }
-        ensures taken { IfOk result (λ done. HoldsReachTaken (link_in self.new) caller (reach_of_done done)) }
+        ensures reach { IfOk result (λ reach. reach ≡ (advance_walk self.old 0 0 caller).reach) }
+        ensures done { IfOk result (λ reach. reach ≢ reached.Limit) }
+        ensures taken { IfOk result (HoldsReachTaken (link_in self.new) caller) }
         ensures refused { IfErr result (λ why. step_fault self.old caller ≡ Some why) }
         ensures unchanged { OnErr result (self.new ≡ self.old) }
     {
@@ -45,18 +39,16 @@ impl Bench {
     }
 
     /// Does one step of the call that a caller is in.
-    pub fn next_step(&mut self, caller: CallerNo) -> Done
+    pub fn next_step(&mut self, caller: CallerNo) -> Reach
         requires caller { caller < 64 }
         requires may { step_fault self.old caller ≡ None }
         ensures left { self.new ≡ (advance_walk self.old 0 0 caller).bench }
-        ensures done { reach_of_done result ≡ (advance_walk self.old 0 0 caller).reach }
-        ensures taken { HoldsReachTaken (link_in self.new) caller (reach_of_done result) }
+        ensures reach { result ≡ (advance_walk self.old 0 0 caller).reach }
+        ensures done { result ≢ reached.Limit }
+        ensures taken { HoldsReachTaken (link_in self.new) caller result }
     {
-        let mut end = CallEnd::Gave(0);
-        match self.advance(caller, 0, &mut 0, &mut end) {
-            Progress::At(step) => Done::At(step),
-            Progress::Ended => Done::Ended(end),
-            Progress::Limit => unreachable!(),
-        }
+        let mut reach = Reach::Limit;
+        self.advance(caller, 0, &mut StepCount::new(), &mut reach);
+        reach
     }
 }

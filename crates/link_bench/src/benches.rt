@@ -5,14 +5,15 @@ ghost use Rattle.channel_bus.specs.Sides.{side_meaning};
 ghost use Rattle.lane_model.specs.Desks.{IsFreshDesk};
 ghost use Rattle.lane_model.specs.Conditions.{IsConfig, is_calling, is_holding};
 ghost use Rattle.managed_link.specs.Managed.{message_for};
-ghost use Rattle.link_bench.specs.Benches.{HoldsReachTaken, IsSendable, advance_walk, begin_fault, call_walk, counts_of, is_in_call, link_in, new_bench_of, no_begun_calls, reach_of, ready_fault, start_walk, with_begun, with_new_caller};
+ghost use Rattle.link_bench.specs.Benches.{HoldsReachTaken, IsSendable, advance_walk, begin_fault, call_walk, counts_of, is_in_call, link_in, new_bench_of, no_begun_calls, ready_fault, start_walk, with_begun, with_new_caller};
 
+use crate::step_counts::StepCount;
 use crate::steps::{call_steps, later_steps};
 use crate::whole_steps::whole_steps;
 use channel_bus::Side;
 use lane_model::{CallEnd, LinkConfig, Wish};
 use managed_link::ManagedLink;
-use rp_base::{CALLERS_MOST, CallerNo, End, Inc, NoMemory, STEPS_MOST};
+use rp_base::{CALLERS_MOST, CallerNo, End, Inc, NoMemory};
 use std::alloc::Global;
 use std::marker::Model;
 
@@ -21,17 +22,6 @@ use std::marker::Model;
 pub struct BegunCall {
     pub follows: Inc,
     pub wish: Wish,
-}
-
-/// How far the steps of a call came, which write its end beside it.
-#[derive(Clone, Copy)]
-pub enum Progress {
-    /// Its step of this number is done, and it goes on.
-    At(u8),
-    /// It has ended.
-    Ended,
-    /// The run has no step left.
-    Limit,
 }
 
 /// How far a call came.
@@ -197,85 +187,76 @@ impl Bench {
     }
 
     /// Does one step of the call that a caller is in, and `more` further ones, but no more than the
-    /// call has and the run may still take; `steps` counts them. Where the call ends, `end` says how.
+    /// call has and the run may still take; `steps` counts them, and `reach` says how far the call came.
     #[inline(always)]
-    pub fn advance(
-        &mut self,
-        caller: CallerNo,
-        more: u64,
-        steps: &mut u64,
-        end: &mut CallEnd,
-    ) -> Progress
+    pub fn advance(&mut self, caller: CallerNo, more: u64, steps: &mut StepCount, reach: &mut Reach)
         requires caller { caller < 64 }
         requires calling { is_in_call self.old caller ≡ true }
         requires more { more < STEPS_MOST }
-        requires steps { steps.old ≤ STEPS_MOST }
         ensures bench { self.new ≡ (advance_walk self.old more steps.old caller).bench }
         ensures steps { steps.new ≡ (advance_walk self.old more steps.old caller).steps }
-        ensures reach { reach_of result end.new ≡ (advance_walk self.old more steps.old caller).reach }
-        ensures taken { HoldsReachTaken (link_in self.new) caller (reach_of result end.new) }
-        ensures within { steps.new ≤ STEPS_MOST }
+        ensures reach { reach.new ≡ (advance_walk self.old more steps.old caller).reach }
+        ensures taken { HoldsReachTaken (link_in self.new) caller reach.new }
     {
         let place = usize::from(caller);
         if let Some(call) = &self.begun[place] {
-            if *steps == STEPS_MOST {
-                return Progress::Limit;
+            if steps.is_spent() {
+                *reach = Reach::Limit;
+                return;
             }
-            let progress = call_steps(
+            call_steps(
                 &mut self.link,
                 caller,
                 call.follows,
                 &call.wish,
                 more,
                 steps,
-                end,
+                reach,
             );
             self.begun[place] = None;
-            return progress;
+            return;
         }
-        later_steps(&mut self.link, caller, more + 1, 0, steps, end)
+        later_steps(&mut self.link, caller, more + 1, 0, steps, reach);
     }
 
-    /// Makes a whole call of a caller that may begin it; `steps` counts its steps.
+    /// Makes a whole call of a caller that may begin it; `steps` counts its steps, and `reach` says how
+    /// far it came.
     pub fn call(
         &mut self,
         caller: CallerNo,
         wished: &Wish,
-        steps: &mut u64,
-        end: &mut CallEnd,
-    ) -> Progress
+        steps: &mut StepCount,
+        reach: &mut Reach,
+    )
         requires ready { begin_fault self.old caller wished.now ≡ None }
-        requires steps { steps.old ≤ STEPS_MOST }
         ensures bench { self.new ≡ (call_walk self.old steps.old caller wished.now).bench }
         ensures steps { steps.new ≡ (call_walk self.old steps.old caller wished.now).steps }
-        ensures reach { reach_of result end.new ≡ (call_walk self.old steps.old caller wished.now).reach }
-        ensures taken { HoldsReachTaken (link_in self.new) caller (reach_of result end.new) }
-        ensures within { steps.new ≤ STEPS_MOST }
+        ensures reach { reach.new ≡ (call_walk self.old steps.old caller wished.now).reach }
+        ensures taken { HoldsReachTaken (link_in self.new) caller reach.new }
     {
         show_sendable(wished);
         let follows = self.link.era().inc;
-        whole_steps(&mut self.link, caller, follows, wished, steps, end)
+        whole_steps(&mut self.link, caller, follows, wished, steps, reach);
     }
 
-    /// Does the first step of a call of a caller that may begin it; `steps` counts it.
+    /// Does the first step of a call of a caller that may begin it; `steps` counts it, and `reach` says
+    /// how far the call came.
     pub fn start(
         &mut self,
         caller: CallerNo,
         wished: &Wish,
-        steps: &mut u64,
-        end: &mut CallEnd,
-    ) -> Progress
+        steps: &mut StepCount,
+        reach: &mut Reach,
+    )
         requires ready { begin_fault self.old caller wished.now ≡ None }
-        requires steps { steps.old ≤ STEPS_MOST }
         ensures bench { self.new ≡ (start_walk self.old steps.old caller wished.now).bench }
         ensures steps { steps.new ≡ (start_walk self.old steps.old caller wished.now).steps }
-        ensures reach { reach_of result end.new ≡ (start_walk self.old steps.old caller wished.now).reach }
-        ensures taken { HoldsReachTaken (link_in self.new) caller (reach_of result end.new) }
-        ensures within { steps.new ≤ STEPS_MOST }
+        ensures reach { reach.new ≡ (start_walk self.old steps.old caller wished.now).reach }
+        ensures taken { HoldsReachTaken (link_in self.new) caller reach.new }
     {
         show_sendable(wished);
         let follows = self.link.era().inc;
-        call_steps(&mut self.link, caller, follows, wished, 0, steps, end)
+        call_steps(&mut self.link, caller, follows, wished, 0, steps, reach);
     }
 
     /// The message of this number, which a caller that is in no call holds.

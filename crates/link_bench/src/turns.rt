@@ -3,12 +3,12 @@ ghost use Rattle.rp_base.specs.declared.limits.TheConstants.{MESSAGE_MOST, PAYLO
 ghost use Rattle.lane_model.specs.declared.calls.Wish.TheVariants as wish;
 ghost use Rattle.byteorder.specs.Endian.{little_bytes};
 ghost use Rattle.rpmsg_header.specs.Headers.{header_bytes};
-ghost use Rattle.link_bench.specs.Benches.{HoldsTaken, call_walk, link_in, reach_of};
-ghost use Rattle.link_bench.specs.declared.benches.Reach.TheVariants as reach;
+ghost use Rattle.link_bench.specs.Benches.{HoldsReachTaken, call_walk, link_in};
 ghost use Rattle.link_bench.specs.declared.turns.TurnEnd.TheVariants as turn_end;
 ghost use Rattle.link_bench.specs.Turns.{HoldsEndTaken, is_whole, number_of, one_turn, pump_turns, reach_number, take_turn, turn_call, turn_end_of};
 
-use crate::benches::{Bench, BenchFault, Progress, Reach};
+use crate::benches::{Bench, BenchFault, Reach};
+use crate::step_counts::StepCount;
 use crate::watchers::Watcher;
 use lane_model::{CallEnd, Wish};
 use rp_base::{CallerNo, Message, NoMemory};
@@ -44,20 +44,18 @@ impl Bench {
         sender: CallerNo,
         receiver: CallerNo,
         count: u64,
-        steps: &mut u64,
+        steps: &mut StepCount,
         ended: &mut TurnEnd,
     ) -> Result<u64, NoMemory>
         requires sender { sender < 64 }
         requires receiver { receiver < 64 }
         requires count { count ≤ STEPS_MOST }
-        requires steps { steps.old ≤ STEPS_MOST }
         ensures bench { OnOk result (self.new ≡ (pump_turns W.sees count 0 sender receiver self.old (W.state watcher.old) steps.old).turns.bench) }
         ensures watcher { OnOk result (W.state watcher.new ≡ (pump_turns W.sees count 0 sender receiver self.old (W.state watcher.old) steps.old).turns.watcher) }
         ensures steps { OnOk result (steps.new ≡ (pump_turns W.sees count 0 sender receiver self.old (W.state watcher.old) steps.old).turns.steps) }
         ensures ended { OnOk result (ended.new ≡ (pump_turns W.sees count 0 sender receiver self.old (W.state watcher.old) steps.old).turns.ended) }
         ensures taken { OnOk result (HoldsEndTaken (link_in self.new) ended.new) }
         ensures done { IfOk result (λ done. done ≡ (pump_turns W.sees count 0 sender receiver self.old (W.state watcher.old) steps.old).done) }
-        ensures within { steps.new ≤ STEPS_MOST }
     {
         for done in 0..count {
             self.turn(watcher, sender, receiver, done, steps, ended)?;
@@ -77,19 +75,17 @@ impl Bench {
         sender: CallerNo,
         receiver: CallerNo,
         number: u64,
-        steps: &mut u64,
+        steps: &mut StepCount,
         ended: &mut TurnEnd,
     ) -> Result<(), NoMemory>
         requires sender { sender < 64 }
         requires receiver { receiver < 64 }
         requires number { number ≤ STEPS_MOST }
-        requires steps { steps.old ≤ STEPS_MOST }
         ensures bench { OnOk result (self.new ≡ (one_turn W.sees sender receiver number self.old (W.state watcher.old) steps.old).bench) }
         ensures watcher { OnOk result (W.state watcher.new ≡ (one_turn W.sees sender receiver number self.old (W.state watcher.old) steps.old).watcher) }
         ensures steps { OnOk result (steps.new ≡ (one_turn W.sees sender receiver number self.old (W.state watcher.old) steps.old).steps) }
         ensures ended { OnOk result (ended.new ≡ (one_turn W.sees sender receiver number self.old (W.state watcher.old) steps.old).ended) }
         ensures taken { OnOk result (HoldsEndTaken (link_in self.new) ended.new) }
-        ensures within { steps.new ≤ STEPS_MOST }
     {
         match self.turn_send(sender, &turn_payload(number), steps, ended) {
             Some(_) => self.take_turn(watcher, receiver, steps, ended),
@@ -103,41 +99,43 @@ impl Bench {
         &mut self,
         watcher: &mut W,
         receiver: CallerNo,
-        steps: &mut u64,
+        steps: &mut StepCount,
         ended: &mut TurnEnd,
     ) -> Result<(), NoMemory>
         requires receiver { receiver < 64 }
-        requires steps { steps.old ≤ STEPS_MOST }
         ensures bench { OnOk result (self.new ≡ (take_turn W.sees receiver self.old (W.state watcher.old) steps.old).bench) }
         ensures watcher { OnOk result (W.state watcher.new ≡ (take_turn W.sees receiver self.old (W.state watcher.old) steps.old).watcher) }
         ensures steps { OnOk result (steps.new ≡ (take_turn W.sees receiver self.old (W.state watcher.old) steps.old).steps) }
         ensures ended { OnOk result (ended.new ≡ (take_turn W.sees receiver self.old (W.state watcher.old) steps.old).ended) }
         ensures taken { OnOk result (HoldsEndTaken (link_in self.new) ended.new) }
-        ensures within { steps.new ≤ STEPS_MOST }
     {
-        let mut end = CallEnd::Empty(0);
-        match self.turn_call(receiver, &Wish::Take, steps, &mut end, ended) {
-            Some(number) => {
-                watcher.see(self, receiver, &end)?;
-                self.give_turn(receiver, number, steps, ended);
-                Ok(())
-            }
-            None => Ok(()),
+        let mut reach = Reach::Limit;
+        let Some(number) = self.turn_call(receiver, &Wish::Take, steps, &mut reach, ended) else {
+            return Ok(());
+        };
+        if let Reach::Ended(end) = &reach {
+            watcher.see(self, receiver, end)?;
         }
+        self.give_turn(receiver, number, steps, ended);
+        Ok(())
     }
 
     /// The give of a turn.
-    fn give_turn(&mut self, receiver: CallerNo, number: u64, steps: &mut u64, ended: &mut TurnEnd)
+    fn give_turn(
+        &mut self,
+        receiver: CallerNo,
+        number: u64,
+        steps: &mut StepCount,
+        ended: &mut TurnEnd,
+    )
         requires receiver { receiver < 64 }
-        requires steps { steps.old ≤ STEPS_MOST }
         ensures bench { self.new ≡ (turn_call self.old steps.old receiver (wish.Give number)).bench }
         ensures steps { steps.new ≡ (turn_call self.old steps.old receiver (wish.Give number)).steps }
         ensures ended { ended.new ≡ turn_end_of (turn_call self.old steps.old receiver (wish.Give number)).number }
         ensures taken { HoldsEndTaken (link_in self.new) ended.new }
-        ensures within { steps.new ≤ STEPS_MOST }
     {
-        let mut end = CallEnd::Empty(0);
-        let given = self.turn_call(receiver, &Wish::Give(number), steps, &mut end, ended);
+        let mut reach = Reach::Limit;
+        let given = self.turn_call(receiver, &Wish::Give(number), steps, &mut reach, ended);
         if given.is_some() {
             *ended = TurnEnd::Whole;
         }
@@ -148,49 +146,46 @@ impl Bench {
         &mut self,
         sender: CallerNo,
         payload: &[u8],
-        steps: &mut u64,
+        steps: &mut StepCount,
         ended: &mut TurnEnd,
     ) -> Option<u64>
         requires sender { sender < 64 }
         requires fits { length payload.now ≤ PAYLOAD_MOST }
-        requires steps { steps.old ≤ STEPS_MOST }
         ensures bench { self.new ≡ (turn_call self.old steps.old sender (wish.Send (header_bytes 0 1024 payload.now))).bench }
         ensures steps { steps.new ≡ (turn_call self.old steps.old sender (wish.Send (header_bytes 0 1024 payload.now))).steps }
         ensures number { number_of result ended.new ≡ (turn_call self.old steps.old sender (wish.Send (header_bytes 0 1024 payload.now))).number }
         ensures taken { IfNone result (HoldsEndTaken (link_in self.new) ended.new) }
-        ensures within { steps.new ≤ STEPS_MOST }
     {
         let head = rpmsg_header::head(0, 1024, payload.len() as u16);
         let wished = Wish::Send(message_of(&head, payload));
-        self.turn_call(sender, &wished, steps, &mut CallEnd::Empty(0), ended)
+        self.turn_call(sender, &wished, steps, &mut Reach::Limit, ended)
     }
 
-    /// A call of a turn, with the tests that each call has: the number of its message, with its end. Where it doesn't end well, `ended` says how.
+    /// A call of a turn, with the tests that each call has: the number of its message; `reach` is its
+    /// end then. Where it doesn't end well, `ended` says how.
     #[inline(always)]
     #[tactic(auto, unfolding(crate::specs::Turns::turn_call))]
     fn turn_call(
         &mut self,
         caller: CallerNo,
         wished: &Wish,
-        steps: &mut u64,
-        end: &mut CallEnd,
+        steps: &mut StepCount,
+        reach: &mut Reach,
         ended: &mut TurnEnd,
     ) -> Option<u64>
         requires caller { caller < 64 }
-        requires steps { steps.old ≤ STEPS_MOST }
         ensures bench { self.new ≡ (turn_call self.old steps.old caller wished.now).bench }
         ensures steps { steps.new ≡ (turn_call self.old steps.old caller wished.now).steps }
         ensures number { number_of result ended.new ≡ (turn_call self.old steps.old caller wished.now).number }
-        ensures end { IfSome result (λ _. (call_walk self.old steps.old caller wished.now).reach ≡ reach.Ended end.new) }
-        ensures taken { MatchOption result (HoldsEndTaken (link_in self.new) ended.new) (λ _. HoldsTaken (link_in self.new) caller end.new) }
-        ensures within { steps.new ≤ STEPS_MOST }
+        ensures reach { IfSome result (λ _. reach.new ≡ (call_walk self.old steps.old caller wished.now).reach) }
+        ensures taken { MatchOption result (HoldsEndTaken (link_in self.new) ended.new) (λ _. HoldsReachTaken (link_in self.new) caller reach.new) }
     {
         if let Some(fault) = self.begin_fault(caller, wished) {
             *ended = TurnEnd::Fault(caller, fault);
             return None;
         }
-        let progress = self.call(caller, wished, steps, end);
-        reach_number(caller, progress, end, ended)
+        self.call(caller, wished, steps, reach);
+        reach_number(caller, reach, ended)
     }
 }
 
@@ -203,25 +198,17 @@ fn turn_payload(number: u64) -> [u8; 4]
 }
 
 /// The number of the message of a call that ended well. Of any other, `ended` says how far it came.
-fn reach_number(
-    caller: CallerNo,
-    progress: Progress,
-    end: &CallEnd,
-    ended: &mut TurnEnd,
-) -> Option<u64>
-    ensures number { number_of result ended.new ≡ reach_number caller (reach_of progress end.now) }
-    ensures reach { MatchOption result (ended.new ≡ turn_end.Reached caller (reach_of progress end.now)) (λ _. reach_of progress end.now ≡ reach.Ended end.now) }
+fn reach_number(caller: CallerNo, reach: &Reach, ended: &mut TurnEnd) -> Option<u64>
+    ensures number { number_of result ended.new ≡ reach_number caller reach.now }
+    ensures reach { IfNone result (ended.new ≡ turn_end.Reached caller reach.now) }
 {
-    let reach = match (progress, end) {
-        (
-            Progress::Ended,
-            CallEnd::Sent(number) | CallEnd::Took(number, _) | CallEnd::Gave(number),
-        ) => return Some(*number),
-        (Progress::Ended, _) => Reach::Ended(*end),
-        (Progress::At(step), _) => Reach::At(step),
-        (Progress::Limit, _) => Reach::Limit,
-    };
-    *ended = TurnEnd::Reached(caller, reach);
+    if let Reach::Ended(
+        CallEnd::Sent(number) | CallEnd::Took(number, _) | CallEnd::Gave(number),
+    ) = reach
+    {
+        return Some(*number);
+    }
+    *ended = TurnEnd::Reached(caller, *reach);
     None
 }
 

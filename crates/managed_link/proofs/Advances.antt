@@ -1,10 +1,16 @@
 -- What one step of a carried call tells, where the manager knows the link's state.
 use Rattle.std.proofs.Common.{◌≡◌, ℕ, Option, Some, None, refl, ap, subst, ◌∙◌}
+use Rattle.lane_model.specs.declared.calls.Answer.{Answer}
 use Rattle.lane_model.specs.declared.calls.Ask.{Ask}
+use Rattle.lane_model.specs.declared.calls.CallEnd.{CallEnd}
 use Rattle.lane_model.specs.declared.calls.Outcome.{Outcome}
+use Rattle.lane_model.specs.declared.calls.Outcome.TheVariants as outcome
 use Rattle.lane_model.specs.declared.calls.Progress.{Progress}
+use Rattle.lane_model.specs.declared.calls.Progress.TheVariants as progress
+use Rattle.lane_model.specs.declared.calls.Step.{Step}
+use Rattle.lane_model.specs.declared.calls.Step.TheVariants as step
 use Rattle.lane_model.specs.declared.calls.Wish.{Wish}
-use Rattle.lane_model.specs.Answers.{wish_of}
+use Rattle.lane_model.specs.Answers.{outcome_of, wish_of}
 use Rattle.lane_model.specs.Links.{caller_step, form_step}
 use Rattle.lane_model.proofs.Ends.{same_outcome}
 use Rattle.channel_bus.specs.Sides.{EndState, side_meaning}
@@ -15,9 +21,10 @@ use Rattle.split_ring.specs.declared.calls.Phase.{Phase}
 use Rattle.split_ring.specs.declared.calls.Phase.TheVariants as phase
 use Rattle.split_ring.specs.declared.links.SharedLink.{SharedLink}
 use Rattle.split_ring.specs.Callers.{IsStateOf}
-use Rattle.split_ring.specs.Calls.{deed_of}
+use Rattle.split_ring.specs.Calls.{call_end, deed_of}
+use Rattle.split_ring.specs.Carried.{CarriesOn}
 use Rattle.split_ring.specs.Handed.{StepsLanes}
-use Rattle.split_ring.specs.Phases.{IsNext, wished_in}
+use Rattle.split_ring.specs.Phases.{IsNext, answer_in, ending_said, left_by, outcome_said, said_by, wished_in}
 use Rattle.managed_link.specs.EndCodes.{end_coded}
 use Rattle.managed_link.specs.Known.{LinkRings, lists_of, on_rings}
 use Rattle.managed_link.specs.Managed.{IsBegun}
@@ -57,3 +64,33 @@ later_stepped shared manager manager' who p said p' m begun s = subst (λ (d : D
 -- what a step says is what it says on lists
 pub outcome_on_lists : (m : LinkRings) (caller follows : ℕ) (wished : Option Wish) (said : Outcome) → said ≡ (form_step on_rings side_meaning m caller follows wished).outcome → said ≡ (caller_step side_meaning (lists_of m) caller follows wished).outcome
 outcome_on_lists m caller follows wished said is = is ∙ same_outcome on_rings side_meaning m caller follows wished
+
+-- a step that ended its call left the answer in it
+pub answer_left : (shared : SharedLink EndState) (manager : Manager) (who : CallerId) (done : Step) (p : Phase) → done ≡ step.Ended → CarriesOn shared manager who (left_by done p) (said_by done p) → (answered : Answer) × (answer_in p ≡ Some answered)
+answer_left shared manager who done p is on = at (answer_in p) refl (subst (λ (d : Step). CarriesOn shared manager who (left_by d p) (said_by d p)) is on)
+  where
+    at : (found : Option Answer) → answer_in p ≡ found → CarriesOn shared manager who phase.Ended (ending_said (answer_in p)) → (answered : Answer) × (answer_in p ≡ Some answered)
+    at (Some answered) here on = (answered, here)
+    at None here on = absurd (subst (λ (o : Option Answer). CarriesOn shared manager who phase.Ended (ending_said o)) here on).1
+
+-- what a step says that goes on, and one that ended its call
+pub goes_outcome : (done : Step) (ended : CallEnd) (number : ℕ) → done ≡ step.At number → outcome_of done ended ≡ outcome.At number
+goes_outcome done ended number is = ap (λ (d : Step). outcome_of d ended) is
+
+pub ends_outcome : (done : Step) (ended : CallEnd) → done ≡ step.Ended → outcome_of done ended ≡ outcome.Ended ended
+ends_outcome done ended is = ap (λ (d : Step). outcome_of d ended) is
+
+pub goes_told : (done : Step) (p : Phase) (number : ℕ) → done ≡ step.At number → outcome_said (said_by done p) ≡ outcome.At number
+goes_told done p number is = ap (λ (d : Step). outcome_said (said_by d p)) is
+
+pub ends_told : (done : Step) (p : Phase) (answered : Answer) → done ≡ step.Ended → answer_in p ≡ Some answered → outcome_said (said_by done p) ≡ outcome.Ended (call_end answered)
+ends_told done p answered is here = ap (λ (d : Step). outcome_said (said_by d p)) is ∙ ap (λ (o : Option Answer). outcome_said (ending_said o)) here
+
+module _ (shared : SharedLink EndState) (manager manager' : Manager) (who : CallerId) (p : Phase) (done : Step) (left : Phase) (m m' : LinkRings)
+    (s : HasStepped shared manager manager' who p (said_by done left) (left_by done left) m m') where
+  pub goes_stepped : (number : ℕ) → done ≡ step.At number → HasStepped shared manager manager' who p (progress.At number) left m m'
+  goes_stepped number is = subst (λ (d : Step). HasStepped shared manager manager' who p (said_by d left) (left_by d left) m m') is s
+
+  pub ends_stepped : (answered : Answer) → done ≡ step.Ended → answer_in left ≡ Some answered → HasStepped shared manager manager' who p (progress.Done answered) phase.Ended m m'
+  ends_stepped answered is here = subst (λ (o : Option Answer). HasStepped shared manager manager' who p (ending_said o) phase.Ended m m') here
+      (subst (λ (d : Step). HasStepped shared manager manager' who p (said_by d left) (left_by d left) m m') is s)

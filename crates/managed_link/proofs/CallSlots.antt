@@ -1,5 +1,5 @@
 -- The slots of the carried calls: one set, and the others as they were.
-use Rattle.std.proofs.Common.{◌≡◌, ◌≢◌, ℕ, zero, suc, ◌<◌, List, [], ◌∷◌, length, set, Option, Some, refl, ap, arith}
+use Rattle.std.proofs.Common.{◌≡◌, ◌≢◌, ℕ, zero, suc, ◌<◌, List, [], ◌∷◌, length, set, Option, Some, None, refl, sym, ap, arith}
 use Rattle.std.specs.Prelude.{option_and_then, slice_get}
 use Rattle.managed_link.specs.declared.callers.CarriedCall.{CarriedCall}
 use Rattle.managed_link.specs.Managed.{call_of}
@@ -28,3 +28,9 @@ call_beside calls caller n call apart = ap inner (get_other calls caller n call 
 -- a call that was found in its slot
 pub call_there : (calls : List (Option CarriedCall)) (caller : ℕ) (call : Option CarriedCall) → slice_get calls caller ≡ Some call → call_of calls caller ≡ call
 call_there calls caller call found = ap inner found
+
+-- the slot of a caller in no call is as it was once its call is out of it again
+pub slot_freed : (calls : List (Option CarriedCall)) (caller : ℕ) (put left : Option CarriedCall) → call_of calls caller ≡ None → set (set (set calls caller put) caller left) caller None ≡ calls
+slot_freed [] caller put left rests = refl
+slot_freed (c ∷ cs) zero put left rests = ap (λ x. x ∷ cs) (sym rests)
+slot_freed (c ∷ cs) (suc n) put left rests = ap (λ xs. c ∷ xs) (slot_freed cs n put left rests)

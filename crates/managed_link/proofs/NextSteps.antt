@@ -12,6 +12,8 @@ use Rattle.lane_model.specs.declared.calls.CallEnd.{CallEnd}
 use Rattle.lane_model.specs.declared.calls.Outcome.TheVariants as outcome
 use Rattle.lane_model.specs.declared.calls.Progress.{Progress}
 use Rattle.lane_model.specs.declared.calls.Progress.TheVariants as progress
+use Rattle.lane_model.specs.declared.calls.Step.{Step}
+use Rattle.lane_model.specs.declared.calls.Step.TheVariants as step
 use Rattle.lane_model.specs.declared.calls.Wish.{Wish}
 use Rattle.lane_model.specs.Conditions.{MayStep}
 use Rattle.lane_model.specs.Lanes.{holder, holds}
@@ -27,7 +29,7 @@ use Rattle.split_ring.specs.declared.links.SharedLink.{SharedLink}
 use Rattle.split_ring.specs.Calls.{call_end}
 use Rattle.split_ring.specs.Carried.{Carries, CarriesOn}
 use Rattle.split_ring.specs.Handed.{LeavesLanes, StepsLanes}
-use Rattle.split_ring.specs.Phases.{IsEndOf, IsNext, IsUnderWay, outcome_said, settled_end}
+use Rattle.split_ring.specs.Phases.{IsEndOf, IsNext, IsUnderWay, answer_in, left_by, outcome_said, said_by, settled_end}
 use Rattle.split_ring.specs.Reclaims.{buffer_in, phase_of, taken_buffer}
 use Rattle.managed_link.specs.declared.callers.CarriedCall.{CarriedCall}
 use Rattle.managed_link.specs.declared.hands.Hand.{Hand}
@@ -39,7 +41,7 @@ use Rattle.managed_link.specs.Settles.{HasRoomFor, answer_buffer}
 use Rattle.managed_link.specs.Steps.{AdvancesCall, HasStepped, hands_learnt, held_learnt, incoming_learnt, of_end, outgoing_learnt, settled_in}
 use Rattle.managed_link.specs.Taken.{HoldsTaken}
 use Rattle.managed_link.specs.Views.{if_other}
-use Rattle.managed_link.proofs.Advances.{later_stepped, later_wished}
+use Rattle.managed_link.proofs.Advances.{answer_left, ends_stepped, ends_told, goes_stepped, goes_told, later_stepped, later_wished}
 use Rattle.managed_link.proofs.CallSlots.{call_beside, call_set}
 use Rattle.managed_link.proofs.CallersTurns.{incoming_later, others_turn, outgoing_later, same_receiver}
 use Rattle.managed_link.proofs.Calling.{calling_is}
@@ -107,18 +109,21 @@ module _ (shared : SharedLink EndState) (manager : Manager) (calls : List (Optio
     later = later_turns m end caller 0 user (λ same. omega (arith, low, same)) (may_go_on m caller end user may).1 (alone_at m caller managed.sound end)
 
     -- the step that was taken
-    module _ (manager' : Manager) (said : Progress) (slot : Option CarriedCall) (taken : AdvancesCall shared manager (caller_id caller end c.follows) c.call.phase m said manager' slot) where
+    module _ (manager' : Manager) (done : Step) (slot : Option CarriedCall) (taken : AdvancesCall shared manager (caller_id caller end c.follows) c.call.phase m done manager' slot) where
       abbrev p : Phase
       p = taken.call.phase
 
-      pub next_stepped : HasStepped shared manager manager' (caller_id caller end c.follows) c.call.phase said taken.call.phase m (form_step on_rings side_meaning m caller 0 None).state
-      next_stepped = later_stepped shared manager manager' (caller_id caller end c.follows) c.call.phase said taken.call.phase m next_carried.2 taken.stepped
+      abbrev said : Progress
+      said = said_by done p
 
-      pub next_told : outcome_said said ≡ (form_step on_rings side_meaning m caller 0 None).outcome
+      pub next_stepped : HasStepped shared manager manager' (caller_id caller end c.follows) c.call.phase (said_by done taken.call.phase) (left_by done taken.call.phase) m (form_step on_rings side_meaning m caller 0 None).state
+      next_stepped = later_stepped shared manager manager' (caller_id caller end c.follows) c.call.phase said (left_by done p) m next_carried.2 taken.stepped
+
+      pub next_told : outcome_said (said_by done taken.call.phase) ≡ (form_step on_rings side_meaning m caller 0 None).outcome
       next_told = taken.told ∙ ap (λ (o : Option Wish). (form_step on_rings side_meaning m caller c.follows o).outcome) (later_wished (caller_id caller end c.follows) m c.call.phase next_carried.2)
 
       grow : BooksGrow who m After
-      grow = books_grow who p m After next_stepped.lanes
+      grow = books_grow who (left_by done p) m After next_stepped.lanes
 
       sound : SoundLink (lists_of After)
       sound = sound_after m caller 0 None managed.sound may
@@ -155,19 +160,25 @@ module _ (shared : SharedLink EndState) (manager : Manager) (calls : List (Optio
       set_mine : (place : ℕ) → place ≡ caller → call_of (Set place) caller ≡ Some (record { follows = c.follows; call = taken.call })
       set_mine place at = ap (λ k. call_of (Set k) caller) at ∙ (call_set calls caller slot (subst (λ k. caller < k) (sym managed.slots) low) ∙ taken.here)
 
+      pub now_here : (place : ℕ) (read : Option CarriedCall) → place ≡ caller → read ≡ get_or (set calls place slot) place read → read ≡ Some (record { follows = c.follows; call = taken.call })
+      now_here place read at is_read = is_read ∙ (get_or-set_same calls place slot read (subst (λ k. k < length calls) (sym at) (subst (λ k. caller < k) (sym managed.slots) low)) ∙ taken.here)
+
       -- the call goes on
-      module _ (number : ℕ) (goes : said ≡ progress.At number) where
+      module _ (number : ℕ) (goes : done ≡ step.At number) where
         said_at : (form_step on_rings side_meaning m caller 0 None).outcome ≡ outcome.At number
-        said_at = sym next_told ∙ ap outcome_said goes
+        said_at = sym next_told ∙ goes_told done p number goes
+
+        on : HasStepped shared manager manager' who c.call.phase (progress.At number) p m After
+        on = goes_stepped shared manager manager' who c.call.phase done p m After next_stepped number goes
 
         carries : CarriesOn shared manager' who p (progress.At number)
-        carries = subst (CarriesOn shared manager' who p) goes next_stepped.on
+        carries = on.on
 
         next : IsNext end c.call.phase (progress.At number) p
-        next = subst (λ s. IsNext end c.call.phase s p) goes next_stepped.next
+        next = on.next
 
         begun : IsBegun who After p
-        begun = has_begun who c.call.phase p m After next_stepped.lanes sound next.4 (not_asked shared manager' After who p next_stepped.manages next_stepped.state carries.0 (later.calls number said_at))
+        begun = has_begun who c.call.phase p m After on.lanes sound next.4 (not_asked shared manager' After who p next_stepped.manages next_stepped.state carries.0 (later.calls number said_at))
 
         carried : (place : ℕ) → place ≡ caller → IsCarriedIn shared manager' After caller end (call_of (Set place) caller)
         carried place at = subst (IsCarriedIn shared manager' After caller end) (sym (set_mine place at)) (carries.0, carries.1, begun)
@@ -176,7 +187,7 @@ module _ (shared : SharedLink EndState) (manager : Manager) (calls : List (Optio
         now_out place at = ap (λ (o : Option CarriedCall). buffer_in (phase_of (option_map (λ (x : CarriedCall). x.call) o))) (set_mine place at)
 
         pub next_settled : (place : ℕ) (read : Option CarriedCall) (settled : Option CallEnd) → place ≡ caller → read ≡ get_or (set calls place slot) place read → settled ≡ settled_in read → settled ≡ settled_end taken.call.phase
-        next_settled place read settled at is_read ends = ends ∙ ap settled_in (is_read ∙ (get_or-set_same calls place slot read (subst (λ k. k < length calls) (sym at) (subst (λ k. caller < k) (sym managed.slots) low)) ∙ taken.here))
+        next_settled place read settled at is_read ends = ends ∙ ap settled_in (now_here place read at is_read)
 
         pub next_managed : (place : ℕ) (settled : Option CallEnd) (host' remote' : Vec Hand Global) → place ≡ caller → settled ≡ settled_end taken.call.phase
             → map holding_of (of_end end host' remote').items ≡ held_learnt settled caller (map holding_of (of_end end host remote).items) → AreSome (hands_learnt settled caller (of_end end host remote).items) (of_end end host' remote').items
@@ -184,7 +195,7 @@ module _ (shared : SharedLink EndState) (manager : Manager) (calls : List (Optio
             → IsManaged shared manager' (set calls place slot) host' remote' (form_step on_rings side_meaning m caller 0 None).state
         next_managed place settled host' remote' at ends listed among room beside = managed_after shared manager manager' calls (Set place) host remote who m After managed
             (stepped (Set place) (length-set calls place slot) (set_others place at) (carried place at)) host' remote'
-            (later_hands who m After calls (Set place) (call_step (Set place) (set_others place at)) c.call.phase (of_end end host remote) (of_end end host' remote') mine was_out next.3 p (now_out place at) next_stepped.lanes carries.1 next.4
+            (later_hands who m After calls (Set place) (call_step (Set place) (set_others place at)) c.call.phase (of_end end host remote) (of_end end host' remote') mine was_out next.3 p (now_out place at) on.lanes carries.1 next.4
             (listed ∙ ap (λ (o : Option CallEnd). held_learnt o caller (map holding_of (of_end end host remote).items)) ends)
             (subst (λ (o : Option CallEnd). AreSome (hands_learnt o caller (of_end end host remote).items) (of_end end host' remote').items) ends among) room)
             (theirs (Set place) host' remote' (set_others place at) beside)
@@ -192,27 +203,30 @@ module _ (shared : SharedLink EndState) (manager : Manager) (calls : List (Optio
         pub next_shows : (settled : Option CallEnd) (to_host' to_remote' : LaneView) → settled ≡ settled_end taken.call.phase → of_end end to_host' to_remote' ≡ incoming_learnt settled (of_end end to_host to_remote)
             → of_end (other end) to_host' to_remote' ≡ outgoing_learnt settled (of_end (other end) to_host to_remote) → ShowsViews era to_host' to_remote' (form_step on_rings side_meaning m caller 0 None).state
         next_shows settled to_host' to_remote' ends incoming outgoing = views_after era to_host' to_remote' end After (shows.era_is ∙ sym (same_era m caller 0 None))
-            (incoming ∙ ((λ i. incoming_learnt (ends i) (view_at era to_host to_remote m shows end i)) ∙ sym (incoming_known who p m After next_stepped.lanes (ap holder later.sender_beside) (later.receiver_stays number said_at))))
-            (outgoing ∙ ((λ i. outgoing_learnt (ends i) (view_at era to_host to_remote m shows (other end) i)) ∙ sym (outgoing_known who p m After next_stepped.lanes (later.sender_stays number said_at) (ap holder later.receiver_beside))))
+            (incoming ∙ ((λ i. incoming_learnt (ends i) (view_at era to_host to_remote m shows end i)) ∙ sym (incoming_known who p m After on.lanes (ap holder later.sender_beside) (later.receiver_stays number said_at))))
+            (outgoing ∙ ((λ i. outgoing_learnt (ends i) (view_at era to_host to_remote m shows (other end) i)) ∙ sym (outgoing_known who p m After on.lanes (later.sender_stays number said_at) (ap holder later.receiver_beside))))
             (same_receiver (of_end end to_host to_remote) (of_end end to_host' to_remote') (ap (λ (v : LaneView). v.receiver) incoming ∙ incoming_later settled (of_end end to_host to_remote)) (turn_at era to_host to_remote m shows end))
             (same_receiver (of_end (other end) to_host to_remote) (of_end (other end) to_host' to_remote') (ap (λ (v : LaneView). v.receiver) outgoing ∙ outgoing_later settled (of_end (other end) to_host to_remote)) (turn_at era to_host to_remote m shows (other end)))
 
         pub next_room : (settled : Option CallEnd) → settled ≡ settled_end taken.call.phase → IfSome settled (λ ended. HasRoomFor ended (of_end end host remote))
-        next_room settled ends = subst (λ (o : Option CallEnd). IfSome o (λ ended. HasRoomFor ended (of_end end host remote))) (sym ends) (room_in who m After calls (of_end end host remote) p next_stepped.lanes sound mine)
+        next_room settled ends = subst (λ (o : Option CallEnd). IfSome o (λ ended. HasRoomFor ended (of_end end host remote))) (sym ends) (room_in who m After calls (of_end end host remote) p on.lanes sound mine)
+
+      pub last_answer : done ≡ step.Ended → (answered : Answer) × (answer_in taken.call.phase ≡ Some answered)
+      last_answer ends = answer_left shared manager' who done p ends next_stepped.on
 
       -- the call ends with what was settled
-      module _ (answered : Answer) (done : said ≡ progress.Done answered) where
+      module _ (answered : Answer) (ends : done ≡ step.Ended) (settled : answer_in taken.call.phase ≡ Some answered) where
         said_ended : (form_step on_rings side_meaning m caller 0 None).outcome ≡ outcome.Ended (call_end answered)
-        said_ended = sym next_told ∙ ap outcome_said done
+        said_ended = sym next_told ∙ ends_told done p answered ends settled
 
-        last : IsNext end c.call.phase (progress.Done answered) p
-        last = subst (λ s. IsNext end c.call.phase s p) done next_stepped.next
+        over : HasStepped shared manager manager' who c.call.phase (progress.Done answered) phase.Ended m After
+        over = ends_stepped shared manager manager' who c.call.phase done p m After next_stepped answered ends settled
 
         own : IsOwnAnswer who m answered × (buffer_in c.call.phase ≡ taken_buffer answered)
-        own = ended_answer who m c.call.phase answered next_carried.2 last.1
+        own = ended_answer who m c.call.phase answered next_carried.2 over.next.1
 
         left : LeavesLanes m After
-        left = subst (λ q. StepsLanes who q m After) last.0 next_stepped.lanes
+        left = over.lanes
 
         abbrev Without : ℕ → List (Option CarriedCall)
         Without place = set (set calls place slot) place None
@@ -224,21 +238,21 @@ module _ (shared : SharedLink EndState) (manager : Manager) (calls : List (Optio
         none_mine place at = ap (λ k. call_of (set (Set place) place None) k) (sym at) ∙ call_set (Set place) place None (subst (λ k. place < k) (sym (length-set calls place slot ∙ managed.slots)) (subst (λ k. k < 64) (sym at) low))
 
         rested : (place : ℕ) → place ≡ caller → IsCarriedIn shared manager' After caller end (call_of (Without place) caller)
-        rested place at = subst (IsCarriedIn shared manager' After caller end) (sym (none_mine place at)) (λ f. idle_still shared manager' caller end c.follows f (subst (CarriesOn shared manager' who p) done next_stepped.on))
+        rested place at = subst (IsCarriedIn shared manager' After caller end) (sym (none_mine place at)) (λ f. idle_still shared manager' caller end c.follows f over.on)
 
         pub last_place : IfSome (answer_buffer answered) (λ held. holds (map holding_of (of_end end host remote).items) held.number held.caller ≡ true)
         last_place = ended_held who m calls (of_end end host remote) answered mine own.0
 
-        pub last_managed : (place : ℕ) (host' remote' : Vec Hand Global) → place ≡ caller → MatchOption (answer_buffer answered) ((of_end end host' remote').items ≡ (of_end end host remote).items) (λ held. IsPutIn held (of_end end host remote).items (of_end end host' remote').items)
+        pub last_managed : (place : ℕ) (rest : Option CarriedCall) (host' remote' : Vec Hand Global) → place ≡ caller → rest ≡ None → MatchOption (answer_buffer answered) ((of_end end host' remote').items ≡ (of_end end host remote).items) (λ held. IsPutIn held (of_end end host remote).items (of_end end host' remote').items)
             → vec_capacity (of_end end host' remote') ≡ vec_capacity (of_end end host remote) → of_end (other end) host' remote' ≡ of_end (other end) host remote
-            → IsManaged shared manager' (set (set calls place slot) place None) host' remote' (form_step on_rings side_meaning m caller 0 None).state
-        last_managed place host' remote' at put room beside = managed_after shared manager manager' calls (Without place) host remote who m After managed
+            → IsManaged shared manager' (set (set calls place slot) place rest) host' remote' (form_step on_rings side_meaning m caller 0 None).state
+        last_managed place rest host' remote' at free put room beside = subst (λ (o : Option CarriedCall). IsManaged shared manager' (set (set calls place slot) place o) host' remote' After) (sym free) (managed_after shared manager manager' calls (Without place) host remote who m After managed
             (stepped (Without place) (length-set (Set place) place None ∙ length-set calls place slot) (none_others place at) (rested place at)) host' remote'
             (ended_hands who m After calls (Without place) (call_step (Without place) (none_others place at)) (of_end end host remote) (of_end end host' remote') mine answered own.0 (was_out ∙ own.1) put (same_lane m After left end) room)
-            (theirs (Without place) host' remote' (none_others place at) beside)
+            (theirs (Without place) host' remote' (none_others place at) beside))
 
         pub last_taken : HoldsTaken (lists_of (form_step on_rings side_meaning m caller 0 None).state) caller (call_end answered)
-        last_taken = holds_answer shared manager' who After next_stepped.manages next_stepped.state (subst (CarriesOn shared manager' who p) done next_stepped.on) m answered own.0 (same_lane m After left end)
+        last_taken = holds_answer shared manager' who After next_stepped.manages next_stepped.state over.on m answered own.0 (same_lane m After left end)
 
         pub last_shows : (to_host' to_remote' : LaneView) → of_end end to_host' to_remote' ≡ record (of_end end to_host to_remote) { receiver = if_other (of_end end to_host to_remote).receiver caller }
             → of_end (other end) to_host' to_remote' ≡ record (of_end (other end) to_host to_remote) { sender = if_other (of_end (other end) to_host to_remote).sender caller }

@@ -82,9 +82,10 @@ pub give_takes : (behind : ℕ) (old left : LinkRings) (caller follows : ℕ) (w
 give_takes behind old left caller follows wished ended (Ok number) is ends = subst (HoldsTaken (lists_of left) caller) (sym is) tt
 give_takes behind old left caller follows wished ended (Err busy) is ends = subst (HoldsTaken (lists_of left) caller) (sym is) tt
 
--- what holds of the link behind a step holds of it, whatever the link before is called
-pub taken_behind : {left : LinkRings} (step : LinkRings → LinkRings) (m old : LinkRings) (caller : ℕ) (ended : CallEnd) → left ≡ step old → m ≡ old → HoldsTaken (lists_of (step m)) caller ended → HoldsTaken (lists_of left) caller ended
-taken_behind step m old caller ended leaves same holds = subst (λ (x : LinkRings). HoldsTaken (lists_of x) caller ended) (ap step same ∙ sym leaves) holds
+-- what holds of the link behind a step that ended its call holds of it, whatever the link before is called
+pub ended_behind : {left : LinkRings} (behind : LinkRings → LinkRings) (m old : LinkRings) (caller : ℕ) (said : Step) (ended : CallEnd) → said ≡ step.Ended → left ≡ behind old → m ≡ old → HoldsTaken (lists_of (behind m)) caller ended
+    → HoldsStepTaken (lists_of left) caller said ended
+ended_behind {left} behind m old caller said ended is leaves same taken = subst (λ (s : Step). HoldsStepTaken (lists_of left) caller s ended) (sym is) (subst (λ (x : LinkRings). HoldsTaken (lists_of x) caller ended) (ap behind same ∙ sym leaves) taken)
 
 -- a caller that the manager carries in no call is in none, and holds what the lane to its end says that it holds
 module _ (shared : SharedLink EndState) (manager : Manager) (who : CallerId) (m : LinkRings) (manages : IsManagerOf shared manager) (state : IsStateOf end_coded manager m) (idle : CarriesIdle shared manager who) where

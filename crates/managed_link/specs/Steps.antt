@@ -4,6 +4,7 @@ use Rattle.rp_base.specs.declared.kinds.End.{End}
 use Rattle.rp_base.specs.declared.kinds.End.TheVariants as side
 use Rattle.lane_model.specs.declared.calls.CallEnd.{CallEnd}
 use Rattle.lane_model.specs.declared.calls.Progress.{Progress}
+use Rattle.lane_model.specs.declared.calls.Step.{Step}
 use Rattle.lane_model.specs.declared.calls.Wish.{Wish}
 use Rattle.lane_model.specs.declared.calls.Wish.TheVariants as wish
 use Rattle.lane_model.specs.declared.states.Holding.{Holding}
@@ -19,7 +20,7 @@ use Rattle.split_ring.specs.Callers.{IsManagerOf, IsStateOf}
 use Rattle.split_ring.specs.Calls.{deed_of}
 use Rattle.split_ring.specs.Carried.{CarriesOn, Keeps}
 use Rattle.split_ring.specs.Handed.{StepsLanes}
-use Rattle.split_ring.specs.Phases.{IsNext, outcome_said, settled_end, wished_in}
+use Rattle.split_ring.specs.Phases.{IsNext, left_by, outcome_said, said_by, settled_end, wished_in}
 use Rattle.managed_link.specs.declared.callers.CarriedCall.{CarriedCall}
 use Rattle.managed_link.specs.declared.hands.Hand.{Hand}
 use Rattle.managed_link.specs.declared.views.LaneView.{LaneView}
@@ -74,12 +75,12 @@ pub record HasStepped (shared : SharedLink EndState) (manager manager' : Manager
   pub lanes : StepsLanes who p' m m'
   pub state : IsStateOf end_coded manager' m'
 
--- the same of a carried call in its slot: it stays there as it is then, and says what the step of the link says
-pub record AdvancesCall (shared : SharedLink EndState) (manager : Manager) (who : CallerId) (p : Phase) (m : LinkRings) (said : Progress) (manager' : Manager) (slot : Option CarriedCall) : Type 0 where
+-- the same of a carried call in its slot: it stays there as it is then, with its answer where it has ended, and says what the step of the link says
+pub record AdvancesCall (shared : SharedLink EndState) (manager : Manager) (who : CallerId) (p : Phase) (m : LinkRings) (step : Step) (manager' : Manager) (slot : Option CarriedCall) : Type 0 where
   pub call : RingCall EndState
   pub here : slot ≡ Some (record { follows = who.follows; call = call })
-  pub stepped : HasStepped shared manager manager' who p said call.phase m (after_deed side_meaning m (deed_of who p))
-  pub told : outcome_said said ≡ (form_step on_rings side_meaning m who.number who.follows (wished_in p)).outcome
+  pub stepped : HasStepped shared manager manager' who p (said_by step call.phase) (left_by step call.phase) m (after_deed side_meaning m (deed_of who p))
+  pub told : outcome_said (said_by step call.phase) ≡ (form_step on_rings side_meaning m who.number who.follows (wished_in p)).outcome
 
 -- how the call in a slot ends, where that is settled
 abbrev pub settled_in : Option CarriedCall → Option CallEnd

@@ -1,7 +1,8 @@
 //! The steps of the calls of a managed link.
-ghost use Rattle.std.specs.Prelude.{◌≡◌, ◌<◌, ◌^◌, map, true, None, Some, IfSome, MatchOption, vec_capacity};
+ghost use Rattle.std.specs.Prelude.{◌≡◌, ◌<◌, ◌^◌, is_some, map, true, None, Some, IfSome, MatchOption, vec_capacity};
 ghost use Rattle.rp_base.specs.declared.kinds.End.{End};
 ghost use Rattle.lane_model.specs.Answers.{given_back, outcome_of, wish_of};
+ghost use Rattle.lane_model.specs.declared.calls.Answer.{Answer};
 ghost use Rattle.lane_model.specs.Conditions.{MayStep};
 ghost use Rattle.lane_model.specs.Lanes.{holds};
 ghost use Rattle.lane_model.specs.Links.{caller_step, end_of, form_step};
@@ -10,7 +11,7 @@ ghost use Rattle.link_words.specs.Words.{other};
 ghost use Rattle.split_ring.specs.Callers.{IsManagerOf, IsStateOf};
 ghost use Rattle.split_ring.specs.Calls.{call_end};
 ghost use Rattle.split_ring.specs.Carried.{Carries};
-ghost use Rattle.split_ring.specs.Phases.{IsUnderWay};
+ghost use Rattle.split_ring.specs.Phases.{IsUnderWay, answer_in};
 ghost use Rattle.managed_link.specs.declared.callers.CarriedCall.{CarriedCall};
 ghost use Rattle.managed_link.specs.EndCodes.{end_coded};
 ghost use Rattle.managed_link.specs.Hands.{AreSome, IsPutIn, IsTakenOut, holding_of};
@@ -27,7 +28,7 @@ use crate::links::ManagedLink;
 use crate::settles::{ask_for, ended_with, learn};
 use crate::views::LaneView;
 use channel_bus::Side;
-use lane_model::{Answer, Ask, CallEnd, Progress, Step, Wish};
+use lane_model::{Ask, CallEnd, Step, Wish};
 use rp_base::{CallerNo, End, Inc};
 use split_ring::{Manager, SharedLink};
 
@@ -48,22 +49,28 @@ impl ManagedLink {
         let Some(side) = self.manager.end_of(caller) else {
             unreachable!()
         };
+        let place = usize::from(caller);
         let ask = ask_at(side, caller, wished, &mut self.host, &mut self.remote);
-        let mut call = self.shared.begin_call(ask);
-        match self
-            .shared
-            .advance_by(&mut self.manager, caller, follows, &mut call)
-        {
-            Progress::At(step) => {
-                mark_turn(side, caller, wished, &mut self.to_host, &mut self.to_remote);
-                self.calls[usize::from(caller)] = Some(CarriedCall { follows, call });
-                Step::At(step)
-            }
-            Progress::Done(answer) => {
-                *end = end_at(side, answer, &mut self.host, &mut self.remote);
-                Step::Ended
+        let call = self.shared.begin_call(ask);
+        self.calls[place] = Some(CarriedCall { follows, call });
+        let step = advance_in(
+            &self.shared,
+            &mut self.manager,
+            caller,
+            &mut self.calls[place],
+        );
+        match step {
+            Step::At(_) => mark_turn(side, caller, wished, &mut self.to_host, &mut self.to_remote),
+            Step::Ended => {
+                *end = end_at(
+                    side,
+                    &mut self.calls[place],
+                    &mut self.host,
+                    &mut self.remote,
+                );
             }
         }
+        step
     }
 
     /// The next step of the call that this caller has under way. Where the call ends, `end` says how.
@@ -77,32 +84,33 @@ impl ManagedLink {
         let Some(side) = self.manager.end_of(caller) else {
             unreachable!()
         };
-        let progress = advance_in(
+        let step = advance_in(
             &self.shared,
             &mut self.manager,
             caller,
             &mut self.calls[place],
         );
-        match progress {
-            Progress::At(step) => {
-                learn_at(
+        match step {
+            Step::At(_) => learn_at(
+                side,
+                caller,
+                &self.calls[place],
+                &mut self.to_host,
+                &mut self.to_remote,
+                &mut self.host,
+                &mut self.remote,
+            ),
+            Step::Ended => {
+                free_turns(side, caller, &mut self.to_host, &mut self.to_remote);
+                *end = end_at(
                     side,
-                    caller,
-                    settled_in(&self.calls[place]),
-                    &mut self.to_host,
-                    &mut self.to_remote,
+                    &mut self.calls[place],
                     &mut self.host,
                     &mut self.remote,
                 );
-                Step::At(step)
-            }
-            Progress::Done(answer) => {
-                self.calls[place] = None;
-                free_turns(side, caller, &mut self.to_host, &mut self.to_remote);
-                *end = end_at(side, answer, &mut self.host, &mut self.remote);
-                Step::Ended
             }
         }
+        step
     }
 }
 
@@ -112,15 +120,25 @@ fn advance_in(
     manager: &mut Manager,
     caller: CallerNo,
     slot: &mut Option<CarriedCall>,
-) -> Progress
+) -> Step
     requires manager { IsManagerOf shared.now manager.old }
     requires call { (end : End) × (carried : CarriedCall) × (slot.old ≡ Some carried) × Carries shared.now manager.old (caller_id caller end carried.follows) carried.call.phase × IsUnderWay carried.call.phase }
     ensures { (end : End) (carried : CarriedCall) (m : LinkRings) → end_of manager.old.users caller ≡ Some end → slot.old ≡ Some carried → IsStateOf end_coded manager.old m
         → AdvancesCall shared.now manager.old (caller_id caller end carried.follows) carried.call.phase m result manager.new slot.new }
 {
     match slot {
-        Some(carried) => { shared.advance_by(manager, caller, carried.follows, &mut carried.call) }
+        Some(carried) => { shared.step_by(manager, caller, carried.follows, &mut carried.call) }
         None => unreachable!(),
+    }
+}
+
+/// Whether there is a call in this slot of which it is settled how it ends.
+fn is_settled(slot: &Option<CarriedCall>) -> bool
+    ensures { result ≡ is_some (settled_in slot.now) }
+{
+    match slot {
+        Some(carried) => carried.call.is_settled(),
+        None => false,
     }
 }
 
@@ -191,45 +209,95 @@ fn free_turns(side: End, caller: CallerNo, to_host: &mut LaneView, to_remote: &m
     }
 }
 
-/// A call of a caller of this end has settled how it ends, or not yet: what is known beside the words of the lanes follows.
+/// The call of a caller of this end, in this slot, has settled how it ends, or not yet: what is known beside the words of the lanes follows.
 fn learn_at(
     side: End,
     caller: CallerNo,
-    settled: Option<CallEnd>,
+    slot: &Option<CarriedCall>,
     to_host: &mut LaneView,
     to_remote: &mut LaneView,
     host: &mut Vec<Hand>,
     remote: &mut Vec<Hand>,
 )
-    requires room { IfSome settled (λ ended. HasRoomFor ended (of_end side host.old remote.old)) }
+    requires room { IfSome (settled_in slot.now) (λ ended. HasRoomFor ended (of_end side host.old remote.old)) }
     requires accepted { (of_end (other side) to_host.old to_remote.old).accepted < 2 ^ 60 }
     requires handed { (of_end side to_host.old to_remote.old).handed < 2 ^ 60 }
     requires returned { (of_end side to_host.old to_remote.old).returned < 2 ^ 60 }
-    ensures incoming { of_end side to_host.new to_remote.new ≡ incoming_learnt settled (of_end side to_host.old to_remote.old) }
-    ensures outgoing { of_end (other side) to_host.new to_remote.new ≡ outgoing_learnt settled (of_end (other side) to_host.old to_remote.old) }
-    ensures listed { map holding_of (of_end side host.new remote.new).items ≡ held_learnt settled caller (map holding_of (of_end side host.old remote.old).items) }
-    ensures among { AreSome (hands_learnt settled caller (of_end side host.old remote.old).items) (of_end side host.new remote.new).items }
+    ensures incoming { of_end side to_host.new to_remote.new ≡ incoming_learnt (settled_in slot.now) (of_end side to_host.old to_remote.old) }
+    ensures outgoing { of_end (other side) to_host.new to_remote.new ≡ outgoing_learnt (settled_in slot.now) (of_end (other side) to_host.old to_remote.old) }
+    ensures listed { map holding_of (of_end side host.new remote.new).items ≡ held_learnt (settled_in slot.now) caller (map holding_of (of_end side host.old remote.old).items) }
+    ensures among { AreSome (hands_learnt (settled_in slot.now) caller (of_end side host.old remote.old).items) (of_end side host.new remote.new).items }
     ensures room { vec_capacity (of_end side host.new remote.new) ≡ vec_capacity (of_end side host.old remote.old) }
     ensures beside { of_end (other side) host.new remote.new ≡ of_end (other side) host.old remote.old }
 {
-    let Some(ended) = settled else { return };
+    if !is_settled(slot) {
+        return;
+    }
+    let Some(ended) = settled_in(slot) else {
+        return;
+    };
     match side {
         End::Host => learn(caller, &ended, to_host, to_remote, host),
         End::Remote => learn(caller, &ended, to_remote, to_host, remote),
     }
 }
 
-/// How a call of a caller of this end ended with this answer. The buffer in it is in hand again.
-fn end_at(side: End, answer: Answer, host: &mut Vec<Hand>, remote: &mut Vec<Hand>) -> CallEnd
-    requires { IfSome (answer_buffer answer) (λ held. holds (map holding_of (of_end side host.old remote.old).items) held.number held.caller ≡ true) }
-    ensures end { result ≡ call_end answer }
-    ensures hands { MatchOption (answer_buffer answer) ((of_end side host.new remote.new).items ≡ (of_end side host.old remote.old).items)
+/// The call of a caller of this end, in this slot, has ended: how. The buffer in its answer is in hand again, and the slot is free.
+fn end_at(
+    side: End,
+    slot: &mut Option<CarriedCall>,
+    host: &mut Vec<Hand>,
+    remote: &mut Vec<Hand>,
+) -> CallEnd
+    requires { (carried : CarriedCall) × (answer : Answer) × (slot.old ≡ Some carried) × (answer_in carried.call.phase ≡ Some answer)
+        × IfSome (answer_buffer answer) (λ held. holds (map holding_of (of_end side host.old remote.old).items) held.number held.caller ≡ true) }
+    ensures free { slot.new ≡ None }
+    ensures end { (carried : CarriedCall) (answer : Answer) → slot.old ≡ Some carried → answer_in carried.call.phase ≡ Some answer → result ≡ call_end answer }
+    ensures hands { (carried : CarriedCall) (answer : Answer) → slot.old ≡ Some carried → answer_in carried.call.phase ≡ Some answer
+        → MatchOption (answer_buffer answer) ((of_end side host.new remote.new).items ≡ (of_end side host.old remote.old).items)
         (λ held. IsPutIn held (of_end side host.old remote.old).items (of_end side host.new remote.new).items) }
     ensures room { vec_capacity (of_end side host.new remote.new) ≡ vec_capacity (of_end side host.old remote.old) }
     ensures beside { of_end (other side) host.new remote.new ≡ of_end (other side) host.old remote.old }
 {
     match side {
-        End::Host => ended_with(host, answer),
-        End::Remote => ended_with(remote, answer),
+        End::Host => end_in(slot, host),
+        End::Remote => end_in(slot, remote),
+    }
+}
+
+/// The call in this slot has ended: how. The buffer in its answer is among these hands again, and the slot is free.
+fn end_in(slot: &mut Option<CarriedCall>, hands: &mut Vec<Hand>) -> CallEnd
+    requires { (carried : CarriedCall) × (answer : Answer) × (slot.old ≡ Some carried) × (answer_in carried.call.phase ≡ Some answer)
+        × IfSome (answer_buffer answer) (λ held. holds (map holding_of hands.old.items) held.number held.caller ≡ true) }
+    ensures free { slot.new ≡ None }
+    ensures end { (carried : CarriedCall) (answer : Answer) → slot.old ≡ Some carried → answer_in carried.call.phase ≡ Some answer → result ≡ call_end answer }
+    ensures hands { (carried : CarriedCall) (answer : Answer) → slot.old ≡ Some carried → answer_in carried.call.phase ≡ Some answer
+        → MatchOption (answer_buffer answer) (hands.new.items ≡ hands.old.items) (λ held. IsPutIn held hands.old.items hands.new.items) }
+    ensures room { vec_capacity hands.new ≡ vec_capacity hands.old }
+{
+    match settled_in(slot) {
+        Some(CallEnd::Took(_, _) | CallEnd::Busy(_)) => take_end(slot, hands),
+        Some(end) => {
+            *slot = None;
+            end
+        }
+        None => unreachable!(),
+    }
+}
+
+/// The same of a call whose answer may have a buffer.
+#[inline(never)]
+fn take_end(slot: &mut Option<CarriedCall>, hands: &mut Vec<Hand>) -> CallEnd
+    requires { (carried : CarriedCall) × (answer : Answer) × (slot.old ≡ Some carried) × (answer_in carried.call.phase ≡ Some answer)
+        × IfSome (answer_buffer answer) (λ held. holds (map holding_of hands.old.items) held.number held.caller ≡ true) }
+    ensures free { slot.new ≡ None }
+    ensures end { (carried : CarriedCall) (answer : Answer) → slot.old ≡ Some carried → answer_in carried.call.phase ≡ Some answer → result ≡ call_end answer }
+    ensures hands { (carried : CarriedCall) (answer : Answer) → slot.old ≡ Some carried → answer_in carried.call.phase ≡ Some answer
+        → MatchOption (answer_buffer answer) (hands.new.items ≡ hands.old.items) (λ held. IsPutIn held hands.old.items hands.new.items) }
+    ensures room { vec_capacity hands.new ≡ vec_capacity hands.old }
+{
+    match slot.take() {
+        Some(carried) => ended_with(hands, carried.call.into_answer()),
+        None => unreachable!(),
     }
 }

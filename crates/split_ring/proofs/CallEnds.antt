@@ -7,14 +7,13 @@ use Rattle.rp_base.specs.declared.kinds.End.{End}
 use Rattle.rp_base.specs.declared.kinds.End.TheVariants as side
 use Rattle.rp_base.specs.declared.kinds.Endpoint.{Endpoint}
 use Rattle.rp_base.specs.declared.kinds.Era.{Era}
-use Rattle.lane_model.specs.Answers.{busy_answer, wish_of}
+use Rattle.lane_model.specs.Answers.{busy_answer}
 use Rattle.lane_model.specs.declared.calls.Answer.{Answer}
 use Rattle.lane_model.specs.declared.calls.Answer.TheVariants as answer
 use Rattle.lane_model.specs.declared.calls.Ask.{Ask}
 use Rattle.lane_model.specs.declared.calls.Ask.TheVariants as ask
 use Rattle.lane_model.specs.declared.calls.Progress.{Progress}
 use Rattle.lane_model.specs.declared.calls.Progress.TheVariants as progress
-use Rattle.lane_model.specs.declared.calls.Wish.{Wish}
 use Rattle.lane_model.specs.declared.recoveries.LaneTurn.TheVariants as lane_turn
 use Rattle.lane_model.specs.declared.stages.GiveStage.TheVariants as give_stage
 use Rattle.lane_model.specs.declared.stages.Work.TheVariants as work
@@ -28,10 +27,10 @@ use Rattle.link_words.specs.declared.rule.LinkSizes.{LinkSizes}
 use Rattle.link_words.specs.declared.rule.Made.TheVariants as made
 use Rattle.link_words.specs.Calls.{SeatState}
 use Rattle.link_words.specs.Histories.{latest}
-use Rattle.link_words.specs.Steps.{hands_but, IsFit}
+use Rattle.link_words.specs.Steps.{hands_but}
 use Rattle.link_words.specs.Words.{other}
 use Rattle.split_ring.specs.Binds.{desk_result, DeskAnswers, IsOfDesk, IsDeskWalk}
-use Rattle.split_ring.specs.Calls.{ask_of, desk_said, hands_in, hands_with, IsInPhase, IsPath, IsWalkFor, IsShort, IsOwnAsk, StandsAt, Advances, call_end}
+use Rattle.split_ring.specs.Calls.{ask_of, desk_said, hands_in, hands_with, IsInPhase, IsPath, IsWalkFor, StandsAt, Advances, call_end}
 use Rattle.split_ring.specs.Callers.{IsAdvanced}
 use Rattle.split_ring.specs.Receives.{IsHeldBy, IsGiveAt}
 use Rattle.split_ring.specs.Seats.{IsAt, IsSeatOf, pass_in}
@@ -59,14 +58,6 @@ use Rattle.lane_model.specs.declared.calls.CallEnd.TheVariants as end
 pub own_end : (e : End) → other (other e) ≡ e
 own_end side.Host = refl
 own_end side.Remote = refl
-
--- what is in the caller's hands, where they are the same
-pub ask_still : (who : CallerId) (a : Ask) (me me' : SeatState) → (pass_in me').hands ≡ (pass_in me).hands → IsOwnAsk who a me → IsOwnAsk who a me'
-ask_still who (ask.Send message) me me' same own = tt
-ask_still who ask.Take me me' same own = tt
-ask_still who (ask.Give held) me me' same own = held_still who held me me' same own
-ask_still who (ask.Bind address) me me' same own = tt
-ask_still who (ask.Unbind address) me me' same own = tt
 
 module _ {D : Type 0} (coded : Coded D) (meaning : DeskMeaning D) (z : LinkSizes) (who : CallerId) where
   -- a give, at its second step and at its third
@@ -249,14 +240,6 @@ module _ {D : Type 0} (coded : Coded D) (meaning : DeskMeaning D) (z : LinkSizes
           (and_then coded meaning z e [] start me me' (subst (λ (l : List Event). HasDone coded meaning l same_hands start me) h.path.1 h.done) busy.1);
     };
   }
-
--- what a caller wishes that asks this is fit
-pub ask_fit : (who : CallerId) (a : Ask) (w : Wish) (me : SeatState) → w ≡ wish_of a → IsShort w → IsOwnAsk who a me → IsFit w (pass_in me).hands
-ask_fit who (ask.Send message) w me is short own = subst (λ (v : Wish). IsFit v (pass_in me).hands) (sym is) (subst IsShort is short)
-ask_fit who ask.Take w me is short own = subst (λ (v : Wish). IsFit v (pass_in me).hands) (sym is) tt
-ask_fit who (ask.Give held) w me is short own = subst (λ (v : Wish). IsFit v (pass_in me).hands) (sym is) own.numbered
-ask_fit who (ask.Bind address) w me is short own = subst (λ (v : Wish). IsFit v (pass_in me).hands) (sym is) tt
-ask_fit who (ask.Unbind address) w me is short own = subst (λ (v : Wish). IsFit v (pass_in me).hands) (sym is) tt
 
 -- a caller behind a step
 pub advanced : {D : Type 0} (link : SharedLink D) (caller : Caller) (call : RingCall D) (said : Progress) → IsSeatOf link.table.shared.table_id link.sizes caller.seat.table_id caller.seat.me → (pass_in caller.seat.me).number ≡ caller.id.number → caller.id.number < 64

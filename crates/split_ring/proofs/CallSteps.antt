@@ -1,6 +1,6 @@
 -- One step of a send or a take that is taken step by step.
-use Rattle.std.proofs.Common.{◌≡◌, ◌≢◌, inl, inr, ℕ, List, [], ◌∷◌, refl, sym, ap, subst}
-use Rattle.std.specs.Prelude.{Ok, Err, None}
+use Rattle.std.proofs.Common.{◌≡◌, ◌≢◌, inl, inr, ℕ, ◌+◌, List, [], ◌∷◌, refl, sym, ap, ◌∙◌, subst}
+use Rattle.std.specs.Prelude.{Ok, Err}
 use base.Stored.{Coded}
 use Rattle.rp_base.specs.declared.kinds.Era.{Era}
 use Rattle.lane_model.specs.declared.calls.Answer.TheVariants as answer
@@ -8,7 +8,6 @@ use Rattle.lane_model.specs.declared.calls.Ask.{Ask}
 use Rattle.lane_model.specs.declared.calls.Ask.TheVariants as ask
 use Rattle.lane_model.specs.declared.calls.CallEnd.{CallEnd}
 use Rattle.lane_model.specs.declared.calls.CallEnd.TheVariants as end
-use Rattle.lane_model.specs.declared.calls.Progress.{Progress}
 use Rattle.lane_model.specs.declared.calls.Progress.TheVariants as progress
 use Rattle.lane_model.specs.declared.recoveries.LaneTurn.TheVariants as lane_turn
 use Rattle.lane_model.specs.declared.stages.SendStage.{SendStage}
@@ -34,14 +33,14 @@ use Rattle.split_ring.specs.declared.sends.SendFault.TheVariants as fault
 use Rattle.split_ring.specs.declared.takes.Taken.{Taken}
 use Rattle.split_ring.specs.declared.takes.TakeCall.{TakeCall}
 use Rattle.split_ring.specs.declared.takes.TakeFault.TheVariants as take_fault
-use Rattle.split_ring.specs.Calls.{count_steps, call_end, send_answer, hands_with, IsWalkFor, Advances}
+use Rattle.split_ring.specs.Calls.{count_steps, call_end, send_answer, hands_with, IsInPhase, IsWalkFor, Advances}
 use Rattle.split_ring.specs.Receives.{IsTakeAt, HasBufferOut, message_look, IsHandedTo}
 use Rattle.split_ring.specs.Sends.{live_era, room_look, IsSendAt, IsFilledAt, HasNoRoom}
 use Rattle.split_ring.specs.Turns.{IsLeaving}
 use Rattle.split_ring.specs.Walks.{same_hands, one_more, HasDone}
 use Rattle.split_ring.proofs.Seats.{done_then}
-use Rattle.split_ring.specs.Focus.{seat_of, StepsAlone}
-use Rattle.link_words.specs.Deeds.{Steps}
+use Rattle.split_ring.specs.Focus.{seat_of}
+use Rattle.split_ring.specs.Phases.{send_steps, take_steps}
 
 module _ {D : Type 0} (coded : Coded D) (meaning : DeskMeaning D) (z : LinkSizes) where
   -- one step more
@@ -313,15 +312,28 @@ module _ {D : Type 0} (coded : Coded D) (meaning : DeskMeaning D) (z : LinkSizes
       }
 
   -- the same, by the caller and by the stage
-  pub send_by : (who : CallerId) (st known : SendStage) (c : SendCall) (m : List ℕ) (said : Progress) (after : Phase) (me me' : SeatState) → st ≡ known → c.who ≡ who → Advances coded meaning z c.who (phase.Sends known c m) said after (seat_of c.who.number me) (seat_of c.who.number me')
-      → Advances coded meaning z who (phase.Sends st c m) said after (seat_of who.number me) (seat_of who.number me')
-  send_by who st known c m said after me me' is same step =
-      subst (λ (x : SendStage). Advances coded meaning z who (phase.Sends x c m) said after (seat_of who.number me) (seat_of who.number me')) (sym is) (subst (λ (w : CallerId). Advances coded meaning z w (phase.Sends known c m) said after (seat_of w.number me) (seat_of w.number me')) same step)
+  pub send_by : (who : CallerId) (st known : SendStage) (c : SendCall) (m : List ℕ) (after : Phase) (me me' : SeatState) → st ≡ known → c.who ≡ who → Advances coded meaning z c.who (phase.Sends known c m) (progress.At (send_steps known + 1)) after (seat_of c.who.number me) (seat_of c.who.number me')
+      → Advances coded meaning z who (phase.Sends st c m) (progress.At (send_steps st + 1)) after (seat_of who.number me) (seat_of who.number me')
+  send_by who st known c m after me me' is same step =
+      subst (λ (x : SendStage). Advances coded meaning z who (phase.Sends x c m) (progress.At (send_steps x + 1)) after (seat_of who.number me) (seat_of who.number me')) (sym is)
+      (subst (λ (w : CallerId). Advances coded meaning z w (phase.Sends known c m) (progress.At (send_steps known + 1)) after (seat_of w.number me) (seat_of w.number me')) same step)
 
-  pub take_by : (who : CallerId) (st known : TakeStage) (c : TakeCall) (b : ℕ) (said : Progress) (after : Phase) (me me' : SeatState) → st ≡ known → c.who ≡ who → Advances coded meaning z c.who (phase.Takes known c b) said after (seat_of c.who.number me) (seat_of c.who.number me')
-      → Advances coded meaning z who (phase.Takes st c b) said after (seat_of who.number me) (seat_of who.number me')
-  take_by who st known c b said after me me' is same step =
-      subst (λ (x : TakeStage). Advances coded meaning z who (phase.Takes x c b) said after (seat_of who.number me) (seat_of who.number me')) (sym is) (subst (λ (w : CallerId). Advances coded meaning z w (phase.Takes known c b) said after (seat_of w.number me) (seat_of w.number me')) same step)
+  pub take_by : (who : CallerId) (st known : TakeStage) (c : TakeCall) (b : ℕ) (after : Phase) (me me' : SeatState) → st ≡ known → c.who ≡ who → Advances coded meaning z c.who (phase.Takes known c b) (progress.At (take_steps known + 1)) after (seat_of c.who.number me) (seat_of c.who.number me')
+      → Advances coded meaning z who (phase.Takes st c b) (progress.At (take_steps st + 1)) after (seat_of who.number me) (seat_of who.number me')
+  take_by who st known c b after me me' is same step =
+      subst (λ (x : TakeStage). Advances coded meaning z who (phase.Takes x c b) (progress.At (take_steps x + 1)) after (seat_of who.number me) (seat_of who.number me')) (sym is)
+      (subst (λ (w : CallerId). Advances coded meaning z w (phase.Takes known c b) (progress.At (take_steps known + 1)) after (seat_of w.number me) (seat_of w.number me')) same step)
 
-  pub steps_by : (who w : CallerId) (me me' : SeatState) → w ≡ who → StepsAlone coded meaning w.number (Steps w.number 0 None) me me' → StepsAlone coded meaning who.number (Steps who.number 0 None) me me'
-  steps_by who w me me' same steps = subst (λ (x : CallerId). StepsAlone coded meaning x.number (Steps x.number 0 None) me me') same steps
+  -- the handing of a take, by the phase that it stands in
+  abbrev stage_in : Phase → TakeStage
+  stage_in (phase.Takes st c b) = st
+  stage_in other = take_stage.Buffer
+
+  pub hand_by : (who : CallerId) (p : Phase) (st : TakeStage) (c : TakeCall) (b : ℕ) (after : Phase) (me me' : SeatState) → p ≡ phase.Takes st c b → (call : TakeCall) × (buffer : ℕ) × (p ≡ phase.Takes take_stage.Buffer call buffer) → IsInPhase z who p (seat_of who.number me)
+      → Advances coded meaning z c.who (phase.Takes take_stage.Buffer c b) (progress.At 5) after (seat_of c.who.number me) (seat_of c.who.number me')
+      → Advances coded meaning z who p (progress.At 5) after (seat_of who.number me) (seat_of who.number me')
+  hand_by who p st c b after me me' is last stands step =
+      let known : st ≡ take_stage.Buffer = sym (ap stage_in is) ∙ ap stage_in last.2 in
+      let same : c.who ≡ who = (subst (λ (x : Phase). IsInPhase z who x (seat_of who.number me)) is stands).1 in
+      subst (λ (x : Phase). Advances coded meaning z who x (progress.At 5) after (seat_of who.number me) (seat_of who.number me')) (sym (is ∙ ap (λ (x : TakeStage). phase.Takes x c b) known))
+      (subst (λ (w : CallerId). Advances coded meaning z w (phase.Takes take_stage.Buffer c b) (progress.At 5) after (seat_of w.number me) (seat_of w.number me')) same step)

@@ -1,5 +1,5 @@
 -- What a phase of a call tells: the side state that is out, how many slots are, how many steps are done, and what the next step says (own).
-use Rattle.std.specs.Prelude.{◌≡◌, ◌+◌, ℕ, Option, Some, None}
+use Rattle.std.specs.Prelude.{◌≡◌, ◌+◌, ℕ, List, Option, Some, None, Result, Err}
 use Rattle.std.specs.Option.{option_map}
 use Rattle.rp_base.specs.declared.kinds.End.{End}
 use Rattle.lane_model.specs.declared.calls.Answer.{Answer}
@@ -18,6 +18,8 @@ use Rattle.lane_model.specs.declared.stages.SendStage.TheVariants as stage
 use Rattle.lane_model.specs.declared.stages.TakeStage.{TakeStage}
 use Rattle.lane_model.specs.declared.stages.TakeStage.TheVariants as take_stage
 use Rattle.lane_model.specs.declared.stages.Work.TheVariants as work
+use Rattle.lane_model.specs.declared.calls.Step.{Step}
+use Rattle.lane_model.specs.declared.calls.Step.TheVariants as step
 use Rattle.lane_model.specs.declared.calls.Wish.{Wish}
 use Rattle.lane_model.specs.declared.calls.Wish.TheVariants as wish
 use Rattle.lane_model.specs.declared.lane_links.LaneLink.{LaneLink}
@@ -26,10 +28,14 @@ use Rattle.lane_model.specs.HeldBuffers.{HeldBuffer}
 use Rattle.lane_model.specs.Lanes.{holder}
 use Rattle.ring_core.specs.declared.states.RingState.{RingState}
 use Rattle.link_words.specs.Words.{lane_to, other, sender_slot, receiver_slot}
-use Rattle.split_ring.specs.Calls.{call_end}
+use Rattle.split_ring.specs.Calls.{call_end, send_answer, take_answer}
 use Rattle.split_ring.specs.Focus.{send_count, work_count}
 use Rattle.split_ring.specs.declared.calls.Phase.{Phase}
 use Rattle.split_ring.specs.declared.calls.Phase.TheVariants as phase
+use Rattle.split_ring.specs.declared.sends.SendCall.{SendCall}
+use Rattle.split_ring.specs.declared.sends.SendFault.{SendFault}
+use Rattle.split_ring.specs.declared.takes.TakeCall.{TakeCall}
+use Rattle.split_ring.specs.declared.takes.TakeFault.{TakeFault}
 
 -- the slot of the side state that goes with the turn of a call; one that has done no step has none, and this is what it asks for
 abbrev pub asked_side : End → Ask → ℕ
@@ -150,3 +156,36 @@ abbrev pub settled_end : Phase → Option CallEnd
 settled_end (phase.LeavesSender said) = Some (call_end said)
 settled_end (phase.LeavesReceiver said) = Some (call_end said)
 settled_end other = None
+
+-- the answer that is settled in a phase
+abbrev pub answer_in : Phase → Option Answer
+answer_in (phase.LeavesSender said) = Some said
+answer_in (phase.LeavesReceiver said) = Some said
+answer_in other = None
+
+-- what a step says that left its call in this phase, and the phase behind it: one that ended the call left its answer there. A call that goes on
+-- has done a step, so none says 0
+abbrev pub ending_said : Option Answer → Progress
+ending_said (Some said) = progress.Done said
+ending_said None = progress.At 0
+
+abbrev pub said_by : Step → Phase → Progress
+said_by (step.At number) left = progress.At number
+said_by step.Ended left = ending_said (answer_in left)
+
+abbrev pub left_by : Step → Phase → Phase
+left_by (step.At number) left = left
+left_by step.Ended left = phase.Ended
+
+-- the phase of a send, a take or a give behind a later step, by the stage that is done and by what is settled
+abbrev pub send_left : Option (Result ℕ SendFault) → SendStage → SendCall → List ℕ → Phase
+send_left None stage call message = phase.Sends stage call message
+send_left (Some sent) stage call message = phase.LeavesSender (send_answer sent)
+
+abbrev pub take_left : Option TakeFault → TakeStage → TakeCall → ℕ → Phase
+take_left None stage call buffer = phase.Takes stage call buffer
+take_left (Some fault) stage call buffer = phase.LeavesReceiver (take_answer (Err fault))
+
+abbrev pub give_left : Option ℕ → GiveStage → HeldBuffer → ℕ → Phase
+give_left None stage held returned = phase.Gives stage held returned
+give_left (Some number) stage held returned = phase.LeavesReceiver (answer.Gave number)

@@ -11,18 +11,17 @@ ghost use Rattle.split_ring.specs.Callers.{IsManagerOf, IsStateOf};
 ghost use Rattle.split_ring.specs.Calls.{Advances, deed_of};
 ghost use Rattle.split_ring.specs.Carried.{Carries, CarriesOn, Keeps, carried_seat, out_before};
 ghost use Rattle.split_ring.specs.Handed.{StepsLanes};
-ghost use Rattle.split_ring.specs.Phases.{IsNext, IsUnderWay, outcome_said, side_of, slots_in, wished_in};
+ghost use Rattle.split_ring.specs.Phases.{IsNext, IsUnderWay, left_by, outcome_said, said_by, side_of, slots_in, wished_in};
 
 use crate::callers::{CallerId, Manager};
-use crate::calls::{Phase, RingCall};
+use crate::calls::{Phase, RingCall, said_by};
 use crate::links::SharedLink;
 use crate::sends::sender_slot;
 use crate::slots::turn_by;
 use crate::takes::receiver_slot;
 use crate::turns::other;
-use lane_model::{Ask, Desk, Progress, SendStage, TakeStage};
+use lane_model::{Ask, Desk, Progress, SendStage, Step, TakeStage};
 use rp_base::{CallerNo, End, Inc};
-use std::mem;
 
 /// The slot of the side state that goes with the turn of a call in this phase, or that it asks for.
 pub(crate) fn side_of(end: End, phase: &Phase) -> usize
@@ -114,6 +113,33 @@ impl<D: Desk> SharedLink<D> {
         ensures state { (end : End) → end_of manager.old.users caller ≡ Some end → (m : LaneLink (RingState D)) → IsStateOf D.row.coded manager.old m
             → IsStateOf D.row.coded manager.new (after_deed D.meaning m (deed_of (record { number = caller; end = end; follows = inc }) call.old.phase)) }
     {
+        let step = self.step_by(manager, caller, inc, call);
+        said_by(step, &mut call.phase)
+    }
+
+    /// The same step of the call in its place. One that ends the call leaves its answer there, which
+    /// `into_answer` hands out.
+    pub fn step_by(
+        &self,
+        manager: &mut Manager,
+        caller: CallerNo,
+        inc: Inc,
+        call: &mut RingCall<D>,
+    ) -> Step
+        requires manager { IsManagerOf self.now manager.old }
+        requires call { (end : End) × Carries self.now manager.old (record { number = caller; end = end; follows = inc }) call.old.phase × IsUnderWay call.old.phase }
+        ensures manager { IsManagerOf self.now manager.new × (manager.new.users ≡ manager.old.users) }
+        ensures call { (end : End) → end_of manager.old.users caller ≡ Some end → CarriesOn self.now manager.new (record { number = caller; end = end; follows = inc }) (left_by result call.new.phase) (said_by result call.new.phase) }
+        ensures others { (who : CallerId) (p : Phase) → who.number ≢ caller → Keeps self.now manager.old manager.new who p }
+        ensures step { (end : End) → end_of manager.old.users caller ≡ Some end → let who : CallerId = record { number = caller; end = end; follows = inc } in
+            Advances D.row.coded D.meaning self.now.sizes who call.old.phase (said_by result call.new.phase) (left_by result call.new.phase) (carried_seat who call.old.phase manager.old) (carried_seat who call.old.phase manager.new) }
+        ensures next { (end : End) → end_of manager.old.users caller ≡ Some end → IsNext end call.old.phase (said_by result call.new.phase) (left_by result call.new.phase) }
+        ensures lanes { (end : End) → end_of manager.old.users caller ≡ Some end → let who : CallerId = record { number = caller; end = end; follows = inc } in (m : LaneLink (RingState D)) → IsStateOf D.row.coded manager.old m
+            → StepsLanes who (left_by result call.new.phase) m (after_deed D.meaning m (deed_of who call.old.phase)) }
+        ensures said { (m : LaneLink (RingState D)) → IsStateOf D.row.coded manager.old m → outcome_said (said_by result call.new.phase) ≡ (form_step (ring_form D.meaning) D.meaning m caller inc (wished_in call.old.phase)).outcome }
+        ensures state { (end : End) → end_of manager.old.users caller ≡ Some end → (m : LaneLink (RingState D)) → IsStateOf D.row.coded manager.old m
+            → IsStateOf D.row.coded manager.new (after_deed D.meaning m (deed_of (record { number = caller; end = end; follows = inc }) call.old.phase)) }
+    {
         let end = match manager.users.get(usize::from(caller)) {
             Some(Some(end)) => *end,
             Some(None) | None => unreachable!(),
@@ -127,12 +153,14 @@ impl<D: Desk> SharedLink<D> {
         let had = slots_in(&call.phase);
         let before = manager.out_before(side);
         turn_by(&mut manager.seat, before);
-        let phase = mem::replace(&mut call.phase, Phase::Ended);
-        let (next, progress) = self.step_on(&mut manager.seat, who, phase);
-        manager.out[side] = manager.out[side] + slots_in(&next) - had;
+        let step = self.step_on(&mut manager.seat, who, &mut call.phase);
+        let has = match step {
+            Step::At(_) => slots_in(&call.phase),
+            Step::Ended => 0,
+        };
+        manager.out[side] = manager.out[side] + has - had;
         let rest = manager.out_before(4) - before;
         turn_by(&mut manager.seat, rest);
-        call.phase = next;
-        progress
+        step
     }
 }

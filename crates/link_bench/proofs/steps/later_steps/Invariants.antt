@@ -1,5 +1,4 @@
-use Rattle.std.proofs.Common.{◌≡◌, ◌-◌, ◌≤◌, None}
-use Rattle.rp_base.specs.declared.limits.TheConstants.{STEPS_MOST}
+use Rattle.std.proofs.Common.{◌≡◌, ◌-◌, None}
 use Rattle.lane_model.specs.Conditions.{MayStep}
 use Rattle.link_bench.specs.Benches.{OthersMay, later_steps, lists_of, on_rings}
 use Rattle.link_bench.proofs.steps.later_steps.Given as goal
@@ -10,5 +9,4 @@ invariant-loop l = record {
   walk : later_steps on_rings (l.fn.more - l.counter) l.last l.steps l.link l.fn.caller ≡ later_steps on_rings l.fn.more l.fn.last l.fn.steps l.fn.link l.fn.caller;
   may : MayStep (lists_of l.link) l.fn.caller None;
   others : OthersMay (lists_of l.fn.link) (lists_of l.link) l.fn.caller;
-  within : l.steps ≤ STEPS_MOST;
 }

@@ -19,7 +19,7 @@ returns-clause-driven c =
     let core = with_turn_after actor.Worker (the_view inside) in
     let sound = subst (λ found. IfSome found (IsSoundLoad inside.regions)) c.in-Some.is c.self.invariant.loaded in
     let ran = record_ran core (load_view loaded) loaded.map (λ da len some. place_is inside.regions loaded da len c.as_slice.ensures.sound sound some) (ap (option_map load_view) c.in-Some.is) in
-    rw (← c.self.view_is) (λ end. c.in_ok-progress.ensures.driven end
+    rw (← c.self.view_is) (c.in_ok-run_record.ensures.driven
     ∙ ap (λ (linked : Bool). drive_of_work (work_of loaded.memory loaded.map linked inside.actors.worker)) c.is_some-linked.ensures
     ∙ ap (λ (step : DriveStep). step.driven) ran)
 
@@ -35,7 +35,7 @@ returns-clause-left c =
     let left : Bool → Loaded = λ linked. record loaded { memory = memory_after loaded.memory loaded.map linked worker } in
     let acted : Bool → ActorsState = λ linked. actors_after_record (with_next_after actor.Worker (actors_view inside.actors)) loaded.memory loaded.map linked in
     rw (← c.self.view_is)
-    (ap (λ (after : Loaded). put (load_view after) (actors_view c.run_record.new.self)) c.in_ok-progress.ensures.loaded
-    ∙ ap (put (load_view (left c.is_some-linked.result))) c.in_ok-progress.ensures.actors
+    (ap (λ (after : Loaded). put (load_view after) (actors_view c.run_record.new.self)) c.in_ok-run_record.ensures.loaded
+    ∙ ap (put (load_view (left c.is_some-linked.result))) c.in_ok-run_record.ensures.actors
     ∙ ap (λ (linked : Bool). put (load_view (left linked)) (acted linked)) c.is_some-linked.ensures
     ∙ ap (λ (step : DriveStep). step.core) ran)

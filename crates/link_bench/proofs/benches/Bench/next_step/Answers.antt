@@ -1,9 +1,9 @@
 use Rattle.std.proofs.Common.{sym, ap, ◌∙◌}
-use Rattle.link_bench.specs.declared.benches.Progress.{Progress}
-use Rattle.link_bench.specs.Benches.{reach_of}
+use Rattle.link_bench.specs.Benches.{advance_walk}
 use Rattle.link_bench.proofs.BenchSteps.{step_left}
 use Rattle.link_bench.proofs.benches.Bench.next_step.Goals as goal
 
-pub unreachable-requires : goal.unreachable-requires
-unreachable-requires c =
-    step_left c.args.self.now c.args.caller c.advance.new.end (ap (λ (progress : Progress). reach_of progress c.advance.new.end) (sym c.in-Limit.is) ∙ c.advance.ensures.reach)
+pub returns-clause-done : goal.returns-clause-done
+returns-clause-done c limit =
+    step_left c.args.self.now c.args.caller
+    (ap (λ steps. (advance_walk c.args.self.now 0 steps c.args.caller).reach) (sym c.new.ensures) ∙ sym c.advance.ensures.reach ∙ limit)

@@ -41,7 +41,6 @@ loop-done-preserved g c = record {
       c.turn.new.self (g.W.Watcher.state c.turn.new.watcher) c.turn.new.steps c.turn.new.ended
       c.loop-done-test.true c.in_ok-turn.ensures.bench c.in_ok-turn.ensures.watcher c.in_ok-turn.ensures.steps c.in_ok-turn.ensures.ended (sym c.is_whole.ensures ∙ c.if-not-is_whole.false)
       ∙ c.loop-done.invariant.turns;
-  within = c.in_ok-turn.ensures.within;
 }
 
 pub returns-clause-bench : goal.returns-clause-bench

@@ -1,46 +1,46 @@
-use Rattle.std.proofs.Common.{◌≡◌, ◌+◌, ◌-◌, ℕ, List, refl, sym, ap, ◌∙◌, subst, arith}
+use Rattle.std.proofs.Common.{◌≡◌, ◌≢◌, ◌+◌, ◌-◌, ◌≤◌, ℕ, zero, suc, List, refl, sym, ap, ◌∙◌, subst, arith}
 use Rattle.std.specs.Prelude.{Some, slice_index, slice_set}
 use Rattle.rp_base.specs.declared.kinds.End.{End}
-use Rattle.lane_model.specs.Links.{end_of, form_step}
-use Rattle.ring_core.specs.RingSteps.{ring_form}
+use Rattle.lane_model.specs.declared.calls.Step.{Step}
+use Rattle.lane_model.specs.Links.{end_of}
 use Rattle.link_words.specs.Calls.{SeatState}
 use Rattle.link_words.specs.Deeds.{after_deed}
 use Rattle.link_words.specs.PlacedLinks.{KnowsState}
 use Rattle.split_ring.specs.declared.callers.CallerId.{CallerId}
 use Rattle.split_ring.specs.declared.callers.Manager.{Manager}
-use Rattle.split_ring.specs.declared.calls.Phase.{Phase}
 use Rattle.split_ring.specs.Callers.{IsStateOf}
 use Rattle.split_ring.specs.Calls.{Advances, IsInPhase, deed_of}
 use Rattle.split_ring.specs.Carried.{Carries, CarriesOn, carried_seat, out_before}
 use Rattle.split_ring.specs.Focus.{seat_of}
 use Rattle.split_ring.specs.Handed.{StepsLanes}
-use Rattle.split_ring.specs.Phases.{IsNext, outcome_said, side_of, wished_in}
-use Rattle.split_ring.specs.Seats.{pass_in}
+use Rattle.split_ring.specs.Phases.{left_by, said_by, side_of, slots_in}
 use Rattle.split_ring.proofs.Carrying.{stands_in}
-use Rattle.split_ring.proofs.CarriedLinks.{HasAdvanced, before_least, carrier_after, carries_here, carries_on, has_advanced, has_gone, others_after, out_after, out_few, same_user, seat_after, seat_turned, state_after_step, step_after, turned_again, turned_front, turned_order, user_of}
-use Rattle.split_ring.proofs.links.SharedLink.advance_by.Goals as goal
+use Rattle.split_ring.proofs.CarriedLinks.{HasAdvanced, before_least, carrier_after, carries_here, carries_on, has_advanced, has_gone, others_after, out_after, out_few, same_user, seat_after, seat_turned, state_after_step, step_after, turned_again, turned_front, user_of}
+use Rattle.split_ring.proofs.links.SharedLink.step_by.Goals as goal
+use Rattle.split_ring.proofs.links.SharedLink.step_by.Goals.{in-At, in-Ended}
 
-pub step_on-next-requires-clause-seat : goal.step_on-next-requires-clause-seat
-step_on-next-requires-clause-seat g c = turned_order c.args.self.now c.args.manager.now c.out_before-before.result c.turn_by.new.seat.me c.turn_by.new.seat.table_id c.requires.manager c.turn_by.ensures.turned c.turn_by.ensures.same.0
-
-pub step_on-next-requires-clause-number : goal.step_on-next-requires-clause-number
-step_on-next-requires-clause-number g c =
-    let coded = g.row.D.coded in let meaning = g.D.Desk.meaning in let link = c.args.self.now in let before = c.args.manager.now in let p = c.args.call.now.phase in let q = c.requires.call in let carrier = c.requires.manager in
+pub step_on-step-requires-clause-stands : goal.step_on-step-requires-clause-stands
+step_on-step-requires-clause-stands g c =
+    let link = c.args.self.now in let before = c.args.manager.now in let p = c.args.call.now.phase in let q = c.requires.call in let carrier = c.requires.manager in
     let who : CallerId = record { number = c.args.caller; end = c.in-Some-Some.end; follows = c.args.inc } in
     let user : end_of before.users c.args.caller ≡ Some c.in-Some-Some.end = let look = c.in-Some-Some.ensures.lookup in subst (λ (k : ℕ). end_of before.users k ≡ Some c.in-Some-Some.end) c.from.ensures (user_of before.users c.from.result c.in-Some-Some.field-0.now c.in-Some-Some.end look.3.0 look.1 c.in-Some-Some.field-0-is) in
     let carries : Carries link before who p = carries_here link before c.args.caller c.args.inc p q.0 c.in-Some-Some.end q.1 user in
     let turned : c.turn_by.new.seat.me ≡ seat_turned who p before = turned_front link before who p c.out_before-before.result c.turn_by.new.seat.me carrier (c.out_before-before.ensures ∙ ap (λ (k : ℕ). out_before k before.out) c.side_of-side.ensures.side) c.turn_by.ensures.turned in
-    (ap (λ (x : SeatState). (pass_in (seat_of who.number x)).number) turned ∙ carries.number, carries.low)
+    let z = link.sizes in subst (λ (x : SeatState). IsInPhase z who p (seat_of who.number x)) (sym turned) (stands_in z who p (seat_of who.number (seat_turned who p before)) q.2 carries.stands)
 
-pub step_on-next-requires-clause-stands : goal.step_on-next-requires-clause-stands
-step_on-next-requires-clause-stands g c =
-    let coded = g.row.D.coded in let meaning = g.D.Desk.meaning in let link = c.args.self.now in let before = c.args.manager.now in let p = c.args.call.now.phase in let q = c.requires.call in let carrier = c.requires.manager in
+-- what is counted of a call is no more than what is out
+counted_least : (had out : ℕ) → (had ≢ 0 → out ≡ had) → had ≤ out
+counted_least zero out counted = omega arith
+counted_least (suc n) out counted = let is = counted (λ none. absurd (omega (arith, none))) in omega (arith, is)
+
+pub overflow_sub-manager : goal.overflow_sub-manager
+overflow_sub-manager g c =
+    let link = c.args.self.now in let before = c.args.manager.now in let p = c.args.call.now.phase in let q = c.requires.call in
     let who : CallerId = record { number = c.args.caller; end = c.in-Some-Some.end; follows = c.args.inc } in
     let user : end_of before.users c.args.caller ≡ Some c.in-Some-Some.end = let look = c.in-Some-Some.ensures.lookup in subst (λ (k : ℕ). end_of before.users k ≡ Some c.in-Some-Some.end) c.from.ensures (user_of before.users c.from.result c.in-Some-Some.field-0.now c.in-Some-Some.end look.3.0 look.1 c.in-Some-Some.field-0-is) in
     let carries : Carries link before who p = carries_here link before c.args.caller c.args.inc p q.0 c.in-Some-Some.end q.1 user in
-    let turned : c.turn_by.new.seat.me ≡ seat_turned who p before = turned_front link before who p c.out_before-before.result c.turn_by.new.seat.me carrier (c.out_before-before.ensures ∙ ap (λ (k : ℕ). out_before k before.out) c.side_of-side.ensures.side) c.turn_by.ensures.turned in
-    let z = link.sizes in subst (λ (x : Phase). IsInPhase z who x (seat_of who.number c.turn_by.new.seat.me)) (sym c.replace-phase.ensures.value)
-    (subst (λ (x : SeatState). IsInPhase z who p (seat_of who.number x)) (sym turned) (stands_in z who p (seat_of who.number (seat_turned who p before)) q.2 carries.stands))
+    let same : slice_index before.out c.side_of-side.result ≡ slice_index before.out (side_of who.end p) = ap (slice_index before.out) c.side_of-side.ensures.side in
+    let least = counted_least (slots_in p) (slice_index before.out (side_of who.end p)) carries.counted in let had = c.slots_in-had.ensures in omega (arith, least, same, had)
 
 pub out_before-requires-clause-few : goal.out_before-requires-clause-few
 out_before-requires-clause-few g c = λ slot.
@@ -49,17 +49,21 @@ out_before-requires-clause-few g c = λ slot.
     let user : end_of before.users c.args.caller ≡ Some c.in-Some-Some.end = let look = c.in-Some-Some.ensures.lookup in subst (λ (k : ℕ). end_of before.users k ≡ Some c.in-Some-Some.end) c.from.ensures (user_of before.users c.from.result c.in-Some-Some.field-0.now c.in-Some-Some.end look.3.0 look.1 c.in-Some-Some.field-0-is) in
     let carries : Carries link before who p = carries_here link before c.args.caller c.args.inc p q.0 c.in-Some-Some.end q.1 user in
     let turned : c.turn_by.new.seat.me ≡ seat_turned who p before = turned_front link before who p c.out_before-before.result c.turn_by.new.seat.me carrier (c.out_before-before.ensures ∙ ap (λ (k : ℕ). out_before k before.out) c.side_of-side.ensures.side) c.turn_by.ensures.turned in
-    let s = c.step_on-next in let b = s.new.seat.me in let said = s.result.1 in let next = s.result.0 in
-    let h : HasAdvanced coded meaning link who p said next before b = has_advanced coded meaning link who p said next before b c.replace-phase.result c.turn_by.new.seat.me c.replace-phase.ensures.value turned carrier carries s.ensures.alone s.ensures.seat.order s.ensures.next s.ensures.step in let t = has_gone coded meaning link who p said next before b h in
-    let out : slice_set before.out c.side_of-side.result (slice_index before.out c.side_of-side.result + c.slots_in.result - c.slots_in-had.result) ≡ out_after link who p next before b t
-    = λ i. slice_set before.out (c.side_of-side.ensures.side i) (slice_index before.out (c.side_of-side.ensures.side i) + c.slots_in.ensures i - c.slots_in-had.ensures i) in
+    let s = c.step_on-step in let b = s.new.seat.me in let said = said_by s.result s.new.phase in let next = left_by s.result s.new.phase in
+    let h : HasAdvanced coded meaning link who p said next before b = has_advanced coded meaning link who p said next before b p c.turn_by.new.seat.me refl turned carrier carries s.ensures.alone s.ensures.seat.order s.ensures.next s.ensures.step in let t = has_gone coded meaning link who p said next before b h in
+    let has : c.match-step.has ≡ slots_in next = elim c.match-step.branch [
+      | in-At w ↦ w.has-is ∙ (w.slots_in-has.ensures ∙ ap (λ (x : Step). slots_in (left_by x s.new.phase)) (sym w.in-At.is))
+      | in-Ended w ↦ w.has-is ∙ ap (λ (x : Step). slots_in (left_by x s.new.phase)) (sym w.in-Ended.is)
+    ] in
+    let out : slice_set before.out c.side_of-side.result (slice_index before.out c.side_of-side.result + c.match-step.has - c.slots_in-had.result) ≡ out_after link who p next before b t
+    = λ i. slice_set before.out (c.side_of-side.ensures.side i) (slice_index before.out (c.side_of-side.ensures.side i) + has i - c.slots_in-had.ensures i) in
     let few = out_few link who p next before b t slot in let same = ap (λ (l : List ℕ). slice_index l slot) out in omega (arith, few, same)
 
 pub overflow_sub-rest : goal.overflow_sub-rest
 overflow_sub-rest g c = let before = c.args.manager.now in let p = c.args.call.now.phase in
-    let least = before_least before c.in-Some-Some.end p (slice_index before.out c.side_of-side.result + c.slots_in.result - c.slots_in-had.result) in
-    let one : c.out_before.result ≡ out_before 4 (slice_set before.out (side_of c.in-Some-Some.end p) (slice_index before.out c.side_of-side.result + c.slots_in.result - c.slots_in-had.result))
-    = c.out_before.ensures ∙ ap (λ (k : ℕ). out_before 4 (slice_set before.out k (slice_index before.out c.side_of-side.result + c.slots_in.result - c.slots_in-had.result))) c.side_of-side.ensures.side in
+    let least = before_least before c.in-Some-Some.end p (slice_index before.out c.side_of-side.result + c.match-step.has - c.slots_in-had.result) in
+    let one : c.out_before.result ≡ out_before 4 (slice_set before.out (side_of c.in-Some-Some.end p) (slice_index before.out c.side_of-side.result + c.match-step.has - c.slots_in-had.result))
+    = c.out_before.ensures ∙ ap (λ (k : ℕ). out_before 4 (slice_set before.out k (slice_index before.out c.side_of-side.result + c.match-step.has - c.slots_in-had.result))) c.side_of-side.ensures.side in
     let two = c.out_before-before.ensures ∙ ap (λ (k : ℕ). out_before k before.out) c.side_of-side.ensures.side in omega (arith, least, one, two)
 
 pub returns-clause-manager : goal.returns-clause-manager
@@ -69,11 +73,15 @@ returns-clause-manager g c =
     let user : end_of before.users c.args.caller ≡ Some c.in-Some-Some.end = let look = c.in-Some-Some.ensures.lookup in subst (λ (k : ℕ). end_of before.users k ≡ Some c.in-Some-Some.end) c.from.ensures (user_of before.users c.from.result c.in-Some-Some.field-0.now c.in-Some-Some.end look.3.0 look.1 c.in-Some-Some.field-0-is) in
     let carries : Carries link before who p = carries_here link before c.args.caller c.args.inc p q.0 c.in-Some-Some.end q.1 user in
     let turned : c.turn_by.new.seat.me ≡ seat_turned who p before = turned_front link before who p c.out_before-before.result c.turn_by.new.seat.me carrier (c.out_before-before.ensures ∙ ap (λ (k : ℕ). out_before k before.out) c.side_of-side.ensures.side) c.turn_by.ensures.turned in
-    let s = c.step_on-next in let b = s.new.seat.me in let said = s.result.1 in let next = s.result.0 in
-    let h : HasAdvanced coded meaning link who p said next before b = has_advanced coded meaning link who p said next before b c.replace-phase.result c.turn_by.new.seat.me c.replace-phase.ensures.value turned carrier carries s.ensures.alone s.ensures.seat.order s.ensures.next s.ensures.step in let t = has_gone coded meaning link who p said next before b h in
-    let out : slice_set before.out c.side_of-side.result (slice_index before.out c.side_of-side.result + c.slots_in.result - c.slots_in-had.result) ≡ out_after link who p next before b t
-    = λ i. slice_set before.out (c.side_of-side.ensures.side i) (slice_index before.out (c.side_of-side.ensures.side i) + c.slots_in.ensures i - c.slots_in-had.ensures i) in
-    let after : Manager = record { seat = c.turn_by-2.new.seat; users = before.users; out = slice_set before.out c.side_of-side.result (slice_index before.out c.side_of-side.result + c.slots_in.result - c.slots_in-had.result) } in
+    let s = c.step_on-step in let b = s.new.seat.me in let said = said_by s.result s.new.phase in let next = left_by s.result s.new.phase in
+    let h : HasAdvanced coded meaning link who p said next before b = has_advanced coded meaning link who p said next before b p c.turn_by.new.seat.me refl turned carrier carries s.ensures.alone s.ensures.seat.order s.ensures.next s.ensures.step in let t = has_gone coded meaning link who p said next before b h in
+    let has : c.match-step.has ≡ slots_in next = elim c.match-step.branch [
+      | in-At w ↦ w.has-is ∙ (w.slots_in-has.ensures ∙ ap (λ (x : Step). slots_in (left_by x s.new.phase)) (sym w.in-At.is))
+      | in-Ended w ↦ w.has-is ∙ ap (λ (x : Step). slots_in (left_by x s.new.phase)) (sym w.in-Ended.is)
+    ] in
+    let out : slice_set before.out c.side_of-side.result (slice_index before.out c.side_of-side.result + c.match-step.has - c.slots_in-had.result) ≡ out_after link who p next before b t
+    = λ i. slice_set before.out (c.side_of-side.ensures.side i) (slice_index before.out (c.side_of-side.ensures.side i) + has i - c.slots_in-had.ensures i) in
+    let after : Manager = record { seat = c.turn_by-2.new.seat; users = before.users; out = slice_set before.out c.side_of-side.result (slice_index before.out c.side_of-side.result + c.match-step.has - c.slots_in-had.result) } in
     let rest : c.out_before.result - c.out_before-before.result ≡ out_before 4 (out_after link who p next before b t) - out_before (side_of who.end p) before.out
     = λ i. (c.out_before.ensures ∙ ap (out_before 4) out) i - (c.out_before-before.ensures ∙ ap (λ (k : ℕ). out_before k before.out) c.side_of-side.ensures.side) i in
     let seat : after.seat.me ≡ seat_after link who p next before b t = turned_again link who p next before b t (c.out_before.result - c.out_before-before.result) c.turn_by-2.new.seat.me rest c.turn_by-2.ensures.turned in
@@ -87,11 +95,15 @@ returns-clause-call g c = λ end is.
     let user : end_of before.users c.args.caller ≡ Some c.in-Some-Some.end = let look = c.in-Some-Some.ensures.lookup in subst (λ (k : ℕ). end_of before.users k ≡ Some c.in-Some-Some.end) c.from.ensures (user_of before.users c.from.result c.in-Some-Some.field-0.now c.in-Some-Some.end look.3.0 look.1 c.in-Some-Some.field-0-is) in
     let carries : Carries link before who p = carries_here link before c.args.caller c.args.inc p q.0 c.in-Some-Some.end q.1 user in
     let turned : c.turn_by.new.seat.me ≡ seat_turned who p before = turned_front link before who p c.out_before-before.result c.turn_by.new.seat.me carrier (c.out_before-before.ensures ∙ ap (λ (k : ℕ). out_before k before.out) c.side_of-side.ensures.side) c.turn_by.ensures.turned in
-    let s = c.step_on-next in let b = s.new.seat.me in let said = s.result.1 in let next = s.result.0 in
-    let h : HasAdvanced coded meaning link who p said next before b = has_advanced coded meaning link who p said next before b c.replace-phase.result c.turn_by.new.seat.me c.replace-phase.ensures.value turned carrier carries s.ensures.alone s.ensures.seat.order s.ensures.next s.ensures.step in let t = has_gone coded meaning link who p said next before b h in
-    let out : slice_set before.out c.side_of-side.result (slice_index before.out c.side_of-side.result + c.slots_in.result - c.slots_in-had.result) ≡ out_after link who p next before b t
-    = λ i. slice_set before.out (c.side_of-side.ensures.side i) (slice_index before.out (c.side_of-side.ensures.side i) + c.slots_in.ensures i - c.slots_in-had.ensures i) in
-    let after : Manager = record { seat = c.turn_by-2.new.seat; users = before.users; out = slice_set before.out c.side_of-side.result (slice_index before.out c.side_of-side.result + c.slots_in.result - c.slots_in-had.result) } in
+    let s = c.step_on-step in let b = s.new.seat.me in let said = said_by s.result s.new.phase in let next = left_by s.result s.new.phase in
+    let h : HasAdvanced coded meaning link who p said next before b = has_advanced coded meaning link who p said next before b p c.turn_by.new.seat.me refl turned carrier carries s.ensures.alone s.ensures.seat.order s.ensures.next s.ensures.step in let t = has_gone coded meaning link who p said next before b h in
+    let has : c.match-step.has ≡ slots_in next = elim c.match-step.branch [
+      | in-At w ↦ w.has-is ∙ (w.slots_in-has.ensures ∙ ap (λ (x : Step). slots_in (left_by x s.new.phase)) (sym w.in-At.is))
+      | in-Ended w ↦ w.has-is ∙ ap (λ (x : Step). slots_in (left_by x s.new.phase)) (sym w.in-Ended.is)
+    ] in
+    let out : slice_set before.out c.side_of-side.result (slice_index before.out c.side_of-side.result + c.match-step.has - c.slots_in-had.result) ≡ out_after link who p next before b t
+    = λ i. slice_set before.out (c.side_of-side.ensures.side i) (slice_index before.out (c.side_of-side.ensures.side i) + has i - c.slots_in-had.ensures i) in
+    let after : Manager = record { seat = c.turn_by-2.new.seat; users = before.users; out = slice_set before.out c.side_of-side.result (slice_index before.out c.side_of-side.result + c.match-step.has - c.slots_in-had.result) } in
     let rest : c.out_before.result - c.out_before-before.result ≡ out_before 4 (out_after link who p next before b t) - out_before (side_of who.end p) before.out
     = λ i. (c.out_before.ensures ∙ ap (out_before 4) out) i - (c.out_before-before.ensures ∙ ap (λ (k : ℕ). out_before k before.out) c.side_of-side.ensures.side) i in
     let seat : after.seat.me ≡ seat_after link who p next before b t = turned_again link who p next before b t (c.out_before.result - c.out_before-before.result) c.turn_by-2.new.seat.me rest c.turn_by-2.ensures.turned in
@@ -104,11 +116,15 @@ returns-clause-others g c = λ other r apart carried.
     let user : end_of before.users c.args.caller ≡ Some c.in-Some-Some.end = let look = c.in-Some-Some.ensures.lookup in subst (λ (k : ℕ). end_of before.users k ≡ Some c.in-Some-Some.end) c.from.ensures (user_of before.users c.from.result c.in-Some-Some.field-0.now c.in-Some-Some.end look.3.0 look.1 c.in-Some-Some.field-0-is) in
     let carries : Carries link before who p = carries_here link before c.args.caller c.args.inc p q.0 c.in-Some-Some.end q.1 user in
     let turned : c.turn_by.new.seat.me ≡ seat_turned who p before = turned_front link before who p c.out_before-before.result c.turn_by.new.seat.me carrier (c.out_before-before.ensures ∙ ap (λ (k : ℕ). out_before k before.out) c.side_of-side.ensures.side) c.turn_by.ensures.turned in
-    let s = c.step_on-next in let b = s.new.seat.me in let said = s.result.1 in let next = s.result.0 in
-    let h : HasAdvanced coded meaning link who p said next before b = has_advanced coded meaning link who p said next before b c.replace-phase.result c.turn_by.new.seat.me c.replace-phase.ensures.value turned carrier carries s.ensures.alone s.ensures.seat.order s.ensures.next s.ensures.step in let t = has_gone coded meaning link who p said next before b h in
-    let out : slice_set before.out c.side_of-side.result (slice_index before.out c.side_of-side.result + c.slots_in.result - c.slots_in-had.result) ≡ out_after link who p next before b t
-    = λ i. slice_set before.out (c.side_of-side.ensures.side i) (slice_index before.out (c.side_of-side.ensures.side i) + c.slots_in.ensures i - c.slots_in-had.ensures i) in
-    let after : Manager = record { seat = c.turn_by-2.new.seat; users = before.users; out = slice_set before.out c.side_of-side.result (slice_index before.out c.side_of-side.result + c.slots_in.result - c.slots_in-had.result) } in
+    let s = c.step_on-step in let b = s.new.seat.me in let said = said_by s.result s.new.phase in let next = left_by s.result s.new.phase in
+    let h : HasAdvanced coded meaning link who p said next before b = has_advanced coded meaning link who p said next before b p c.turn_by.new.seat.me refl turned carrier carries s.ensures.alone s.ensures.seat.order s.ensures.next s.ensures.step in let t = has_gone coded meaning link who p said next before b h in
+    let has : c.match-step.has ≡ slots_in next = elim c.match-step.branch [
+      | in-At w ↦ w.has-is ∙ (w.slots_in-has.ensures ∙ ap (λ (x : Step). slots_in (left_by x s.new.phase)) (sym w.in-At.is))
+      | in-Ended w ↦ w.has-is ∙ ap (λ (x : Step). slots_in (left_by x s.new.phase)) (sym w.in-Ended.is)
+    ] in
+    let out : slice_set before.out c.side_of-side.result (slice_index before.out c.side_of-side.result + c.match-step.has - c.slots_in-had.result) ≡ out_after link who p next before b t
+    = λ i. slice_set before.out (c.side_of-side.ensures.side i) (slice_index before.out (c.side_of-side.ensures.side i) + has i - c.slots_in-had.ensures i) in
+    let after : Manager = record { seat = c.turn_by-2.new.seat; users = before.users; out = slice_set before.out c.side_of-side.result (slice_index before.out c.side_of-side.result + c.match-step.has - c.slots_in-had.result) } in
     let rest : c.out_before.result - c.out_before-before.result ≡ out_before 4 (out_after link who p next before b t) - out_before (side_of who.end p) before.out
     = λ i. (c.out_before.ensures ∙ ap (out_before 4) out) i - (c.out_before-before.ensures ∙ ap (λ (k : ℕ). out_before k before.out) c.side_of-side.ensures.side) i in
     let seat : after.seat.me ≡ seat_after link who p next before b t = turned_again link who p next before b t (c.out_before.result - c.out_before-before.result) c.turn_by-2.new.seat.me rest c.turn_by-2.ensures.turned in
@@ -121,11 +137,15 @@ returns-clause-step g c = λ end is.
     let user : end_of before.users c.args.caller ≡ Some c.in-Some-Some.end = let look = c.in-Some-Some.ensures.lookup in subst (λ (k : ℕ). end_of before.users k ≡ Some c.in-Some-Some.end) c.from.ensures (user_of before.users c.from.result c.in-Some-Some.field-0.now c.in-Some-Some.end look.3.0 look.1 c.in-Some-Some.field-0-is) in
     let carries : Carries link before who p = carries_here link before c.args.caller c.args.inc p q.0 c.in-Some-Some.end q.1 user in
     let turned : c.turn_by.new.seat.me ≡ seat_turned who p before = turned_front link before who p c.out_before-before.result c.turn_by.new.seat.me carrier (c.out_before-before.ensures ∙ ap (λ (k : ℕ). out_before k before.out) c.side_of-side.ensures.side) c.turn_by.ensures.turned in
-    let s = c.step_on-next in let b = s.new.seat.me in let said = s.result.1 in let next = s.result.0 in
-    let h : HasAdvanced coded meaning link who p said next before b = has_advanced coded meaning link who p said next before b c.replace-phase.result c.turn_by.new.seat.me c.replace-phase.ensures.value turned carrier carries s.ensures.alone s.ensures.seat.order s.ensures.next s.ensures.step in let t = has_gone coded meaning link who p said next before b h in
-    let out : slice_set before.out c.side_of-side.result (slice_index before.out c.side_of-side.result + c.slots_in.result - c.slots_in-had.result) ≡ out_after link who p next before b t
-    = λ i. slice_set before.out (c.side_of-side.ensures.side i) (slice_index before.out (c.side_of-side.ensures.side i) + c.slots_in.ensures i - c.slots_in-had.ensures i) in
-    let after : Manager = record { seat = c.turn_by-2.new.seat; users = before.users; out = slice_set before.out c.side_of-side.result (slice_index before.out c.side_of-side.result + c.slots_in.result - c.slots_in-had.result) } in
+    let s = c.step_on-step in let b = s.new.seat.me in let said = said_by s.result s.new.phase in let next = left_by s.result s.new.phase in
+    let h : HasAdvanced coded meaning link who p said next before b = has_advanced coded meaning link who p said next before b p c.turn_by.new.seat.me refl turned carrier carries s.ensures.alone s.ensures.seat.order s.ensures.next s.ensures.step in let t = has_gone coded meaning link who p said next before b h in
+    let has : c.match-step.has ≡ slots_in next = elim c.match-step.branch [
+      | in-At w ↦ w.has-is ∙ (w.slots_in-has.ensures ∙ ap (λ (x : Step). slots_in (left_by x s.new.phase)) (sym w.in-At.is))
+      | in-Ended w ↦ w.has-is ∙ ap (λ (x : Step). slots_in (left_by x s.new.phase)) (sym w.in-Ended.is)
+    ] in
+    let out : slice_set before.out c.side_of-side.result (slice_index before.out c.side_of-side.result + c.match-step.has - c.slots_in-had.result) ≡ out_after link who p next before b t
+    = λ i. slice_set before.out (c.side_of-side.ensures.side i) (slice_index before.out (c.side_of-side.ensures.side i) + has i - c.slots_in-had.ensures i) in
+    let after : Manager = record { seat = c.turn_by-2.new.seat; users = before.users; out = slice_set before.out c.side_of-side.result (slice_index before.out c.side_of-side.result + c.match-step.has - c.slots_in-had.result) } in
     let rest : c.out_before.result - c.out_before-before.result ≡ out_before 4 (out_after link who p next before b t) - out_before (side_of who.end p) before.out
     = λ i. (c.out_before.ensures ∙ ap (out_before 4) out) i - (c.out_before-before.ensures ∙ ap (λ (k : ℕ). out_before k before.out) c.side_of-side.ensures.side) i in
     let seat : after.seat.me ≡ seat_after link who p next before b t = turned_again link who p next before b t (c.out_before.result - c.out_before-before.result) c.turn_by-2.new.seat.me rest c.turn_by-2.ensures.turned in
@@ -139,11 +159,15 @@ returns-clause-state g c = λ end is m known.
     let user : end_of before.users c.args.caller ≡ Some c.in-Some-Some.end = let look = c.in-Some-Some.ensures.lookup in subst (λ (k : ℕ). end_of before.users k ≡ Some c.in-Some-Some.end) c.from.ensures (user_of before.users c.from.result c.in-Some-Some.field-0.now c.in-Some-Some.end look.3.0 look.1 c.in-Some-Some.field-0-is) in
     let carries : Carries link before who p = carries_here link before c.args.caller c.args.inc p q.0 c.in-Some-Some.end q.1 user in
     let turned : c.turn_by.new.seat.me ≡ seat_turned who p before = turned_front link before who p c.out_before-before.result c.turn_by.new.seat.me carrier (c.out_before-before.ensures ∙ ap (λ (k : ℕ). out_before k before.out) c.side_of-side.ensures.side) c.turn_by.ensures.turned in
-    let s = c.step_on-next in let b = s.new.seat.me in let said = s.result.1 in let next = s.result.0 in
-    let h : HasAdvanced coded meaning link who p said next before b = has_advanced coded meaning link who p said next before b c.replace-phase.result c.turn_by.new.seat.me c.replace-phase.ensures.value turned carrier carries s.ensures.alone s.ensures.seat.order s.ensures.next s.ensures.step in let t = has_gone coded meaning link who p said next before b h in
-    let out : slice_set before.out c.side_of-side.result (slice_index before.out c.side_of-side.result + c.slots_in.result - c.slots_in-had.result) ≡ out_after link who p next before b t
-    = λ i. slice_set before.out (c.side_of-side.ensures.side i) (slice_index before.out (c.side_of-side.ensures.side i) + c.slots_in.ensures i - c.slots_in-had.ensures i) in
-    let after : Manager = record { seat = c.turn_by-2.new.seat; users = before.users; out = slice_set before.out c.side_of-side.result (slice_index before.out c.side_of-side.result + c.slots_in.result - c.slots_in-had.result) } in
+    let s = c.step_on-step in let b = s.new.seat.me in let said = said_by s.result s.new.phase in let next = left_by s.result s.new.phase in
+    let h : HasAdvanced coded meaning link who p said next before b = has_advanced coded meaning link who p said next before b p c.turn_by.new.seat.me refl turned carrier carries s.ensures.alone s.ensures.seat.order s.ensures.next s.ensures.step in let t = has_gone coded meaning link who p said next before b h in
+    let has : c.match-step.has ≡ slots_in next = elim c.match-step.branch [
+      | in-At w ↦ w.has-is ∙ (w.slots_in-has.ensures ∙ ap (λ (x : Step). slots_in (left_by x s.new.phase)) (sym w.in-At.is))
+      | in-Ended w ↦ w.has-is ∙ ap (λ (x : Step). slots_in (left_by x s.new.phase)) (sym w.in-Ended.is)
+    ] in
+    let out : slice_set before.out c.side_of-side.result (slice_index before.out c.side_of-side.result + c.match-step.has - c.slots_in-had.result) ≡ out_after link who p next before b t
+    = λ i. slice_set before.out (c.side_of-side.ensures.side i) (slice_index before.out (c.side_of-side.ensures.side i) + has i - c.slots_in-had.ensures i) in
+    let after : Manager = record { seat = c.turn_by-2.new.seat; users = before.users; out = slice_set before.out c.side_of-side.result (slice_index before.out c.side_of-side.result + c.match-step.has - c.slots_in-had.result) } in
     let rest : c.out_before.result - c.out_before-before.result ≡ out_before 4 (out_after link who p next before b t) - out_before (side_of who.end p) before.out
     = λ i. (c.out_before.ensures ∙ ap (out_before 4) out) i - (c.out_before-before.ensures ∙ ap (λ (k : ℕ). out_before k before.out) c.side_of-side.ensures.side) i in
     let seat : after.seat.me ≡ seat_after link who p next before b t = turned_again link who p next before b t (c.out_before.result - c.out_before-before.result) c.turn_by-2.new.seat.me rest c.turn_by-2.ensures.turned in
@@ -151,22 +175,12 @@ returns-clause-state g c = λ end is m known.
     (same_user before.users c.args.caller who.end end user is) (state_after_step coded meaning link who p said next before b h after seat out refl m known)
 
 pub returns-clause-said : goal.returns-clause-said
-returns-clause-said g c = λ m known.
-    let coded = g.row.D.coded in let meaning = g.D.Desk.meaning in let s = c.step_on-next in
-    subst (λ (x : Phase). outcome_said s.result.1 ≡ (form_step (ring_form meaning) meaning m c.args.caller c.args.inc (wished_in x)).outcome) c.replace-phase.ensures.value
-    (s.ensures.said m (subst (λ (x : SeatState). KnowsState coded x.0 m) (sym c.turn_by.ensures.turned) known.known))
-
-pub returns-clause-next : goal.returns-clause-next
-returns-clause-next g c = λ end is.
-    let before = c.args.manager.now in let p = c.args.call.now.phase in let s = c.step_on-next in
-    let who : CallerId = record { number = c.args.caller; end = c.in-Some-Some.end; follows = c.args.inc } in
-    let user : end_of before.users c.args.caller ≡ Some c.in-Some-Some.end = let look = c.in-Some-Some.ensures.lookup in subst (λ (k : ℕ). end_of before.users k ≡ Some c.in-Some-Some.end) c.from.ensures (user_of before.users c.from.result c.in-Some-Some.field-0.now c.in-Some-Some.end look.3.0 look.1 c.in-Some-Some.field-0-is) in
-    subst (λ (e : End). IsNext e p s.result.1 s.result.0) (same_user before.users c.args.caller who.end end user is) (subst (λ (x : Phase). IsNext who.end x s.result.1 s.result.0) c.replace-phase.ensures.value s.ensures.next)
+returns-clause-said g c = λ m known. c.step_on-step.ensures.said m (subst (λ (x : SeatState). KnowsState g.row.D.coded x.0 m) (sym c.turn_by.ensures.turned) known.known)
 
 pub returns-clause-lanes : goal.returns-clause-lanes
 returns-clause-lanes g c = λ end is m known.
-    let coded = g.row.D.coded in let meaning = g.D.Desk.meaning in let before = c.args.manager.now in let p = c.args.call.now.phase in let s = c.step_on-next in
+    let coded = g.row.D.coded in let meaning = g.D.Desk.meaning in let before = c.args.manager.now in let p = c.args.call.now.phase in let s = c.step_on-step in
     let who : CallerId = record { number = c.args.caller; end = c.in-Some-Some.end; follows = c.args.inc } in
     let user : end_of before.users c.args.caller ≡ Some c.in-Some-Some.end = let look = c.in-Some-Some.ensures.lookup in subst (λ (k : ℕ). end_of before.users k ≡ Some c.in-Some-Some.end) c.from.ensures (user_of before.users c.from.result c.in-Some-Some.field-0.now c.in-Some-Some.end look.3.0 look.1 c.in-Some-Some.field-0-is) in
-    subst (λ (e : End). let who : CallerId = record { number = c.args.caller; end = e; follows = c.args.inc } in StepsLanes who s.result.0 m (after_deed meaning m (deed_of who p))) (same_user before.users c.args.caller who.end end user is)
-    (subst (λ (x : Phase). StepsLanes who s.result.0 m (after_deed meaning m (deed_of who x))) c.replace-phase.ensures.value (s.ensures.lanes m (subst (λ (x : SeatState). KnowsState coded x.0 m) (sym c.turn_by.ensures.turned) known.known)))
+    subst (λ (e : End). let who : CallerId = record { number = c.args.caller; end = e; follows = c.args.inc } in StepsLanes who (left_by s.result s.new.phase) m (after_deed meaning m (deed_of who p))) (same_user before.users c.args.caller who.end end user is)
+    (s.ensures.lanes m (subst (λ (x : SeatState). KnowsState coded x.0 m) (sym c.turn_by.ensures.turned) known.known))
