@@ -32,7 +32,7 @@ use Rattle.crash_recover.specs.Cores.{CoreState, LoadState}
 use Rattle.core_actors.specs.ActorSteps.{first_or_take, has_calls, link_step}
 use Rattle.crash_recover.specs.Drives.{DriveStep, actor_step, actor_to_step, core_with_report, drive_step, host_step, is_idle, record_run, record_step, with_turn_after, worker_call}
 use Rattle.core_laws.specs.BenchMoves.{IsReachedBench, IsReachedCore}
-use Rattle.core_laws.proofs.BenchMoves.{unreclaimed_shut}
+use Rattle.core_laws.proofs.BenchMoves.{reclaimable_is_shut}
 use Rattle.core_laws.proofs.CoreMoves.{first_sendable}
 use Rattle.core_laws.proofs.KeptCrashes.{close_shut}
 use Rattle.act_laws.specs.CoreDeeds.{actor_deeds, actor_link_deeds, crash_deeds, drive_deeds, link_deeds, one_remote, other_deeds, others_deeds, ready_deeds, record_deeds, remote_deeds, renewed_deeds, reported_deeds}
@@ -116,7 +116,7 @@ crash_lands bench =
 
 renewed_lands : (bench : BenchState) (why : Option ReclaimRefusal) → link_reclaim_refusal (link_in bench) 0 ≡ why → LandsAt bench (renewed_deeds why) (with_new_host_unless bench why)
 renewed_lands bench None none =
-    let gone = reclaim_at bench 0 (unreclaimed_shut (link_in bench) 0 none) in
+    let gone = reclaim_at bench 0 (reclaimable_is_shut (link_in bench) 0 none) in
     then_at bench (one_move (Reclaim 0)) (after_reclaim bench 0) (one_move (Enlist side.Host)) (with_fresh_caller (after_reclaim bench 0) side.Host) gone
     (fresh_at (after_reclaim bench 0) side.Host)
 renewed_lands bench (Some why) found = stays bench

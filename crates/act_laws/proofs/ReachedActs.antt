@@ -8,7 +8,7 @@ use Rattle.link_bench.specs.Acts.{IsFitAct, link_act}
 use Rattle.link_bench.specs.Benches.{BenchState, begun_call_of, is_in_call, link_in}
 use Rattle.link_bench.specs.Watchers.{Seeing}
 use Rattle.core_laws.specs.BenchMoves.{IsReachedBench}
-use Rattle.core_laws.proofs.BenchMoves.{begun_at, begun_or, calling_may, unreclaimed_shut}
+use Rattle.core_laws.proofs.BenchMoves.{begun_at, begun_or, calling_may, reclaimable_is_shut}
 use Rattle.core_laws.proofs.KeptActs.{calls_sendable}
 use Rattle.act_laws.specs.Deeds.{act_deeds}
 use Rattle.act_laws.proofs.ActLands.{FitSends, LandsAt, MayAct, MayGo, act_lands}
@@ -22,7 +22,7 @@ go_at bench caller None none reached in_call = calling_may (link_in bench) calle
 pub may_act : (bench : BenchState) → IsReachedBench bench → MayAct bench
 may_act bench reached = record {
   go = λ caller in_call. go_at bench caller (begun_call_of bench caller) refl reached in_call;
-  shut = λ caller none. unreclaimed_shut (link_in bench) caller none;
+  shut = λ caller none. reclaimable_is_shut (link_in bench) caller none;
 }
 
 pub sends_fit : (asked : LinkAct (List ℕ)) → IsFitAct asked → FitSends asked

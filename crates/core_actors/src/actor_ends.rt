@@ -1,4 +1,4 @@
-ghost use Rattle.std.specs.Prelude.{◌≡◌, ◌<◌, ◌≤◌, ◌+◌, length, OnErr, OnOk};
+ghost use Rattle.std.specs.Prelude.{if◌then◌else◌, None, Some, ◌≡◌, ◌<◌, ◌≤◌, ◌+◌, length, OnErr, OnOk};
 ghost use Rattle.std.specs.VecDeque.{deque_len, deque_capacity};
 ghost use Rattle.rp_base.specs.declared.limits.TheConstants.{MESSAGE_MOST};
 ghost use Rattle.lane_model.specs.declared.calls.CallEnd.TheVariants as ended;
@@ -132,7 +132,8 @@ impl Actors {
         requires room { deque_len self.old.host_calls < deque_capacity self.old.host_calls }
         ensures { actors_view self.new ≡ actors_after_drivers (actors_view self.old) message.now (ended.Took 0 verdict.now) }
     {
-        if let Some(answer) = verdict_answer(&mut self.drivers, message, verdict) {
+        let mut answer = Message::empty();
+        if answers(&mut self.drivers, message, verdict, &mut answer) {
             self.host_calls.push_back_reserved(Wish::Send(answer));
         }
     }
@@ -201,21 +202,28 @@ fn taken_number(end: &CallEnd) -> Option<u64>
     }
 }
 
-/// What the drivers send for a message that a host caller was handed with this verdict.
-fn verdict_answer(drivers: &mut Drivers, message: &[u8], verdict: &Verdict) -> Option<Message>
+/// Whether the drivers send something for a message that a host caller was handed with this verdict. The
+/// answer is what they send then.
+fn answers(drivers: &mut Drivers, message: &[u8], verdict: &Verdict, answer: &mut Message) -> bool
     requires { length message.now ≤ MESSAGE_MOST }
-    ensures answer { result ≡ verdict_answer drivers.old message.now verdict.now }
+    ensures answer { (if result then Some answer.new else None) ≡ verdict_answer drivers.old message.now verdict.now }
     ensures left { drivers.new ≡ after_verdict drivers.old verdict.now }
 {
     match verdict {
-        Verdict::To(endpoint) => drivers.delivered(*endpoint, &whole(message)),
+        Verdict::To(endpoint) => drivers.reply(*endpoint, message, answer),
         Verdict::Service(kind, name, address, Some(endpoint)) => {
-            endpoint_answer(drivers, *kind, name, *address, *endpoint)
+            match endpoint_answer(drivers, *kind, name, *address, *endpoint) {
+                Some(sent) => {
+                    *answer = sent;
+                    true
+                }
+                None => false,
+            }
         }
         Verdict::Service(_, _, _, None)
         | Verdict::Dropped(_)
         | Verdict::Malformed
-        | Verdict::ServiceMalformed => None,
+        | Verdict::ServiceMalformed => false,
     }
 }
 

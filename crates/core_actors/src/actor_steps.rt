@@ -41,7 +41,7 @@ fn link_step(
     ensures taken { HoldsReachTaken (link_in bench.new) caller reach.new }
 {
     if goes_on {
-        bench.advance(caller, 0, &mut StepCount::new(), reach);
+        bench.step_on(caller, reach);
         return;
     }
     match calls.front() {
@@ -78,6 +78,16 @@ fn is_refused(bench: &Bench, caller: CallerNo, wished: &Wish) -> bool
     }
 }
 
+/// What a step of this caller's call was that came so far.
+fn tell_reach(caller: CallerNo, reach: &Reach, driven: &mut Driven)
+    ensures { driven.new ≡ drive_of_reach caller reach.now }
+{
+    match reach {
+        Reach::At(_) | Reach::Limit => *driven = Driven::Stepped,
+        Reach::Ended(end) => *driven = Driven::Ended(caller, *end),
+    }
+}
+
 impl Actors {
     /// A step of the host actor on a core's link, where it has something to do. The next turn is the
     /// worker's. `driven` says what the step was.
@@ -106,10 +116,7 @@ impl Actors {
         let mut reach = Reach::Limit;
         link_step(bench, HOST_CALLER, goes_on, &self.host_calls, &mut reach);
         self.reach_host(bench, &reach);
-        match &reach {
-            Reach::At(_) | Reach::Limit => *driven = Driven::Stepped,
-            Reach::Ended(end) => *driven = Driven::Ended(HOST_CALLER, *end),
-        }
+        tell_reach(HOST_CALLER, &reach, driven);
         Ok(())
     }
 
@@ -145,10 +152,7 @@ impl Actors {
             &mut reach,
         );
         self.reach_worker(bench, &reach);
-        match &reach {
-            Reach::At(_) | Reach::Limit => *driven = Driven::Stepped,
-            Reach::Ended(end) => *driven = Driven::Ended(WORKER_CALLER, *end),
-        }
+        tell_reach(WORKER_CALLER, &reach, driven);
         Ok(())
     }
 

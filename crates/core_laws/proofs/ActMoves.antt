@@ -21,7 +21,7 @@ use Rattle.link_bench.specs.Watchers.{Seeing}
 use Rattle.link_bench.proofs.Begun.{begin_may}
 use Rattle.core_laws.specs.BenchMoves.{ComesBy, IsReachedBench}
 use Rattle.core_laws.specs.ClosedLinks.{StaysClosed}
-use Rattle.core_laws.proofs.BenchMoves.{advanced, begun_at, begun_or, begun_reached, called, calling_may, comes_reclaim, enlisted, reclaim_tried, unreclaimed_shut}
+use Rattle.core_laws.proofs.BenchMoves.{advanced, begun_at, begun_or, begun_reached, called, calling_may, comes_reclaim, enlisted, reclaim_tried, reclaimable_is_shut}
 use Rattle.core_laws.proofs.CallMoves.{call_leaves, later_leaves}
 use Rattle.core_laws.proofs.KeptActs.{AreKeptSteps, act_kept, calls_sendable}
 use Rattle.core_laws.proofs.LinkMoves.{comes_move, comes_none, comes_then}
@@ -46,7 +46,7 @@ comes_call bench steps caller wanted ready sendable =
 
 comes_tried : (bench : BenchState) (caller : ℕ) (end : Option End) (why : Option ReclaimRefusal) → link_reclaim_refusal (link_in bench) caller ≡ why
     → ComesBy side_meaning (link_in bench) (link_in (reclaim_leaves_at bench caller end why))
-comes_tried bench caller (Some end) None none = comes_reclaim bench caller (unreclaimed_shut (link_in bench) caller none)
+comes_tried bench caller (Some end) None none = comes_reclaim bench caller (reclaimable_is_shut (link_in bench) caller none)
 comes_tried bench caller (Some end) (Some why) none = comes_none side_meaning (link_in bench)
 comes_tried bench caller None why none = comes_none side_meaning (link_in bench)
 

@@ -144,12 +144,12 @@ shut_at : (live : Bool) (why : ReclaimRefusal) (other : Option ReclaimRefusal) �
 shut_at true why other none = absurd (true≢false (ap is_some none))
 shut_at false why other none = refl
 
-pub unreclaimed_shut : (link : LinkState EndState) (caller : ℕ) → link_reclaim_refusal link caller ≡ None → link.era.is_live ≡ false
-unreclaimed_shut link caller none = shut_at link.era.is_live _ _ none
+pub reclaimable_is_shut : (link : LinkState EndState) (caller : ℕ) → link_reclaim_refusal link caller ≡ None → link.era.is_live ≡ false
+reclaimable_is_shut link caller none = shut_at link.era.is_live _ _ none
 
 reclaim_at : (bench : BenchState) (caller : ℕ) (end : Option End) (why : Option ReclaimRefusal) → link_reclaim_refusal (link_in bench) caller ≡ why
     → IsReachedBench bench → IsReachedBench (reclaim_leaves_at bench caller end why)
-reclaim_at bench caller (Some end) None none reached = reclaimed bench caller (unreclaimed_shut (link_in bench) caller none) reached
+reclaim_at bench caller (Some end) None none reached = reclaimed bench caller (reclaimable_is_shut (link_in bench) caller none) reached
 reclaim_at bench caller (Some end) (Some why) none reached = reached
 reclaim_at bench caller None why none reached = reached
 

@@ -44,7 +44,7 @@ use Rattle.core_laws.proofs.Outcomes.{Stays, report_stays}
 use Rattle.core_laws.specs.BenchMoves.{AreSendable, IsReachedBench, IsReachedCore, IsShortLink}
 use Rattle.core_laws.proofs.Sendable.{end_short, gives_sendable, left_sendable, message_short, none_sendable, sends_sendable, work_sendable}
 use Rattle.core_laws.proofs.KeptCrashes.{close_shut}
-use Rattle.core_laws.proofs.BenchMoves.{advanced, called, closed, enlisted, new_reached, reclaimed, reopened, unreclaimed_shut}
+use Rattle.core_laws.proofs.BenchMoves.{advanced, called, closed, enlisted, new_reached, reclaimed, reopened, reclaimable_is_shut}
 
 -- the link of a core
 pub made_reached : (names : List (List ℕ)) (book first : ℕ) (rings : RingPair) → IsReachedBench (core_bench names book first rings)
@@ -110,7 +110,7 @@ map_reached (Some bench) f each is = each bench is
 -- ---- a recovery
 
 ready_at : (bench : BenchState) (why : Option ReclaimRefusal) → link_reclaim_refusal (link_in bench) 0 ≡ why → IsReachedBench bench → IsReachedBench (with_new_host_unless bench why)
-ready_at bench None none reached = enlisted (after_reclaim bench 0) side.Host (reclaimed bench 0 (unreclaimed_shut (link_in bench) 0 none) reached)
+ready_at bench None none reached = enlisted (after_reclaim bench 0) side.Host (reclaimed bench 0 (reclaimable_is_shut (link_in bench) 0 none) reached)
 ready_at bench (Some why) is reached = reached
 
 pub readied : (bench : BenchState) → IsReachedBench bench → IsReachedBench (bench_to_reopen bench)

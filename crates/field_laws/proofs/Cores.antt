@@ -238,8 +238,8 @@ lane_turn : (state : LaneState EndState) (callers : List (Option End)) (sends re
 lane_turn state callers sends receives len sender receiver =
     or_has IsSmall (holder state.sender) (holder state.receiver) (holder_small callers sends state.sender len sender) (holder_small callers receives state.receiver len receiver)
 
-pub unopened_fields : (link : LinkState EndState) → SoundLink link → IsFieldLink link → IfSome (link_reopen_refusal link) IsFieldReopen
-unopened_fields link sound is =
+pub link_refusal_fields : (link : LinkState EndState) → SoundLink link → IsFieldLink link → IfSome (link_reopen_refusal link) IsFieldReopen
+link_refusal_fields link sound is =
     let turns = or_has IsSmall (turn_out link.to_host) (turn_out link.to_remote) (lane_turn link.to_host link.callers side.Remote side.Host is.callers sound.to_host.sender sound.to_host.receiver)
     (lane_turn link.to_remote link.callers side.Host side.Remote is.callers sound.to_remote.sender sound.to_remote.receiver) in
     let host = least_from None link.to_host.lane.held tt
@@ -379,7 +379,7 @@ refused_reopen : (bench : BenchState) (why : Option ReclaimRefusal) → link_rec
 refused_reopen bench None is fields reached ready =
     let came = subst (λ (w : Option ReclaimRefusal). IsReachedBench (with_new_host_unless bench w)) is reached in
     let now = subst (λ (w : Option ReclaimRefusal). IsFieldBench (with_new_host_unless bench w)) is ready in
-    unopened_fields (link_in (with_new_host bench)) (reached_sound (link_in (with_new_host bench)) came.link) now.link
+    link_refusal_fields (link_in (with_new_host bench)) (reached_sound (link_in (with_new_host bench)) came.link) now.link
 refused_reopen bench (Some (refusal.StillOpen era)) is fields reached ready = fields
 refused_reopen bench (Some (refusal.Busy held)) is fields reached ready = fields
 

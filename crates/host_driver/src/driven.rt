@@ -1,9 +1,9 @@
-ghost use Rattle.std.specs.Prelude.{◌≡◌, ◌≤◌, length};
-ghost use Rattle.rp_base.specs.declared.limits.TheConstants.{PAYLOAD_MOST};
+ghost use Rattle.std.specs.Prelude.{◌≡◌, ◌≤◌, None, Some, if◌then◌else◌, length};
+ghost use Rattle.rp_base.specs.declared.limits.TheConstants.{MESSAGE_MOST, PAYLOAD_MOST};
 ghost use Rattle.host_driver.specs.Drivers.{probe_message, reply_to, message_from};
 
 use rp_base::{DriverKind, Endpoint, Message};
-use rpmsg_header::{fields, write};
+use rpmsg_header::{fields, head};
 
 /// The payload that a sample driver sends (`MSG` of Linux `rpmsg_client_sample.c`).
 const SAMPLE_TEXT: [u8; 12] = *b"hello world!";
@@ -31,32 +31,45 @@ impl DrivenEndpoint {
     {
         match self.kind {
             DriverKind::Sink | DriverKind::Echo => None,
-            DriverKind::Sample => self.send(self.channel, &SAMPLE_TEXT),
+            DriverKind::Sample => {
+                let mut message = Message::empty();
+                self.write(self.channel, &SAMPLE_TEXT, &mut message);
+                Some(message)
+            }
         }
     }
 
-    /// What the driver sends for a message that was delivered and is counted.
-    pub(crate) fn reply(&self, message: &Message) -> Option<Message>
-        ensures { result ≡ reply_to self.now.kind self.now message.now }
+    /// Whether the driver sends something for a message that was delivered and is counted. The answer
+    /// is what it sends then.
+    pub(crate) fn reply(&self, message: &[u8], answer: &mut Message) -> bool
+        requires { length message.now ≤ MESSAGE_MOST }
+        ensures { (if result then Some answer.new else None) ≡ reply_to self.now.kind self.now message.now }
     {
         match self.kind {
-            DriverKind::Sink => None,
+            DriverKind::Sink => false,
             DriverKind::Echo => {
-                let header = fields(message.bytes());
-                self.send(header.src, header.payload)
+                let header = fields(message);
+                self.write(header.src, header.payload, answer);
+                true
             }
-            DriverKind::Sample if self.deliveries < SAMPLE_COUNT => {
-                self.send(self.channel, &SAMPLE_TEXT)
+            DriverKind::Sample => {
+                let goes_on = self.deliveries < SAMPLE_COUNT;
+                if goes_on {
+                    self.write(self.channel, &SAMPLE_TEXT, answer);
+                }
+                goes_on
             }
-            DriverKind::Sample => None,
         }
     }
 
-    // A message from the endpoint, whose payload fits.
-    fn send(&self, to: u32, payload: &[u8]) -> Option<Message>
+    // Makes it a message from the endpoint, whose payload fits.
+    fn write(&self, to: u32, payload: &[u8], message: &mut Message)
         requires { length payload.now ≤ PAYLOAD_MOST }
-        ensures { result ≡ Some (message_from self.now to payload.now) }
+        ensures { message.new ≡ message_from self.now to payload.now }
     {
-        write(self.endpoint.address, to, payload).ok()
+        message.set(
+            &head(self.endpoint.address, to, payload.len() as u16),
+            payload,
+        );
     }
 }

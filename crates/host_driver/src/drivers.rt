@@ -1,6 +1,6 @@
-ghost use Rattle.std.specs.Prelude.{◌≡◌, ◌<◌, ◌≤◌, ◌+◌, ◌++◌, ◌∷◌, [], true, false, length, map, All, HoldsAt, IfOk, IfErr, OnOk, OnErr, IfSome, IfNone};
+ghost use Rattle.std.specs.Prelude.{◌≡◌, ◌<◌, ◌≤◌, ◌+◌, ◌++◌, ◌∷◌, [], None, Some, if◌then◌else◌, true, false, length, map, All, HoldsAt, IfOk, IfErr, OnOk, OnErr, IfSome, IfNone};
 ghost use Rattle.std.specs.Option.{option_or};
-ghost use Rattle.rp_base.specs.declared.limits.TheConstants.{ENDPOINTS_MOST};
+ghost use Rattle.rp_base.specs.declared.limits.TheConstants.{ENDPOINTS_MOST, MESSAGE_MOST};
 ghost use Rattle.host_driver.specs.Drivers.{kind_for, kind_of, is_before, place_of, drives, with_one, created_answer, after_created, delivered_answer, after_delivered, after_destroyed, after_reset, driver_fault};
 ghost use Rattle.host_driver.specs.declared.drivers.DriverFault.TheVariants as fault;
 
@@ -119,10 +119,28 @@ impl Drivers {
         ensures left { self.new ≡ after_delivered self.old endpoint }
         ensures as_many { length self.new.driven ≡ length self.old.driven }
     {
-        let place = self.find(endpoint)?;
+        let mut answer = Message::empty();
+        if self.reply(endpoint, message.bytes(), &mut answer) {
+            Some(answer)
+        } else {
+            None
+        }
+    }
+
+    /// The same of a message of these bytes: whether its driver sends something. The answer is what it
+    /// sends then; what stands there otherwise counts for nothing.
+    pub fn reply(&mut self, endpoint: Endpoint, message: &[u8], answer: &mut Message) -> bool
+        requires { length message.now ≤ MESSAGE_MOST }
+        ensures sent { (if result then Some answer.new else None) ≡ delivered_answer self.old endpoint message.now }
+        ensures left { self.new ≡ after_delivered self.old endpoint }
+        ensures as_many { length self.new.driven ≡ length self.old.driven }
+    {
+        let Some(place) = self.find(endpoint) else {
+            return false;
+        };
         let one = &mut self.driven[place];
         one.deliveries = one.deliveries.saturating_add(1);
-        one.reply(message)
+        one.reply(message, answer)
     }
 
     /// Drives an endpoint no more. One that is not driven changes nothing.

@@ -81,7 +81,7 @@ fn event_of(alloc: Global, text: &[u8]) -> Result<Option<Event>, AllocError>
 fn is_line_of(alloc: Global, event: &Event, bytes: &[u8]) -> Result<bool, NoMemory>
     ensures { IfOk result (λ same. IsTrue same ↔ line event.now ≡ bytes.now) }
 {
-    let mut written = Vec::new(alloc);
+    let mut written = Vec::with_capacity(alloc, bytes.len())?;
     line(alloc, event, &mut written)?;
     Ok(written.as_slice() == bytes)
 }

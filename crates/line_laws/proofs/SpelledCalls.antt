@@ -66,7 +66,7 @@ use Rattle.field_laws.proofs.Actors.{taken_bytes_on}
 use Rattle.field_laws.proofs.Acts.{HoldsBench, act_holds, act_told}
 use Rattle.field_laws.proofs.Benches.{close_fields, reopen_fields}
 use Rattle.field_laws.proofs.Bytes.{dropped_bytes, payload_bytes, taken_bytes, word_small}
-use Rattle.field_laws.proofs.Cores.{unopened_fields}
+use Rattle.field_laws.proofs.Cores.{link_refusal_fields}
 use Rattle.field_laws.proofs.Lanes.{counts_small}
 use Rattle.field_laws.proofs.Rings.{ring_are}
 use Rattle.field_laws.proofs.Steps.{holder_small}
@@ -281,7 +281,7 @@ module _ (name : List ℕ) (named : IsName name) where
 
   reopen_spelled : (bench : BenchState) (steps : ℕ) → SoundLink (link_in bench) → IsFieldBench bench → LeavesSpelledLink (reopen_effect name bench steps)
   unfolding reopen_effect
-  reopen_spelled bench steps sound is = opened_spelled bench steps (link_reopen_refusal (link_in bench)) refl is (unopened_fields (link_in bench) sound is.link)
+  reopen_spelled bench steps sound is = opened_spelled bench steps (link_reopen_refusal (link_in bench)) refl is (link_refusal_fields (link_in bench) sound is.link)
 
   pub managed_spelled : (bench : BenchState) (steps : ℕ) (wanted : ManagerAct) → SoundLink (link_in bench) → IsFieldBench bench → LeavesSpelledLink (manager_effect name bench steps wanted)
   managed_spelled bench steps manager.Close sound is = close_spelled bench steps is

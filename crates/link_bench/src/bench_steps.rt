@@ -1,9 +1,10 @@
-ghost use Rattle.std.specs.Prelude.{◌≡◌, ◌≢◌, ◌<◌, None, IfErr, IfNone, IfOk, OnErr, OnOk};
-ghost use Rattle.link_bench.specs.Benches.{HoldsReachTaken, advance_walk, link_in, step_fault};
+ghost use Rattle.std.specs.Prelude.{◌≡◌, ◌≢◌, ◌<◌, true, None, IfErr, IfNone, IfOk, OnErr, OnOk};
+ghost use Rattle.link_bench.specs.Benches.{HoldsReachTaken, advance_walk, is_in_call, link_in, step_fault};
 ghost use Rattle.link_bench.specs.declared.benches.Reach.TheVariants as reached;
 
 use crate::benches::{Bench, BenchFault, Reach};
 use crate::step_counts::StepCount;
+use crate::steps::later_step;
 use rp_base::CallerNo;
 
 impl Bench {
@@ -48,7 +49,23 @@ impl Bench {
         ensures taken { HoldsReachTaken (link_in self.new) caller result }
     {
         let mut reach = Reach::Limit;
-        self.advance(caller, 0, &mut StepCount::new(), &mut reach);
+        self.step_on(caller, &mut reach);
         reach
+    }
+
+    /// The same; `reach` says how far the call came.
+    #[inline(always)]
+    pub fn step_on(&mut self, caller: CallerNo, reach: &mut Reach)
+        requires caller { caller < 64 }
+        requires calling { is_in_call self.old caller ≡ true }
+        ensures left { self.new ≡ (advance_walk self.old 0 0 caller).bench }
+        ensures reach { reach.new ≡ (advance_walk self.old 0 0 caller).reach }
+        ensures taken { HoldsReachTaken (link_in self.new) caller reach.new }
+    {
+        if self.begun[usize::from(caller)].is_some() {
+            self.advance(caller, 0, &mut StepCount::new(), reach);
+            return;
+        }
+        later_step(&mut self.link, caller, reach);
     }
 }

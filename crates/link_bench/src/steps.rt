@@ -45,6 +45,21 @@ pub(crate) fn later_steps(
     *reach = Reach::At(last);
 }
 
+/// The next step of the call that a caller has under way; `reach` says how far it came.
+pub(crate) fn later_step(link: &mut ManagedLink, caller: CallerNo, reach: &mut Reach)
+    requires may { MayStep (lists_of link.old) caller None }
+    ensures link { link.new ≡ (later_steps on_rings 1 0 0 link.old caller).link }
+    ensures reach { reach.new ≡ (later_steps on_rings 1 0 0 link.old caller).reach }
+    ensures taken { HoldsReachTaken (lists_of link.new) caller reach.new }
+    ensures others { OthersMay (lists_of link.old) (lists_of link.new) caller }
+{
+    let mut end = CallEnd::Gave(0);
+    match link.next_step(caller, &mut end) {
+        Step::At(step) => *reach = Reach::At(step),
+        Step::Ended => *reach = Reach::Ended(end),
+    }
+}
+
 /// A call of a caller from its first step on, with at most `more` steps behind it; `reach` says how far.
 #[tactic(auto, unfolding(crate::specs::Benches::call_steps))]
 pub(crate) fn call_steps(

@@ -5,7 +5,7 @@ ghost use Rattle.split_ring.specs.declared.callers.CallerId.{CallerId};
 ghost use Rattle.split_ring.specs.Carried.{Carries};
 ghost use Rattle.split_ring.specs.Callers.{IsManagerOf};
 ghost use Rattle.split_ring.specs.Phases.{IsUnderWay};
-ghost use Rattle.split_ring.specs.declared.calls.Phase.{Phase};
+ghost use Rattle.split_ring.specs.CallPhases.{Phase};
 
 use crate::small_links::small_link;
 use channel_bus::Side;

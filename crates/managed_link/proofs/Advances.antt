@@ -17,14 +17,14 @@ use Rattle.channel_bus.specs.Sides.{EndState, side_meaning}
 use Rattle.link_words.specs.Deeds.{Deed, Steps, after_deed}
 use Rattle.split_ring.specs.declared.callers.CallerId.{CallerId}
 use Rattle.split_ring.specs.declared.callers.Manager.{Manager}
-use Rattle.split_ring.specs.declared.calls.Phase.{Phase}
-use Rattle.split_ring.specs.declared.calls.Phase.TheVariants as phase
+use Rattle.split_ring.specs.CallPhases.{Phase}
+use Rattle.split_ring.specs.CallPhases as phase
 use Rattle.split_ring.specs.declared.links.SharedLink.{SharedLink}
 use Rattle.split_ring.specs.Callers.{IsStateOf}
 use Rattle.split_ring.specs.Calls.{call_end, deed_of}
 use Rattle.split_ring.specs.Carried.{CarriesOn}
 use Rattle.split_ring.specs.Handed.{StepsLanes}
-use Rattle.split_ring.specs.Phases.{IsNext, answer_in, ending_said, left_by, outcome_said, said_by, wished_in}
+use Rattle.split_ring.specs.Phases.{IsNext, answer_in, ending_progress, phase_behind, outcome_said, progress_of, wished_in}
 use Rattle.managed_link.specs.EndCodes.{end_coded}
 use Rattle.managed_link.specs.Known.{LinkRings, lists_of, on_rings}
 use Rattle.managed_link.specs.Managed.{IsBegun}
@@ -66,12 +66,12 @@ pub outcome_on_lists : (m : LinkRings) (caller follows : ℕ) (wished : Option W
 outcome_on_lists m caller follows wished said is = is ∙ same_outcome on_rings side_meaning m caller follows wished
 
 -- a step that ended its call left the answer in it
-pub answer_left : (shared : SharedLink EndState) (manager : Manager) (who : CallerId) (done : Step) (p : Phase) → done ≡ step.Ended → CarriesOn shared manager who (left_by done p) (said_by done p) → (answered : Answer) × (answer_in p ≡ Some answered)
-answer_left shared manager who done p is on = at (answer_in p) refl (subst (λ (d : Step). CarriesOn shared manager who (left_by d p) (said_by d p)) is on)
+pub answer_left : (shared : SharedLink EndState) (manager : Manager) (who : CallerId) (done : Step) (p : Phase) → done ≡ step.Ended → CarriesOn shared manager who (phase_behind done p) (progress_of done p) → (answered : Answer) × (answer_in p ≡ Some answered)
+answer_left shared manager who done p is on = at (answer_in p) refl (subst (λ (d : Step). CarriesOn shared manager who (phase_behind d p) (progress_of d p)) is on)
   where
-    at : (found : Option Answer) → answer_in p ≡ found → CarriesOn shared manager who phase.Ended (ending_said (answer_in p)) → (answered : Answer) × (answer_in p ≡ Some answered)
+    at : (found : Option Answer) → answer_in p ≡ found → CarriesOn shared manager who phase.Ended (ending_progress (answer_in p)) → (answered : Answer) × (answer_in p ≡ Some answered)
     at (Some answered) here on = (answered, here)
-    at None here on = absurd (subst (λ (o : Option Answer). CarriesOn shared manager who phase.Ended (ending_said o)) here on).1
+    at None here on = absurd (subst (λ (o : Option Answer). CarriesOn shared manager who phase.Ended (ending_progress o)) here on).1
 
 -- what a step says that goes on, and one that ended its call
 pub goes_outcome : (done : Step) (ended : CallEnd) (number : ℕ) → done ≡ step.At number → outcome_of done ended ≡ outcome.At number
@@ -80,17 +80,17 @@ goes_outcome done ended number is = ap (λ (d : Step). outcome_of d ended) is
 pub ends_outcome : (done : Step) (ended : CallEnd) → done ≡ step.Ended → outcome_of done ended ≡ outcome.Ended ended
 ends_outcome done ended is = ap (λ (d : Step). outcome_of d ended) is
 
-pub goes_told : (done : Step) (p : Phase) (number : ℕ) → done ≡ step.At number → outcome_said (said_by done p) ≡ outcome.At number
-goes_told done p number is = ap (λ (d : Step). outcome_said (said_by d p)) is
+pub goes_told : (done : Step) (p : Phase) (number : ℕ) → done ≡ step.At number → outcome_said (progress_of done p) ≡ outcome.At number
+goes_told done p number is = ap (λ (d : Step). outcome_said (progress_of d p)) is
 
-pub ends_told : (done : Step) (p : Phase) (answered : Answer) → done ≡ step.Ended → answer_in p ≡ Some answered → outcome_said (said_by done p) ≡ outcome.Ended (call_end answered)
-ends_told done p answered is here = ap (λ (d : Step). outcome_said (said_by d p)) is ∙ ap (λ (o : Option Answer). outcome_said (ending_said o)) here
+pub ends_told : (done : Step) (p : Phase) (answered : Answer) → done ≡ step.Ended → answer_in p ≡ Some answered → outcome_said (progress_of done p) ≡ outcome.Ended (call_end answered)
+ends_told done p answered is here = ap (λ (d : Step). outcome_said (progress_of d p)) is ∙ ap (λ (o : Option Answer). outcome_said (ending_progress o)) here
 
 module _ (shared : SharedLink EndState) (manager manager' : Manager) (who : CallerId) (p : Phase) (done : Step) (left : Phase) (m m' : LinkRings)
-    (s : HasStepped shared manager manager' who p (said_by done left) (left_by done left) m m') where
+    (s : HasStepped shared manager manager' who p (progress_of done left) (phase_behind done left) m m') where
   pub goes_stepped : (number : ℕ) → done ≡ step.At number → HasStepped shared manager manager' who p (progress.At number) left m m'
-  goes_stepped number is = subst (λ (d : Step). HasStepped shared manager manager' who p (said_by d left) (left_by d left) m m') is s
+  goes_stepped number is = subst (λ (d : Step). HasStepped shared manager manager' who p (progress_of d left) (phase_behind d left) m m') is s
 
   pub ends_stepped : (answered : Answer) → done ≡ step.Ended → answer_in left ≡ Some answered → HasStepped shared manager manager' who p (progress.Done answered) phase.Ended m m'
-  ends_stepped answered is here = subst (λ (o : Option Answer). HasStepped shared manager manager' who p (ending_said o) phase.Ended m m') here
-      (subst (λ (d : Step). HasStepped shared manager manager' who p (said_by d left) (left_by d left) m m') is s)
+  ends_stepped answered is here = subst (λ (o : Option Answer). HasStepped shared manager manager' who p (ending_progress o) phase.Ended m m') here
+      (subst (λ (d : Step). HasStepped shared manager manager' who p (progress_of d left) (phase_behind d left) m m') is s)

@@ -12,15 +12,15 @@ use Rattle.lane_model.specs.Links.{end_of, lanes_of}
 use Rattle.channel_bus.specs.Sides.{EndState}
 use Rattle.split_ring.specs.declared.callers.CallerId.{CallerId}
 use Rattle.split_ring.specs.declared.callers.Manager.{Manager}
-use Rattle.split_ring.specs.declared.calls.Phase.{Phase}
-use Rattle.split_ring.specs.declared.calls.Phase.TheVariants as phase
+use Rattle.split_ring.specs.CallPhases.{Phase}
+use Rattle.split_ring.specs.CallPhases as phase
 use Rattle.split_ring.specs.declared.links.SharedLink.{SharedLink}
 use Rattle.split_ring.specs.Callers.{IsManagerOf, IsStateOf}
 use Rattle.split_ring.specs.Carried.{Carries}
 use Rattle.split_ring.specs.Phases.{IsUnderWay}
 use Rattle.split_ring.specs.Reclaims.{is_turn, lacks_receiver, turn_in}
 use Rattle.split_ring.proofs.CarriedStates.{known_of}
-use Rattle.managed_link.specs.declared.callers.CarriedCall.{CarriedCall}
+use Rattle.managed_link.specs.declared.call_slots.CarriedCall.{CarriedCall}
 use Rattle.managed_link.specs.declared.hands.Hand.{Hand}
 use Rattle.managed_link.specs.EndCodes.{end_coded}
 use Rattle.managed_link.specs.Known.{LinkRings, lists_of}

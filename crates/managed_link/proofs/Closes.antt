@@ -12,14 +12,14 @@ use Rattle.lane_laws.proofs.CrashLaws.{close_sound}
 use Rattle.channel_bus.specs.Sides.{EndState}
 use Rattle.split_ring.specs.declared.callers.CallerId.{CallerId}
 use Rattle.split_ring.specs.declared.callers.Manager.{Manager}
-use Rattle.split_ring.specs.declared.calls.Phase.{Phase}
+use Rattle.split_ring.specs.CallPhases.{Phase}
 use Rattle.split_ring.specs.declared.links.SharedLink.{SharedLink}
 use Rattle.split_ring.specs.Callers.{IsManagerOf, IsStateOf}
 use Rattle.split_ring.specs.Carried.{Keeps}
 use Rattle.split_ring.specs.Handed.{LeavesLanes}
 use Rattle.split_ring.specs.Sends.{live_era}
 use Rattle.split_ring.proofs.Eras.{live_is}
-use Rattle.managed_link.specs.declared.callers.CarriedCall.{CarriedCall}
+use Rattle.managed_link.specs.declared.call_slots.CarriedCall.{CarriedCall}
 use Rattle.managed_link.specs.declared.hands.Hand.{Hand}
 use Rattle.managed_link.specs.declared.views.LaneView.{LaneView}
 use Rattle.managed_link.specs.EndCodes.{end_coded}

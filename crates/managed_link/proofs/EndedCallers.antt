@@ -30,7 +30,7 @@ use Rattle.link_words.specs.Passes.{HasNumber}
 use Rattle.link_words.specs.Words.{lane_to, other}
 use Rattle.split_ring.specs.declared.callers.CallerId.{CallerId}
 use Rattle.split_ring.specs.declared.callers.Manager.{Manager}
-use Rattle.split_ring.specs.declared.calls.Phase.{Phase}
+use Rattle.split_ring.specs.CallPhases.{Phase}
 use Rattle.split_ring.specs.declared.calls.RingCall.{RingCall}
 use Rattle.split_ring.specs.declared.links.SharedLink.{SharedLink}
 use Rattle.split_ring.specs.Callers.{IsManagerOf, IsStateOf}
@@ -39,7 +39,7 @@ use Rattle.split_ring.specs.ManagerCalls.{EndsState}
 use Rattle.split_ring.specs.PartsOf.{TellsHands}
 use Rattle.split_ring.specs.Reclaims.{phase_of}
 use Rattle.split_ring.proofs.CarriedStates.{known_of}
-use Rattle.managed_link.specs.declared.callers.CarriedCall.{CarriedCall}
+use Rattle.managed_link.specs.declared.call_slots.CarriedCall.{CarriedCall}
 use Rattle.managed_link.specs.declared.hands.Hand.{Hand}
 use Rattle.managed_link.specs.declared.views.LaneView.{LaneView}
 use Rattle.managed_link.specs.EndCodes.{end_coded}

@@ -10,7 +10,7 @@ use Rattle.lane_model.specs.Lanes.{message_at}
 use Rattle.link_words.specs.Passes.{HasNumber}
 use Rattle.link_words.specs.Words.{lane_to}
 use Rattle.split_ring.specs.Reclaims.{buffer_in, phase_of}
-use Rattle.managed_link.specs.declared.callers.CarriedCall.{CarriedCall}
+use Rattle.managed_link.specs.declared.call_slots.CarriedCall.{CarriedCall}
 use Rattle.managed_link.specs.declared.hands.Hand.{Hand}
 use Rattle.managed_link.specs.Hands.{IsHandAt}
 use Rattle.managed_link.specs.Known.{LinkRings, lists_of}

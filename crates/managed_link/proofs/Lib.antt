@@ -1,6 +1,5 @@
 pub mod ListParts
 pub mod HandLists
-pub mod HandSteps
 pub mod KnownStates
 pub mod SameLanes
 pub mod SameStates
@@ -21,6 +20,7 @@ pub mod CallersTurns
 pub mod StepManaged
 pub mod TakenMessages
 pub mod Advances
+pub mod CallSteps
 pub mod FirstSteps
 pub mod NextSteps
 pub mod WholeTurns

@@ -12,12 +12,12 @@ use Rattle.channel_bus.specs.Sides.{EndState}
 use Rattle.link_words.proofs.Users.{end_else, end_here, free_is}
 use Rattle.split_ring.specs.declared.callers.CallerId.{CallerId}
 use Rattle.split_ring.specs.declared.callers.Manager.{Manager}
-use Rattle.split_ring.specs.declared.calls.Phase.{Phase}
-use Rattle.split_ring.specs.declared.calls.Phase.TheVariants as phase
+use Rattle.split_ring.specs.CallPhases.{Phase}
+use Rattle.split_ring.specs.CallPhases as phase
 use Rattle.split_ring.specs.declared.links.SharedLink.{SharedLink}
 use Rattle.split_ring.specs.Callers.{IsManagerOf, IsStateOf}
 use Rattle.split_ring.specs.Carried.{CarriesIdle, IsNew, Keeps, carried_seat}
-use Rattle.managed_link.specs.declared.callers.CarriedCall.{CarriedCall}
+use Rattle.managed_link.specs.declared.call_slots.CarriedCall.{CarriedCall}
 use Rattle.managed_link.specs.declared.hands.Hand.{Hand}
 use Rattle.managed_link.specs.EndCodes.{end_coded}
 use Rattle.managed_link.specs.Known.{LinkRings, lists_of}

@@ -1,57 +1,53 @@
 -- A later step of a call of a managed link: the call goes on, and may settle how it ends, or it ends.
-use Rattle.std.proofs.Common.{◌≡◌, ◌≢◌, ℕ, ◌<◌, ◌^◌, length, map, set, true, List, Option, Some, None, refl, sym, ap, subst, ◌∙◌, length-set, arith}
+use Rattle.std.proofs.Common.{◌≡◌, ℕ, ◌<◌, ◌^◌, length, map, set, true, List, Option, Some, None, refl, sym, ap, subst, ◌∙◌, arith}
 use Rattle.std.specs.Prelude.{IfSome, MatchOption, Vec, get_or, vec_capacity}
 use Rattle.std.specs.Option.{is_some, option_map}
 use Rattle.std.specs.declared.alloc.Global.{Global}
-use Rattle.std.proofs.lemmas.List.{get_or-set_same}
 use Rattle.rp_base.specs.declared.kinds.End.{End}
 use Rattle.rp_base.specs.declared.kinds.End.TheVariants as side
-use Rattle.rp_base.specs.declared.kinds.Era.{Era}
 use Rattle.lane_model.specs.declared.calls.Answer.{Answer}
 use Rattle.lane_model.specs.declared.calls.CallEnd.{CallEnd}
-use Rattle.lane_model.specs.declared.calls.Outcome.TheVariants as outcome
-use Rattle.lane_model.specs.declared.calls.Progress.{Progress}
 use Rattle.lane_model.specs.declared.calls.Progress.TheVariants as progress
 use Rattle.lane_model.specs.declared.calls.Step.{Step}
 use Rattle.lane_model.specs.declared.calls.Step.TheVariants as step
 use Rattle.lane_model.specs.declared.calls.Wish.{Wish}
-use Rattle.lane_model.specs.Conditions.{MayStep}
 use Rattle.lane_model.specs.Lanes.{holder, holds}
-use Rattle.lane_model.specs.Links.{end_of, form_step}
+use Rattle.lane_model.specs.Links.{form_step}
 use Rattle.lane_model.specs.Soundness.{SoundLink}
-use Rattle.channel_bus.specs.Sides.{EndState, side_meaning}
+use Rattle.channel_bus.specs.Sides.{side_meaning}
 use Rattle.link_words.specs.Words.{lane_to, other}
 use Rattle.split_ring.specs.declared.callers.CallerId.{CallerId}
 use Rattle.split_ring.specs.declared.callers.Manager.{Manager}
-use Rattle.split_ring.specs.declared.calls.Phase.{Phase}
-use Rattle.split_ring.specs.declared.calls.Phase.TheVariants as phase
-use Rattle.split_ring.specs.declared.links.SharedLink.{SharedLink}
+use Rattle.split_ring.specs.CallPhases.{Phase}
+use Rattle.split_ring.specs.CallPhases as phase
 use Rattle.split_ring.specs.Calls.{call_end}
-use Rattle.split_ring.specs.Carried.{Carries, CarriesOn}
-use Rattle.split_ring.specs.Handed.{LeavesLanes, StepsLanes}
-use Rattle.split_ring.specs.Phases.{IsEndOf, IsNext, IsUnderWay, answer_in, left_by, outcome_said, said_by, settled_end}
+use Rattle.split_ring.specs.Carried.{Carries}
+use Rattle.split_ring.specs.Handed.{StepsLanes}
+use Rattle.split_ring.specs.Phases.{IsEndOf, IsUnderWay, answer_in, phase_behind, progress_of, settled_end}
 use Rattle.split_ring.specs.Reclaims.{buffer_in, phase_of, taken_buffer}
-use Rattle.managed_link.specs.declared.callers.CarriedCall.{CarriedCall}
+use Rattle.managed_link.specs.declared.call_slots.CarriedCall.{CarriedCall}
 use Rattle.managed_link.specs.declared.hands.Hand.{Hand}
+use Rattle.managed_link.specs.declared.links.ManagedLink.TheInside.{Inside}
 use Rattle.managed_link.specs.declared.views.LaneView.{LaneView}
 use Rattle.managed_link.specs.Hands.{AreSome, IsPutIn, holding_of}
 use Rattle.managed_link.specs.Known.{LinkRings, lists_of, on_rings}
 use Rattle.managed_link.specs.Managed.{AreHandsOf, IsBegun, IsCarriedIn, IsLimited, IsManaged, IsOfCaller, IsOwnAnswer, ShowsViews, call_of, caller_id}
-use Rattle.managed_link.specs.Settles.{HasRoomFor, answer_buffer}
-use Rattle.managed_link.specs.Steps.{AdvancesCall, HasStepped, hands_learnt, held_learnt, incoming_learnt, of_end, outgoing_learnt, settled_in}
-use Rattle.managed_link.specs.Taken.{HoldsTaken}
+use Rattle.managed_link.specs.Settles.{HasRoomFor}
+use Rattle.split_ring.specs.Stages.{answer_buffer}
+use Rattle.managed_link.specs.Steps.{HasStepped, hands_learnt, held_learnt, incoming_learnt, of_end, outgoing_learnt, settled_in}
+use Rattle.managed_link.specs.Taken.{HoldsStepTaken, HoldsTaken}
 use Rattle.managed_link.specs.Views.{if_other}
-use Rattle.managed_link.proofs.Advances.{answer_left, ends_stepped, ends_told, goes_stepped, goes_told, later_stepped, later_wished}
-use Rattle.managed_link.proofs.CallSlots.{call_beside, call_set}
+use Rattle.managed_link.proofs.Advances.{later_stepped, later_wished}
+use Rattle.managed_link.proofs.CallSteps.{Advances, CallStep, HasTaken, MayTake, call_advanced, ends_managed, ends_over, ends_says, goes_managed, goes_on, goes_out, goes_says, hands_before, others_same, others_set, slot_left, slot_set, slot_within, slots_kept, sound_left, step_shows, steps_call, turn_before, view_before}
 use Rattle.managed_link.proofs.CallersTurns.{incoming_later, others_turn, outgoing_later, same_receiver}
-use Rattle.managed_link.proofs.Calling.{calling_is}
-use Rattle.managed_link.proofs.StepBooks.{BooksGrow, books_grow, lane_sound, same_lane}
+use Rattle.managed_link.proofs.Calling.{call_read, calling_is}
+use Rattle.managed_link.proofs.StepBooks.{lane_sound, same_lane}
 use Rattle.managed_link.proofs.StepGives.{ended_held, ended_hands}
-use Rattle.managed_link.proofs.StepHands.{StepsCall, hands_beside, out_with}
-use Rattle.managed_link.proofs.StepManaged.{IsStepped, alone_at, hands_at, idle_still, managed_after, may_go_on, not_asked, settled_room, sound_after, turn_at, view_at, views_after}
-use Rattle.managed_link.proofs.StepSettles.{has_begun, incoming_known, later_hands, outgoing_known, view_from}
-use Rattle.managed_link.proofs.StepTurns.{IsLaterStep, lanes_at, later_turns, same_era, same_users}
-use Rattle.managed_link.proofs.TakenMessages.{holds_answer}
+use Rattle.managed_link.proofs.StepHands.{out_with}
+use Rattle.managed_link.proofs.StepManaged.{alone_at, may_go_on, settled_room}
+use Rattle.managed_link.proofs.StepSettles.{incoming_known, later_hands, outgoing_known, view_from}
+use Rattle.managed_link.proofs.StepTurns.{IsLaterStep, lanes_at, later_turns}
+use Rattle.managed_link.proofs.TakenMessages.{ended_behind, holds_answer}
 
 some_call : {X : Type 0} (o : Option X) → is_some o ≡ true → (x : X) × (o ≡ Some x)
 some_call None is = absurd (cc)
@@ -73,202 +69,176 @@ small : (m : LinkRings) (d : End) → SoundLink (lists_of m) → IsLimited (lane
 small m d sound limits = let lane = (lane_sound m sound d).lane in let within = lane.within in let handed = lane.handed in let counts = lane.counts in let most = limits.book in
     (omega (arith, within, most), omega (arith, within, most, handed), omega (arith, within, most, handed, counts))
 
-limits_at : (shared : SharedLink EndState) (manager : Manager) (calls : List (Option CarriedCall)) (host remote : Vec Hand Global) (m : LinkRings) → IsManaged shared manager calls host remote m → (d : End) → IsLimited (lane_to m d).lane.lane
-limits_at shared manager calls host remote m managed side.Host = managed.limits.0
-limits_at shared manager calls host remote m managed side.Remote = managed.limits.1
-
 room_in : (who : CallerId) (m m' : LinkRings) (calls : List (Option CarriedCall)) (hands : Vec Hand Global) (p : Phase) → StepsLanes who p m m' → SoundLink (lists_of m') → AreHandsOf m who.end calls hands → IfSome (settled_end p) (λ ended. HasRoomFor ended hands)
 room_in who m m' calls hands (phase.LeavesSender said) s sound of = settled_room who m m' calls hands said s sound of
 room_in who m m' calls hands (phase.LeavesReceiver said) s sound of = settled_room who m m' calls hands said s sound of
 room_in who m m' calls hands p s sound of = tt
 
-module _ (shared : SharedLink EndState) (manager : Manager) (calls : List (Option CarriedCall)) (host remote : Vec Hand Global) (era : Era) (to_host to_remote : LaneView) (m : LinkRings)
-    (managed : IsManaged shared manager calls host remote m) (shows : ShowsViews era to_host to_remote m) (caller : ℕ) (end : End)
-    (user : end_of m.callers caller ≡ Some end) (low : caller < 64) (may : MayStep (lists_of m) caller None) where
-  abbrev After : LinkRings
-  After = (form_step on_rings side_meaning m caller 0 None).state
+-- a later step of a caller's call: the link before it, the caller, where its slot is, and the call that is in it
+pub record NextCall : Type 0 where
+  pub link : Inside
+  pub number : ℕ
+  pub end : End
+  pub place : ℕ
+  pub carried : CarriedCall
 
-  mine : AreHandsOf m end calls (of_end end host remote)
-  mine = hands_at shared manager calls host remote m managed end
+-- its caller, and the hands of that caller's end
+abbrev pub caller_in : NextCall → CallerId
+caller_in k = caller_id k.number k.end k.carried.follows
 
+abbrev pub held_hands : NextCall → Vec Hand Global
+held_hands k = of_end k.end k.link.host k.link.remote
+
+-- the state behind its step
+abbrev pub next_left : NextCall → LinkRings
+next_left k = (form_step on_rings side_meaning k.link.known.0 k.number 0 None).state
+
+-- the caller may go on with the call
+pub record GoesOn (k : NextCall) : Type 0 where
+  pub may : MayTake k.link k.number k.end None
+  pub at : k.place ≡ k.number
+  pub there : call_of k.link.calls.items k.number ≡ Some k.carried
+
+-- the step that was taken of it, and the slot behind it
+abbrev pub next_step : NextCall → Manager → Step → Option CarriedCall → CallStep
+next_step k after done left = record {
+  link = k.link;
+  who = caller_in k;
+  place = k.place;
+  calls = k.link.calls.items;
+  before = k.carried.call.phase;
+  follows = 0;
+  wished = None;
+  after = after;
+  done = done;
+  slot = left;
+}
+
+pub record HasGoneOn (k : NextCall) (after : Manager) (done : Step) (left : Option CarriedCall) : Type 0 where
+  pub goes : GoesOn k
+  pub taken : HasTaken (next_step k after done left)
+
+module _ {s : Inside} {n : ℕ} {end : End} (b : MayTake s n end None) where
   -- the caller's call is carried
-  pub next_call : (c : CarriedCall) × (call_of calls caller ≡ Some c)
-  next_call = some_call (call_of calls caller) (sym (calling_is shared manager calls host remote m caller managed) ∙ (may_go_on m caller end user may).0)
+  pub next_call : (c : CarriedCall) × (call_of s.calls.items n ≡ Some c)
+  next_call = some_call (call_of s.calls.items n) (sym (calling_is s.shared s.manager s.calls.items s.host s.remote s.known.0 n b.was.0) ∙ (may_go_on s.known.0 n end b.user b.may).0)
 
-  module _ (c : CarriedCall) (is : call_of calls caller ≡ Some c) where
-    abbrev who : CallerId
-    who = caller_id caller end c.follows
-
-    pub next_carried : Carries shared manager (caller_id caller end c.follows) c.call.phase × IsUnderWay c.call.phase × IsBegun (caller_id caller end c.follows) m c.call.phase
-    next_carried = subst (IsCarriedIn shared manager m caller end) is (managed.callers caller end user)
-
-    was_out : out_with calls caller ≡ buffer_in c.call.phase
-    was_out = ap (λ (o : Option CarriedCall). buffer_in (phase_of (option_map (λ (x : CarriedCall). x.call) o))) is
-
-    later : IsLaterStep caller (form_step on_rings side_meaning m caller 0 None).outcome (lanes_at m end) (lanes_at After end)
-    later = later_turns m end caller 0 user (λ same. omega (arith, low, same)) (may_go_on m caller end user may).1 (alone_at m caller managed.sound end)
-
-    -- the step that was taken
-    module _ (manager' : Manager) (done : Step) (slot : Option CarriedCall) (taken : AdvancesCall shared manager (caller_id caller end c.follows) c.call.phase m done manager' slot) where
-      abbrev p : Phase
-      p = taken.call.phase
-
-      abbrev said : Progress
-      said = said_by done p
-
-      pub next_stepped : HasStepped shared manager manager' (caller_id caller end c.follows) c.call.phase (said_by done taken.call.phase) (left_by done taken.call.phase) m (form_step on_rings side_meaning m caller 0 None).state
-      next_stepped = later_stepped shared manager manager' (caller_id caller end c.follows) c.call.phase said (left_by done p) m next_carried.2 taken.stepped
-
-      pub next_told : outcome_said (said_by done taken.call.phase) ≡ (form_step on_rings side_meaning m caller 0 None).outcome
-      next_told = taken.told ∙ ap (λ (o : Option Wish). (form_step on_rings side_meaning m caller c.follows o).outcome) (later_wished (caller_id caller end c.follows) m c.call.phase next_carried.2)
-
-      grow : BooksGrow who m After
-      grow = books_grow who (left_by done p) m After next_stepped.lanes
-
-      sound : SoundLink (lists_of After)
-      sound = sound_after m caller 0 None managed.sound may
-
-      call_step : (calls' : List (Option CarriedCall)) → ((n : ℕ) → caller ≢ n → call_of calls' n ≡ call_of calls n) → StepsCall who m After calls calls'
-      call_step calls' others = record { user = user; sound = managed.sound; grow = grow; beside = others }
-
-      stepped : (calls' : List (Option CarriedCall)) → length calls' ≡ length calls → ((n : ℕ) → caller ≢ n → call_of calls' n ≡ call_of calls n) → IsCarriedIn shared manager' After caller end (call_of calls' caller) → IsStepped shared manager manager' calls calls' who m After
-      stepped calls' same others carried = record {
-        user = user;
-        users = same_users m caller 0 None;
-        manages = next_stepped.manages;
-        state = next_stepped.state;
-        sound = sound;
-        grow = grow;
-        others = next_stepped.others;
-        same = same;
-        beside = others;
-        mine = carried;
-      }
-
-      -- the hands of the other end
-      theirs : (calls' : List (Option CarriedCall)) (host' remote' : Vec Hand Global) → ((n : ℕ) → caller ≢ n → call_of calls' n ≡ call_of calls n) → of_end (other end) host' remote' ≡ of_end (other end) host remote → AreHandsOf After (other end) calls' (of_end (other end) host' remote')
-      theirs calls' host' remote' others beside = subst (AreHandsOf After (other end) calls') (sym beside)
-          (hands_beside who m After calls calls' (call_step calls' others) (of_end (other end) host remote) (hands_at shared manager calls host remote m managed (other end)))
-
-      -- the call with its slot
-      abbrev Set : ℕ → List (Option CarriedCall)
-      Set place = set calls place slot
-
-      set_others : (place : ℕ) → place ≡ caller → (n : ℕ) → caller ≢ n → call_of (Set place) n ≡ call_of calls n
-      set_others place at n apart = call_beside calls place n slot (λ same. apart (sym at ∙ same))
-
-      set_mine : (place : ℕ) → place ≡ caller → call_of (Set place) caller ≡ Some (record { follows = c.follows; call = taken.call })
-      set_mine place at = ap (λ k. call_of (Set k) caller) at ∙ (call_set calls caller slot (subst (λ k. caller < k) (sym managed.slots) low) ∙ taken.here)
-
-      pub now_here : (place : ℕ) (read : Option CarriedCall) → place ≡ caller → read ≡ get_or (set calls place slot) place read → read ≡ Some (record { follows = c.follows; call = taken.call })
-      now_here place read at is_read = is_read ∙ (get_or-set_same calls place slot read (subst (λ k. k < length calls) (sym at) (subst (λ k. caller < k) (sym managed.slots) low)) ∙ taken.here)
-
-      -- the call goes on
-      module _ (number : ℕ) (goes : done ≡ step.At number) where
-        said_at : (form_step on_rings side_meaning m caller 0 None).outcome ≡ outcome.At number
-        said_at = sym next_told ∙ goes_told done p number goes
-
-        on : HasStepped shared manager manager' who c.call.phase (progress.At number) p m After
-        on = goes_stepped shared manager manager' who c.call.phase done p m After next_stepped number goes
-
-        carries : CarriesOn shared manager' who p (progress.At number)
-        carries = on.on
-
-        next : IsNext end c.call.phase (progress.At number) p
-        next = on.next
-
-        begun : IsBegun who After p
-        begun = has_begun who c.call.phase p m After on.lanes sound next.4 (not_asked shared manager' After who p next_stepped.manages next_stepped.state carries.0 (later.calls number said_at))
-
-        carried : (place : ℕ) → place ≡ caller → IsCarriedIn shared manager' After caller end (call_of (Set place) caller)
-        carried place at = subst (IsCarriedIn shared manager' After caller end) (sym (set_mine place at)) (carries.0, carries.1, begun)
-
-        now_out : (place : ℕ) → place ≡ caller → out_with (Set place) caller ≡ buffer_in p
-        now_out place at = ap (λ (o : Option CarriedCall). buffer_in (phase_of (option_map (λ (x : CarriedCall). x.call) o))) (set_mine place at)
-
-        pub next_settled : (place : ℕ) (read : Option CarriedCall) (settled : Option CallEnd) → place ≡ caller → read ≡ get_or (set calls place slot) place read → settled ≡ settled_in read → settled ≡ settled_end taken.call.phase
-        next_settled place read settled at is_read ends = ends ∙ ap settled_in (now_here place read at is_read)
-
-        pub next_managed : (place : ℕ) (settled : Option CallEnd) (host' remote' : Vec Hand Global) → place ≡ caller → settled ≡ settled_end taken.call.phase
-            → map holding_of (of_end end host' remote').items ≡ held_learnt settled caller (map holding_of (of_end end host remote).items) → AreSome (hands_learnt settled caller (of_end end host remote).items) (of_end end host' remote').items
-            → vec_capacity (of_end end host' remote') ≡ vec_capacity (of_end end host remote) → of_end (other end) host' remote' ≡ of_end (other end) host remote
-            → IsManaged shared manager' (set calls place slot) host' remote' (form_step on_rings side_meaning m caller 0 None).state
-        next_managed place settled host' remote' at ends listed among room beside = managed_after shared manager manager' calls (Set place) host remote who m After managed
-            (stepped (Set place) (length-set calls place slot) (set_others place at) (carried place at)) host' remote'
-            (later_hands who m After calls (Set place) (call_step (Set place) (set_others place at)) c.call.phase (of_end end host remote) (of_end end host' remote') mine was_out next.3 p (now_out place at) on.lanes carries.1 next.4
-            (listed ∙ ap (λ (o : Option CallEnd). held_learnt o caller (map holding_of (of_end end host remote).items)) ends)
-            (subst (λ (o : Option CallEnd). AreSome (hands_learnt o caller (of_end end host remote).items) (of_end end host' remote').items) ends among) room)
-            (theirs (Set place) host' remote' (set_others place at) beside)
-
-        pub next_shows : (settled : Option CallEnd) (to_host' to_remote' : LaneView) → settled ≡ settled_end taken.call.phase → of_end end to_host' to_remote' ≡ incoming_learnt settled (of_end end to_host to_remote)
-            → of_end (other end) to_host' to_remote' ≡ outgoing_learnt settled (of_end (other end) to_host to_remote) → ShowsViews era to_host' to_remote' (form_step on_rings side_meaning m caller 0 None).state
-        next_shows settled to_host' to_remote' ends incoming outgoing = views_after era to_host' to_remote' end After (shows.era_is ∙ sym (same_era m caller 0 None))
-            (incoming ∙ ((λ i. incoming_learnt (ends i) (view_at era to_host to_remote m shows end i)) ∙ sym (incoming_known who p m After on.lanes (ap holder later.sender_beside) (later.receiver_stays number said_at))))
-            (outgoing ∙ ((λ i. outgoing_learnt (ends i) (view_at era to_host to_remote m shows (other end) i)) ∙ sym (outgoing_known who p m After on.lanes (later.sender_stays number said_at) (ap holder later.receiver_beside))))
-            (same_receiver (of_end end to_host to_remote) (of_end end to_host' to_remote') (ap (λ (v : LaneView). v.receiver) incoming ∙ incoming_later settled (of_end end to_host to_remote)) (turn_at era to_host to_remote m shows end))
-            (same_receiver (of_end (other end) to_host to_remote) (of_end (other end) to_host' to_remote') (ap (λ (v : LaneView). v.receiver) outgoing ∙ outgoing_later settled (of_end (other end) to_host to_remote)) (turn_at era to_host to_remote m shows (other end)))
-
-        pub next_room : (settled : Option CallEnd) → settled ≡ settled_end taken.call.phase → IfSome settled (λ ended. HasRoomFor ended (of_end end host remote))
-        next_room settled ends = subst (λ (o : Option CallEnd). IfSome o (λ ended. HasRoomFor ended (of_end end host remote))) (sym ends) (room_in who m After calls (of_end end host remote) p on.lanes sound mine)
-
-      pub last_answer : done ≡ step.Ended → (answered : Answer) × (answer_in taken.call.phase ≡ Some answered)
-      last_answer ends = answer_left shared manager' who done p ends next_stepped.on
-
-      -- the call ends with what was settled
-      module _ (answered : Answer) (ends : done ≡ step.Ended) (settled : answer_in taken.call.phase ≡ Some answered) where
-        said_ended : (form_step on_rings side_meaning m caller 0 None).outcome ≡ outcome.Ended (call_end answered)
-        said_ended = sym next_told ∙ ends_told done p answered ends settled
-
-        over : HasStepped shared manager manager' who c.call.phase (progress.Done answered) phase.Ended m After
-        over = ends_stepped shared manager manager' who c.call.phase done p m After next_stepped answered ends settled
-
-        own : IsOwnAnswer who m answered × (buffer_in c.call.phase ≡ taken_buffer answered)
-        own = ended_answer who m c.call.phase answered next_carried.2 over.next.1
-
-        left : LeavesLanes m After
-        left = over.lanes
-
-        abbrev Without : ℕ → List (Option CarriedCall)
-        Without place = set (set calls place slot) place None
-
-        none_others : (place : ℕ) → place ≡ caller → (n : ℕ) → caller ≢ n → call_of (Without place) n ≡ call_of calls n
-        none_others place at n apart = call_beside (Set place) place n None (λ same. apart (sym at ∙ same)) ∙ set_others place at n apart
-
-        none_mine : (place : ℕ) → place ≡ caller → call_of (Without place) caller ≡ None
-        none_mine place at = ap (λ k. call_of (set (Set place) place None) k) (sym at) ∙ call_set (Set place) place None (subst (λ k. place < k) (sym (length-set calls place slot ∙ managed.slots)) (subst (λ k. k < 64) (sym at) low))
-
-        rested : (place : ℕ) → place ≡ caller → IsCarriedIn shared manager' After caller end (call_of (Without place) caller)
-        rested place at = subst (IsCarriedIn shared manager' After caller end) (sym (none_mine place at)) (λ f. idle_still shared manager' caller end c.follows f over.on)
-
-        pub last_place : IfSome (answer_buffer answered) (λ held. holds (map holding_of (of_end end host remote).items) held.number held.caller ≡ true)
-        last_place = ended_held who m calls (of_end end host remote) answered mine own.0
-
-        pub last_managed : (place : ℕ) (rest : Option CarriedCall) (host' remote' : Vec Hand Global) → place ≡ caller → rest ≡ None → MatchOption (answer_buffer answered) ((of_end end host' remote').items ≡ (of_end end host remote).items) (λ held. IsPutIn held (of_end end host remote).items (of_end end host' remote').items)
-            → vec_capacity (of_end end host' remote') ≡ vec_capacity (of_end end host remote) → of_end (other end) host' remote' ≡ of_end (other end) host remote
-            → IsManaged shared manager' (set (set calls place slot) place rest) host' remote' (form_step on_rings side_meaning m caller 0 None).state
-        last_managed place rest host' remote' at free put room beside = subst (λ (o : Option CarriedCall). IsManaged shared manager' (set (set calls place slot) place o) host' remote' After) (sym free) (managed_after shared manager manager' calls (Without place) host remote who m After managed
-            (stepped (Without place) (length-set (Set place) place None ∙ length-set calls place slot) (none_others place at) (rested place at)) host' remote'
-            (ended_hands who m After calls (Without place) (call_step (Without place) (none_others place at)) (of_end end host remote) (of_end end host' remote') mine answered own.0 (was_out ∙ own.1) put (same_lane m After left end) room)
-            (theirs (Without place) host' remote' (none_others place at) beside))
-
-        pub last_taken : HoldsTaken (lists_of (form_step on_rings side_meaning m caller 0 None).state) caller (call_end answered)
-        last_taken = holds_answer shared manager' who After next_stepped.manages next_stepped.state over.on m answered own.0 (same_lane m After left end)
-
-        pub last_shows : (to_host' to_remote' : LaneView) → of_end end to_host' to_remote' ≡ record (of_end end to_host to_remote) { receiver = if_other (of_end end to_host to_remote).receiver caller }
-            → of_end (other end) to_host' to_remote' ≡ record (of_end (other end) to_host to_remote) { sender = if_other (of_end (other end) to_host to_remote).sender caller }
-            → ShowsViews era to_host' to_remote' (form_step on_rings side_meaning m caller 0 None).state
-        last_shows to_host' to_remote' incoming outgoing = views_after era to_host' to_remote' end After (shows.era_is ∙ sym (same_era m caller 0 None))
-            (incoming ∙ (ap (λ (v : LaneView). record v { receiver = if_other v.receiver caller }) (view_at era to_host to_remote m shows end)
-            ∙ sym (λ i. view_from (same_lane m After left end i) (ap holder later.sender_beside i) (later.receiver_left (call_end answered) said_ended i))))
-            (outgoing ∙ (ap (λ (v : LaneView). record v { sender = if_other v.sender caller }) (view_at era to_host to_remote m shows (other end))
-            ∙ sym (λ i. view_from (same_lane m After left (other end) i) (later.sender_left (call_end answered) said_ended i) (ap holder later.receiver_beside i))))
-            (subst IsOfCaller (sym (ap (λ (v : LaneView). v.receiver) incoming)) (others_turn (of_end end to_host to_remote).receiver caller (turn_at era to_host to_remote m shows end)))
-            (same_receiver (of_end (other end) to_host to_remote) (of_end (other end) to_host' to_remote') (ap (λ (v : LaneView). v.receiver) outgoing) (turn_at era to_host to_remote m shows (other end)))
+  limits_of : (d : End) → IsLimited (lane_to s.known.0 d).lane.lane
+  limits_of side.Host = b.was.0.limits.0
+  limits_of side.Remote = b.was.0.limits.1
 
   -- the counts are small
-  pub next_small : ((of_end (other end) to_host to_remote).accepted < 2 ^ 60) × ((of_end end to_host to_remote).handed < 2 ^ 60) × ((of_end end to_host to_remote).returned < 2 ^ 60)
-  next_small = let here = small m end managed.sound (limits_at shared manager calls host remote m managed end) in let there = small m (other end) managed.sound (limits_at shared manager calls host remote m managed (other end)) in (
-    subst (λ (v : LaneView). v.accepted < 2 ^ 60) (sym (view_at era to_host to_remote m shows (other end))) there.0,
-    subst (λ (v : LaneView). v.handed < 2 ^ 60) (sym (view_at era to_host to_remote m shows end)) here.1,
-    subst (λ (v : LaneView). v.returned < 2 ^ 60) (sym (view_at era to_host to_remote m shows end)) here.2,
+  pub next_small : ((of_end (other end) s.to_host s.to_remote).accepted < 2 ^ 60) × ((of_end end s.to_host s.to_remote).handed < 2 ^ 60) × ((of_end end s.to_host s.to_remote).returned < 2 ^ 60)
+  next_small = let here = small s.known.0 end b.was.0.sound (limits_of end) in let there = small s.known.0 (other end) b.was.0.sound (limits_of (other end)) in (
+    subst (λ (v : LaneView). v.accepted < 2 ^ 60) (sym (view_before b (other end))) there.0,
+    subst (λ (v : LaneView). v.handed < 2 ^ 60) (sym (view_before b end)) here.1,
+    subst (λ (v : LaneView). v.returned < 2 ^ 60) (sym (view_before b end)) here.2,
   )
+
+module _ {k : NextCall} (g : GoesOn k) where
+  -- the manager carries it, and it has begun
+  pub next_carried : Carries k.link.shared k.link.manager (caller_in k) k.carried.call.phase × IsUnderWay k.carried.call.phase × IsBegun (caller_in k) k.link.known.0 k.carried.call.phase
+  next_carried = subst (IsCarriedIn k.link.shared k.link.manager k.link.known.0 k.number k.end) g.there (g.may.was.0.callers k.number k.end g.may.user)
+
+  was_out : out_with k.link.calls.items k.number ≡ buffer_in k.carried.call.phase
+  was_out = ap (λ (o : Option CarriedCall). buffer_in (phase_of (option_map (λ (c : CarriedCall). c.call) o))) g.there
+
+  -- it is there, where its slot is read
+  pub next_there : (read : Option CarriedCall) → read ≡ get_or k.link.calls.items k.place read → read ≡ Some k.carried
+  next_there read is = sym (call_read k.link.calls.items k.link.calls.items k.number k.place read refl g.at (slot_within g.may k.link.calls.items g.at refl) is) ∙ g.there
+
+  -- and the step that was taken of what was read there is one of it
+  pub next_takes : (read : Option CarriedCall) {after : Manager} {done : Step} {left : Option CarriedCall} → read ≡ get_or k.link.calls.items k.place read → Advances k.link k.number read after done left → HasGoneOn k after done left
+  next_takes read {after} {done} {left} is takes = let a = call_advanced g.may k.carried (next_there read is) takes in record {
+    goes = g;
+    taken = record {
+      may = g.may;
+      at = g.at;
+      others = others_same;
+      call = a.call;
+      here = a.here;
+      stepped = later_stepped k.link.shared k.link.manager after (caller_in k) k.carried.call.phase (progress_of done a.call.phase) (phase_behind done a.call.phase) k.link.known.0 next_carried.2 a.stepped;
+      told = a.told ∙ ap (λ (o : Option Wish). (form_step on_rings side_meaning k.link.known.0 k.number k.carried.follows o).outcome) (later_wished (caller_in k) k.link.known.0 k.carried.call.phase next_carried.2);
+    };
+  }
+
+module _ {k : NextCall} {after : Manager} {done : Step} {left : Option CarriedCall} (t : HasGoneOn k after done left) where
+  abbrev s : Inside
+  s = k.link
+
+  abbrev m : LinkRings
+  m = k.link.known.0
+
+  abbrev e : End
+  e = k.end
+
+  abbrev b : MayTake k.link k.number k.end None
+  b = t.goes.may
+
+  abbrev g : HasTaken (next_step k after done left)
+  g = t.taken
+
+  later : IsLaterStep k.number (form_step on_rings side_meaning m k.number 0 None).outcome (lanes_at m k.end) (lanes_at (next_left k) k.end)
+  later = let low = b.low in later_turns m e k.number 0 b.user (λ same. omega (arith, low, same)) (may_go_on m k.number e b.user b.may).1 (alone_at m k.number b.was.0.sound e)
+
+  -- the call goes on, and is read in its slot
+  module _ (number : ℕ) (goes : done ≡ step.At number) (read : Option CarriedCall) (is : read ≡ get_or (set k.link.calls.items k.place left) k.place read) where
+    on : HasStepped s.shared s.manager after (caller_in k) k.carried.call.phase (progress.At number) t.taken.call.phase m (next_left k)
+    on = goes_on g number goes
+
+    settled : settled_in read ≡ settled_end t.taken.call.phase
+    settled = ap settled_in (slot_left g read is)
+
+    pub next_room : IfSome (settled_in read) (λ ended. HasRoomFor ended (held_hands k))
+    next_room = subst (λ (o : Option CallEnd). IfSome o (λ ended. HasRoomFor ended (held_hands k))) (sym settled) (room_in (caller_in k) m (next_left k) s.calls.items (held_hands k) g.call.phase on.lanes (sound_left g) (hands_before b e))
+
+    pub next_managed : (host' remote' : Vec Hand Global) → map holding_of (of_end k.end host' remote').items ≡ held_learnt (settled_in read) k.number (map holding_of (held_hands k).items)
+        → AreSome (hands_learnt (settled_in read) k.number (held_hands k).items) (of_end k.end host' remote').items → vec_capacity (of_end k.end host' remote') ≡ vec_capacity (held_hands k)
+        → of_end (other k.end) host' remote' ≡ of_end (other k.end) k.link.host k.link.remote → IsManaged k.link.shared after (set k.link.calls.items k.place left) host' remote' (next_left k)
+    next_managed host' remote' listed among room beside = goes_managed g number goes host' remote' (later.calls number (goes_says g number goes))
+        (later_hands (caller_in k) m (next_left k) s.calls.items (set s.calls.items k.place left) (steps_call g (slots_kept g)) k.carried.call.phase (held_hands k) (of_end e host' remote') (hands_before b e) (was_out t.goes) on.next.3 g.call.phase (goes_out g number goes) on.lanes on.on.1 on.next.4
+        (listed ∙ ap (λ (o : Option CallEnd). held_learnt o k.number (map holding_of (held_hands k).items)) settled)
+        (subst (λ (o : Option CallEnd). AreSome (hands_learnt o k.number (held_hands k).items) (of_end e host' remote').items) settled among) room) beside
+
+    pub next_shows : (to_host' to_remote' : LaneView) → of_end k.end to_host' to_remote' ≡ incoming_learnt (settled_in read) (of_end k.end k.link.to_host k.link.to_remote)
+        → of_end (other k.end) to_host' to_remote' ≡ outgoing_learnt (settled_in read) (of_end (other k.end) k.link.to_host k.link.to_remote) → ShowsViews k.link.era to_host' to_remote' (next_left k)
+    next_shows to_host' to_remote' incoming outgoing = let inwards = of_end e s.to_host s.to_remote in let outwards = of_end (other e) s.to_host s.to_remote in
+        step_shows g to_host' to_remote'
+        (incoming ∙ ((λ i. incoming_learnt (settled i) (view_before b e i)) ∙ sym (incoming_known (caller_in k) g.call.phase m (next_left k) on.lanes (ap holder later.sender_beside) (later.receiver_stays number (goes_says g number goes)))))
+        (outgoing ∙ ((λ i. outgoing_learnt (settled i) (view_before b (other e) i)) ∙ sym (outgoing_known (caller_in k) g.call.phase m (next_left k) on.lanes (later.sender_stays number (goes_says g number goes)) (ap holder later.receiver_beside))))
+        (same_receiver inwards (of_end e to_host' to_remote') (ap (λ (v : LaneView). v.receiver) incoming ∙ incoming_later (settled_in read) inwards) (turn_before b e))
+        (same_receiver outwards (of_end (other e) to_host' to_remote') (ap (λ (v : LaneView). v.receiver) outgoing ∙ outgoing_later (settled_in read) outwards) (turn_before b (other e)))
+
+  -- the call ends with what was settled
+  module _ (answered : Answer) (ends : done ≡ step.Ended) (settled : answer_in t.taken.call.phase ≡ Some answered) where
+    over : HasStepped s.shared s.manager after (caller_in k) k.carried.call.phase (progress.Done answered) phase.Ended m (next_left k)
+    over = ends_over g answered ends settled
+
+    own : IsOwnAnswer (caller_in k) m answered × (buffer_in k.carried.call.phase ≡ taken_buffer answered)
+    own = ended_answer (caller_in k) m k.carried.call.phase answered (next_carried t.goes).2 over.next.1
+
+    pub last_place : IfSome (answer_buffer answered) (λ held. holds (map holding_of (held_hands k).items) held.number held.caller ≡ true)
+    last_place = ended_held (caller_in k) m s.calls.items (held_hands k) answered (hands_before b e) own.0
+
+    pub last_takes : {behind : LinkRings} (old : LinkRings) (ended : CallEnd) → k.link.known.0 ≡ old → ended ≡ call_end answered → behind ≡ (form_step on_rings side_meaning old k.number 0 None).state → HoldsStepTaken (lists_of behind) k.number done ended
+    last_takes old ended was is leaves = ended_behind (λ (x : LinkRings). (form_step on_rings side_meaning x k.number 0 None).state) m old k.number done ended ends leaves was
+        (subst (HoldsTaken (lists_of (next_left k)) k.number) (sym is) (holds_answer s.shared after (caller_in k) (next_left k) g.stepped.manages g.stepped.state over.on m answered own.0 (same_lane m (next_left k) over.lanes e)))
+
+    pub last_managed : (rest : Option CarriedCall) (host' remote' : Vec Hand Global) → rest ≡ None
+        → MatchOption (answer_buffer answered) ((of_end k.end host' remote').items ≡ (held_hands k).items) (λ held. IsPutIn held (held_hands k).items (of_end k.end host' remote').items)
+        → vec_capacity (of_end k.end host' remote') ≡ vec_capacity (held_hands k) → of_end (other k.end) host' remote' ≡ of_end (other k.end) k.link.host k.link.remote
+        → IsManaged k.link.shared after (set (set k.link.calls.items k.place left) k.place rest) host' remote' (next_left k)
+    last_managed rest host' remote' free put room beside = let kept = others_set rest g.at (slots_kept g) in
+        ends_managed g answered ends settled host' remote' kept (slot_set b (set s.calls.items k.place left) rest g.at (slots_kept g).same ∙ free)
+        (ended_hands (caller_in k) m (next_left k) s.calls.items (set (set s.calls.items k.place left) k.place rest) (steps_call g kept) (held_hands k) (of_end e host' remote') (hands_before b e) answered own.0 (was_out t.goes ∙ own.1) put (same_lane m (next_left k) over.lanes e) room) beside
+
+    pub last_shows : (to_host' to_remote' : LaneView) → of_end k.end to_host' to_remote' ≡ record (of_end k.end k.link.to_host k.link.to_remote) { receiver = if_other (of_end k.end k.link.to_host k.link.to_remote).receiver k.number }
+        → of_end (other k.end) to_host' to_remote' ≡ record (of_end (other k.end) k.link.to_host k.link.to_remote) { sender = if_other (of_end (other k.end) k.link.to_host k.link.to_remote).sender k.number }
+        → ShowsViews k.link.era to_host' to_remote' (next_left k)
+    last_shows to_host' to_remote' incoming outgoing = let said = ends_says g answered ends settled in let lanes = same_lane m (next_left k) over.lanes in step_shows g to_host' to_remote'
+        (incoming ∙ (ap (λ (v : LaneView). record v { receiver = if_other v.receiver k.number }) (view_before b e)
+        ∙ sym (λ i. view_from (lanes e i) (ap holder later.sender_beside i) (later.receiver_left (call_end answered) said i))))
+        (outgoing ∙ (ap (λ (v : LaneView). record v { sender = if_other v.sender k.number }) (view_before b (other e))
+        ∙ sym (λ i. view_from (lanes (other e) i) (later.sender_left (call_end answered) said i) (ap holder later.receiver_beside i))))
+        (subst IsOfCaller (sym (ap (λ (v : LaneView). v.receiver) incoming)) (others_turn (of_end e s.to_host s.to_remote).receiver k.number (turn_before b e)))
+        (same_receiver (of_end (other e) s.to_host s.to_remote) (of_end (other e) to_host' to_remote') (ap (λ (v : LaneView). v.receiver) outgoing) (turn_before b (other e)))

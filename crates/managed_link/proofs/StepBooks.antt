@@ -17,8 +17,8 @@ use Rattle.lane_model.specs.Soundness.{AreHandedOnce, IsSoundBetween, SoundLink}
 use Rattle.lane_model.proofs.Holdings.{others_hold}
 use Rattle.link_words.specs.Words.{lane_to, other}
 use Rattle.split_ring.specs.declared.callers.CallerId.{CallerId}
-use Rattle.split_ring.specs.declared.calls.Phase.{Phase}
-use Rattle.split_ring.specs.declared.calls.Phase.TheVariants as phase
+use Rattle.split_ring.specs.CallPhases.{Phase}
+use Rattle.split_ring.specs.CallPhases as phase
 use Rattle.split_ring.specs.Handed.{IsOwnBuffer, LeavesLanes, Settles, StepsLanes, incoming_by, outgoing_by}
 use Rattle.managed_link.specs.Known.{LinkRings, lists_of}
 use Rattle.managed_link.specs.Managed.{IsBegun, IsOwnAnswer}

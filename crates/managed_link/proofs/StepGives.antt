@@ -27,20 +27,21 @@ use Rattle.link_words.specs.Histories.{hands_of}
 use Rattle.link_words.specs.Passes.{HasNumber}
 use Rattle.link_words.specs.Words.{lane_to}
 use Rattle.split_ring.specs.declared.callers.CallerId.{CallerId}
-use Rattle.split_ring.specs.declared.calls.Phase.{Phase}
-use Rattle.split_ring.specs.declared.calls.Phase.TheVariants as phase
+use Rattle.split_ring.specs.CallPhases.{Phase}
+use Rattle.split_ring.specs.CallPhases as phase
 use Rattle.split_ring.specs.Calls.{IsOwnAsk}
 use Rattle.split_ring.specs.Handed.{IsOwnBuffer, Settles, StepsLanes}
 use Rattle.split_ring.specs.Phases.{IsGivenBack, KeepsBuffer}
 use Rattle.split_ring.specs.Receives.{lane_number}
 use Rattle.split_ring.specs.Reclaims.{buffer_in, taken_buffer}
 use Rattle.split_ring.specs.Seats.{pass_in}
-use Rattle.managed_link.specs.declared.callers.CarriedCall.{CarriedCall}
+use Rattle.managed_link.specs.declared.call_slots.CarriedCall.{CarriedCall}
 use Rattle.managed_link.specs.declared.hands.Hand.{Hand}
 use Rattle.managed_link.specs.Hands.{IsHandAt, IsPutIn, IsTakenOut, holding_of}
 use Rattle.managed_link.specs.Known.{LinkRings, lists_of}
 use Rattle.managed_link.specs.Managed.{AreHandsOf, IsHandOf, IsOwnAnswer, caller_id}
-use Rattle.managed_link.specs.Settles.{CanGive, answer_buffer}
+use Rattle.managed_link.specs.Settles.{CanGive}
+use Rattle.split_ring.specs.Stages.{answer_buffer}
 use Rattle.managed_link.proofs.ListParts.{at_replaced, map_replaced}
 use Rattle.managed_link.proofs.StepBooks.{accepted_held, buffer_stays}
 use Rattle.managed_link.proofs.StepHands.{StepsCall, hand_kept, hands_here, hands_once, held_at, once_at, out_with}

@@ -17,7 +17,7 @@ use Rattle.link_words.specs.Passes.{HasNumber}
 use Rattle.link_words.specs.Words.{lane_to, other}
 use Rattle.split_ring.specs.declared.callers.CallerId.{CallerId}
 use Rattle.split_ring.specs.Reclaims.{buffer_in, phase_of}
-use Rattle.managed_link.specs.declared.callers.CarriedCall.{CarriedCall}
+use Rattle.managed_link.specs.declared.call_slots.CarriedCall.{CarriedCall}
 use Rattle.managed_link.specs.declared.hands.Hand.{Hand}
 use Rattle.managed_link.specs.Hands.{holding_of}
 use Rattle.managed_link.specs.Known.{LinkRings, lists_of}

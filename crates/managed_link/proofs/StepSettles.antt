@@ -20,13 +20,13 @@ use Rattle.lane_model.specs.Soundness.{SoundLink}
 use Rattle.link_words.specs.Passes.{HasNumber}
 use Rattle.link_words.specs.Words.{lane_to, other}
 use Rattle.split_ring.specs.declared.callers.CallerId.{CallerId}
-use Rattle.split_ring.specs.declared.calls.Phase.{Phase}
-use Rattle.split_ring.specs.declared.calls.Phase.TheVariants as phase
+use Rattle.split_ring.specs.CallPhases.{Phase}
+use Rattle.split_ring.specs.CallPhases as phase
 use Rattle.split_ring.specs.Calls.{call_end}
 use Rattle.split_ring.specs.Handed.{IsOwnBuffer, Settles, StepsLanes, incoming_by, outgoing_by}
 use Rattle.split_ring.specs.Phases.{IsGivenBack, IsUnderWay, IsUnsettled, KeepsBuffer, gives_back, settled_end}
 use Rattle.split_ring.specs.Reclaims.{buffer_in, taken_buffer}
-use Rattle.managed_link.specs.declared.callers.CarriedCall.{CarriedCall}
+use Rattle.managed_link.specs.declared.call_slots.CarriedCall.{CarriedCall}
 use Rattle.managed_link.specs.declared.hands.Hand.{Hand}
 use Rattle.managed_link.specs.declared.views.LaneView.{LaneView}
 use Rattle.managed_link.specs.Hands.{AreSome, holding_of}

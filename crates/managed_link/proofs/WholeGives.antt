@@ -14,7 +14,7 @@ use Rattle.lane_model.specs.HeldBuffers.{HeldBuffer}
 use Rattle.lane_model.specs.Links.{end_of}
 use Rattle.link_words.specs.Passes.{HasNumber}
 use Rattle.link_words.specs.Words.{other}
-use Rattle.split_ring.specs.declared.calls.Phase.TheVariants as phase
+use Rattle.split_ring.specs.CallPhases as phase
 use Rattle.split_ring.specs.declared.gives.GiveBusy.{GiveBusy}
 use Rattle.split_ring.specs.Calls.{call_end, give_answer}
 use Rattle.split_ring.specs.Carried.{MayAskBy, carried_seat}

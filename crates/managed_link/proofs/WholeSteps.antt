@@ -20,8 +20,8 @@ use Rattle.link_words.specs.Passes.{HasNumber}
 use Rattle.link_words.specs.Words.{other}
 use Rattle.split_ring.specs.declared.callers.CallerId.{CallerId}
 use Rattle.split_ring.specs.declared.callers.Manager.{Manager}
-use Rattle.split_ring.specs.declared.calls.Phase.{Phase}
-use Rattle.split_ring.specs.declared.calls.Phase.TheVariants as phase
+use Rattle.split_ring.specs.CallPhases.{Phase}
+use Rattle.split_ring.specs.CallPhases as phase
 use Rattle.split_ring.specs.declared.sends.SendFault.{SendFault}
 use Rattle.split_ring.specs.declared.sends.SendFault.TheVariants as send_fault
 use Rattle.split_ring.specs.declared.takes.Taken.{Taken}
@@ -33,7 +33,7 @@ use Rattle.split_ring.specs.Carried.{CarriesIdle, Keeps}
 use Rattle.split_ring.specs.Handed.{IsOwnBuffer}
 use Rattle.split_ring.specs.ManagerCalls.{CallsState}
 use Rattle.split_ring.specs.Reclaims.{buffer_in, phase_of}
-use Rattle.managed_link.specs.declared.callers.CarriedCall.{CarriedCall}
+use Rattle.managed_link.specs.declared.call_slots.CarriedCall.{CarriedCall}
 use Rattle.managed_link.specs.declared.hands.Hand.{Hand}
 use Rattle.managed_link.specs.declared.links.ManagedLink.TheInside.{Inside}
 use Rattle.managed_link.specs.declared.views.LaneView.{LaneView}
@@ -94,7 +94,7 @@ user_at before after n answered found e same is here at = ap (λ (users : List (
 -- a caller that may begin a call is in none: the manager carries it so, and no buffer is out with it
 module _ (s : Inside) (n : ℕ) (wished : Wish) (is : IsLink s) (may : MayStep (lists_of s.known.0) n (Some wished)) where
   module _ (e : End) (user : end_of s.known.0.callers n ≡ Some e) where
-    resting : call_of s.calls.items n ≡ None
+    pub resting : call_of s.calls.items n ≡ None
     resting = rests_in s.shared s.manager s.calls.items s.host s.remote s.known.0 n is.0 (may_begin s.known.0 n e wished user may).0
 
     pub rests_out : out_with s.calls.items n ≡ []

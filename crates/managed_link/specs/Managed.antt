@@ -23,15 +23,15 @@ use Rattle.link_words.specs.Passes.{HasNumber}
 use Rattle.link_words.specs.Words.{lane_to}
 use Rattle.split_ring.specs.declared.callers.CallerId.{CallerId}
 use Rattle.split_ring.specs.declared.callers.Manager.{Manager}
-use Rattle.split_ring.specs.declared.calls.Phase.{Phase}
-use Rattle.split_ring.specs.declared.calls.Phase.TheVariants as phase
+use Rattle.split_ring.specs.CallPhases.{Phase}
+use Rattle.split_ring.specs.CallPhases as phase
 use Rattle.split_ring.specs.declared.links.SharedLink.{SharedLink}
 use Rattle.split_ring.specs.Callers.{IsManagerOf, IsStateOf}
 use Rattle.split_ring.specs.Carried.{Carries, CarriesIdle}
 use Rattle.split_ring.specs.Handed.{IsOwnBuffer}
 use Rattle.split_ring.specs.Phases.{IsUnderWay}
 use Rattle.split_ring.specs.Reclaims.{buffer_in, phase_of}
-use Rattle.managed_link.specs.declared.callers.CarriedCall.{CarriedCall}
+use Rattle.managed_link.specs.declared.call_slots.CarriedCall.{CarriedCall}
 use Rattle.managed_link.specs.declared.hands.Hand.{Hand}
 use Rattle.managed_link.specs.declared.views.LaneView.{LaneView}
 use Rattle.managed_link.specs.EndCodes.{end_coded}

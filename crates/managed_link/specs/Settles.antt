@@ -1,14 +1,11 @@
 -- What a call takes from the buffers in hand and brings to them, and what is known beside once its end is settled (own).
-use Rattle.std.specs.Prelude.{◌≡◌, ◌<◌, ◌+◌, ℕ, List, [], ◌∷◌, ◌++◌, length, map, true, Option, None, Some, IsSomeAnd, Vec, vec_capacity}
+use Rattle.std.specs.Prelude.{◌≡◌, ◌<◌, ◌+◌, ℕ, List, [], ◌∷◌, ◌++◌, length, map, true, None, IsSomeAnd, Vec, vec_capacity}
 use Rattle.std.specs.declared.alloc.Global.{Global}
-use Rattle.lane_model.specs.declared.calls.Answer.{Answer}
-use Rattle.lane_model.specs.declared.calls.Answer.TheVariants as answer
 use Rattle.lane_model.specs.declared.calls.CallEnd.{CallEnd}
 use Rattle.lane_model.specs.declared.calls.CallEnd.TheVariants as end
 use Rattle.lane_model.specs.declared.calls.Wish.{Wish}
 use Rattle.lane_model.specs.declared.calls.Wish.TheVariants as wish
 use Rattle.lane_model.specs.declared.states.Holding.{Holding}
-use Rattle.lane_model.specs.HeldBuffers.{HeldBuffer}
 use Rattle.lane_model.specs.Lanes.{holds, without}
 use Rattle.managed_link.specs.declared.hands.Hand.{Hand}
 use Rattle.managed_link.specs.declared.views.LaneView.{LaneView}
@@ -23,12 +20,6 @@ pub record IsHere (hands : List Hand) (number caller : ℕ) : Type 0 where
 abbrev pub CanGive : List Hand → ℕ → Wish → Type 0
 CanGive hands caller (wish.Give number) = IsHere hands number caller
 CanGive hands caller other = Unit {0}
-
--- the buffer in an answer
-abbrev pub answer_buffer : Answer → Option HeldBuffer
-answer_buffer (answer.Took held verdict) = Some held
-answer_buffer (answer.GiveBusy holder held) = Some held
-answer_buffer other = None
 
 -- what is known of the lane that a caller takes from, once its call has settled that it ends so, and of the lane that it sends on
 abbrev pub incoming_view : CallEnd → LaneView → LaneView

@@ -9,29 +9,23 @@ ghost use Rattle.ring_core.specs.RingLinks.{opened_ring_link};
 ghost use Rattle.managed_link.specs.Known.{lists_of};
 ghost use Rattle.managed_link.specs.Managed.{no_calls};
 
-use crate::hands::{Hand, has_held, holds};
+use crate::call_slots::CallSlot;
+use crate::hands::{has_held, holds};
 use crate::links::ManagedLink;
 use crate::views::LaneView;
 use channel_bus::Side;
 use lane_model::LinkConfig;
 use rp_base::{CALLERS_MOST, CallerNo, End, Era, Inc, NoMemory, ring_capacity};
-use split_ring::{RingCall, SharedLink};
+use split_ring::SharedLink;
 use std::alloc::Global;
 
-/// A call that a caller is in, which follows this incarnation.
-#[derive(Drop)]
-pub(crate) struct CarriedCall {
-    pub follows: Inc,
-    pub call: RingCall<Side>,
-}
-
 /// No call for each number of a caller.
-fn no_calls(alloc: Global) -> Result<Vec<Option<CarriedCall>>, NoMemory>
+fn no_calls(alloc: Global) -> Result<Vec<CallSlot>, NoMemory>
     ensures { IfOk result (λ calls. calls.items ≡ no_calls) }
 {
     let mut calls = Vec::with_capacity(alloc, CALLERS_MOST)?;
     for _ in 0..CALLERS_MOST {
-        calls.push(None)?;
+        calls.push(CallSlot::empty())?;
     }
     Ok(calls)
 }
@@ -94,7 +88,7 @@ impl ManagedLink {
         ensures { result ≡ is_calling (lists_of self.now) caller }
     {
         match self.calls.get(usize::from(caller)) {
-            Some(found) => found.is_some(),
+            Some(found) => found.is_used(),
             None => false,
         }
     }

@@ -1,7 +1,7 @@
 //! A link whose callers its manager carries.
 ghost use Rattle.managed_link.specs.Known.{LinkRings, IsKnown, known_prop};
 
-use crate::callers::CarriedCall;
+use crate::call_slots::CallSlot;
 use crate::hands::Hand;
 use crate::views::LaneView;
 use channel_bus::Side;
@@ -18,7 +18,7 @@ pub struct ManagedLink {
     pub(crate) era: Era,
     pub(crate) to_host: LaneView,
     pub(crate) to_remote: LaneView,
-    pub(crate) calls: Vec<Option<CarriedCall>>,
+    pub(crate) calls: Vec<CallSlot>,
     pub(crate) host: Vec<Hand>,
     pub(crate) remote: Vec<Hand>,
     ghost known: { (m : LinkRings) × IsKnown manager m } by { known_prop manager },

@@ -74,7 +74,7 @@ impl ManagedLink {
             Some(End::Remote) => &self.remote,
             None => unreachable!(),
         };
-        match &hands[place_of(hands, number, caller)].held {
+        match hands[place_of(hands, number, caller)].held.place() {
             Some(held) => held.message().bytes(),
             None => unreachable!(),
         }

@@ -1,62 +1,32 @@
 //! What a call of a managed link takes from the buffers in hand and brings to them, and what stands beside once its end is settled.
-ghost use Rattle.std.specs.Prelude.{◌≡◌, ◌<◌, ◌^◌, map, true, Some, IfSome, MatchOption, vec_capacity};
-ghost use Rattle.lane_model.specs.Answers.{given_back, wish_of};
-ghost use Rattle.lane_model.specs.Lanes.{holds};
-ghost use Rattle.split_ring.specs.Calls.{call_end};
-ghost use Rattle.managed_link.specs.Hands.{AreSome, IsPutIn, IsTakenOut, holding_of};
-ghost use Rattle.managed_link.specs.Settles.{CanGive, HasRoomFor, answer_buffer, held_behind, incoming_view, outgoing_view, with_new_hand};
+ghost use Rattle.std.specs.Prelude.{◌≡◌, ◌<◌, ◌^◌, map, Option, Some, MatchOption, vec_capacity};
+ghost use Rattle.lane_model.specs.HeldBuffers.{HeldBuffer};
+ghost use Rattle.managed_link.specs.Hands.{AreSome, IsTakenOut, holding_of};
+ghost use Rattle.managed_link.specs.Steps.{IsAsking};
+ghost use Rattle.managed_link.specs.Settles.{CanGive, HasRoomFor, held_behind, incoming_view, outgoing_view, with_new_hand};
 
-use crate::hands::{Hand, drop_hand, put_in, take_out};
+use crate::call_slots::CallSlot;
+use crate::hands::{Hand, HeldSlot, drop_hand, take_out};
 use crate::views::LaneView;
-use lane_model::{Answer, Ask, CallEnd, Wish};
-use rp_base::CallerNo;
+use lane_model::{CallEnd, Wish};
+use rp_base::{CallerNo, Inc};
 
-/// What a caller asks that wishes this. The buffer that it gives back goes with it.
-pub(crate) fn ask_for(hands: &mut Vec<Hand>, caller: CallerNo, wished: &Wish) -> Ask
+/// A call of this caller begins in its slot, which asks for what is wished. The buffer that it gives back goes with it.
+pub(crate) fn ask_for(
+    hands: &mut Vec<Hand>,
+    caller: CallerNo,
+    follows: Inc,
+    wished: &Wish,
+    slot: &mut CallSlot,
+)
     requires { CanGive hands.old.items caller wished.now }
-    ensures wish { wish_of result ≡ wished.now }
-    ensures hands { MatchOption (given_back result) (hands.new.items ≡ hands.old.items) (λ held. IsTakenOut held.number caller (Some held) hands.old.items hands.new.items) }
+    ensures asking { (given : Option HeldBuffer) × IsAsking follows wished.now given slot.new
+        × MatchOption given (hands.new.items ≡ hands.old.items) (λ held. IsTakenOut held.number caller (Some held) hands.old.items hands.new.items) }
     ensures room { vec_capacity hands.new ≡ vec_capacity hands.old }
 {
     match wished {
-        Wish::Send(message) => Ask::Send(message.copy()),
-        Wish::Take => Ask::Take,
-        Wish::Give(number) => match take_out(hands, *number, caller) {
-            Some(held) => Ask::Give(held),
-            None => unreachable!(),
-        },
-        Wish::Bind(address) => Ask::Bind(*address),
-        Wish::Unbind(address) => Ask::Unbind(*address),
-    }
-}
-
-/// How a call ended with this answer. The buffer in it is here.
-pub(crate) fn ended_with(hands: &mut Vec<Hand>, answer: Answer) -> CallEnd
-    requires { IfSome (answer_buffer answer) (λ held. holds (map holding_of hands.old.items) held.number held.caller ≡ true) }
-    ensures end { result ≡ call_end answer }
-    ensures hands { MatchOption (answer_buffer answer) (hands.new.items ≡ hands.old.items) (λ held. IsPutIn held hands.old.items hands.new.items) }
-    ensures room { vec_capacity hands.new ≡ vec_capacity hands.old }
-{
-    match answer {
-        Answer::Took(held, verdict) => {
-            let number = held.number();
-            put_in(hands, held);
-            CallEnd::Took(number, verdict)
-        }
-        Answer::GiveBusy(holder, held) => {
-            put_in(hands, held);
-            CallEnd::Busy(holder)
-        }
-        Answer::Sent(number) => CallEnd::Sent(number),
-        Answer::Gave(number) => CallEnd::Gave(number),
-        Answer::Bound(endpoint) => CallEnd::Bound(endpoint),
-        Answer::Unbound(endpoint) => CallEnd::Unbound(endpoint),
-        Answer::Busy(holder) => CallEnd::Busy(holder),
-        Answer::Dead(era) => CallEnd::Dead(era),
-        Answer::NoBuffer(accepted, returned) => CallEnd::NoBuffer(accepted, returned),
-        Answer::BookFull(accepted) => CallEnd::BookFull(accepted),
-        Answer::Empty(accepted) => CallEnd::Empty(accepted),
-        Answer::Refused(fault) => CallEnd::Refused(fault),
+        Wish::Give(number) => take_out(hands, *number, caller, follows, slot),
+        _ => slot.ask(follows, wished),
     }
 }
 
@@ -84,7 +54,7 @@ pub(crate) fn learn(
             hands.push_reserved(Hand {
                 caller,
                 number: *number,
-                held: None,
+                held: HeldSlot::empty(),
             });
             incoming.handed += 1;
         }

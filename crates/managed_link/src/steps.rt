@@ -1,7 +1,8 @@
 //! The steps of the calls of a managed link.
-ghost use Rattle.std.specs.Prelude.{◌≡◌, ◌<◌, ◌^◌, is_some, map, true, None, Some, IfSome, MatchOption, vec_capacity};
+ghost use Rattle.std.specs.Prelude.{◌≡◌, ◌<◌, ◌^◌, is_some, map, true, Option, None, Some, IfSome, MatchOption, vec_capacity};
 ghost use Rattle.rp_base.specs.declared.kinds.End.{End};
-ghost use Rattle.lane_model.specs.Answers.{given_back, outcome_of, wish_of};
+ghost use Rattle.lane_model.specs.Answers.{outcome_of};
+ghost use Rattle.lane_model.specs.HeldBuffers.{HeldBuffer};
 ghost use Rattle.lane_model.specs.declared.calls.Answer.{Answer};
 ghost use Rattle.lane_model.specs.Conditions.{MayStep};
 ghost use Rattle.lane_model.specs.Lanes.{holds};
@@ -11,26 +12,27 @@ ghost use Rattle.link_words.specs.Words.{other};
 ghost use Rattle.split_ring.specs.Callers.{IsManagerOf, IsStateOf};
 ghost use Rattle.split_ring.specs.Calls.{call_end};
 ghost use Rattle.split_ring.specs.Carried.{Carries};
-ghost use Rattle.split_ring.specs.Phases.{IsUnderWay, answer_in};
-ghost use Rattle.managed_link.specs.declared.callers.CarriedCall.{CarriedCall};
+ghost use Rattle.split_ring.specs.Phases.{IsUnderWay, answer_in, settled_end};
+ghost use Rattle.split_ring.specs.Stages.{answer_buffer};
+ghost use Rattle.managed_link.specs.declared.call_slots.CarriedCall.{CarriedCall};
 ghost use Rattle.managed_link.specs.EndCodes.{end_coded};
 ghost use Rattle.managed_link.specs.Hands.{AreSome, IsPutIn, IsTakenOut, holding_of};
 ghost use Rattle.managed_link.specs.Known.{LinkRings, lists_of, on_rings};
 ghost use Rattle.managed_link.specs.Managed.{caller_id};
-ghost use Rattle.managed_link.specs.Settles.{CanGive, HasRoomFor, answer_buffer};
-ghost use Rattle.managed_link.specs.Steps.{AdvancesCall, hands_learnt, held_learnt, incoming_begun, incoming_learnt, of_end, outgoing_begun, outgoing_learnt, settled_in};
+ghost use Rattle.managed_link.specs.Settles.{CanGive, HasRoomFor};
+ghost use Rattle.managed_link.specs.Steps.{AdvancesCall, IsAnsweredIn, IsAsking, hands_learnt, held_learnt, incoming_begun, incoming_learnt, of_end, outgoing_begun, outgoing_learnt, settled_in};
 ghost use Rattle.managed_link.specs.Taken.{HoldsStepTaken};
 ghost use Rattle.managed_link.specs.Views.{if_other};
 
-use crate::callers::CarriedCall;
-use crate::hands::Hand;
+use crate::call_slots::CallSlot;
+use crate::hands::{Hand, put_in};
 use crate::links::ManagedLink;
-use crate::settles::{ask_for, ended_with, learn};
+use crate::settles::{ask_for, learn};
 use crate::views::LaneView;
 use channel_bus::Side;
-use lane_model::{Ask, CallEnd, Step, Wish};
+use lane_model::{CallEnd, Step, Wish};
 use rp_base::{CallerNo, End, Inc};
-use split_ring::{Manager, SharedLink};
+use split_ring::{Manager, RingCall, SharedLink};
 
 impl ManagedLink {
     /// Step 1 of a call of this caller: takes the turn that it needs. Where another has it, the call ends, and `end` says how.
@@ -50,9 +52,15 @@ impl ManagedLink {
             unreachable!()
         };
         let place = usize::from(caller);
-        let ask = ask_at(side, caller, wished, &mut self.host, &mut self.remote);
-        let call = self.shared.begin_call(ask);
-        self.calls[place] = Some(CarriedCall { follows, call });
+        ask_at(
+            side,
+            caller,
+            follows,
+            wished,
+            &mut self.calls[place],
+            &mut self.host,
+            &mut self.remote,
+        );
         let step = advance_in(
             &self.shared,
             &mut self.manager,
@@ -119,57 +127,64 @@ fn advance_in(
     shared: &SharedLink<Side>,
     manager: &mut Manager,
     caller: CallerNo,
-    slot: &mut Option<CarriedCall>,
+    slot: &mut CallSlot,
 ) -> Step
     requires manager { IsManagerOf shared.now manager.old }
     requires call { (end : End) × (carried : CarriedCall) × (slot.old ≡ Some carried) × Carries shared.now manager.old (caller_id caller end carried.follows) carried.call.phase × IsUnderWay carried.call.phase }
     ensures { (end : End) (carried : CarriedCall) (m : LinkRings) → end_of manager.old.users caller ≡ Some end → slot.old ≡ Some carried → IsStateOf end_coded manager.old m
         → AdvancesCall shared.now manager.old (caller_id caller end carried.follows) carried.call.phase m result manager.new slot.new }
 {
-    match slot {
-        Some(carried) => { shared.step_by(manager, caller, carried.follows, &mut carried.call) }
-        None => unreachable!(),
+    if !slot.is_used {
+        unreachable!()
     }
+    shared.step_by(
+        manager,
+        caller,
+        slot.carried.follows,
+        &mut slot.carried.call,
+    )
 }
 
 /// Whether there is a call in this slot of which it is settled how it ends.
-fn is_settled(slot: &Option<CarriedCall>) -> bool
+fn is_settled(slot: &CallSlot) -> bool
     ensures { result ≡ is_some (settled_in slot.now) }
 {
-    match slot {
+    match slot.carried() {
         Some(carried) => carried.call.is_settled(),
         None => false,
     }
 }
 
 /// How the call in this slot ends, where that is settled.
-fn settled_in(slot: &Option<CarriedCall>) -> Option<CallEnd>
+fn settled_in(slot: &CallSlot) -> Option<CallEnd>
     ensures { result ≡ settled_in slot.now }
 {
-    match slot {
+    match slot.carried() {
         Some(carried) => carried.call.settled(),
         None => None,
     }
 }
 
-/// What a caller of this end asks that wishes this. The buffer that it gives back goes with it.
+/// A call of a caller of this end begins in its slot, which asks for what is wished. The buffer that it gives back goes with it.
 fn ask_at(
     side: End,
     caller: CallerNo,
+    follows: Inc,
     wished: &Wish,
+    slot: &mut CallSlot,
     host: &mut Vec<Hand>,
     remote: &mut Vec<Hand>,
-) -> Ask
+)
     requires { CanGive (of_end side host.old remote.old).items caller wished.now }
-    ensures wish { wish_of result ≡ wished.now }
-    ensures hands { MatchOption (given_back result) ((of_end side host.new remote.new).items ≡ (of_end side host.old remote.old).items)
+    ensures asking { (given : Option HeldBuffer) × IsAsking follows wished.now given slot.new
+        × MatchOption given ((of_end side host.new remote.new).items ≡ (of_end side host.old remote.old).items)
         (λ held. IsTakenOut held.number caller (Some held) (of_end side host.old remote.old).items (of_end side host.new remote.new).items) }
     ensures room { vec_capacity (of_end side host.new remote.new) ≡ vec_capacity (of_end side host.old remote.old) }
     ensures beside { of_end (other side) host.new remote.new ≡ of_end (other side) host.old remote.old }
 {
     match side {
-        End::Host => ask_for(host, caller, wished),
-        End::Remote => ask_for(remote, caller, wished),
+        End::Host => ask_for(host, caller, follows, wished, slot),
+        End::Remote => ask_for(remote, caller, follows, wished, slot),
     }
 }
 
@@ -213,7 +228,7 @@ fn free_turns(side: End, caller: CallerNo, to_host: &mut LaneView, to_remote: &m
 fn learn_at(
     side: End,
     caller: CallerNo,
-    slot: &Option<CarriedCall>,
+    slot: &CallSlot,
     to_host: &mut LaneView,
     to_remote: &mut LaneView,
     host: &mut Vec<Hand>,
@@ -243,61 +258,37 @@ fn learn_at(
 }
 
 /// The call of a caller of this end, in this slot, has ended: how. The buffer in its answer is in hand again, and the slot is free.
-fn end_at(
-    side: End,
-    slot: &mut Option<CarriedCall>,
-    host: &mut Vec<Hand>,
-    remote: &mut Vec<Hand>,
-) -> CallEnd
-    requires { (carried : CarriedCall) × (answer : Answer) × (slot.old ≡ Some carried) × (answer_in carried.call.phase ≡ Some answer)
-        × IfSome (answer_buffer answer) (λ held. holds (map holding_of (of_end side host.old remote.old).items) held.number held.caller ≡ true) }
+fn end_at(side: End, slot: &mut CallSlot, host: &mut Vec<Hand>, remote: &mut Vec<Hand>) -> CallEnd
+    requires { (answer : Answer) × IsAnsweredIn slot.old answer × IfSome (answer_buffer answer) (λ held. holds (map holding_of (of_end side host.old remote.old).items) held.number held.caller ≡ true) }
     ensures free { slot.new ≡ None }
-    ensures end { (carried : CarriedCall) (answer : Answer) → slot.old ≡ Some carried → answer_in carried.call.phase ≡ Some answer → result ≡ call_end answer }
-    ensures hands { (carried : CarriedCall) (answer : Answer) → slot.old ≡ Some carried → answer_in carried.call.phase ≡ Some answer
+    ensures end { (answer : Answer) → IsAnsweredIn slot.old answer → result ≡ call_end answer }
+    ensures hands { (answer : Answer) → IsAnsweredIn slot.old answer
         → MatchOption (answer_buffer answer) ((of_end side host.new remote.new).items ≡ (of_end side host.old remote.old).items)
         (λ held. IsPutIn held (of_end side host.old remote.old).items (of_end side host.new remote.new).items) }
     ensures room { vec_capacity (of_end side host.new remote.new) ≡ vec_capacity (of_end side host.old remote.old) }
     ensures beside { of_end (other side) host.new remote.new ≡ of_end (other side) host.old remote.old }
 {
-    match side {
-        End::Host => end_in(slot, host),
-        End::Remote => end_in(slot, remote),
-    }
+    let end = match (slot.carried(), side) {
+        (Some(carried), End::Host) => end_call(&carried.call, host),
+        (Some(carried), End::Remote) => end_call(&carried.call, remote),
+        (None, _) => unreachable!(),
+    };
+    slot.clear();
+    end
 }
 
-/// The call in this slot has ended: how. The buffer in its answer is among these hands again, and the slot is free.
-fn end_in(slot: &mut Option<CarriedCall>, hands: &mut Vec<Hand>) -> CallEnd
-    requires { (carried : CarriedCall) × (answer : Answer) × (slot.old ≡ Some carried) × (answer_in carried.call.phase ≡ Some answer)
-        × IfSome (answer_buffer answer) (λ held. holds (map holding_of hands.old.items) held.number held.caller ≡ true) }
-    ensures free { slot.new ≡ None }
-    ensures end { (carried : CarriedCall) (answer : Answer) → slot.old ≡ Some carried → answer_in carried.call.phase ≡ Some answer → result ≡ call_end answer }
-    ensures hands { (carried : CarriedCall) (answer : Answer) → slot.old ≡ Some carried → answer_in carried.call.phase ≡ Some answer
-        → MatchOption (answer_buffer answer) (hands.new.items ≡ hands.old.items) (λ held. IsPutIn held hands.old.items hands.new.items) }
+/// How a call ended. The buffer in its answer is among these hands again.
+fn end_call(call: &RingCall<Side>, hands: &mut Vec<Hand>) -> CallEnd
+    requires { (answer : Answer) × (answer_in call.now.phase ≡ Some answer) × IfSome (answer_buffer answer) (λ held. holds (map holding_of hands.old.items) held.number held.caller ≡ true) }
+    ensures end { settled_end call.now.phase ≡ Some result }
+    ensures hands { (answer : Answer) → answer_in call.now.phase ≡ Some answer → MatchOption (answer_buffer answer) (hands.new.items ≡ hands.old.items) (λ held. IsPutIn held hands.old.items hands.new.items) }
     ensures room { vec_capacity hands.new ≡ vec_capacity hands.old }
 {
-    match settled_in(slot) {
-        Some(CallEnd::Took(_, _) | CallEnd::Busy(_)) => take_end(slot, hands),
-        Some(end) => {
-            *slot = None;
-            end
-        }
-        None => unreachable!(),
+    if let Some(held) = call.held() {
+        put_in(hands, held);
     }
-}
-
-/// The same of a call whose answer may have a buffer.
-#[inline(never)]
-fn take_end(slot: &mut Option<CarriedCall>, hands: &mut Vec<Hand>) -> CallEnd
-    requires { (carried : CarriedCall) × (answer : Answer) × (slot.old ≡ Some carried) × (answer_in carried.call.phase ≡ Some answer)
-        × IfSome (answer_buffer answer) (λ held. holds (map holding_of hands.old.items) held.number held.caller ≡ true) }
-    ensures free { slot.new ≡ None }
-    ensures end { (carried : CarriedCall) (answer : Answer) → slot.old ≡ Some carried → answer_in carried.call.phase ≡ Some answer → result ≡ call_end answer }
-    ensures hands { (carried : CarriedCall) (answer : Answer) → slot.old ≡ Some carried → answer_in carried.call.phase ≡ Some answer
-        → MatchOption (answer_buffer answer) (hands.new.items ≡ hands.old.items) (λ held. IsPutIn held hands.old.items hands.new.items) }
-    ensures room { vec_capacity hands.new ≡ vec_capacity hands.old }
-{
-    match slot.take() {
-        Some(carried) => ended_with(hands, carried.call.into_answer()),
+    match call.settled() {
+        Some(end) => end,
         None => unreachable!(),
     }
 }

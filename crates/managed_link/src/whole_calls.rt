@@ -12,12 +12,12 @@ ghost use Rattle.managed_link.specs.Known.{lists_of, on_rings};
 ghost use Rattle.managed_link.specs.Settles.{HasRoomFor, held_behind, incoming_view, outgoing_view};
 ghost use Rattle.managed_link.specs.Taken.{HoldsTaken};
 
-use crate::hands::{Hand, drop_hand};
+use crate::hands::{Hand, HeldSlot, drop_hand};
 use crate::links::ManagedLink;
 use crate::views::LaneView;
-use lane_model::{CallEnd, Held, Step, Wish};
-use rp_base::{Buffer, CallerNo, End, Inc, Message};
-use split_ring::{CallerId, Handing, SendFault, TakeFault};
+use lane_model::{CallEnd, Step, Wish};
+use rp_base::{CallerNo, End, Inc, Message};
+use split_ring::{CallerId, Handing, HeldPlace, SendFault, TakeFault};
 
 impl ManagedLink {
     /// A whole call of this caller; `steps` counts its steps. Then `end` says how it ended.
@@ -176,16 +176,6 @@ fn sent_end(sent: Result<u64, SendFault>, outgoing: &mut LaneView) -> CallEnd
     }
 }
 
-/// The number of the lane to an end.
-fn lane_number(end: End) -> u8
-    ensures { result ≡ lane_number end }
-{
-    match end {
-        End::Host => 0,
-        End::Remote => 1,
-    }
-}
-
 /// How a take of this caller ended with this answer, which read the bytes into this message. A buffer that it was handed is here.
 #[inline(always)]
 fn took_end(
@@ -204,23 +194,12 @@ fn took_end(
 {
     match taken {
         Ok(handing) => {
-            let Handing {
-                number,
-                buffer,
-                verdict,
-            } = handing;
+            let number = handing.number;
+            let verdict = handing.verdict;
             hands.push_reserved(Hand {
                 caller: who.number,
                 number,
-                held: Some(Held::of(
-                    lane_number(who.end),
-                    who.number,
-                    number,
-                    Buffer {
-                        id: buffer,
-                        message,
-                    },
-                )),
+                held: HeldSlot::of(HeldPlace::handed(who, handing, message)),
             });
             incoming.handed += 1;
             CallEnd::Took(number, verdict)

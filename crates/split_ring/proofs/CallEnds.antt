@@ -45,8 +45,8 @@ use Rattle.split_ring.specs.declared.callers.Caller.{Caller}
 use Rattle.split_ring.specs.declared.callers.CallerId.{CallerId}
 use Rattle.split_ring.specs.declared.calls.RingCall.{RingCall}
 use Rattle.split_ring.specs.declared.links.SharedLink.{SharedLink}
-use Rattle.split_ring.specs.declared.calls.Phase.{Phase}
-use Rattle.split_ring.specs.declared.calls.Phase.TheVariants as phase
+use Rattle.split_ring.specs.CallPhases.{Phase}
+use Rattle.split_ring.specs.CallPhases as phase
 use Rattle.split_ring.specs.declared.sends.SendFault.TheVariants as fault
 use Rattle.split_ring.specs.declared.takes.TakeFault.TheVariants as take_fault
 use Rattle.split_ring.proofs.CallSteps.{and_then, counted}

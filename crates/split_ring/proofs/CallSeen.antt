@@ -17,7 +17,7 @@ use Rattle.split_ring.specs.Receives.{hands_after, hands_left}
 use Rattle.split_ring.specs.Seats.{pass_in}
 use Rattle.split_ring.specs.Walks.{HasDone, same_hands}
 use Rattle.split_ring.specs.declared.callers.CallerId.{CallerId}
-use Rattle.split_ring.specs.declared.calls.Phase.{Phase}
+use Rattle.split_ring.specs.CallPhases.{Phase}
 use Rattle.split_ring.specs.declared.gives.GiveBusy.{GiveBusy}
 use Rattle.split_ring.specs.declared.sends.SendFault.{SendFault}
 use Rattle.split_ring.specs.declared.sends.SendFault.TheVariants as fault

@@ -21,8 +21,8 @@ use Rattle.link_words.specs.Sides.{no_sides}
 use Rattle.link_words.proofs.Users.{end_else, end_here, free_is}
 use Rattle.split_ring.specs.declared.callers.CallerId.{CallerId}
 use Rattle.split_ring.specs.declared.callers.Manager.{Manager}
-use Rattle.split_ring.specs.declared.calls.Phase.{Phase}
-use Rattle.split_ring.specs.declared.calls.Phase.TheVariants as phase
+use Rattle.split_ring.specs.CallPhases.{Phase}
+use Rattle.split_ring.specs.CallPhases as phase
 use Rattle.split_ring.specs.declared.links.SharedLink.{SharedLink}
 use Rattle.lane_model.specs.declared.calls.Ask.{Ask}
 use Rattle.split_ring.specs.Callers.{IsManagerOf}

@@ -11,7 +11,7 @@ use Rattle.link_words.specs.Calls.{SeatState, call_at, has_side, with_pass_at}
 use Rattle.link_words.specs.Orderly.{IsOrderly}
 use Rattle.link_words.specs.Passes.{only_pass, place_of_number}
 use Rattle.split_ring.specs.declared.callers.CallerId.{CallerId}
-use Rattle.split_ring.specs.declared.calls.Phase.{Phase}
+use Rattle.split_ring.specs.CallPhases.{Phase}
 use Rattle.split_ring.specs.Carried.{HasBlocks, carried_at, out_before, turned_by, turned_to}
 use Rattle.split_ring.specs.Focus.{LeavesOthers, behind, count_of, front, seat_of, slot_count}
 use Rattle.split_ring.specs.Phases.{side_of, slots_in}

@@ -26,8 +26,8 @@ use Rattle.link_words.specs.Passes.{HasNumber, only_pass, place_of_number}
 use Rattle.link_words.specs.Words.{other, sender_slot, receiver_slot}
 use Rattle.split_ring.specs.declared.binds.DeskAsk.TheVariants as asks
 use Rattle.split_ring.specs.declared.callers.CallerId.{CallerId}
-use Rattle.split_ring.specs.declared.calls.Phase.{Phase}
-use Rattle.split_ring.specs.declared.calls.Phase.TheVariants as phase
+use Rattle.split_ring.specs.CallPhases.{Phase}
+use Rattle.split_ring.specs.CallPhases as phase
 use Rattle.lane_model.specs.declared.calls.Ask.{Ask}
 use Rattle.lane_model.specs.declared.calls.Ask.TheVariants as ask
 use Rattle.split_ring.specs.Calls.{IsInPhase, IsOwnAsk, StandsAt}

@@ -39,8 +39,8 @@ use Rattle.link_words.specs.Calls.{SeatState, Notes, noted, with_pass_at}
 use Rattle.link_words.specs.Passes.{Manages, HasNumber, place_of_number}
 use Rattle.split_ring.specs.declared.callers.Caller.{Caller}
 use Rattle.split_ring.specs.declared.callers.CallerId.{CallerId}
-use Rattle.split_ring.specs.declared.calls.Phase.{Phase}
-use Rattle.split_ring.specs.declared.calls.Phase.TheVariants as phase
+use Rattle.split_ring.specs.CallPhases.{Phase}
+use Rattle.split_ring.specs.CallPhases as phase
 use Rattle.split_ring.specs.declared.links.SharedLink.{SharedLink}
 use Rattle.split_ring.specs.declared.sends.SendCall.{SendCall}
 use Rattle.split_ring.specs.declared.takes.TakeCall.{TakeCall}

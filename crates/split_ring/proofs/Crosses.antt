@@ -7,7 +7,6 @@ use denote.Param.Send.{IsSend, IsSync, sendable, recorded_send, recorded_sync, s
 use Rattle.lane_model.specs.declared.desks.Desk.{Ghosts}
 use Rattle.atomic_table.proofs.owned.Table.TheSendSync as table
 use Rattle.atomic_table.proofs.shared.Seat.TheSendSync as seat
-use Rattle.lane_model.proofs.helds.Held.TheSendSync as held
 use Rattle.link_words.proofs.sides.ReceiverState.TheSendSync as receiver
 use Rattle.link_words.specs.contracts.rule.Slot as Slot
 use Rattle.rp_base.proofs.messages.Message.TheSendSync as message
@@ -16,10 +15,12 @@ use Rattle.std.proofs.Crossing.{crosses}
 use Rattle.split_ring.specs.contracts.binds.DeskAsk as DeskAsk
 use Rattle.split_ring.specs.contracts.callers.Caller as Caller
 use Rattle.split_ring.specs.contracts.callers.Manager as Manager
-use Rattle.split_ring.specs.contracts.calls.Phase as Phase
 use Rattle.split_ring.specs.contracts.calls.RingCall as RingCall
 use Rattle.split_ring.specs.contracts.links.SharedLink.{the_type, the_row}
 use Rattle.split_ring.specs.contracts.sends.SendCall as SendCall
+use Rattle.split_ring.specs.contracts.stages.Phase as Phase
+use Rattle.split_ring.specs.contracts.stages.Stage as Stage
+use Rattle.split_ring.proofs.held_places.HeldPlace.TheSendSync as place
 use Rattle.split_ring.specs.contracts.takes.TakeCall as TakeCall
 
 pub slot_send : IsSend Slot.the_row
@@ -60,8 +61,11 @@ take_call_send = search (sendable, crosses) depth 20
 ask_send : IsSend (DeskAsk.the_field).row
 ask_send = search (sendable, crosses) depth 20
 
+stage_send : IsSend (Stage.the_field).row
+stage_send = search (sendable, crosses, send_call_send, take_call_send, ask_send) depth 100 fits 100000
+
 phase_send : IsSend (Phase.the_field).row
-phase_send = search (sendable, message.the_send, held.the_send, send_call_send, take_call_send, ask_send) depth 100 fits 100000
+phase_send = search (sendable, crosses, stage_send, place.the_send) depth 100 fits 100000
 
 pub call_send : (D : RattleType) → IsSend D → IsSend (RingCall.the_row D)
 call_send D s = search (sendable, crosses, phase_send) depth 20

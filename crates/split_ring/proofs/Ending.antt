@@ -19,7 +19,7 @@ use Rattle.link_words.specs.Sides.{no_sides}
 use Rattle.link_words.proofs.Users.{end_else}
 use Rattle.split_ring.specs.declared.callers.CallerId.{CallerId}
 use Rattle.split_ring.specs.declared.callers.Manager.{Manager}
-use Rattle.split_ring.specs.declared.calls.Phase.{Phase}
+use Rattle.split_ring.specs.CallPhases.{Phase}
 use Rattle.split_ring.specs.declared.links.SharedLink.{SharedLink}
 use Rattle.split_ring.specs.Carried.{Keeps, HasBlocks}
 use Rattle.split_ring.specs.Callers.{IsManagerOf}

@@ -43,6 +43,7 @@ pub mod CarriedEnds
 pub mod Ending
 pub mod Emptied
 pub mod Outcomes
+pub mod FitAsks
 pub mod StepLanes
 pub mod Runs
 pub mod SendRuns

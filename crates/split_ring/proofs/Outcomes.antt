@@ -57,8 +57,8 @@ use Rattle.link_words.specs.Turns.{turns_in}
 use Rattle.link_words.specs.Words.{lane_to, other, receiver_word, sender_word, words_of}
 use Rattle.split_ring.specs.declared.binds.DeskAsk.TheVariants as asks
 use Rattle.split_ring.specs.declared.callers.CallerId.{CallerId}
-use Rattle.split_ring.specs.declared.calls.Phase.{Phase}
-use Rattle.split_ring.specs.declared.calls.Phase.TheVariants as phase
+use Rattle.split_ring.specs.CallPhases.{Phase}
+use Rattle.split_ring.specs.CallPhases as phase
 use Rattle.split_ring.specs.Calls.{IsInPhase, call_end}
 use Rattle.split_ring.specs.Focus.{ShowsCall, seat_of}
 use Rattle.split_ring.specs.Phases.{IsEndOf, IsNext, give_steps, holder_for, outcome_said, send_steps, steps_in, take_steps}

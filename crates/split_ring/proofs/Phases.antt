@@ -7,8 +7,8 @@ use Rattle.lane_model.specs.declared.stages.TakeStage.TheVariants as take_stage
 use Rattle.link_words.specs.Calls.{SeatState}
 use Rattle.split_ring.specs.declared.binds.DeskAsk.TheVariants as asks
 use Rattle.split_ring.specs.declared.callers.CallerId.{CallerId}
-use Rattle.split_ring.specs.declared.calls.Phase.{Phase}
-use Rattle.split_ring.specs.declared.calls.Phase.TheVariants as phase
+use Rattle.split_ring.specs.CallPhases.{Phase}
+use Rattle.split_ring.specs.CallPhases as phase
 use Rattle.split_ring.specs.Calls.{IsInPhase}
 use Rattle.split_ring.specs.Focus.{IsAlone}
 use Rattle.split_ring.specs.Seats.{pass_in}

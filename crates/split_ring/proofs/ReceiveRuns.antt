@@ -20,8 +20,8 @@ use Rattle.link_words.specs.Calls.{SeatState}
 use Rattle.link_words.specs.Deeds.{Steps, after_deed}
 use Rattle.link_words.specs.PlacedLinks.{KnowsState}
 use Rattle.split_ring.specs.declared.callers.CallerId.{CallerId}
-use Rattle.split_ring.specs.declared.calls.Phase.{Phase}
-use Rattle.split_ring.specs.declared.calls.Phase.TheVariants as phase
+use Rattle.split_ring.specs.CallPhases.{Phase}
+use Rattle.split_ring.specs.CallPhases as phase
 use Rattle.split_ring.specs.declared.takes.TakeCall.{TakeCall}
 use Rattle.split_ring.specs.Calls.{IsInPhase}
 use Rattle.split_ring.specs.Focus.{StaysAlone, StepsAlone, seat_of}

@@ -43,7 +43,7 @@ use Rattle.link_words.specs.Words.{lane_to, other}
 use Rattle.link_words.proofs.Placed.{state_after}
 use Rattle.split_ring.specs.declared.callers.CallerId.{CallerId}
 use Rattle.split_ring.specs.declared.callers.Manager.{Manager}
-use Rattle.split_ring.specs.declared.calls.Phase.{Phase}
+use Rattle.split_ring.specs.CallPhases.{Phase}
 use Rattle.split_ring.specs.declared.ends.TurnHeld.{TurnHeld}
 use Rattle.split_ring.specs.declared.ends.TurnHeld.TheVariants as held
 use Rattle.split_ring.specs.declared.links.SharedLink.{SharedLink}

@@ -22,8 +22,8 @@ use Rattle.link_words.specs.Deeds.{Steps}
 use Rattle.link_words.specs.PlacedLinks.{KnowsState}
 use Rattle.link_words.specs.Words.{other, sender_slot}
 use Rattle.split_ring.specs.declared.callers.CallerId.{CallerId}
-use Rattle.split_ring.specs.declared.calls.Phase.{Phase}
-use Rattle.split_ring.specs.declared.calls.Phase.TheVariants as phase
+use Rattle.split_ring.specs.CallPhases.{Phase}
+use Rattle.split_ring.specs.CallPhases as phase
 use Rattle.split_ring.specs.declared.sends.SendCall.{SendCall}
 use Rattle.split_ring.specs.declared.sends.SendFault.{SendFault}
 use Rattle.split_ring.specs.declared.sends.SendFault.TheVariants as fault

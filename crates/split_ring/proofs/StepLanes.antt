@@ -56,8 +56,8 @@ use Rattle.link_words.specs.Words.{lane_to, other, receiver_slot, sender_slot}
 use Rattle.split_ring.specs.declared.binds.DeskAsk.{DeskAsk}
 use Rattle.split_ring.specs.declared.binds.DeskAsk.TheVariants as asks
 use Rattle.split_ring.specs.declared.callers.CallerId.{CallerId}
-use Rattle.split_ring.specs.declared.calls.Phase.{Phase}
-use Rattle.split_ring.specs.declared.calls.Phase.TheVariants as phase
+use Rattle.split_ring.specs.CallPhases.{Phase}
+use Rattle.split_ring.specs.CallPhases as phase
 use Rattle.split_ring.specs.declared.sends.SendCall.{SendCall}
 use Rattle.split_ring.specs.declared.takes.TakeCall.{TakeCall}
 use Rattle.split_ring.specs.Binds.{desk_work}

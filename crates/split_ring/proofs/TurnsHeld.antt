@@ -19,8 +19,8 @@ use Rattle.link_words.specs.Calls.{SeatState}
 use Rattle.link_words.specs.Turns.{is_manager}
 use Rattle.link_words.specs.Words.{other, receiver_slot, sender_slot, buffer_slot}
 use Rattle.split_ring.specs.declared.callers.CallerId.{CallerId}
-use Rattle.split_ring.specs.declared.calls.Phase.{Phase}
-use Rattle.split_ring.specs.declared.calls.Phase.TheVariants as phase
+use Rattle.split_ring.specs.CallPhases.{Phase}
+use Rattle.split_ring.specs.CallPhases as phase
 use Rattle.split_ring.specs.Phases.{slots_in}
 use Rattle.split_ring.specs.Reclaims.{HasReceive, HasSend, HasTurnHeld, StandsIn, turn_in, turn_slots}
 use Rattle.split_ring.specs.Seats.{IsAt}

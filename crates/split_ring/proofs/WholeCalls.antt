@@ -13,8 +13,8 @@ use Rattle.ring_core.specs.declared.states.RingState.{RingState}
 use Rattle.link_words.specs.declared.rule.Call.TheVariants.{Rests}
 use Rattle.split_ring.specs.declared.callers.CallerId.{CallerId}
 use Rattle.split_ring.specs.declared.callers.Manager.{Manager}
-use Rattle.split_ring.specs.declared.calls.Phase.{Phase}
-use Rattle.split_ring.specs.declared.calls.Phase.TheVariants as phase
+use Rattle.split_ring.specs.CallPhases.{Phase}
+use Rattle.split_ring.specs.CallPhases as phase
 use Rattle.split_ring.specs.declared.links.SharedLink.{SharedLink}
 use Rattle.split_ring.specs.Callers.{IsManagerOf, IsStateOf}
 use Rattle.split_ring.specs.Carried.{CarriesIdle, Keeps, carried_seat}

@@ -47,8 +47,8 @@ use Rattle.split_ring.specs.declared.binds.DeskAsk.TheVariants as asks
 use Rattle.split_ring.specs.declared.binds.DeskFault.{DeskFault}
 use Rattle.split_ring.specs.declared.binds.DeskFault.TheVariants as desk_fault
 use Rattle.split_ring.specs.declared.callers.CallerId.{CallerId}
-use Rattle.split_ring.specs.declared.calls.Phase.{Phase}
-use Rattle.split_ring.specs.declared.calls.Phase.TheVariants as phase
+use Rattle.split_ring.specs.CallPhases.{Phase}
+use Rattle.split_ring.specs.CallPhases as phase
 use Rattle.split_ring.specs.declared.gives.GiveBusy.{GiveBusy}
 use Rattle.split_ring.specs.declared.sends.SendCall.{SendCall}
 use Rattle.split_ring.specs.declared.sends.SendFault.{SendFault}

@@ -7,6 +7,7 @@ pub mod Walks
 pub mod Sends
 pub mod Receives
 pub mod Binds
+pub mod CallPhases
 pub mod Calls
 pub mod Closes
 pub mod NotBelow
@@ -20,6 +21,7 @@ pub mod States
 pub mod Reopens
 pub mod ManagerCalls
 pub mod Snapshots
+pub mod Stages
 pub mod Phases
 pub mod Carried
 pub mod Handed

@@ -30,8 +30,8 @@ use Rattle.ring_core.specs.declared.states.RingState.{RingState}
 use Rattle.link_words.specs.Words.{lane_to, other, sender_slot, receiver_slot}
 use Rattle.split_ring.specs.Calls.{call_end, send_answer, take_answer}
 use Rattle.split_ring.specs.Focus.{send_count, work_count}
-use Rattle.split_ring.specs.declared.calls.Phase.{Phase}
-use Rattle.split_ring.specs.declared.calls.Phase.TheVariants as phase
+use Rattle.split_ring.specs.CallPhases.{Phase}
+use Rattle.split_ring.specs.CallPhases as phase
 use Rattle.split_ring.specs.declared.sends.SendCall.{SendCall}
 use Rattle.split_ring.specs.declared.sends.SendFault.{SendFault}
 use Rattle.split_ring.specs.declared.takes.TakeCall.{TakeCall}
@@ -151,41 +151,38 @@ abbrev pub outcome_said : Progress → Outcome
 outcome_said (progress.At number) = outcome.At number
 outcome_said (progress.Done answer) = outcome.Ended (call_end answer)
 
--- how a call ends whose end is settled
-abbrev pub settled_end : Phase → Option CallEnd
-settled_end (phase.LeavesSender said) = Some (call_end said)
-settled_end (phase.LeavesReceiver said) = Some (call_end said)
-settled_end other = None
-
--- the answer that is settled in a phase
+-- the answer that is settled in a phase, and how the call ends with it
 abbrev pub answer_in : Phase → Option Answer
 answer_in (phase.LeavesSender said) = Some said
 answer_in (phase.LeavesReceiver said) = Some said
 answer_in other = None
 
+abbrev pub settled_end : Phase → Option CallEnd
+settled_end settled = option_map call_end (answer_in settled)
+
 -- what a step says that left its call in this phase, and the phase behind it: one that ended the call left its answer there. A call that goes on
 -- has done a step, so none says 0
-abbrev pub ending_said : Option Answer → Progress
-ending_said (Some said) = progress.Done said
-ending_said None = progress.At 0
+abbrev pub ending_progress : Option Answer → Progress
+ending_progress (Some said) = progress.Done said
+ending_progress None = progress.At 0
 
-abbrev pub said_by : Step → Phase → Progress
-said_by (step.At number) left = progress.At number
-said_by step.Ended left = ending_said (answer_in left)
+abbrev pub progress_of : Step → Phase → Progress
+progress_of (step.At number) left = progress.At number
+progress_of step.Ended left = ending_progress (answer_in left)
 
-abbrev pub left_by : Step → Phase → Phase
-left_by (step.At number) left = left
-left_by step.Ended left = phase.Ended
+abbrev pub phase_behind : Step → Phase → Phase
+phase_behind (step.At number) left = left
+phase_behind step.Ended left = phase.Ended
 
 -- the phase of a send, a take or a give behind a later step, by the stage that is done and by what is settled
-abbrev pub send_left : Option (Result ℕ SendFault) → SendStage → SendCall → List ℕ → Phase
-send_left None stage call message = phase.Sends stage call message
-send_left (Some sent) stage call message = phase.LeavesSender (send_answer sent)
+abbrev pub send_phase : Option (Result ℕ SendFault) → SendStage → SendCall → List ℕ → Phase
+send_phase None stage call message = phase.Sends stage call message
+send_phase (Some sent) stage call message = phase.LeavesSender (send_answer sent)
 
-abbrev pub take_left : Option TakeFault → TakeStage → TakeCall → ℕ → Phase
-take_left None stage call buffer = phase.Takes stage call buffer
-take_left (Some fault) stage call buffer = phase.LeavesReceiver (take_answer (Err fault))
+abbrev pub take_phase : Option TakeFault → TakeStage → TakeCall → ℕ → Phase
+take_phase None stage call buffer = phase.Takes stage call buffer
+take_phase (Some fault) stage call buffer = phase.LeavesReceiver (take_answer (Err fault))
 
-abbrev pub give_left : Option ℕ → GiveStage → HeldBuffer → ℕ → Phase
-give_left None stage held returned = phase.Gives stage held returned
-give_left (Some number) stage held returned = phase.LeavesReceiver (answer.Gave number)
+abbrev pub give_phase : Option ℕ → GiveStage → HeldBuffer → ℕ → Phase
+give_phase None stage held returned = phase.Gives stage held returned
+give_phase (Some number) stage held returned = phase.LeavesReceiver (answer.Gave number)

@@ -42,8 +42,8 @@ use Rattle.link_words.specs.Steps.{HasWord}
 use Rattle.link_words.specs.Turns.{is_manager}
 use Rattle.link_words.specs.Words.{lane_to, other, receiver_word, sender_slot, receiver_slot, buffer_slot}
 use Rattle.split_ring.specs.declared.callers.CallerId.{CallerId}
-use Rattle.split_ring.specs.declared.calls.Phase.{Phase}
-use Rattle.split_ring.specs.declared.calls.Phase.TheVariants as phase
+use Rattle.split_ring.specs.CallPhases.{Phase}
+use Rattle.split_ring.specs.CallPhases as phase
 use Rattle.split_ring.specs.declared.calls.RingCall.{RingCall}
 use Rattle.split_ring.specs.declared.ends.TurnHeld.{TurnHeld}
 use Rattle.split_ring.specs.declared.ends.TurnHeld.TheVariants as held

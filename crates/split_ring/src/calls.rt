@@ -1,15 +1,16 @@
 //! A call taken step by step: in which phase it is, and one step of it.
-ghost use Rattle.std.specs.Prelude.{◌≡◌, ◌≢◌, ◌+◌, ◌∷◌, [], ◌<◌, ℕ, Some, Err, is_some, true};
+ghost use Rattle.std.specs.Prelude.{◌≡◌, ◌≢◌, ◌+◌, ◌∷◌, [], ◌<◌, ℕ, None, Some, Err, is_some, option_and_then, option_copied, true};
 ghost use Rattle.lane_model.specs.declared.calls.Answer.TheVariants as answer;
 ghost use Rattle.lane_model.specs.declared.calls.Ask.{Ask};
 ghost use Rattle.lane_model.specs.declared.calls.Ask.TheVariants as ask;
 ghost use Rattle.lane_model.specs.declared.calls.Progress.TheVariants as progress;
 ghost use Rattle.lane_model.specs.declared.calls.Step.TheVariants as done;
+ghost use Rattle.lane_model.specs.declared.calls.Wish.TheVariants as wish;
 ghost use Rattle.lane_model.specs.declared.lane_links.LaneLink.{LaneLink};
 ghost use Rattle.lane_model.specs.declared.stages.GiveStage.TheVariants as give_stage;
 ghost use Rattle.lane_model.specs.declared.stages.TakeStage.TheVariants as take_stage;
 ghost use Rattle.lane_model.specs.HeldBuffers.{HeldBuffer};
-ghost use Rattle.lane_model.specs.Answers.{wish_of, busy_answer};
+ghost use Rattle.lane_model.specs.Answers.{busy_answer, given_back, wish_of};
 ghost use Rattle.lane_model.specs.Links.{form_step};
 ghost use Rattle.ring_core.specs.declared.states.RingState.{RingState};
 ghost use Rattle.ring_core.specs.RingSteps.{ring_form};
@@ -18,7 +19,7 @@ ghost use Rattle.link_words.specs.declared.rule.Made.TheVariants as made;
 ghost use Rattle.link_words.specs.Calls.{SeatState};
 ghost use Rattle.link_words.specs.Deeds.{after_deed};
 ghost use Rattle.link_words.specs.PlacedLinks.{KnowsState};
-ghost use Rattle.split_ring.specs.declared.calls.Phase.TheVariants as in_phase;
+ghost use Rattle.split_ring.specs.CallPhases as in_phase;
 ghost use Rattle.split_ring.specs.Calls.{call_end, deed_of, send_answer, take_answer, desk_said, hands_in, IsInPhase, IsOwnAsk, IsShort, IsPath, Advances};
 ghost use Rattle.split_ring.specs.Callers.{IsAdvanced, MayAdvance, StepNotBelow, TakesStep};
 ghost use Rattle.split_ring.specs.declared.callers.CallerId.{CallerId};
@@ -26,46 +27,27 @@ ghost use Rattle.split_ring.specs.declared.callers.Manager.{Manager};
 ghost use Rattle.split_ring.specs.Carried.{MayAdvanceBy, MayAskBy};
 ghost use Rattle.split_ring.specs.Focus.{IsOrderlySeat, StaysAlone, StepsAlone, seat_of};
 ghost use Rattle.split_ring.specs.Handed.{HandsBufferOf, StepsLanes};
-ghost use Rattle.split_ring.specs.Phases.{IsNext, IsUnderWay, IsUnsettled, KeepsBuffer, answer_in, asked_side, give_left, give_steps, left_by, outcome_said, said_by, send_left, send_steps, settled_end, side_of, steps_in, take_left, take_steps, wished_in};
+ghost use Rattle.split_ring.specs.Phases.{IsNext, IsUnderWay, IsUnsettled, KeepsBuffer, answer_in, asked_side, give_phase, give_steps, phase_behind, outcome_said, progress_of, send_phase, send_steps, settled_end, side_of, steps_in, take_phase, take_steps, wished_in};
 ghost use Rattle.split_ring.specs.Seats.{pass_in};
+ghost use Rattle.split_ring.specs.Stages.{answer_buffer};
 ghost use Rattle.split_ring.specs.declared.takes.TakeCall.{TakeCall};
 ghost use Rattle.split_ring.specs.Turns.{HasBegun};
 ghost use Rattle.split_ring.specs.Walks.{HasDone, same_hands};
 
 use crate::binds::{DeskAsk, DeskFault, desk_result};
 use crate::callers::{Caller, CallerId};
+use crate::held_places::HeldPlace;
 use crate::links::SharedLink;
 use crate::sends::{SendCall, SendFault};
-use crate::takes::{TakeCall, TakeFault, taken_of};
+use crate::stages::{Phase, Request, Stage};
+use crate::takes::{TakeCall, TakeFault};
 use crate::turns::other;
 use lane_model::{
-    Answer, Ask, CallEnd, Desk, GiveStage, Held, LaneTurn, Progress, SendStage, Step, TakeStage,
+    Ask, CallEnd, Desk, GiveStage, LaneTurn, Progress, SendStage, Step, TakeStage, Wish,
 };
-use link_words::{Intent, LinkSeat};
+use link_words::LinkSeat;
 use rp_base::{CallerNo, Endpoint, Message};
 use std::marker::PhantomData;
-use std::mem;
-
-/// The step that a call has done last, with what the next one needs.
-#[derive(Drop)]
-pub(crate) enum Phase {
-    /// No step is done.
-    Asked(Ask),
-    /// A send has done the step of this stage last.
-    Sends(SendStage, SendCall, Message),
-    /// A take has done the step of this stage last. The fourth has this buffer out.
-    Takes(TakeStage, TakeCall, u32),
-    /// A give has done the step of this stage last. By the second so many buffers are back.
-    Gives(GiveStage, Held, u64),
-    /// A binding or an unbinding has its turn.
-    Asks(DeskAsk),
-    /// The end of a send is settled, and it has its turn to leave.
-    LeavesSender(Answer),
-    /// The same of a call that has the receiver's turn.
-    LeavesReceiver(Answer),
-    /// The call has ended.
-    Ended,
-}
 
 /// A call of a caller from its beginning to its end, of which one step is taken at a time.
 #[derive(Drop)]
@@ -75,202 +57,124 @@ pub struct RingCall<D: Desk> {
 }
 
 impl<D: Desk> RingCall<D> {
+    /// A call that has ended. Another begins in its place with `ask` or `give`.
+    pub fn ended() -> RingCall<D>
+        ensures { result.phase ≡ in_phase.Ended }
+    {
+        RingCall {
+            phase: Phase::ended(),
+            marker: PhantomData,
+        }
+    }
+
+    /// Begins a call here that asks for what is wished, anything but to give a buffer back, and has done no step yet.
+    pub fn ask(&mut self, wished: &Wish)
+        requires { (number : ℕ) → wished.now ≢ wish.Give number }
+        ensures { (asked : Ask) × (self.new.phase ≡ in_phase.Asked asked) × (wish_of asked ≡ wished.now) × (given_back asked ≡ None) }
+    {
+        self.phase.ask(wished);
+    }
+
+    /// Begins a call here that gives back the buffer in this place, and has done no step yet.
+    pub fn give(&mut self, held: &HeldPlace)
+        ensures { self.new.phase ≡ in_phase.Asked (ask.Give held.now) }
+    {
+        self.phase.give(held);
+    }
+
     /// How the call ends, once that is settled: its next step is the last one.
     pub fn settled(&self) -> Option<CallEnd>
         ensures { result ≡ settled_end self.now.phase }
     {
-        match &self.phase {
-            Phase::LeavesSender(answer) | Phase::LeavesReceiver(answer) => Some(end_with(answer)),
-            _ => None,
-        }
+        self.phase.settled()
     }
 
     /// Whether it is settled how the call ends.
     pub fn is_settled(&self) -> bool
         ensures { result ≡ is_some (settled_end self.now.phase) }
     {
-        matches!(
-            self.phase,
-            Phase::LeavesSender(_) | Phase::LeavesReceiver(_)
-        )
+        self.phase.is_settled()
     }
 
-    /// The answer of a call whose end is settled.
-    pub fn into_answer(self) -> Answer
-        requires { is_some (settled_end self.phase) ≡ true }
-        ensures { answer_in self.phase ≡ Some result }
+    /// The buffer that its caller is handed, or has back, by the answer that is settled.
+    pub fn held(&self) -> Option<&HeldPlace>
+        ensures { option_copied result ≡ option_and_then answer_buffer (answer_in self.now.phase) }
     {
-        let RingCall { phase, .. } = self;
-        match phase {
-            Phase::LeavesSender(answer) | Phase::LeavesReceiver(answer) => answer,
-            _ => unreachable!(),
-        }
+        self.phase.held()
     }
 }
 
 /// What a step says that left its call in this phase. Where it ended the call, the answer goes out of it.
-pub(crate) fn said_by(step: Step, phase: &mut Phase) -> Progress
+pub(crate) fn progress_of(step: Step, phase: &mut Phase) -> Progress
     requires { step ≡ done.Ended → is_some (settled_end phase.old) ≡ true }
-    ensures said { result ≡ said_by step phase.old }
-    ensures left { phase.new ≡ left_by step phase.old }
+    ensures said { result ≡ progress_of step phase.old }
+    ensures left { phase.new ≡ phase_behind step phase.old }
 {
     match step {
         Step::At(number) => Progress::At(number),
-        Step::Ended => match mem::replace(phase, Phase::Ended) {
-            Phase::LeavesSender(answer) | Phase::LeavesReceiver(answer) => Progress::Done(answer),
-            _ => unreachable!(),
-        },
-    }
-}
-
-/// How many steps a call in this phase has done, before its end is settled.
-fn steps_in(phase: &Phase) -> u8
-    ensures { result ≡ steps_in phase.now }
-{
-    match phase {
-        Phase::Sends(stage, _, _) => match stage {
-            SendStage::Turn => 1,
-            SendStage::Era => 2,
-            SendStage::Look => 3,
-            SendStage::Buffer => 4,
-            SendStage::Entry => 5,
-        },
-        Phase::Takes(stage, _, _) => match stage {
-            TakeStage::Turn => 1,
-            TakeStage::Era => 2,
-            TakeStage::Look => 3,
-            TakeStage::Buffer => 4,
-        },
-        Phase::Gives(stage, _, _) => match stage {
-            GiveStage::Turn => 1,
-            GiveStage::Entry => 2,
-        },
-        Phase::Asks(_) => 1,
-        _ => 0,
-    }
-}
-
-/// The end of a call with this answer.
-fn end_with(answer: &Answer) -> CallEnd
-    ensures { result ≡ call_end answer.now }
-{
-    match answer {
-        Answer::Sent(number) => CallEnd::Sent(*number),
-        Answer::Took(held, verdict) => CallEnd::Took(held.number(), *verdict),
-        Answer::Gave(number) => CallEnd::Gave(*number),
-        Answer::Bound(endpoint) => CallEnd::Bound(*endpoint),
-        Answer::Unbound(endpoint) => CallEnd::Unbound(*endpoint),
-        Answer::Busy(holder) | Answer::GiveBusy(holder, _) => CallEnd::Busy(*holder),
-        Answer::Dead(era) => CallEnd::Dead(*era),
-        Answer::NoBuffer(accepted, returned) => CallEnd::NoBuffer(*accepted, *returned),
-        Answer::BookFull(accepted) => CallEnd::BookFull(*accepted),
-        Answer::Empty(accepted) => CallEnd::Empty(*accepted),
-        Answer::Refused(fault) => CallEnd::Refused(*fault),
-    }
-}
-
-/// What a caller wishes that asks this.
-fn wish_of(ask: &Ask) -> Intent
-    ensures wish { result ≡ wish_of ask.now }
-    ensures short { IsShort result }
-{
-    match ask {
-        Ask::Send(message) => Intent::send(message),
-        Ask::Take => Intent::take(),
-        Ask::Give(held) => Intent::give(held.number()),
-        Ask::Bind(address) => Intent::bind(*address),
-        Ask::Unbind(address) => Intent::unbind(*address),
+        Step::Ended => {
+            let answer = phase.answer();
+            phase.stage = Stage::Ended;
+            Progress::Done(answer)
+        }
     }
 }
 
 /// Another had the turn of a call that has done no step, which ends it.
-#[inline(never)]
 fn refuse(phase: &mut Phase, holder: CallerNo)
     requires { (asked : Ask) × (phase.old ≡ in_phase.Asked asked) }
     ensures { (asked : Ask) → phase.old ≡ in_phase.Asked asked → phase.new ≡ in_phase.LeavesReceiver (busy_answer holder (Some asked)) }
 {
-    match mem::replace(phase, Phase::Ended) {
-        Phase::Asked(ask) => *phase = Phase::LeavesReceiver(busy_answer(holder, ask)),
-        _ => unreachable!(),
-    }
-}
-
-/// The answer where another had the turn: a give hands its buffer back.
-fn busy_answer(holder: CallerNo, ask: Ask) -> Answer
-    ensures { result ≡ busy_answer holder (Some ask) }
-{
-    match ask {
-        Ask::Give(held) => Answer::GiveBusy(holder, held),
-        Ask::Send(_) | Ask::Take | Ask::Bind(_) | Ask::Unbind(_) => Answer::Busy(holder),
-    }
-}
-
-/// What a send says.
-fn send_answer(sent: Result<u64, SendFault>) -> Answer
-    ensures { result ≡ send_answer sent }
-{
-    match sent {
-        Ok(number) => Answer::Sent(number),
-        Err(SendFault::Busy(holder)) => Answer::Busy(holder),
-        Err(SendFault::Dead(era)) => Answer::Dead(era),
-        Err(SendFault::NoBuffer(accepted, returned)) => Answer::NoBuffer(accepted, returned),
-        Err(SendFault::BookFull(accepted)) => Answer::BookFull(accepted),
-    }
+    phase.stage = match phase.stage {
+        Stage::Asked(Request::Give) => Stage::HandsBack(holder),
+        _ => Stage::LeavesReceiver(CallEnd::Busy(holder)),
+    };
 }
 
 /// The end of a send is settled.
-#[inline(never)]
 fn settle_send(phase: &mut Phase, sent: Result<u64, SendFault>)
     ensures { phase.new ≡ in_phase.LeavesSender (send_answer sent) }
 {
-    *phase = Phase::LeavesSender(send_answer(sent));
+    phase.stage = Stage::LeavesSender(match sent {
+        Ok(number) => CallEnd::Sent(number),
+        Err(SendFault::Busy(holder)) => CallEnd::Busy(holder),
+        Err(SendFault::Dead(era)) => CallEnd::Dead(era),
+        Err(SendFault::NoBuffer(accepted, returned)) => CallEnd::NoBuffer(accepted, returned),
+        Err(SendFault::BookFull(accepted)) => CallEnd::BookFull(accepted),
+    });
 }
 
 /// A take is settled that is handed nothing.
-#[inline(never)]
 fn settle_take(phase: &mut Phase, fault: TakeFault)
     ensures { phase.new ≡ in_phase.LeavesReceiver (take_answer (Err fault)) }
 {
-    *phase = Phase::LeavesReceiver(match fault {
-        TakeFault::Busy(holder) => Answer::Busy(holder),
-        TakeFault::Dead(era) => Answer::Dead(era),
-        TakeFault::Empty(accepted) => Answer::Empty(accepted),
+    phase.stage = Stage::LeavesReceiver(match fault {
+        TakeFault::Busy(holder) => CallEnd::Busy(holder),
+        TakeFault::Dead(era) => CallEnd::Dead(era),
+        TakeFault::Empty(accepted) => CallEnd::Empty(accepted),
     });
 }
 
 /// A give is settled: the buffer of the message of this number is back.
-#[inline(never)]
 fn settle_give(phase: &mut Phase, number: u64)
     ensures { phase.new ≡ in_phase.LeavesReceiver (answer.Gave number) }
 {
-    *phase = Phase::LeavesReceiver(Answer::Gave(number));
+    phase.stage = Stage::LeavesReceiver(CallEnd::Gave(number));
 }
 
-/// A give has its turn.
-#[inline(never)]
-fn begin_give(phase: &mut Phase)
-    requires { (held : HeldBuffer) × (phase.old ≡ in_phase.Asked (ask.Give held)) }
-    ensures { (held : HeldBuffer) → phase.old ≡ in_phase.Asked (ask.Give held) → phase.new ≡ in_phase.Gives give_stage.Turn held 0 }
+/// A binding or an unbinding is settled.
+fn settle_desk(phase: &mut Phase, asked: DeskAsk, answer: Result<Endpoint, DeskFault>)
+    ensures { phase.new ≡ in_phase.LeavesReceiver (desk_said asked answer) }
 {
-    match mem::replace(phase, Phase::Ended) {
-        Phase::Asked(Ask::Give(held)) => *phase = Phase::Gives(GiveStage::Turn, held, 0),
-        _ => unreachable!(),
-    }
-}
-
-/// What a binding or an unbinding says.
-fn desk_said(asked: DeskAsk, answer: Result<Endpoint, DeskFault>) -> Answer
-    ensures { result ≡ desk_said asked answer }
-{
-    match answer {
+    phase.stage = Stage::LeavesReceiver(match answer {
         Ok(endpoint) => match asked {
-            DeskAsk::Bind(_) => Answer::Bound(endpoint),
-            DeskAsk::Unbind(_) => Answer::Unbound(endpoint),
+            DeskAsk::Bind(_) => CallEnd::Bound(endpoint),
+            DeskAsk::Unbind(_) => CallEnd::Unbound(endpoint),
         },
-        Err(DeskFault::Busy(holder)) => Answer::Busy(holder),
-        Err(DeskFault::Dead(era)) => Answer::Dead(era),
-        Err(DeskFault::Bind(fault)) => Answer::Refused(fault),
-    }
+        Err(DeskFault::Busy(holder)) => CallEnd::Busy(holder),
+        Err(DeskFault::Dead(era)) => CallEnd::Dead(era),
+        Err(DeskFault::Bind(fault)) => CallEnd::Refused(fault),
+    });
 }
 
 impl<D: Desk> SharedLink<D> {
@@ -280,7 +184,7 @@ impl<D: Desk> SharedLink<D> {
         ensures carried { (manager : Manager) (who : CallerId) → MayAskBy self.now manager who ask → MayAdvanceBy self.now manager who result }
     {
         RingCall {
-            phase: Phase::Asked(ask),
+            phase: Phase::asked(ask),
             marker: PhantomData,
         }
     }
@@ -294,7 +198,7 @@ impl<D: Desk> SharedLink<D> {
         ensures seen { StepNotBelow D.row.coded D.meaning self.now caller.old call.old result caller.new }
     {
         let step = self.step_on(&mut caller.seat, caller.id, &mut call.phase);
-        said_by(step, &mut call.phase)
+        progress_of(step, &mut call.phase)
     }
 
     /// The next step of the call of a seat in this phase, which it leaves in place. A step that ends the call leaves its answer there.
@@ -303,44 +207,49 @@ impl<D: Desk> SharedLink<D> {
         requires number { ((pass_in (seat_of who.number seat.old.me)).number ≡ who.number) × (who.number < 64) }
         requires stands { IsInPhase self.now.sizes who phase.old (seat_of who.number seat.old.me) }
         ensures seat { IsOrderlySeat self.now.table.shared.table_id self.now.sizes seat.new.table_id seat.new.me }
-        ensures step { Advances D.row.coded D.meaning self.now.sizes who phase.old (said_by result phase.new) (left_by result phase.new) (seat_of who.number seat.old.me) (seat_of who.number seat.new.me) }
+        ensures step { Advances D.row.coded D.meaning self.now.sizes who phase.old (progress_of result phase.new) (phase_behind result phase.new) (seat_of who.number seat.old.me) (seat_of who.number seat.new.me) }
         ensures alone { StepsAlone D.row.coded D.meaning who.number (deed_of who phase.old) seat.old.me seat.new.me }
-        ensures next { IsNext who.end phase.old (said_by result phase.new) (left_by result phase.new) }
-        ensures said { (m : LaneLink (RingState D)) → KnowsState D.row.coded seat.old.me.0 m → outcome_said (said_by result phase.new) ≡ (form_step (ring_form D.meaning) D.meaning m who.number who.follows (wished_in phase.old)).outcome }
-        ensures lanes { (m : LaneLink (RingState D)) → KnowsState D.row.coded seat.old.me.0 m → StepsLanes who (left_by result phase.new) m (after_deed D.meaning m (deed_of who phase.old)) }
+        ensures next { IsNext who.end phase.old (progress_of result phase.new) (phase_behind result phase.new) }
+        ensures said { (m : LaneLink (RingState D)) → KnowsState D.row.coded seat.old.me.0 m → outcome_said (progress_of result phase.new) ≡ (form_step (ring_form D.meaning) D.meaning m who.number who.follows (wished_in phase.old)).outcome }
+        ensures lanes { (m : LaneLink (RingState D)) → KnowsState D.row.coded seat.old.me.0 m → StepsLanes who (phase_behind result phase.new) m (after_deed D.meaning m (deed_of who phase.old)) }
     {
-        let number = steps_in(phase) + 1;
-        match phase {
-            Phase::Asked(_) => return self.first_step(seat, who, phase),
-            Phase::Sends(stage, call, message) => {
-                if let Some(sent) = self.send_step(seat, who, stage, call, message) {
+        let number = phase.steps() + 1;
+        let Phase { stage, place } = phase;
+        match stage {
+            Stage::Asked(_) => return self.first_step(seat, who, phase),
+            Stage::Sends(stage, call) => {
+                if let Some(sent) = self.send_step(seat, who, stage, call, &place.message) {
                     settle_send(phase, sent);
                 }
             }
-            Phase::Takes(TakeStage::Buffer, _, _) => self.hand_step(seat, who, phase),
-            Phase::Takes(stage, call, buffer) => {
+            Stage::Takes(TakeStage::Buffer, _, _) => self.hand_step(seat, who, phase),
+            Stage::Takes(stage, call, buffer) => {
                 if let Some(fault) = self.take_step(seat, who, stage, call, buffer) {
                     settle_take(phase, fault);
                 }
             }
-            Phase::Gives(stage, held, returned) => {
-                if let Some(given) = self.give_step(seat, who, stage, held, returned) {
+            Stage::Gives(stage, returned) => {
+                if let Some(given) = self.give_step(seat, who, stage, place, returned) {
                     settle_give(phase, given);
                 }
             }
-            Phase::Asks(asked) => {
+            Stage::Asks(asked) => {
                 let asked = *asked;
                 self.desk_step(seat, who, asked, phase);
             }
-            Phase::LeavesSender(_) => {
+            Stage::LeavesSender(_) => {
                 self.leave(seat, who.number, other(who.end), LaneTurn::Sender);
                 return Step::Ended;
             }
-            Phase::LeavesReceiver(_) => {
+            Stage::LeavesReceiver(_) => {
                 self.leave(seat, who.number, who.end, LaneTurn::Receiver);
                 return Step::Ended;
             }
-            Phase::Ended => unreachable!(),
+            Stage::HandsBack(_) => {
+                self.leave(seat, who.number, who.end, LaneTurn::Receiver);
+                return Step::Ended;
+            }
+            Stage::Ended => unreachable!(),
         }
         Step::At(number)
     }
@@ -352,16 +261,13 @@ impl<D: Desk> SharedLink<D> {
         requires number { ((pass_in (seat_of who.number seat.old.me)).number ≡ who.number) × (who.number < 64) }
         requires stands { (asked : Ask) × (phase.old ≡ in_phase.Asked asked) × IsInPhase self.now.sizes who (in_phase.Asked asked) (seat_of who.number seat.old.me) }
         ensures seat { IsOrderlySeat self.now.table.shared.table_id self.now.sizes seat.new.table_id seat.new.me }
-        ensures step { Advances D.row.coded D.meaning self.now.sizes who phase.old (said_by result phase.new) (left_by result phase.new) (seat_of who.number seat.old.me) (seat_of who.number seat.new.me) }
+        ensures step { Advances D.row.coded D.meaning self.now.sizes who phase.old (progress_of result phase.new) (phase_behind result phase.new) (seat_of who.number seat.old.me) (seat_of who.number seat.new.me) }
         ensures alone { StepsAlone D.row.coded D.meaning who.number (deed_of who phase.old) seat.old.me seat.new.me }
-        ensures next { IsNext who.end phase.old (said_by result phase.new) (left_by result phase.new) }
-        ensures said { (m : LaneLink (RingState D)) → KnowsState D.row.coded seat.old.me.0 m → outcome_said (said_by result phase.new) ≡ (form_step (ring_form D.meaning) D.meaning m who.number who.follows (wished_in phase.old)).outcome }
-        ensures lanes { (m : LaneLink (RingState D)) → KnowsState D.row.coded seat.old.me.0 m → StepsLanes who (left_by result phase.new) m (after_deed D.meaning m (deed_of who phase.old)) }
+        ensures next { IsNext who.end phase.old (progress_of result phase.new) (phase_behind result phase.new) }
+        ensures said { (m : LaneLink (RingState D)) → KnowsState D.row.coded seat.old.me.0 m → outcome_said (progress_of result phase.new) ≡ (form_step (ring_form D.meaning) D.meaning m who.number who.follows (wished_in phase.old)).outcome }
+        ensures lanes { (m : LaneLink (RingState D)) → KnowsState D.row.coded seat.old.me.0 m → StepsLanes who (phase_behind result phase.new) m (after_deed D.meaning m (deed_of who phase.old)) }
     {
-        let wish = match phase {
-            Phase::Asked(ask) => wish_of(ask),
-            _ => unreachable!(),
-        };
+        let wish = phase.intent();
         match self.enter(seat, who, wish) {
             Ok(()) => {
                 self.begin_turn(seat, who, phase);
@@ -388,24 +294,24 @@ impl<D: Desk> SharedLink<D> {
         ensures unsettled { IsUnsettled phase.new }
         ensures buffer { KeepsBuffer phase.old phase.new }
     {
-        match phase {
-            Phase::Asked(Ask::Send(message)) => {
-                let call = self.send_begun(seat, who, message);
-                let message = message.copy();
-                *phase = Phase::Sends(SendStage::Turn, call, message);
+        let Phase { stage, place } = phase;
+        match stage {
+            Stage::Asked(Request::Send) => {
+                let call = self.send_begun(seat, who, &place.message);
+                *stage = Stage::Sends(SendStage::Turn, call);
             }
-            Phase::Asked(Ask::Take) => {
+            Stage::Asked(Request::Take) => {
                 let call = self.take_begun(seat, who);
-                *phase = Phase::Takes(TakeStage::Turn, call, 0);
+                *stage = Stage::Takes(TakeStage::Turn, call, 0);
             }
-            Phase::Asked(Ask::Give(_)) => begin_give(phase),
-            Phase::Asked(Ask::Bind(address)) => {
+            Stage::Asked(Request::Give) => *stage = Stage::Gives(GiveStage::Turn, 0),
+            Stage::Asked(Request::Bind(address)) => {
                 let asked = DeskAsk::Bind(*address);
-                *phase = Phase::Asks(asked);
+                *stage = Stage::Asks(asked);
             }
-            Phase::Asked(Ask::Unbind(address)) => {
+            Stage::Asked(Request::Unbind(address)) => {
                 let asked = DeskAsk::Unbind(*address);
-                *phase = Phase::Asks(asked);
+                *stage = Stage::Asks(asked);
             }
             _ => unreachable!(),
         }
@@ -423,9 +329,9 @@ impl<D: Desk> SharedLink<D> {
         requires seat { IsOrderlySeat self.now.table.shared.table_id self.now.sizes seat.old.table_id seat.old.me }
         requires stands { IsInPhase self.now.sizes who (in_phase.Sends stage.old call.old message.now) (seat_of who.number seat.old.me) }
         ensures seat { IsOrderlySeat self.now.table.shared.table_id self.now.sizes seat.new.table_id seat.new.me }
-        ensures step { Advances D.row.coded D.meaning self.now.sizes who (in_phase.Sends stage.old call.old message.now) (progress.At (send_steps stage.old + 1)) (send_left result stage.new call.new message.now) (seat_of who.number seat.old.me) (seat_of who.number seat.new.me) }
+        ensures step { Advances D.row.coded D.meaning self.now.sizes who (in_phase.Sends stage.old call.old message.now) (progress.At (send_steps stage.old + 1)) (send_phase result stage.new call.new message.now) (seat_of who.number seat.old.me) (seat_of who.number seat.new.me) }
         ensures alone { StepsAlone D.row.coded D.meaning who.number (deed_of who (in_phase.Sends stage.old call.old message.now)) seat.old.me seat.new.me }
-        ensures next { IsNext who.end (in_phase.Sends stage.old call.old message.now) (progress.At (send_steps stage.old + 1)) (send_left result stage.new call.new message.now) }
+        ensures next { IsNext who.end (in_phase.Sends stage.old call.old message.now) (progress.At (send_steps stage.old + 1)) (send_phase result stage.new call.new message.now) }
     {
         match stage {
             SendStage::Turn => match self.find_send_era(seat, call) {
@@ -465,10 +371,10 @@ impl<D: Desk> SharedLink<D> {
         requires early { stage.old ≢ take_stage.Buffer }
         requires stands { IsInPhase self.now.sizes who (in_phase.Takes stage.old call.now buffer.old) (seat_of who.number seat.old.me) }
         ensures seat { IsOrderlySeat self.now.table.shared.table_id self.now.sizes seat.new.table_id seat.new.me }
-        ensures step { Advances D.row.coded D.meaning self.now.sizes who (in_phase.Takes stage.old call.now buffer.old) (progress.At (take_steps stage.old + 1)) (take_left result stage.new call.now buffer.new) (seat_of who.number seat.old.me) (seat_of who.number seat.new.me) }
+        ensures step { Advances D.row.coded D.meaning self.now.sizes who (in_phase.Takes stage.old call.now buffer.old) (progress.At (take_steps stage.old + 1)) (take_phase result stage.new call.now buffer.new) (seat_of who.number seat.old.me) (seat_of who.number seat.new.me) }
         ensures alone { StepsAlone D.row.coded D.meaning who.number (deed_of who (in_phase.Takes stage.old call.now buffer.old)) seat.old.me seat.new.me }
-        ensures next { IsNext who.end (in_phase.Takes stage.old call.now buffer.old) (progress.At (take_steps stage.old + 1)) (take_left result stage.new call.now buffer.new) }
-        ensures nothing { HandsBufferOf self.now.sizes call.now buffer.old (take_left result stage.new call.now buffer.new) (seat_of who.number seat.old.me) }
+        ensures next { IsNext who.end (in_phase.Takes stage.old call.now buffer.old) (progress.At (take_steps stage.old + 1)) (take_phase result stage.new call.now buffer.new) }
+        ensures nothing { HandsBufferOf self.now.sizes call.now buffer.old (take_phase result stage.new call.now buffer.new) (seat_of who.number seat.old.me) }
     {
         match stage {
             TakeStage::Turn => match self.find_take_era(seat, call) {
@@ -500,20 +406,21 @@ impl<D: Desk> SharedLink<D> {
         ensures next { IsNext who.end phase.old (progress.At 5) phase.new }
         ensures handed { (call : TakeCall) (buffer : ℕ) → phase.old ≡ in_phase.Takes take_stage.Buffer call buffer → HandsBufferOf self.now.sizes call buffer phase.new (seat_of who.number seat.old.me) }
     {
-        let mut message = Message::empty();
-        let answer = match phase {
-            Phase::Takes(_, call, buffer) => {
-                match self.hand_over(seat, call, *buffer, &mut message) {
-                    Ok(handing) => {
-                        let taken = taken_of(call.who, handing, message);
-                        Answer::Took(taken.held, taken.verdict)
-                    }
-                    Err(era) => Answer::Dead(era),
-                }
-            }
+        let Phase { stage, place } = phase;
+        let (call, buffer) = match stage {
+            Stage::Takes(_, call, buffer) => (*call, *buffer),
             _ => unreachable!(),
         };
-        *phase = Phase::LeavesReceiver(answer);
+        let handing = match self.hand_over(seat, &call, buffer, &mut place.message) {
+            Ok(handing) => handing,
+            Err(era) => {
+                *stage = Stage::LeavesReceiver(CallEnd::Dead(era));
+                return;
+            }
+        };
+        let end = CallEnd::Took(handing.number, handing.verdict);
+        place.hold(call.who, handing);
+        *stage = Stage::LeavesReceiver(end);
     }
 
     /// A later step of a give: the number of its message, once its end is settled.
@@ -522,15 +429,15 @@ impl<D: Desk> SharedLink<D> {
         seat: &mut LinkSeat,
         who: CallerId,
         stage: &mut GiveStage,
-        held: &Held,
+        held: &HeldPlace,
         returned: &mut u64,
     ) -> Option<u64>
         requires seat { IsOrderlySeat self.now.table.shared.table_id self.now.sizes seat.old.table_id seat.old.me }
         requires stands { IsInPhase self.now.sizes who (in_phase.Gives stage.old held.now returned.old) (seat_of who.number seat.old.me) }
         ensures seat { IsOrderlySeat self.now.table.shared.table_id self.now.sizes seat.new.table_id seat.new.me }
-        ensures step { Advances D.row.coded D.meaning self.now.sizes who (in_phase.Gives stage.old held.now returned.old) (progress.At (give_steps stage.old + 1)) (give_left result stage.new held.now returned.new) (seat_of who.number seat.old.me) (seat_of who.number seat.new.me) }
+        ensures step { Advances D.row.coded D.meaning self.now.sizes who (in_phase.Gives stage.old held.now returned.old) (progress.At (give_steps stage.old + 1)) (give_phase result stage.new held.now returned.new) (seat_of who.number seat.old.me) (seat_of who.number seat.new.me) }
         ensures alone { StepsAlone D.row.coded D.meaning who.number (deed_of who (in_phase.Gives stage.old held.now returned.old)) seat.old.me seat.new.me }
-        ensures next { IsNext who.end (in_phase.Gives stage.old held.now returned.old) (progress.At (give_steps stage.old + 1)) (give_left result stage.new held.now returned.new) }
+        ensures next { IsNext who.end (in_phase.Gives stage.old held.now returned.old) (progress.At (give_steps stage.old + 1)) (give_phase result stage.new held.now returned.new) }
     {
         let number = held.number();
         match stage {
@@ -557,6 +464,6 @@ impl<D: Desk> SharedLink<D> {
         ensures next { IsNext who.end (in_phase.Asks asked) (progress.At 2) phase.new }
     {
         let answer = desk_result(self.ask_desk(seat, who, asked));
-        *phase = Phase::LeavesReceiver(desk_said(asked, answer));
+        settle_desk(phase, asked, answer);
     }
 }

@@ -1,62 +1,25 @@
 //! The calls of the callers that a manager carries, which are taken step by step.
 ghost use Rattle.std.specs.Prelude.{◌≡◌, ◌≢◌, ◌<◌, ◌≤◌, ℕ, Some, slice_index};
+ghost use Rattle.rp_base.specs.declared.kinds.End.{End};
 ghost use Rattle.lane_model.specs.declared.lane_links.LaneLink.{LaneLink};
 ghost use Rattle.lane_model.specs.Links.{end_of, form_step};
 ghost use Rattle.ring_core.specs.declared.states.RingState.{RingState};
 ghost use Rattle.ring_core.specs.RingSteps.{ring_form};
 ghost use Rattle.link_words.specs.Deeds.{after_deed};
 ghost use Rattle.split_ring.specs.declared.callers.CallerId.{CallerId};
-ghost use Rattle.split_ring.specs.declared.calls.Phase.{Phase};
+ghost use Rattle.split_ring.specs.CallPhases.{Phase};
 ghost use Rattle.split_ring.specs.Callers.{IsManagerOf, IsStateOf};
 ghost use Rattle.split_ring.specs.Calls.{Advances, deed_of};
 ghost use Rattle.split_ring.specs.Carried.{Carries, CarriesOn, Keeps, carried_seat, out_before};
 ghost use Rattle.split_ring.specs.Handed.{StepsLanes};
-ghost use Rattle.split_ring.specs.Phases.{IsNext, IsUnderWay, left_by, outcome_said, said_by, side_of, slots_in, wished_in};
+ghost use Rattle.split_ring.specs.Phases.{IsNext, IsUnderWay, phase_behind, outcome_said, progress_of, side_of, slots_in, wished_in};
 
 use crate::callers::{CallerId, Manager};
-use crate::calls::{Phase, RingCall, said_by};
+use crate::calls::{RingCall, progress_of};
 use crate::links::SharedLink;
-use crate::sends::sender_slot;
 use crate::slots::turn_by;
-use crate::takes::receiver_slot;
-use crate::turns::other;
-use lane_model::{Ask, Desk, Progress, SendStage, Step, TakeStage};
-use rp_base::{CallerNo, End, Inc};
-
-/// The slot of the side state that goes with the turn of a call in this phase, or that it asks for.
-pub(crate) fn side_of(end: End, phase: &Phase) -> usize
-    ensures side { result ≡ side_of end phase.now }
-    ensures within { result < 4 }
-{
-    match phase {
-        Phase::Asked(Ask::Send(_)) | Phase::Sends(_, _, _) | Phase::LeavesSender(_) => {
-            sender_slot(other(end))
-        }
-        Phase::Asked(_)
-        | Phase::Takes(_, _, _)
-        | Phase::Gives(_, _, _)
-        | Phase::Asks(_)
-        | Phase::LeavesReceiver(_)
-        | Phase::Ended => receiver_slot(end),
-    }
-}
-
-/// How many slots are out with a call in this phase.
-fn slots_in(phase: &Phase) -> u8
-    ensures { result ≡ slots_in phase.now }
-{
-    match phase {
-        Phase::Asked(_) | Phase::Ended => 0,
-        Phase::Sends(SendStage::Buffer | SendStage::Entry, _, _)
-        | Phase::Takes(TakeStage::Buffer, _, _) => 2,
-        Phase::Sends(_, _, _)
-        | Phase::Takes(_, _, _)
-        | Phase::Gives(_, _, _)
-        | Phase::Asks(_)
-        | Phase::LeavesSender(_)
-        | Phase::LeavesReceiver(_) => 1,
-    }
-}
+use lane_model::{Desk, Progress, Step};
+use rp_base::{CallerNo, Inc};
 
 impl Manager {
     /// The caller of this number, which is in use, and whose calls follow this incarnation.
@@ -81,11 +44,15 @@ impl Manager {
         requires within { side ≤ 4 }
         ensures { result ≡ out_before side self.now.out }
     {
-        let mut count = 0;
-        for place in 0..side {
-            count += self.out[place];
+        let [host_sender, host_receiver, remote_sender, remote_receiver] = self.out;
+        let to_host = host_sender + host_receiver;
+        match side {
+            0 => 0,
+            1 => host_sender,
+            2 => to_host,
+            3 => to_host + remote_sender,
+            _ => to_host + remote_sender + remote_receiver,
         }
-        count
     }
 }
 
@@ -114,7 +81,7 @@ impl<D: Desk> SharedLink<D> {
             → IsStateOf D.row.coded manager.new (after_deed D.meaning m (deed_of (record { number = caller; end = end; follows = inc }) call.old.phase)) }
     {
         let step = self.step_by(manager, caller, inc, call);
-        said_by(step, &mut call.phase)
+        progress_of(step, &mut call.phase)
     }
 
     /// The same step of the call in its place. One that ends the call leaves its answer there, which
@@ -129,14 +96,14 @@ impl<D: Desk> SharedLink<D> {
         requires manager { IsManagerOf self.now manager.old }
         requires call { (end : End) × Carries self.now manager.old (record { number = caller; end = end; follows = inc }) call.old.phase × IsUnderWay call.old.phase }
         ensures manager { IsManagerOf self.now manager.new × (manager.new.users ≡ manager.old.users) }
-        ensures call { (end : End) → end_of manager.old.users caller ≡ Some end → CarriesOn self.now manager.new (record { number = caller; end = end; follows = inc }) (left_by result call.new.phase) (said_by result call.new.phase) }
+        ensures call { (end : End) → end_of manager.old.users caller ≡ Some end → CarriesOn self.now manager.new (record { number = caller; end = end; follows = inc }) (phase_behind result call.new.phase) (progress_of result call.new.phase) }
         ensures others { (who : CallerId) (p : Phase) → who.number ≢ caller → Keeps self.now manager.old manager.new who p }
         ensures step { (end : End) → end_of manager.old.users caller ≡ Some end → let who : CallerId = record { number = caller; end = end; follows = inc } in
-            Advances D.row.coded D.meaning self.now.sizes who call.old.phase (said_by result call.new.phase) (left_by result call.new.phase) (carried_seat who call.old.phase manager.old) (carried_seat who call.old.phase manager.new) }
-        ensures next { (end : End) → end_of manager.old.users caller ≡ Some end → IsNext end call.old.phase (said_by result call.new.phase) (left_by result call.new.phase) }
+            Advances D.row.coded D.meaning self.now.sizes who call.old.phase (progress_of result call.new.phase) (phase_behind result call.new.phase) (carried_seat who call.old.phase manager.old) (carried_seat who call.old.phase manager.new) }
+        ensures next { (end : End) → end_of manager.old.users caller ≡ Some end → IsNext end call.old.phase (progress_of result call.new.phase) (phase_behind result call.new.phase) }
         ensures lanes { (end : End) → end_of manager.old.users caller ≡ Some end → let who : CallerId = record { number = caller; end = end; follows = inc } in (m : LaneLink (RingState D)) → IsStateOf D.row.coded manager.old m
-            → StepsLanes who (left_by result call.new.phase) m (after_deed D.meaning m (deed_of who call.old.phase)) }
-        ensures said { (m : LaneLink (RingState D)) → IsStateOf D.row.coded manager.old m → outcome_said (said_by result call.new.phase) ≡ (form_step (ring_form D.meaning) D.meaning m caller inc (wished_in call.old.phase)).outcome }
+            → StepsLanes who (phase_behind result call.new.phase) m (after_deed D.meaning m (deed_of who call.old.phase)) }
+        ensures said { (m : LaneLink (RingState D)) → IsStateOf D.row.coded manager.old m → outcome_said (progress_of result call.new.phase) ≡ (form_step (ring_form D.meaning) D.meaning m caller inc (wished_in call.old.phase)).outcome }
         ensures state { (end : End) → end_of manager.old.users caller ≡ Some end → (m : LaneLink (RingState D)) → IsStateOf D.row.coded manager.old m
             → IsStateOf D.row.coded manager.new (after_deed D.meaning m (deed_of (record { number = caller; end = end; follows = inc }) call.old.phase)) }
     {
@@ -149,13 +116,13 @@ impl<D: Desk> SharedLink<D> {
             end,
             follows: inc,
         };
-        let side = side_of(end, &call.phase);
-        let had = slots_in(&call.phase);
+        let side = call.phase.side_of(end);
+        let had = call.phase.slots();
         let before = manager.out_before(side);
         turn_by(&mut manager.seat, before);
         let step = self.step_on(&mut manager.seat, who, &mut call.phase);
         let has = match step {
-            Step::At(_) => slots_in(&call.phase),
+            Step::At(_) => call.phase.slots(),
             Step::Ended => 0,
         };
         manager.out[side] = manager.out[side] + has - had;

@@ -7,8 +7,8 @@ ghost use Rattle.ring_core.specs.declared.states.RingState.{RingState};
 ghost use Rattle.split_ring.specs.Callers.{IsManagerOf, IsStateOf};
 ghost use Rattle.split_ring.specs.Carried.{Carries, Keeps, carried_seat};
 ghost use Rattle.split_ring.specs.declared.callers.CallerId.{CallerId};
-ghost use Rattle.split_ring.specs.declared.calls.Phase.{Phase};
-ghost use Rattle.split_ring.specs.declared.calls.Phase.TheVariants as phase;
+ghost use Rattle.split_ring.specs.CallPhases.{Phase};
+ghost use Rattle.split_ring.specs.CallPhases as phase;
 ghost use Rattle.split_ring.specs.Focus.{KnowsAfter};
 ghost use Rattle.split_ring.specs.ManagerCalls.{EndsState, ReclaimsState};
 ghost use Rattle.split_ring.specs.PartsOf.{IsAllCarried, IsRefusalBy, IsRetireRefusal, TellsHands};
@@ -18,7 +18,6 @@ ghost use Rattle.split_ring.specs.Seats.{pass_in};
 
 use crate::callers::{CallerId, Manager};
 use crate::calls::RingCall;
-use crate::carried::side_of;
 use crate::ends::TurnHeld;
 use crate::links::SharedLink;
 use crate::reclaims::{is_holding, turn_of};
@@ -35,7 +34,7 @@ fn side_with<D: Desk>(end: End, call: &Option<RingCall<D>>) -> usize
     ensures within { result < 4 }
 {
     match call {
-        Some(call) => side_of(end, &call.phase),
+        Some(call) => call.phase.side_of(end),
         None => receiver_slot(end),
     }
 }

@@ -11,7 +11,7 @@ ghost use Rattle.split_ring.specs.Callers.{IsManagerOf, IsStateOf, IsUserOf, IsW
 ghost use Rattle.split_ring.specs.Carried.{Keeps};
 ghost use Rattle.split_ring.specs.Closes.{IsCloseAnswer, HasClosed};
 ghost use Rattle.split_ring.specs.declared.callers.CallerId.{CallerId};
-ghost use Rattle.split_ring.specs.declared.calls.Phase.{Phase};
+ghost use Rattle.split_ring.specs.CallPhases.{Phase};
 ghost use Rattle.split_ring.specs.Seats.{IsSeatOf};
 ghost use Rattle.link_words.specs.Orderly.{IsOrderly};
 

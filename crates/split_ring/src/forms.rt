@@ -1,7 +1,7 @@
 //! A shared link as a form of [`Link`], of which one step is taken at a time. It tells no state: what stands in its words is other callers'
 //! doing too. What a step is the clauses of its methods say.
 ghost use Rattle.std.specs.Prelude.{◌≡◌};
-ghost use Rattle.split_ring.specs.declared.calls.Phase.TheVariants as phase;
+ghost use Rattle.split_ring.specs.CallPhases as phase;
 ghost use Rattle.split_ring.specs.Callers.{IsAdvanced, MayAdvance, StepNotBelow, TakesStep};
 
 use crate::callers::Caller;

@@ -7,7 +7,7 @@ ghost use Rattle.link_words.specs.Histories.{hands_of};
 ghost use Rattle.link_words.specs.Words.{lane_to, other};
 ghost use Rattle.split_ring.specs.declared.callers.CallerId.{CallerId};
 ghost use Rattle.split_ring.specs.declared.callers.Manager.{Manager};
-ghost use Rattle.split_ring.specs.declared.calls.Phase.{Phase};
+ghost use Rattle.split_ring.specs.CallPhases.{Phase};
 ghost use Rattle.split_ring.specs.declared.links.SharedLink.{SharedLink};
 ghost use Rattle.split_ring.specs.Callers.{IsManagerOf, IsStateOf};
 ghost use Rattle.split_ring.specs.Carried.{Carries, carried_seat};

@@ -69,7 +69,7 @@ impl<D: Desk> SharedLink<D> {
     ghost use Rattle.split_ring.specs.Callers.{IsCallerOf, IsManagerOf, IsStateOf};
     ghost use Rattle.split_ring.specs.Carried.{Keeps};
     ghost use Rattle.split_ring.specs.declared.callers.CallerId.{CallerId};
-    ghost use Rattle.split_ring.specs.declared.calls.Phase.{Phase};
+    ghost use Rattle.split_ring.specs.CallPhases.{Phase};
 
     /// A new link, live in its first incarnation, and the one who makes its callers.
     ///

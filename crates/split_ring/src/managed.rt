@@ -13,8 +13,8 @@ ghost use Rattle.split_ring.specs.Callers.{IsManagerOf, IsStateOf};
 ghost use Rattle.split_ring.specs.Carried.{CarriesIdle, IsNew, Keeps, carried_seat};
 ghost use Rattle.split_ring.specs.Gathers.{IsHolderIn};
 ghost use Rattle.split_ring.specs.declared.callers.CallerId.{CallerId};
-ghost use Rattle.split_ring.specs.declared.calls.Phase.{Phase};
-ghost use Rattle.split_ring.specs.declared.calls.Phase.TheVariants as phase;
+ghost use Rattle.split_ring.specs.CallPhases.{Phase};
+ghost use Rattle.split_ring.specs.CallPhases as phase;
 ghost use Rattle.std.specs.Fn.{FnOnceReturnsAt};
 
 use crate::callers::{Manager, least_free};

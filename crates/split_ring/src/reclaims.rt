@@ -4,16 +4,17 @@ ghost use Rattle.link_words.specs.Calls.{SeatState};
 ghost use Rattle.split_ring.specs.Carried.{Keeps};
 ghost use Rattle.split_ring.specs.Callers.{IsManagerOf};
 ghost use Rattle.split_ring.specs.declared.callers.CallerId.{CallerId};
-ghost use Rattle.split_ring.specs.declared.calls.Phase.{Phase};
+ghost use Rattle.split_ring.specs.CallPhases.{Phase};
 ghost use Rattle.split_ring.specs.PartsOf.{AreHeldBy, HoldsItsOwn, HoldsNoOther, IsAllOf, IsReclaimed, IsRefusal, TellsHands};
 ghost use Rattle.split_ring.specs.Reclaims.{has_buffer, phase_of, turn_in};
 
 use crate::callers::{Caller, Manager};
-use crate::calls::{Phase, RingCall};
+use crate::calls::RingCall;
 use crate::ends::TurnHeld;
 use crate::links::SharedLink;
+use crate::stages::{Phase, Request, Stage};
 use crate::turns::era_of;
-use lane_model::{Answer, Ask, Desk, Held, ReclaimRefusal, SendStage, TakeStage};
+use lane_model::{CallEnd, Desk, Held, ReclaimRefusal, SendStage, TakeStage};
 use link_words::{join, learn_era};
 use rp_base::{CallerNo, Era};
 
@@ -39,18 +40,20 @@ pub enum ReclaimFault<D: Desk> {
 fn turn_in(phase: &Phase) -> TurnHeld
     ensures { result ≡ turn_in phase.now }
 {
-    match phase {
-        Phase::Asked(_) | Phase::Ended => TurnHeld::Neither,
-        Phase::Sends(stage, _, _) => match stage {
+    match &phase.stage {
+        Stage::Asked(_) | Stage::Ended => TurnHeld::Neither,
+        Stage::Sends(stage, _) => match stage {
             SendStage::Turn | SendStage::Era | SendStage::Look => TurnHeld::Sender,
             SendStage::Buffer | SendStage::Entry => TurnHeld::SenderAndBuffer,
         },
-        Phase::Takes(stage, _, _) => match stage {
+        Stage::Takes(stage, _, _) => match stage {
             TakeStage::Turn | TakeStage::Era | TakeStage::Look => TurnHeld::Receiver,
             TakeStage::Buffer => TurnHeld::ReceiverAndBuffer,
         },
-        Phase::LeavesSender(_) => TurnHeld::Sender,
-        Phase::Gives(_, _, _) | Phase::Asks(_) | Phase::LeavesReceiver(_) => TurnHeld::Receiver,
+        Stage::LeavesSender(_) => TurnHeld::Sender,
+        Stage::Gives(_, _) | Stage::Asks(_) | Stage::LeavesReceiver(_) | Stage::HandsBack(_) => {
+            TurnHeld::Receiver
+        }
     }
 }
 
@@ -58,13 +61,17 @@ fn turn_in(phase: &Phase) -> TurnHeld
 fn has_buffer(phase: &Phase) -> bool
     ensures { result ≡ has_buffer phase.now }
 {
-    match phase {
-        Phase::Asked(ask) => matches!(ask, Ask::Give(_)),
-        Phase::Gives(_, _, _) => true,
-        Phase::LeavesSender(answer) | Phase::LeavesReceiver(answer) => {
-            matches!(answer, Answer::Took(_, _))
+    match &phase.stage {
+        Stage::Asked(request) => matches!(request, Request::Give),
+        Stage::Gives(_, _) => true,
+        Stage::LeavesSender(end) | Stage::LeavesReceiver(end) => {
+            matches!(end, CallEnd::Took(_, _))
         }
-        Phase::Sends(_, _, _) | Phase::Takes(_, _, _) | Phase::Asks(_) | Phase::Ended => false,
+        Stage::Sends(_, _)
+        | Stage::Takes(_, _, _)
+        | Stage::Asks(_)
+        | Stage::HandsBack(_)
+        | Stage::Ended => false,
     }
 }
 

@@ -116,7 +116,7 @@ impl<D: Desk> SharedLink<D> {
     ghost use Rattle.split_ring.specs.Carried.{Keeps};
     ghost use Rattle.split_ring.specs.ManagerCalls.{ReopensState};
     ghost use Rattle.split_ring.specs.declared.callers.CallerId.{CallerId};
-    ghost use Rattle.split_ring.specs.declared.calls.Phase.{Phase};
+    ghost use Rattle.split_ring.specs.CallPhases.{Phase};
 
     /// Opens the next incarnation, with both lanes empty and both desks reset. The answer is what each lane accepted
     /// and handed over in the one that was closed. Its memory is taken first.

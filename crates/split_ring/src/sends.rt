@@ -18,7 +18,7 @@ ghost use Rattle.link_words.specs.Deeds.{Steps};
 ghost use Rattle.link_words.specs.Parts.{AreNear};
 ghost use Rattle.link_words.specs.PlacedLinks.{KnowsState};
 ghost use Rattle.link_words.specs.Words.{other, sender_slot};
-ghost use Rattle.split_ring.specs.declared.calls.Phase.TheVariants as phase;
+ghost use Rattle.split_ring.specs.CallPhases as phase;
 ghost use Rattle.split_ring.specs.Callers.{IsCallerOf, IsAfterCall, MakesSend, SendNotBelow};
 ghost use Rattle.split_ring.specs.Calls.{send_answer};
 ghost use Rattle.split_ring.specs.Focus.{IsOrderlySeat, LeavesOthers, StaysAlone, StepsAlone, seat_of};

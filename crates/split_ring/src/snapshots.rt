@@ -68,7 +68,7 @@ impl<D: Desk> SharedLink<D> {
     ghost use Rattle.split_ring.specs.ManagerCalls.{ShowsState};
     ghost use Rattle.split_ring.specs.Snapshots.{IsFound, IsRefusedIn};
     ghost use Rattle.split_ring.specs.declared.callers.CallerId.{CallerId};
-    ghost use Rattle.split_ring.specs.declared.calls.Phase.{Phase};
+    ghost use Rattle.split_ring.specs.CallPhases.{Phase};
 
     /// The era and the words of both lanes as they stand, while the manager has the four turns. The buffers of the link stand
     /// from address 0 on, 512 bytes each, those of the lane to the host first.

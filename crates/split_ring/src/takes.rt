@@ -18,7 +18,7 @@ ghost use Rattle.link_words.specs.PlacedDesks.{table_at, IsRightTo};
 ghost use Rattle.link_words.specs.PlacedLinks.{KnowsState};
 ghost use Rattle.link_words.specs.Steps.{handed_side};
 ghost use Rattle.link_words.specs.Words.{receiver_slot};
-ghost use Rattle.split_ring.specs.declared.calls.Phase.TheVariants as phase;
+ghost use Rattle.split_ring.specs.CallPhases as phase;
 ghost use Rattle.split_ring.specs.Callers.{Holds, IsCallerOf, IsAfterCall, MakesTake, TakeNotBelow};
 ghost use Rattle.split_ring.specs.Calls.{take_answer};
 ghost use Rattle.split_ring.specs.Receives.{handing_end, lane_number, message_look, taken_of, took, IsTakeAt, HasBufferOut, IsHandedTo, IsTake, HasSettledTake};

@@ -6,7 +6,7 @@ ghost use Rattle.lane_model.specs.declared.lane_links.LaneLink.{LaneLink};
 ghost use Rattle.lane_model.specs.Links.{end_of};
 ghost use Rattle.ring_core.specs.declared.states.RingState.{RingState};
 ghost use Rattle.split_ring.specs.declared.callers.CallerId.{CallerId};
-ghost use Rattle.split_ring.specs.declared.calls.Phase.{Phase};
+ghost use Rattle.split_ring.specs.CallPhases.{Phase};
 ghost use Rattle.split_ring.specs.Callers.{IsManagerOf, IsStateOf};
 ghost use Rattle.split_ring.specs.Calls.{send_answer};
 ghost use Rattle.split_ring.specs.Carried.{CarriesIdle, Keeps};

@@ -27,8 +27,8 @@ use Rattle.split_ring.specs.Walks.{same_hands}
 use Rattle.split_ring.specs.declared.binds.DeskAsk.{DeskAsk}
 use Rattle.split_ring.specs.declared.binds.DeskAsk.TheVariants as asks
 use Rattle.split_ring.specs.declared.callers.CallerId.{CallerId}
-use Rattle.split_ring.specs.declared.calls.Phase.{Phase}
-use Rattle.split_ring.specs.declared.calls.Phase.TheVariants as phase
+use Rattle.split_ring.specs.CallPhases.{Phase}
+use Rattle.split_ring.specs.CallPhases as phase
 use Rattle.split_ring.specs.declared.sends.SendFault.{SendFault}
 use Rattle.split_ring.specs.declared.sends.SendFault.TheVariants as fault
 use Rattle.two_lives.specs.Lives.{sent_alone}

@@ -1,7 +1,7 @@
 use Rattle.std.proofs.Common.{◌≢◌}
 use Rattle.rp_base.specs.declared.kinds.End.{End}
 use Rattle.split_ring.specs.declared.callers.CallerId.{CallerId}
-use Rattle.split_ring.specs.declared.calls.Phase.{Phase}
+use Rattle.split_ring.specs.CallPhases.{Phase}
 use Rattle.split_ring.specs.Carried.{Carries}
 use Rattle.split_ring.specs.Callers.{IsManagerOf}
 use Rattle.split_ring.specs.Phases.{IsUnderWay}

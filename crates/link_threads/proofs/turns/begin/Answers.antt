@@ -1,6 +1,6 @@
 use Rattle.std.proofs.Common.{sym, subst}
 use Rattle.split_ring.specs.Calls.{IsInPhase}
-use Rattle.split_ring.specs.declared.calls.Phase.{Phase}
+use Rattle.split_ring.specs.CallPhases.{Phase}
 use Rattle.link_threads.proofs.turns.begin.Goals as goal
 
 pub returns : goal.returns

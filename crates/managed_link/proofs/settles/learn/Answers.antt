@@ -1,8 +1,9 @@
-use Rattle.std.proofs.Common.{◌≡◌, ℕ, List, ap, refl, sym, ◌∙◌}
+use Rattle.std.proofs.Common.{◌≡◌, ℕ, List, [], ◌∷◌, ◌++◌, Option, None, ap, refl, sym, ◌∙◌}
 use lib.ListN.{get_elem?}
 use Rattle.lane_model.specs.declared.calls.CallEnd.{CallEnd}
 use Rattle.lane_model.specs.declared.calls.CallEnd.TheVariants as end
 use Rattle.lane_model.specs.declared.states.Holding.{Holding}
+use Rattle.lane_model.specs.HeldBuffers.{HeldBuffer}
 use Rattle.rp_base.specs.declared.kinds.Verdict.{Verdict}
 use Rattle.managed_link.specs.declared.hands.Hand.{Hand}
 use Rattle.managed_link.specs.declared.views.LaneView.{LaneView}
@@ -28,6 +29,11 @@ leaves_all (end.Took number verdict) sent took gave = absurd (took number verdic
 leaves_all (end.Gave number) sent took gave = absurd (gave number refl)
 leaves_all other sent took gave = record { incoming = λ _. refl; outgoing = λ _. refl; listed = λ _ _. refl; hands = λ _ _. refl }
 
+-- the new one is not here yet
+new_hand : (hands : List Hand) (caller number : ℕ) (held : Option HeldBuffer) → held ≡ None
+    → hands ++ record { caller = caller; number = number; held = held } ∷ [] ≡ hands ++ record { caller = caller; number = number; held = None } ∷ []
+new_hand hands caller number held none = ap (λ (h : Option HeldBuffer). hands ++ record { caller = caller; number = number; held = h } ∷ []) none
+
 pub returns-in-Sent-clause-some : goal.returns-in-Sent-clause-some
 returns-in-Sent-clause-some c =
     all_some (with_new_hand c.args.settled.now c.args.caller c.args.hands.now.items) c.args.hands.now.items
@@ -36,7 +42,8 @@ returns-in-Sent-clause-some c =
 pub returns-in-Took-clause-some : goal.returns-in-Took-clause-some
 returns-in-Took-clause-some c =
     all_some (with_new_hand c.args.settled.now c.args.caller c.args.hands.now.items) c.push_reserved.new.self.items
-    (c.push_reserved.ensures.items ∙ ap (λ (settled : CallEnd). with_new_hand settled c.args.caller c.args.hands.now.items) (sym c.in-Took.is))
+    (c.push_reserved.ensures.items ∙ (new_hand c.args.hands.now.items c.args.caller c.in-Took.number c.empty.result c.empty.ensures
+    ∙ ap (λ (settled : CallEnd). with_new_hand settled c.args.caller c.args.hands.now.items) (sym c.in-Took.is)))
 
 pub returns-in_default : goal.returns-in_default
 returns-in_default c =

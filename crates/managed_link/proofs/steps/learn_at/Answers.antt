@@ -3,7 +3,7 @@ use Rattle.std.proofs.Common.{◌≡◌, ◌∙◌, ℕ, List, Option, Some, Non
 use Rattle.lane_model.specs.declared.calls.CallEnd.{CallEnd}
 use Rattle.managed_link.specs.declared.hands.Hand.{Hand}
 use Rattle.managed_link.specs.Hands.{AreSome}
-use Rattle.managed_link.specs.Steps.{hands_learnt, of_end, settled_in}
+use Rattle.managed_link.specs.Steps.{hands_learnt, settled_in}
 use Rattle.managed_link.proofs.steps.learn_at.Goals as goal
 
 none_is : (o : Option CallEnd) → is_some o ≡ false → o ≡ None

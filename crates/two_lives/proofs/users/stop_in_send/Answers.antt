@@ -1,7 +1,7 @@
 use Rattle.std.proofs.Common.{refl, sym, ◌∙◌, subst, arith}
 use Rattle.split_ring.specs.Calls.{IsInPhase}
 use Rattle.split_ring.specs.Callers.{own_of}
-use Rattle.split_ring.specs.declared.calls.Phase.{Phase}
+use Rattle.split_ring.specs.CallPhases.{Phase}
 use Rattle.two_lives.proofs.Sends.{begun, ends, goes_on, quiet}
 use Rattle.two_lives.proofs.Stops.{stopped_out}
 use Rattle.two_lives.proofs.users.stop_in_send.Goals as goal

@@ -5,7 +5,7 @@ use Rattle.rp_base.specs.declared.kinds.End.TheVariants as side
 use Rattle.lane_model.specs.Crashes.{has_held}
 use Rattle.lane_model.specs.Recoveries.{link_after_reclaim, link_reclaim_refusal}
 use Rattle.link_words.specs.Words.{lane_to}
-use Rattle.managed_link.specs.declared.callers.CarriedCall.{CarriedCall}
+use Rattle.managed_link.specs.declared.call_slots.CarriedCall.{CarriedCall}
 use Rattle.managed_link.specs.Known.{LinkRings, lists_of, on_rings}
 use Rattle.managed_link.specs.Managed.{IsManaged, ShowsViews}
 use Rattle.managed_link.proofs.EndedCallers.{call_at, has_ended, holding_at, managed_host, managed_remote, may_retire, shows_host, shows_remote, state_ended}
@@ -25,7 +25,7 @@ retire_by-ended-requires-clause-caller c =
       | in-Remote w ↦ holding_at m side.Remote c.in-Some.side s.calls.items s.remote w.deref-in-Remote.result.now caller c.match-side.is_holding w.in-Remote.is managed.to_remote w.deref-in-Remote.ensures.value
           (w.is_holding-is ∙ w.has_held-is_holding-in-Remote.ensures)
     ] in
-    let found_is = c.take.ensures.value ∙ call_at s.calls.items caller c.from.result c.index_mut.result.now managed.slots c.in-Some.ensures.within c.from.ensures c.index_mut.ensures.value in
+    let found_is = c.take.ensures.taken ∙ call_at s.calls.items caller c.from.result c.index_mut.result.now managed.slots c.in-Some.ensures.within c.from.ensures c.index_mut.ensures.value in
     may_retire s.shared s.manager s.calls.items s.host s.remote m caller c.in-Some.side c.take.result c.match-take.call c.match-side.is_holding managed c.in-Some.ensures.end found_is call_is holding_is
 
 pub invariant_of-self : goal.invariant_of-self
@@ -35,7 +35,7 @@ invariant_of-self c =
     let ended = has_ended s.shared s.manager after s.calls.items s.host s.remote m caller side.Host c.in-Some.side c.retire_by-ended.result managed c.in-Host-side.is c.in-Some.ensures.end c.in-Some.ensures.within
     (ap (λ (x : LinkRings). link_reclaim_refusal (lists_of x) caller) c.self.view_is ∙ c.requires) c.retire_by-ended.ensures.manager (c.retire_by-ended.ensures.state m managed.state) (λ who p. c.retire_by-ended.ensures.others who p) in
     at_known (λ (x : LinkRings). IsManaged s.shared after calls c.drop_hands.new.hands s.remote x × ShowsViews s.era c.free_receiver.new.self c.free_sender.new.self x) after (link_after_reclaim on_rings m caller) ended.state (
-      managed_host m caller s.shared s.manager after s.calls.items s.host s.remote managed calls c.drop_hands.new.hands (λ i. slice_set s.calls.items (c.from.ensures i) (c.take.ensures.after i)) ended
+      managed_host m caller s.shared s.manager after s.calls.items s.host s.remote managed calls c.drop_hands.new.hands (λ i. slice_set s.calls.items (c.from.ensures i) (c.take.ensures.left i)) ended
           (record { listed = drops.listed; others = drops.others; room = drops.room }),
       shows_host m caller s.era s.to_host s.to_remote ended.low c.self.invariant.1 c.free_receiver.new.self c.free_sender.new.self ended.user c.free_receiver.ensures c.free_sender.ensures,
     ) _ (assumption)
@@ -52,7 +52,7 @@ invariant_of-self-in-Remote-side c =
     let ended = has_ended s.shared s.manager after s.calls.items s.host s.remote m caller side.Remote c.in-Some.side c.retire_by-ended.result managed c.in-Remote-side.is c.in-Some.ensures.end c.in-Some.ensures.within
     (ap (λ (x : LinkRings). link_reclaim_refusal (lists_of x) caller) c.self.view_is ∙ c.requires) c.retire_by-ended.ensures.manager (c.retire_by-ended.ensures.state m managed.state) (λ who p. c.retire_by-ended.ensures.others who p) in
     at_known (λ (x : LinkRings). IsManaged s.shared after calls s.host c.drop_hands-in-Remote-side.new.hands x × ShowsViews s.era outgoing.new.self incoming.new.self x) after (link_after_reclaim on_rings m caller) ended.state (
-      managed_remote m caller s.shared s.manager after s.calls.items s.host s.remote managed calls c.drop_hands-in-Remote-side.new.hands (λ i. slice_set s.calls.items (c.from.ensures i) (c.take.ensures.after i)) ended
+      managed_remote m caller s.shared s.manager after s.calls.items s.host s.remote managed calls c.drop_hands-in-Remote-side.new.hands (λ i. slice_set s.calls.items (c.from.ensures i) (c.take.ensures.left i)) ended
           (record { listed = drops.listed; others = drops.others; room = drops.room }),
       shows_remote m caller s.era s.to_host s.to_remote ended.low c.self.invariant.1 incoming.new.self outgoing.new.self ended.user incoming.ensures outgoing.ensures,
     ) _ (assumption)

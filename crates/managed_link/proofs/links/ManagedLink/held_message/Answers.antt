@@ -1,5 +1,6 @@
 -- A caller in no call has its buffers here.
 use Rattle.std.proofs.Common.{◌≡◌, ◌<◌, Option, Some, None, Vec, length, arith, sym, ap, subst, ◌∙◌}
+use Rattle.std.specs.Option.{option_copied}
 use Rattle.std.specs.declared.alloc.Global.{Global}
 use Rattle.rp_base.specs.declared.kinds.End.{End}
 use Rattle.rp_base.specs.declared.kinds.End.TheVariants as side
@@ -33,14 +34,15 @@ read_at c = hand_read _ _ c.args.number c.args.caller _ _ c.deref.ensures.value 
 pub index-requires : goal.index-requires
 index-requires c = let within : c.place_of.result < length c.deref.result.now = place_within _ _ _ c.place_of.ensures.1.here in omega arith
 
-pub unreachable-requires-in-None-held : goal.unreachable-requires-in-None-held
-unreachable-requires-in-None-held c =
-    let read = (goal.at.unreachable-requires-in-None-held c).After-index in let of = of_end (goal.at.unreachable-requires-in-None-held c).Joined-end_of-2 in
-    never_out c.self.inside.known.0 of.0 c.self.inside.calls.items _ of.2 c.args.number c.args.caller _ _ (read_at read) (rests read) c.in-None-held.is
+pub unreachable-requires-in-None-place : goal.unreachable-requires-in-None-place
+unreachable-requires-in-None-place c =
+    let read = (goal.at.unreachable-requires-in-None-place c).After-index in let of = of_end (goal.at.unreachable-requires-in-None-place c).Joined-end_of-2 in
+    never_out c.self.inside.known.0 of.0 c.self.inside.calls.items _ of.2 c.args.number c.args.caller _ _ (read_at read) (rests read) (sym c.place.ensures ∙ ap option_copied c.in-None-place.is)
 
 pub returns-clause-message : goal.returns-clause-message
 returns-clause-message c =
     let read = (goal.at.returns-clause-message c).After-index in let of = of_end (goal.at.returns-clause-message c).Joined-end_of-2 in let m = c.self.inside.known.0 in
-    c.bytes.ensures.bytes ∙ (c.message.ensures ∙ (message_is m of.0 c.self.inside.calls.items _ of.2 c.args.number c.args.caller _ _ (read_at read) (rests read) c.in-Some.held c.in-Some.is
+    let here = sym c.place.ensures ∙ ap option_copied c.in-Some.is in
+    c.bytes.ensures.bytes ∙ (c.message.ensures ∙ (message_is m of.0 c.self.inside.calls.items _ of.2 c.args.number c.args.caller _ _ (read_at read) (rests read) c.in-Some.held.now here
     ∙ (message_on m of.0 c.args.number ∙ (ap (λ (x : LinkRings). message_for (lists_of x) (Some of.0) c.args.number) c.self.view_is
     ∙ ap (λ (end : Option End). message_for (lists_of c.args.self.now) end c.args.number) (sym of.1)))))

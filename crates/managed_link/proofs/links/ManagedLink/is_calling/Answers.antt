@@ -3,7 +3,7 @@ use Rattle.std.proofs.Common.{◌≡◌, Option, None, sym, ap, ◌∙◌}
 use Rattle.std.proofs.lemmas.Bool.{ltb-false}
 use Rattle.std.specs.Option.{is_some}
 use Rattle.lane_model.specs.Conditions.{is_calling}
-use Rattle.managed_link.specs.declared.callers.CarriedCall.{CarriedCall}
+use Rattle.managed_link.specs.declared.call_slots.CarriedCall.{CarriedCall}
 use Rattle.managed_link.specs.Known.{LinkRings, lists_of}
 use Rattle.managed_link.specs.Managed.{call_of}
 use Rattle.managed_link.proofs.Calling.{call_read, calling_is, none_read}
@@ -19,7 +19,7 @@ is_in c read found =
 pub returns-in-Some : goal.returns-in-Some
 returns-in-Some c =
     let looked = c.in-Some.ensures.lookup.3 in
-    c.is_some.ensures ∙ is_in (goal.at.returns-in-Some c).After-get _ (call_read _ _ c.args.caller _ _ c.deref.ensures.value c.from.ensures looked.0 (looked.1 _))
+    c.is_used.ensures ∙ is_in (goal.at.returns-in-Some c).After-get _ (call_read _ _ c.args.caller _ _ c.deref.ensures.value c.from.ensures looked.0 (looked.1 _))
 
 pub returns-in-None : goal.returns-in-None
 returns-in-None c = is_in (goal.at.returns-in-None c).After-get None (none_read _ _ c.args.caller _ c.deref.ensures.value c.from.ensures (ltb-false _ _ (sym c.in-None.ensures.lookup.0)))

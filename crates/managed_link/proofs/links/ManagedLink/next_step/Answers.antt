@@ -1,178 +1,86 @@
 -- The parts behind a later step are those of the state that it leaves.
-use Rattle.std.proofs.Common.{◌≡◌, ◌<◌, List, Option, Some, None, length, refl, sym, ap, subst, ◌∙◌, set, arith}
-use Rattle.std.specs.Prelude.{IfSome}
-use Rattle.rp_base.specs.declared.kinds.End.{End}
-use Rattle.lane_model.specs.declared.calls.Outcome.TheVariants as outcome
-use Rattle.lane_model.specs.Conditions.{MayStep}
-use Rattle.lane_model.specs.Links.{caller_step, end_of, form_step}
-use Rattle.channel_bus.specs.Sides.{side_meaning}
-use Rattle.split_ring.specs.Calls.{call_end}
-use Rattle.managed_link.specs.Known.{LinkRings, lists_of, on_rings}
+use Rattle.std.proofs.Common.{None, set}
+use Rattle.managed_link.specs.Known.{LinkRings}
 use Rattle.managed_link.specs.Managed.{IsManaged, ShowsViews}
-use Rattle.managed_link.specs.Taken.{HoldsTaken}
-use Rattle.managed_link.specs.Steps.{settled_in}
-use Rattle.managed_link.proofs.Advances.{ends_outcome, ends_told, goes_outcome, goes_told, outcome_on_lists}
-use Rattle.managed_link.proofs.Calling.{call_read}
-use Rattle.managed_link.proofs.KnownStates.{at_known, state_behind}
-use Rattle.managed_link.proofs.NextSteps.{last_answer, last_managed, last_place, last_shows, last_taken, next_call, next_carried, next_managed, next_room, next_settled, next_shows, next_small, next_stepped, next_told, now_here}
-use Rattle.managed_link.proofs.TakenMessages.{ended_behind}
+use Rattle.managed_link.proofs.CallSteps.{MayTake, ends_answer, ends_answers, goes_answers, may_take, slot_left, step_whole}
+use Rattle.managed_link.proofs.KnownStates.{at_known}
+use Rattle.managed_link.proofs.NextSteps.{GoesOn, HasGoneOn, NextCall, last_managed, last_place, last_shows, last_takes, next_call, next_carried, next_managed, next_room, next_shows, next_small, next_takes, next_there}
 use Rattle.managed_link.proofs.links.ManagedLink.next_step.Goals as goal
+use Rattle.managed_link.proofs.links.ManagedLink.next_step.Goals.{After-advance_in-step, After-index_mut}
+
+-- the caller may go on
+may : (c : After-index_mut) → MayTake c.self.inside c.args.caller c.in-Some.side None
+may c = may_take c.self.invariant c.end_of.ensures.end c.in-Some.is c.end_of.ensures.within (rw c.self.view_is c.requires)
+
+-- with its call
+abbrev Call : After-index_mut → NextCall
+Call c = record { link = c.self.inside; number = c.args.caller; end = c.in-Some.side; place = c.from-place.result; carried = (next_call (may c)).0 }
+
+goes : (c : After-index_mut) → GoesOn (Call c)
+goes c = record { may = may c; at = c.from-place.ensures; there = (next_call (may c)).1 }
+
+-- the step that was taken of it
+takes : (c : After-advance_in-step) → HasGoneOn (Call c.before) c.advance_in-step.new.manager c.advance_in-step.result c.advance_in-step.new.slot
+takes c = next_takes (goes c.before) _ c.index_mut.ensures.value c.advance_in-step.ensures
 
 pub advance_in-step-requires-clause-call : goal.advance_in-step-requires-clause-call
-advance_in-step-requires-clause-call c =
-    let s = c.self.inside in let m = s.known.0 in let e = c.in-Some.side in let n = c.args.caller in let managed = c.self.invariant.0 in let shows = c.self.invariant.1 in
-    let used : end_of s.manager.users n ≡ Some e = sym c.end_of.ensures.end ∙ c.in-Some.is in let user : end_of m.callers n ≡ Some e = ap (λ (l : List (Option End)). end_of l n) (sym managed.state.users) ∙ used in
-    let low : n < 64 = subst (λ (o : Option End). IfSome o (λ _. n < 64)) c.in-Some.is c.end_of.ensures.within in let may = subst (λ (x : LinkRings). MayStep (lists_of x) n None) (sym c.self.view_is) c.requires in
-    let place = c.from-place.result in let at : place ≡ n = c.from-place.ensures in let slots = managed.slots in let within : place < length s.calls.items = omega (arith, at, low, slots) in
-    let found = next_call s.shared s.manager s.calls.items s.host s.remote s.era s.to_host s.to_remote m managed shows n e user low may in let call = found.0 in let here : c.index_mut.result.now ≡ Some call = sym (call_read s.calls.items s.calls.items n place c.index_mut.result.now refl at within c.index_mut.ensures.value) ∙ found.1 in
-    let k = next_carried s.shared s.manager s.calls.items s.host s.remote s.era s.to_host s.to_remote m managed shows n e user low may call found.1 in (e, call, here, k.0, k.1)
+advance_in-step-requires-clause-call c = let carried = next_carried (goes c) in (c.in-Some.side, _, next_there (goes c) _ c.index_mut.ensures.value, carried.0, carried.1)
 
 pub learn_at-requires-clause-room : goal.learn_at-requires-clause-room
-learn_at-requires-clause-room c =
-    let s = c.self.inside in let m = s.known.0 in let e = c.in-Some.side in let n = c.args.caller in let managed = c.self.invariant.0 in let shows = c.self.invariant.1 in
-    let used : end_of s.manager.users n ≡ Some e = sym c.end_of.ensures.end ∙ c.in-Some.is in let user : end_of m.callers n ≡ Some e = ap (λ (l : List (Option End)). end_of l n) (sym managed.state.users) ∙ used in
-    let low : n < 64 = subst (λ (o : Option End). IfSome o (λ _. n < 64)) c.in-Some.is c.end_of.ensures.within in let may = subst (λ (x : LinkRings). MayStep (lists_of x) n None) (sym c.self.view_is) c.requires in
-    let place = c.from-place.result in let at : place ≡ n = c.from-place.ensures in let slots = managed.slots in let within : place < length s.calls.items = omega (arith, at, low, slots) in
-    let found = next_call s.shared s.manager s.calls.items s.host s.remote s.era s.to_host s.to_remote m managed shows n e user low may in let call = found.0 in let here : c.index_mut.result.now ≡ Some call = sym (call_read s.calls.items s.calls.items n place c.index_mut.result.now refl at within c.index_mut.ensures.value) ∙ found.1 in
-    let b = c.advance_in-step in let taken = b.ensures e call m used here managed.state in
-    let ends = next_settled s.shared s.manager s.calls.items s.host s.remote s.era s.to_host s.to_remote m managed shows n e user low may call found.1 b.new.manager b.result b.new.slot taken c.in-At.field-0 c.in-At.is place c.index.result.now (settled_in c.index.result.now) at c.index.ensures refl in
-    next_room s.shared s.manager s.calls.items s.host s.remote s.era s.to_host s.to_remote m managed shows n e user low may call found.1 b.new.manager b.result b.new.slot taken c.in-At.field-0 c.in-At.is (settled_in c.index.result.now) ends
+learn_at-requires-clause-room c = next_room (takes (goal.at.learn_at-requires-clause-room c).After-advance_in-step) c.in-At.field-0 c.in-At.is _ c.index.ensures
 
 pub learn_at-requires-clause-accepted : goal.learn_at-requires-clause-accepted
-learn_at-requires-clause-accepted c =
-    let s = c.self.inside in let m = s.known.0 in let e = c.in-Some.side in let n = c.args.caller in let managed = c.self.invariant.0 in let shows = c.self.invariant.1 in
-    let used : end_of s.manager.users n ≡ Some e = sym c.end_of.ensures.end ∙ c.in-Some.is in let user : end_of m.callers n ≡ Some e = ap (λ (l : List (Option End)). end_of l n) (sym managed.state.users) ∙ used in
-    let low : n < 64 = subst (λ (o : Option End). IfSome o (λ _. n < 64)) c.in-Some.is c.end_of.ensures.within in let may = subst (λ (x : LinkRings). MayStep (lists_of x) n None) (sym c.self.view_is) c.requires in
-    (next_small s.shared s.manager s.calls.items s.host s.remote s.era s.to_host s.to_remote m managed shows n e user low may).0
+learn_at-requires-clause-accepted c = (next_small (may (goal.at.learn_at-requires-clause-accepted c).After-index_mut)).0
 
 pub learn_at-requires-clause-handed : goal.learn_at-requires-clause-handed
-learn_at-requires-clause-handed c =
-    let s = c.self.inside in let m = s.known.0 in let e = c.in-Some.side in let n = c.args.caller in let managed = c.self.invariant.0 in let shows = c.self.invariant.1 in
-    let used : end_of s.manager.users n ≡ Some e = sym c.end_of.ensures.end ∙ c.in-Some.is in let user : end_of m.callers n ≡ Some e = ap (λ (l : List (Option End)). end_of l n) (sym managed.state.users) ∙ used in
-    let low : n < 64 = subst (λ (o : Option End). IfSome o (λ _. n < 64)) c.in-Some.is c.end_of.ensures.within in let may = subst (λ (x : LinkRings). MayStep (lists_of x) n None) (sym c.self.view_is) c.requires in
-    (next_small s.shared s.manager s.calls.items s.host s.remote s.era s.to_host s.to_remote m managed shows n e user low may).1
+learn_at-requires-clause-handed c = (next_small (may (goal.at.learn_at-requires-clause-handed c).After-index_mut)).1
 
 pub learn_at-requires-clause-returned : goal.learn_at-requires-clause-returned
-learn_at-requires-clause-returned c =
-    let s = c.self.inside in let m = s.known.0 in let e = c.in-Some.side in let n = c.args.caller in let managed = c.self.invariant.0 in let shows = c.self.invariant.1 in
-    let used : end_of s.manager.users n ≡ Some e = sym c.end_of.ensures.end ∙ c.in-Some.is in let user : end_of m.callers n ≡ Some e = ap (λ (l : List (Option End)). end_of l n) (sym managed.state.users) ∙ used in
-    let low : n < 64 = subst (λ (o : Option End). IfSome o (λ _. n < 64)) c.in-Some.is c.end_of.ensures.within in let may = subst (λ (x : LinkRings). MayStep (lists_of x) n None) (sym c.self.view_is) c.requires in
-    (next_small s.shared s.manager s.calls.items s.host s.remote s.era s.to_host s.to_remote m managed shows n e user low may).2
+learn_at-requires-clause-returned c = (next_small (may (goal.at.learn_at-requires-clause-returned c).After-index_mut)).2
 
 pub invariant_of-self-inside : goal.invariant_of-self-inside
-invariant_of-self-inside c =
-    let s = c.self.inside in let m = s.known.0 in let e = c.in-Some.side in let n = c.args.caller in let managed = c.self.invariant.0 in let shows = c.self.invariant.1 in
-    let used : end_of s.manager.users n ≡ Some e = sym c.end_of.ensures.end ∙ c.in-Some.is in let user : end_of m.callers n ≡ Some e = ap (λ (l : List (Option End)). end_of l n) (sym managed.state.users) ∙ used in
-    let low : n < 64 = subst (λ (o : Option End). IfSome o (λ _. n < 64)) c.in-Some.is c.end_of.ensures.within in let may = subst (λ (x : LinkRings). MayStep (lists_of x) n None) (sym c.self.view_is) c.requires in
-    let place = c.from-place.result in let at : place ≡ n = c.from-place.ensures in let slots = managed.slots in let within : place < length s.calls.items = omega (arith, at, low, slots) in
-    let found = next_call s.shared s.manager s.calls.items s.host s.remote s.era s.to_host s.to_remote m managed shows n e user low may in let call = found.0 in let here : c.index_mut.result.now ≡ Some call = sym (call_read s.calls.items s.calls.items n place c.index_mut.result.now refl at within c.index_mut.ensures.value) ∙ found.1 in
-    let b = c.advance_in-step in let taken = b.ensures e call m used here managed.state in
-    (((form_step on_rings side_meaning m n 0 None).state, (next_stepped s.shared s.manager s.calls.items s.host s.remote s.era s.to_host s.to_remote m managed shows n e user low may call found.1 b.new.manager b.result b.new.slot taken).state.known.copy), tt)
+invariant_of-self-inside c = ((_, (takes (goal.at.invariant_of-self-inside c).After-advance_in-step).taken.stepped.state.known.copy), tt)
 
 pub invariant_of-self : goal.invariant_of-self
 invariant_of-self c =
-    let s = c.self.inside in let m = s.known.0 in let e = c.in-Some.side in let n = c.args.caller in let managed = c.self.invariant.0 in let shows = c.self.invariant.1 in
-    let used : end_of s.manager.users n ≡ Some e = sym c.end_of.ensures.end ∙ c.in-Some.is in let user : end_of m.callers n ≡ Some e = ap (λ (l : List (Option End)). end_of l n) (sym managed.state.users) ∙ used in
-    let low : n < 64 = subst (λ (o : Option End). IfSome o (λ _. n < 64)) c.in-Some.is c.end_of.ensures.within in let may = subst (λ (x : LinkRings). MayStep (lists_of x) n None) (sym c.self.view_is) c.requires in
-    let place = c.from-place.result in let at : place ≡ n = c.from-place.ensures in let slots = managed.slots in let within : place < length s.calls.items = omega (arith, at, low, slots) in
-    let found = next_call s.shared s.manager s.calls.items s.host s.remote s.era s.to_host s.to_remote m managed shows n e user low may in let call = found.0 in let here : c.index_mut.result.now ≡ Some call = sym (call_read s.calls.items s.calls.items n place c.index_mut.result.now refl at within c.index_mut.ensures.value) ∙ found.1 in
-    let b = c.advance_in-step in let taken = b.ensures e call m used here managed.state in
-    let ends = next_settled s.shared s.manager s.calls.items s.host s.remote s.era s.to_host s.to_remote m managed shows n e user low may call found.1 b.new.manager b.result b.new.slot taken c.in-At.field-0 c.in-At.is place c.index.result.now (settled_in c.index.result.now) at c.index.ensures refl in
-    let l = c.learn_at in let t = l.ensures in
-    at_known (λ (x : LinkRings). IsManaged s.shared b.new.manager (set s.calls.items place b.new.slot) l.new.host l.new.remote x × ShowsViews s.era l.new.to_host l.new.to_remote x) b.new.manager (form_step on_rings side_meaning m n 0 None).state (next_stepped s.shared s.manager s.calls.items s.host s.remote s.era s.to_host s.to_remote m managed shows n e user low may call found.1 b.new.manager b.result b.new.slot taken).state (
-      next_managed s.shared s.manager s.calls.items s.host s.remote s.era s.to_host s.to_remote m managed shows n e user low may call found.1 b.new.manager b.result b.new.slot taken c.in-At.field-0 c.in-At.is place (settled_in c.index.result.now) l.new.host l.new.remote at ends t.listed t.among t.room t.beside,
-      next_shows s.shared s.manager s.calls.items s.host s.remote s.era s.to_host s.to_remote m managed shows n e user low may call found.1 b.new.manager b.result b.new.slot taken c.in-At.field-0 c.in-At.is (settled_in c.index.result.now) l.new.to_host l.new.to_remote ends t.incoming t.outgoing,
+    let t = takes (goal.at.invariant_of-self c).After-advance_in-step in let s = c.self.inside in let b = c.advance_in-step.new in let l = c.learn_at.new in let learnt = c.learn_at.ensures in
+    at_known (λ (x : LinkRings). IsManaged s.shared b.manager (set s.calls.items c.from-place.result b.slot) l.host l.remote x × ShowsViews s.era l.to_host l.to_remote x) b.manager _ t.taken.stepped.state (
+      next_managed t c.in-At.field-0 c.in-At.is _ c.index.ensures l.host l.remote learnt.listed learnt.among learnt.room learnt.beside,
+      next_shows t c.in-At.field-0 c.in-At.is _ c.index.ensures l.to_host l.to_remote learnt.incoming learnt.outgoing,
     ) _ (assumption)
 
 pub end_at-requires : goal.end_at-requires
 end_at-requires c =
-    let s = c.self.inside in let m = s.known.0 in let e = c.in-Some.side in let n = c.args.caller in let managed = c.self.invariant.0 in let shows = c.self.invariant.1 in
-    let used : end_of s.manager.users n ≡ Some e = sym c.end_of.ensures.end ∙ c.in-Some.is in let user : end_of m.callers n ≡ Some e = ap (λ (l : List (Option End)). end_of l n) (sym managed.state.users) ∙ used in
-    let low : n < 64 = subst (λ (o : Option End). IfSome o (λ _. n < 64)) c.in-Some.is c.end_of.ensures.within in let may = subst (λ (x : LinkRings). MayStep (lists_of x) n None) (sym c.self.view_is) c.requires in
-    let place = c.from-place.result in let at : place ≡ n = c.from-place.ensures in let slots = managed.slots in let within : place < length s.calls.items = omega (arith, at, low, slots) in
-    let found = next_call s.shared s.manager s.calls.items s.host s.remote s.era s.to_host s.to_remote m managed shows n e user low may in let call = found.0 in let here : c.index_mut.result.now ≡ Some call = sym (call_read s.calls.items s.calls.items n place c.index_mut.result.now refl at within c.index_mut.ensures.value) ∙ found.1 in
-    let b = c.advance_in-step in let taken = b.ensures e call m used here managed.state in
-    let left = last_answer s.shared s.manager s.calls.items s.host s.remote s.era s.to_host s.to_remote m managed shows n e user low may call found.1 b.new.manager b.result b.new.slot taken c.in-Ended.is in
-    let ended = c.index_mut-in-Ended in let there = now_here s.shared s.manager s.calls.items s.host s.remote s.era s.to_host s.to_remote m managed shows n e user low may call found.1 b.new.manager b.result b.new.slot taken place ended.result.now at ended.ensures.value in
-    (record { follows = call.follows; call = taken.call }, left.0, there, left.1, last_place s.shared s.manager s.calls.items s.host s.remote s.era s.to_host s.to_remote m managed shows n e user low may call found.1 b.new.manager b.result b.new.slot taken left.0 c.in-Ended.is left.1)
+    let t = takes (goal.at.end_at-requires c).After-advance_in-step in let left = ends_answer t.taken c.in-Ended.is in
+    (left.0, (_, slot_left t.taken _ c.index_mut-in-Ended.ensures.value, left.1), last_place t left.0 c.in-Ended.is left.1)
 
 pub invariant_of-self-inside-in-Ended : goal.invariant_of-self-inside-in-Ended
-invariant_of-self-inside-in-Ended c =
-    let s = c.self.inside in let m = s.known.0 in let e = c.in-Some.side in let n = c.args.caller in let managed = c.self.invariant.0 in let shows = c.self.invariant.1 in
-    let used : end_of s.manager.users n ≡ Some e = sym c.end_of.ensures.end ∙ c.in-Some.is in let user : end_of m.callers n ≡ Some e = ap (λ (l : List (Option End)). end_of l n) (sym managed.state.users) ∙ used in
-    let low : n < 64 = subst (λ (o : Option End). IfSome o (λ _. n < 64)) c.in-Some.is c.end_of.ensures.within in let may = subst (λ (x : LinkRings). MayStep (lists_of x) n None) (sym c.self.view_is) c.requires in
-    let place = c.from-place.result in let at : place ≡ n = c.from-place.ensures in let slots = managed.slots in let within : place < length s.calls.items = omega (arith, at, low, slots) in
-    let found = next_call s.shared s.manager s.calls.items s.host s.remote s.era s.to_host s.to_remote m managed shows n e user low may in let call = found.0 in let here : c.index_mut.result.now ≡ Some call = sym (call_read s.calls.items s.calls.items n place c.index_mut.result.now refl at within c.index_mut.ensures.value) ∙ found.1 in
-    let b = c.advance_in-step in let taken = b.ensures e call m used here managed.state in
-    (((form_step on_rings side_meaning m n 0 None).state, (next_stepped s.shared s.manager s.calls.items s.host s.remote s.era s.to_host s.to_remote m managed shows n e user low may call found.1 b.new.manager b.result b.new.slot taken).state.known.copy), tt)
+invariant_of-self-inside-in-Ended c = ((_, (takes (goal.at.invariant_of-self-inside-in-Ended c).After-advance_in-step).taken.stepped.state.known.copy), tt)
 
 pub invariant_of-self-in-Ended : goal.invariant_of-self-in-Ended
 invariant_of-self-in-Ended c =
-    let s = c.self.inside in let m = s.known.0 in let e = c.in-Some.side in let n = c.args.caller in let managed = c.self.invariant.0 in let shows = c.self.invariant.1 in
-    let used : end_of s.manager.users n ≡ Some e = sym c.end_of.ensures.end ∙ c.in-Some.is in let user : end_of m.callers n ≡ Some e = ap (λ (l : List (Option End)). end_of l n) (sym managed.state.users) ∙ used in
-    let low : n < 64 = subst (λ (o : Option End). IfSome o (λ _. n < 64)) c.in-Some.is c.end_of.ensures.within in let may = subst (λ (x : LinkRings). MayStep (lists_of x) n None) (sym c.self.view_is) c.requires in
-    let place = c.from-place.result in let at : place ≡ n = c.from-place.ensures in let slots = managed.slots in let within : place < length s.calls.items = omega (arith, at, low, slots) in
-    let found = next_call s.shared s.manager s.calls.items s.host s.remote s.era s.to_host s.to_remote m managed shows n e user low may in let call = found.0 in let here : c.index_mut.result.now ≡ Some call = sym (call_read s.calls.items s.calls.items n place c.index_mut.result.now refl at within c.index_mut.ensures.value) ∙ found.1 in
-    let b = c.advance_in-step in let taken = b.ensures e call m used here managed.state in
-    let left = last_answer s.shared s.manager s.calls.items s.host s.remote s.era s.to_host s.to_remote m managed shows n e user low may call found.1 b.new.manager b.result b.new.slot taken c.in-Ended.is in
-    let ended = c.index_mut-in-Ended in let there = now_here s.shared s.manager s.calls.items s.host s.remote s.era s.to_host s.to_remote m managed shows n e user low may call found.1 b.new.manager b.result b.new.slot taken place ended.result.now at ended.ensures.value in
-    let d = c.end_at in let v = c.free_turns in
-    at_known (λ (x : LinkRings). IsManaged s.shared b.new.manager (set (set s.calls.items place b.new.slot) place d.new.slot) d.new.host d.new.remote x × ShowsViews s.era v.new.to_host v.new.to_remote x) b.new.manager (form_step on_rings side_meaning m n 0 None).state (next_stepped s.shared s.manager s.calls.items s.host s.remote s.era s.to_host s.to_remote m managed shows n e user low may call found.1 b.new.manager b.result b.new.slot taken).state (
-      last_managed s.shared s.manager s.calls.items s.host s.remote s.era s.to_host s.to_remote m managed shows n e user low may call found.1 b.new.manager b.result b.new.slot taken left.0 c.in-Ended.is left.1 place d.new.slot d.new.host d.new.remote at d.ensures.free (d.ensures.hands _ left.0 there left.1) d.ensures.room d.ensures.beside,
-      last_shows s.shared s.manager s.calls.items s.host s.remote s.era s.to_host s.to_remote m managed shows n e user low may call found.1 b.new.manager b.result b.new.slot taken left.0 c.in-Ended.is left.1 v.new.to_host v.new.to_remote v.ensures.incoming v.ensures.outgoing,
+    let t = takes (goal.at.invariant_of-self-in-Ended c).After-advance_in-step in let s = c.self.inside in let b = c.advance_in-step.new in let d = c.end_at in let free = c.free_turns in let place = c.from-place.result in
+    let left = ends_answer t.taken c.in-Ended.is in let there = slot_left t.taken _ c.index_mut-in-Ended.ensures.value in
+    at_known (λ (x : LinkRings). IsManaged s.shared b.manager (set (set s.calls.items place b.slot) place d.new.slot) d.new.host d.new.remote x × ShowsViews s.era free.new.to_host free.new.to_remote x) b.manager _ t.taken.stepped.state (
+      last_managed t left.0 c.in-Ended.is left.1 d.new.slot d.new.host d.new.remote d.ensures.free (d.ensures.hands left.0 (_, there, left.1)) d.ensures.room d.ensures.beside,
+      last_shows t left.0 c.in-Ended.is left.1 free.new.to_host free.new.to_remote free.ensures.incoming free.ensures.outgoing,
     ) _ (assumption)
 
 pub returns-in-At-clause-whole : goal.returns-in-At-clause-whole
-returns-in-At-clause-whole c =
-    let s = c.self.inside in let m = s.known.0 in let e = c.in-Some.side in let n = c.args.caller in let managed = c.self.invariant.0 in let shows = c.self.invariant.1 in
-    let used : end_of s.manager.users n ≡ Some e = sym c.end_of.ensures.end ∙ c.in-Some.is in let user : end_of m.callers n ≡ Some e = ap (λ (l : List (Option End)). end_of l n) (sym managed.state.users) ∙ used in
-    let low : n < 64 = subst (λ (o : Option End). IfSome o (λ _. n < 64)) c.in-Some.is c.end_of.ensures.within in let may = subst (λ (x : LinkRings). MayStep (lists_of x) n None) (sym c.self.view_is) c.requires in
-    let place = c.from-place.result in let at : place ≡ n = c.from-place.ensures in let slots = managed.slots in let within : place < length s.calls.items = omega (arith, at, low, slots) in
-    let found = next_call s.shared s.manager s.calls.items s.host s.remote s.era s.to_host s.to_remote m managed shows n e user low may in let call = found.0 in let here : c.index_mut.result.now ≡ Some call = sym (call_read s.calls.items s.calls.items n place c.index_mut.result.now refl at within c.index_mut.ensures.value) ∙ found.1 in
-    let b = c.advance_in-step in let taken = b.ensures e call m used here managed.state in
-    state_behind (λ (x : LinkRings). (form_step on_rings side_meaning x n 0 None).state) b.new.manager m c.args.self.now _ (next_stepped s.shared s.manager s.calls.items s.host s.remote s.era s.to_host s.to_remote m managed shows n e user low may call found.1 b.new.manager b.result b.new.slot taken).state c.self.view_is (assumption)
+returns-in-At-clause-whole c = step_whole (takes (goal.at.returns-in-At-clause-whole c).After-advance_in-step).taken _ _ c.self.view_is (assumption)
 
 pub returns-in-At-clause-outcome : goal.returns-in-At-clause-outcome
-returns-in-At-clause-outcome c =
-    let s = c.self.inside in let m = s.known.0 in let e = c.in-Some.side in let n = c.args.caller in let managed = c.self.invariant.0 in let shows = c.self.invariant.1 in
-    let used : end_of s.manager.users n ≡ Some e = sym c.end_of.ensures.end ∙ c.in-Some.is in let user : end_of m.callers n ≡ Some e = ap (λ (l : List (Option End)). end_of l n) (sym managed.state.users) ∙ used in
-    let low : n < 64 = subst (λ (o : Option End). IfSome o (λ _. n < 64)) c.in-Some.is c.end_of.ensures.within in let may = subst (λ (x : LinkRings). MayStep (lists_of x) n None) (sym c.self.view_is) c.requires in
-    let place = c.from-place.result in let at : place ≡ n = c.from-place.ensures in let slots = managed.slots in let within : place < length s.calls.items = omega (arith, at, low, slots) in
-    let found = next_call s.shared s.manager s.calls.items s.host s.remote s.era s.to_host s.to_remote m managed shows n e user low may in let call = found.0 in let here : c.index_mut.result.now ≡ Some call = sym (call_read s.calls.items s.calls.items n place c.index_mut.result.now refl at within c.index_mut.ensures.value) ∙ found.1 in
-    let b = c.advance_in-step in let taken = b.ensures e call m used here managed.state in
-    goes_outcome b.result _ c.in-At.field-0 c.in-At.is ∙ (outcome_on_lists m n 0 None (outcome.At c.in-At.field-0) (sym (goes_told b.result taken.call.phase c.in-At.field-0 c.in-At.is) ∙ next_told s.shared s.manager s.calls.items s.host s.remote s.era s.to_host s.to_remote m managed shows n e user low may call found.1 b.new.manager b.result b.new.slot taken) ∙ ap (λ (x : LinkRings). (caller_step side_meaning (lists_of x) n 0 None).outcome) c.self.view_is)
+returns-in-At-clause-outcome c = goes_answers (takes (goal.at.returns-in-At-clause-outcome c).After-advance_in-step).taken c.in-At.field-0 c.in-At.is _ _ c.self.view_is
 
 pub returns-in-Ended-clause-whole : goal.returns-in-Ended-clause-whole
-returns-in-Ended-clause-whole c =
-    let s = c.self.inside in let m = s.known.0 in let e = c.in-Some.side in let n = c.args.caller in let managed = c.self.invariant.0 in let shows = c.self.invariant.1 in
-    let used : end_of s.manager.users n ≡ Some e = sym c.end_of.ensures.end ∙ c.in-Some.is in let user : end_of m.callers n ≡ Some e = ap (λ (l : List (Option End)). end_of l n) (sym managed.state.users) ∙ used in
-    let low : n < 64 = subst (λ (o : Option End). IfSome o (λ _. n < 64)) c.in-Some.is c.end_of.ensures.within in let may = subst (λ (x : LinkRings). MayStep (lists_of x) n None) (sym c.self.view_is) c.requires in
-    let place = c.from-place.result in let at : place ≡ n = c.from-place.ensures in let slots = managed.slots in let within : place < length s.calls.items = omega (arith, at, low, slots) in
-    let found = next_call s.shared s.manager s.calls.items s.host s.remote s.era s.to_host s.to_remote m managed shows n e user low may in let call = found.0 in let here : c.index_mut.result.now ≡ Some call = sym (call_read s.calls.items s.calls.items n place c.index_mut.result.now refl at within c.index_mut.ensures.value) ∙ found.1 in
-    let b = c.advance_in-step in let taken = b.ensures e call m used here managed.state in
-    state_behind (λ (x : LinkRings). (form_step on_rings side_meaning x n 0 None).state) b.new.manager m c.args.self.now _ (next_stepped s.shared s.manager s.calls.items s.host s.remote s.era s.to_host s.to_remote m managed shows n e user low may call found.1 b.new.manager b.result b.new.slot taken).state c.self.view_is (assumption)
+returns-in-Ended-clause-whole c = step_whole (takes (goal.at.returns-in-Ended-clause-whole c).After-advance_in-step).taken _ _ c.self.view_is (assumption)
 
 pub returns-in-Ended-clause-outcome : goal.returns-in-Ended-clause-outcome
 returns-in-Ended-clause-outcome c =
-    let s = c.self.inside in let m = s.known.0 in let e = c.in-Some.side in let n = c.args.caller in let managed = c.self.invariant.0 in let shows = c.self.invariant.1 in
-    let used : end_of s.manager.users n ≡ Some e = sym c.end_of.ensures.end ∙ c.in-Some.is in let user : end_of m.callers n ≡ Some e = ap (λ (l : List (Option End)). end_of l n) (sym managed.state.users) ∙ used in
-    let low : n < 64 = subst (λ (o : Option End). IfSome o (λ _. n < 64)) c.in-Some.is c.end_of.ensures.within in let may = subst (λ (x : LinkRings). MayStep (lists_of x) n None) (sym c.self.view_is) c.requires in
-    let place = c.from-place.result in let at : place ≡ n = c.from-place.ensures in let slots = managed.slots in let within : place < length s.calls.items = omega (arith, at, low, slots) in
-    let found = next_call s.shared s.manager s.calls.items s.host s.remote s.era s.to_host s.to_remote m managed shows n e user low may in let call = found.0 in let here : c.index_mut.result.now ≡ Some call = sym (call_read s.calls.items s.calls.items n place c.index_mut.result.now refl at within c.index_mut.ensures.value) ∙ found.1 in
-    let b = c.advance_in-step in let taken = b.ensures e call m used here managed.state in
-    let left = last_answer s.shared s.manager s.calls.items s.host s.remote s.era s.to_host s.to_remote m managed shows n e user low may call found.1 b.new.manager b.result b.new.slot taken c.in-Ended.is in
-    let ended = c.index_mut-in-Ended in let there = now_here s.shared s.manager s.calls.items s.host s.remote s.era s.to_host s.to_remote m managed shows n e user low may call found.1 b.new.manager b.result b.new.slot taken place ended.result.now at ended.ensures.value in
-    ends_outcome b.result c.end_at.result c.in-Ended.is ∙ (ap outcome.Ended (c.end_at.ensures.end _ left.0 there left.1) ∙ (outcome_on_lists m n 0 None (outcome.Ended (call_end left.0)) (sym (ends_told b.result taken.call.phase left.0 c.in-Ended.is left.1) ∙ next_told s.shared s.manager s.calls.items s.host s.remote s.era s.to_host s.to_remote m managed shows n e user low may call found.1 b.new.manager b.result b.new.slot taken) ∙ ap (λ (x : LinkRings). (caller_step side_meaning (lists_of x) n 0 None).outcome) c.self.view_is))
+    let t = takes (goal.at.returns-in-Ended-clause-outcome c).After-advance_in-step in let left = ends_answer t.taken c.in-Ended.is in
+    ends_answers t.taken left.0 c.in-Ended.is left.1 _ _ c.self.view_is (c.end_at.ensures.end left.0 (_, slot_left t.taken _ c.index_mut-in-Ended.ensures.value, left.1))
 
 pub returns-in-Ended-clause-taken : goal.returns-in-Ended-clause-taken
 returns-in-Ended-clause-taken c =
-    let s = c.self.inside in let m = s.known.0 in let e = c.in-Some.side in let n = c.args.caller in let managed = c.self.invariant.0 in let shows = c.self.invariant.1 in
-    let used : end_of s.manager.users n ≡ Some e = sym c.end_of.ensures.end ∙ c.in-Some.is in let user : end_of m.callers n ≡ Some e = ap (λ (l : List (Option End)). end_of l n) (sym managed.state.users) ∙ used in
-    let low : n < 64 = subst (λ (o : Option End). IfSome o (λ _. n < 64)) c.in-Some.is c.end_of.ensures.within in let may = subst (λ (x : LinkRings). MayStep (lists_of x) n None) (sym c.self.view_is) c.requires in
-    let place = c.from-place.result in let at : place ≡ n = c.from-place.ensures in let slots = managed.slots in let within : place < length s.calls.items = omega (arith, at, low, slots) in
-    let found = next_call s.shared s.manager s.calls.items s.host s.remote s.era s.to_host s.to_remote m managed shows n e user low may in let call = found.0 in let here : c.index_mut.result.now ≡ Some call = sym (call_read s.calls.items s.calls.items n place c.index_mut.result.now refl at within c.index_mut.ensures.value) ∙ found.1 in
-    let b = c.advance_in-step in let taken = b.ensures e call m used here managed.state in
-    let left = last_answer s.shared s.manager s.calls.items s.host s.remote s.era s.to_host s.to_remote m managed shows n e user low may call found.1 b.new.manager b.result b.new.slot taken c.in-Ended.is in
-    let ended = c.index_mut-in-Ended in let there = now_here s.shared s.manager s.calls.items s.host s.remote s.era s.to_host s.to_remote m managed shows n e user low may call found.1 b.new.manager b.result b.new.slot taken place ended.result.now at ended.ensures.value in
-    ended_behind (λ (x : LinkRings). (form_step on_rings side_meaning x n 0 None).state) m c.args.self.now n b.result c.end_at.result c.in-Ended.is (returns-in-Ended-clause-whole c) c.self.view_is
-    (subst (HoldsTaken (lists_of (form_step on_rings side_meaning m n 0 None).state) n) (sym (c.end_at.ensures.end _ left.0 there left.1)) (last_taken s.shared s.manager s.calls.items s.host s.remote s.era s.to_host s.to_remote m managed shows n e user low may call found.1 b.new.manager b.result b.new.slot taken left.0 c.in-Ended.is left.1))
+    let t = takes (goal.at.returns-in-Ended-clause-taken c).After-advance_in-step in let left = ends_answer t.taken c.in-Ended.is in
+    last_takes t left.0 c.in-Ended.is left.1 _ _ c.self.view_is (c.end_at.ensures.end left.0 (_, slot_left t.taken _ c.index_mut-in-Ended.ensures.value, left.1)) (returns-in-Ended-clause-whole c)

@@ -3,7 +3,7 @@ use Rattle.lane_model.specs.declared.calls.Progress.{Progress}
 use Rattle.link_words.specs.Calls.{SeatState}
 use Rattle.split_ring.specs.Calls.{IsInPhase, Advances}
 use Rattle.split_ring.specs.Focus.{seat_of}
-use Rattle.split_ring.specs.declared.calls.Phase.{Phase}
+use Rattle.split_ring.specs.CallPhases.{Phase}
 use Rattle.split_ring.proofs.CallEnds.{advanced}
 use Rattle.split_ring.proofs.CallSeen.{step_seen}
 use Rattle.split_ring.proofs.Focusing.{alone_leaves, alone_same, alone_seat, both_alone, low_own}
@@ -23,7 +23,7 @@ step_on-step-requires-clause-stands g c =
 pub returns-clause-caller : goal.returns-clause-caller
 returns-clause-caller g c =
     let coded = g.row.D.coded in let meaning = g.D.Desk.meaning in let z = c.args.self.now.sizes in let who = c.args.caller.now.id in let n = who.number in let s = c.step_on-step in let a = c.args.caller.now.seat.me in let b = s.new.seat.me in let p = c.args.call.now.phase in
-    let said = c.said_by.result in let next = c.said_by.new.phase in let tells = c.said_by.ensures in
+    let said = c.progress_of.result in let next = c.progress_of.new.phase in let tells = c.progress_of.ensures in
     let alone = phase_alone n z who p a c.requires.number c.requires.stands in let alone' = alone_leaves n a b s.ensures.alone.leaves alone in
     let step = both_alone n a b (λ s t. Advances coded meaning z who p said next s t) alone alone'
     (subst (λ (t : Progress × Phase). Advances coded meaning z who p t.0 t.1 (seat_of n a) (seat_of n b)) (λ i. (sym tells.said i, sym tells.left i)) s.ensures.step) in (
@@ -35,7 +35,7 @@ returns-clause-caller g c =
 pub returns-clause-step : goal.returns-clause-step
 returns-clause-step g c =
     let coded = g.row.D.coded in let meaning = g.D.Desk.meaning in let z = c.args.self.now.sizes in let who = c.args.caller.now.id in let n = who.number in let s = c.step_on-step in let a = c.args.caller.now.seat.me in let b = s.new.seat.me in let p = c.args.call.now.phase in
-    let said = c.said_by.result in let next = c.said_by.new.phase in let tells = c.said_by.ensures in
+    let said = c.progress_of.result in let next = c.progress_of.new.phase in let tells = c.progress_of.ensures in
     let alone = phase_alone n z who p a c.requires.number c.requires.stands in let alone' = alone_leaves n a b s.ensures.alone.leaves alone in
     let step = both_alone n a b (λ s t. Advances coded meaning z who p said next s t) alone alone'
     (subst (λ (t : Progress × Phase). Advances coded meaning z who p t.0 t.1 (seat_of n a) (seat_of n b)) (λ i. (sym tells.said i, sym tells.left i)) s.ensures.step) in
@@ -44,7 +44,7 @@ returns-clause-step g c =
 pub returns-clause-seen : goal.returns-clause-seen
 returns-clause-seen g c =
     let coded = g.row.D.coded in let meaning = g.D.Desk.meaning in let z = c.args.self.now.sizes in let who = c.args.caller.now.id in let n = who.number in let s = c.step_on-step in let a = c.args.caller.now.seat.me in let b = s.new.seat.me in let p = c.args.call.now.phase in
-    let said = c.said_by.result in let next = c.said_by.new.phase in let tells = c.said_by.ensures in
+    let said = c.progress_of.result in let next = c.progress_of.new.phase in let tells = c.progress_of.ensures in
     let alone = phase_alone n z who p a c.requires.number c.requires.stands in let alone' = alone_leaves n a b s.ensures.alone.leaves alone in
     let step = both_alone n a b (λ s t. Advances coded meaning z who p said next s t) alone alone'
     (subst (λ (t : Progress × Phase). Advances coded meaning z who p t.0 t.1 (seat_of n a) (seat_of n b)) (λ i. (sym tells.said i, sym tells.left i)) s.ensures.step) in

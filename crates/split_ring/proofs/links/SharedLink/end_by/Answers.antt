@@ -5,7 +5,7 @@ use Rattle.link_words.specs.PlacedLinks.{KnowsState}
 use Rattle.link_words.specs.Orderly.{IsOrderly}
 use Rattle.split_ring.specs.declared.callers.CallerId.{CallerId}
 use Rattle.split_ring.specs.declared.callers.Manager.{Manager}
-use Rattle.split_ring.specs.declared.calls.Phase.TheVariants as phase
+use Rattle.split_ring.specs.CallPhases as phase
 use Rattle.split_ring.specs.declared.ends.TurnHeld.{TurnHeld}
 use Rattle.split_ring.specs.Focus.{after_deeds, seat_of}
 use Rattle.split_ring.specs.Reclaims.{HasTurnHeld, end_deeds, ended_of, phase_of, turn_slots}

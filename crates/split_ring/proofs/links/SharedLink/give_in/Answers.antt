@@ -10,7 +10,7 @@ use Rattle.lane_model.specs.declared.stages.Work.TheVariants as work
 use Rattle.std.proofs.Common.{◌≡◌, ℕ, refl, ◌+◌, ◌∷◌, [], sym, ap, ◌∙◌, subst, arith}
 use Rattle.std.specs.Prelude.{Some}
 use Rattle.link_words.specs.Deeds.{Steps, after_deed}
-use Rattle.split_ring.specs.declared.calls.Phase.TheVariants as phase
+use Rattle.split_ring.specs.CallPhases as phase
 use Rattle.split_ring.specs.Focus.{StepsAlone, seat_of}
 use Rattle.split_ring.specs.Phases.{holder_for}
 use Rattle.split_ring.specs.Receives.{IsGiveAt}

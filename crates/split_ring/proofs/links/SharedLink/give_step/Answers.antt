@@ -9,7 +9,7 @@ use Rattle.lane_model.specs.declared.stages.Work.TheVariants as work
 use Rattle.link_words.specs.declared.rule.Counted.TheVariants.{Gave}
 use Rattle.link_words.specs.declared.rule.Event.TheVariants.{Count}
 use Rattle.link_words.specs.Steps.{hands_but}
-use Rattle.split_ring.specs.declared.calls.Phase.TheVariants as phase
+use Rattle.split_ring.specs.CallPhases as phase
 use Rattle.split_ring.specs.Calls.{GiveStands, Advances}
 use Rattle.split_ring.specs.Focus.{seat_of}
 use Rattle.split_ring.specs.Phases.{give_steps}

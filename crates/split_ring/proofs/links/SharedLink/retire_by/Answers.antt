@@ -17,7 +17,7 @@ use Rattle.link_words.specs.Seats.{with_era}
 use Rattle.link_words.specs.Words.{lane_to}
 use Rattle.split_ring.specs.declared.callers.CallerId.{CallerId}
 use Rattle.split_ring.specs.declared.callers.Manager.{Manager}
-use Rattle.split_ring.specs.declared.calls.Phase.{Phase}
+use Rattle.split_ring.specs.CallPhases.{Phase}
 use Rattle.split_ring.specs.declared.ends.TurnHeld.{TurnHeld}
 use Rattle.split_ring.specs.Carried.{Carries, carried_at, carried_seat}
 use Rattle.split_ring.specs.Focus.{after_deeds}

@@ -1,7 +1,7 @@
 use Rattle.std.specs.Prelude.{Err}
 use Rattle.lane_model.specs.declared.calls.Answer.TheVariants as answer
 use Rattle.lane_model.specs.declared.stages.SendStage.TheVariants as stage
-use Rattle.split_ring.specs.declared.calls.Phase.TheVariants as phase
+use Rattle.split_ring.specs.CallPhases as phase
 use Rattle.split_ring.specs.Calls.{send_answer}
 use Rattle.split_ring.specs.Focus.{seat_of}
 use Rattle.split_ring.proofs.CallSteps.{send_by, send_live, send_dead, send_room, send_none, send_buffer, send_stored, send_sent}

@@ -13,7 +13,7 @@ use Rattle.split_ring.specs.Calls.{Advances, IsInPhase, deed_of}
 use Rattle.split_ring.specs.Carried.{Carries, CarriesOn, carried_seat, out_before}
 use Rattle.split_ring.specs.Focus.{seat_of}
 use Rattle.split_ring.specs.Handed.{StepsLanes}
-use Rattle.split_ring.specs.Phases.{left_by, said_by, side_of, slots_in}
+use Rattle.split_ring.specs.Phases.{phase_behind, progress_of, side_of, slots_in}
 use Rattle.split_ring.proofs.Carrying.{stands_in}
 use Rattle.split_ring.proofs.CarriedLinks.{HasAdvanced, before_least, carrier_after, carries_here, carries_on, has_advanced, has_gone, others_after, out_after, out_few, same_user, seat_after, seat_turned, state_after_step, step_after, turned_again, turned_front, user_of}
 use Rattle.split_ring.proofs.links.SharedLink.step_by.Goals as goal
@@ -40,7 +40,7 @@ overflow_sub-manager g c =
     let user : end_of before.users c.args.caller ≡ Some c.in-Some-Some.end = let look = c.in-Some-Some.ensures.lookup in subst (λ (k : ℕ). end_of before.users k ≡ Some c.in-Some-Some.end) c.from.ensures (user_of before.users c.from.result c.in-Some-Some.field-0.now c.in-Some-Some.end look.3.0 look.1 c.in-Some-Some.field-0-is) in
     let carries : Carries link before who p = carries_here link before c.args.caller c.args.inc p q.0 c.in-Some-Some.end q.1 user in
     let same : slice_index before.out c.side_of-side.result ≡ slice_index before.out (side_of who.end p) = ap (slice_index before.out) c.side_of-side.ensures.side in
-    let least = counted_least (slots_in p) (slice_index before.out (side_of who.end p)) carries.counted in let had = c.slots_in-had.ensures in omega (arith, least, same, had)
+    let least = counted_least (slots_in p) (slice_index before.out (side_of who.end p)) carries.counted in let had = c.slots-had.ensures in omega (arith, least, same, had)
 
 pub out_before-requires-clause-few : goal.out_before-requires-clause-few
 out_before-requires-clause-few g c = λ slot.
@@ -49,21 +49,21 @@ out_before-requires-clause-few g c = λ slot.
     let user : end_of before.users c.args.caller ≡ Some c.in-Some-Some.end = let look = c.in-Some-Some.ensures.lookup in subst (λ (k : ℕ). end_of before.users k ≡ Some c.in-Some-Some.end) c.from.ensures (user_of before.users c.from.result c.in-Some-Some.field-0.now c.in-Some-Some.end look.3.0 look.1 c.in-Some-Some.field-0-is) in
     let carries : Carries link before who p = carries_here link before c.args.caller c.args.inc p q.0 c.in-Some-Some.end q.1 user in
     let turned : c.turn_by.new.seat.me ≡ seat_turned who p before = turned_front link before who p c.out_before-before.result c.turn_by.new.seat.me carrier (c.out_before-before.ensures ∙ ap (λ (k : ℕ). out_before k before.out) c.side_of-side.ensures.side) c.turn_by.ensures.turned in
-    let s = c.step_on-step in let b = s.new.seat.me in let said = said_by s.result s.new.phase in let next = left_by s.result s.new.phase in
+    let s = c.step_on-step in let b = s.new.seat.me in let said = progress_of s.result s.new.phase in let next = phase_behind s.result s.new.phase in
     let h : HasAdvanced coded meaning link who p said next before b = has_advanced coded meaning link who p said next before b p c.turn_by.new.seat.me refl turned carrier carries s.ensures.alone s.ensures.seat.order s.ensures.next s.ensures.step in let t = has_gone coded meaning link who p said next before b h in
     let has : c.match-step.has ≡ slots_in next = elim c.match-step.branch [
-      | in-At w ↦ w.has-is ∙ (w.slots_in-has.ensures ∙ ap (λ (x : Step). slots_in (left_by x s.new.phase)) (sym w.in-At.is))
-      | in-Ended w ↦ w.has-is ∙ ap (λ (x : Step). slots_in (left_by x s.new.phase)) (sym w.in-Ended.is)
+      | in-At w ↦ w.has-is ∙ (w.slots-has.ensures ∙ ap (λ (x : Step). slots_in (phase_behind x s.new.phase)) (sym w.in-At.is))
+      | in-Ended w ↦ w.has-is ∙ ap (λ (x : Step). slots_in (phase_behind x s.new.phase)) (sym w.in-Ended.is)
     ] in
-    let out : slice_set before.out c.side_of-side.result (slice_index before.out c.side_of-side.result + c.match-step.has - c.slots_in-had.result) ≡ out_after link who p next before b t
-    = λ i. slice_set before.out (c.side_of-side.ensures.side i) (slice_index before.out (c.side_of-side.ensures.side i) + has i - c.slots_in-had.ensures i) in
+    let out : slice_set before.out c.side_of-side.result (slice_index before.out c.side_of-side.result + c.match-step.has - c.slots-had.result) ≡ out_after link who p next before b t
+    = λ i. slice_set before.out (c.side_of-side.ensures.side i) (slice_index before.out (c.side_of-side.ensures.side i) + has i - c.slots-had.ensures i) in
     let few = out_few link who p next before b t slot in let same = ap (λ (l : List ℕ). slice_index l slot) out in omega (arith, few, same)
 
 pub overflow_sub-rest : goal.overflow_sub-rest
 overflow_sub-rest g c = let before = c.args.manager.now in let p = c.args.call.now.phase in
-    let least = before_least before c.in-Some-Some.end p (slice_index before.out c.side_of-side.result + c.match-step.has - c.slots_in-had.result) in
-    let one : c.out_before.result ≡ out_before 4 (slice_set before.out (side_of c.in-Some-Some.end p) (slice_index before.out c.side_of-side.result + c.match-step.has - c.slots_in-had.result))
-    = c.out_before.ensures ∙ ap (λ (k : ℕ). out_before 4 (slice_set before.out k (slice_index before.out c.side_of-side.result + c.match-step.has - c.slots_in-had.result))) c.side_of-side.ensures.side in
+    let least = before_least before c.in-Some-Some.end p (slice_index before.out c.side_of-side.result + c.match-step.has - c.slots-had.result) in
+    let one : c.out_before.result ≡ out_before 4 (slice_set before.out (side_of c.in-Some-Some.end p) (slice_index before.out c.side_of-side.result + c.match-step.has - c.slots-had.result))
+    = c.out_before.ensures ∙ ap (λ (k : ℕ). out_before 4 (slice_set before.out k (slice_index before.out c.side_of-side.result + c.match-step.has - c.slots-had.result))) c.side_of-side.ensures.side in
     let two = c.out_before-before.ensures ∙ ap (λ (k : ℕ). out_before k before.out) c.side_of-side.ensures.side in omega (arith, least, one, two)
 
 pub returns-clause-manager : goal.returns-clause-manager
@@ -73,15 +73,15 @@ returns-clause-manager g c =
     let user : end_of before.users c.args.caller ≡ Some c.in-Some-Some.end = let look = c.in-Some-Some.ensures.lookup in subst (λ (k : ℕ). end_of before.users k ≡ Some c.in-Some-Some.end) c.from.ensures (user_of before.users c.from.result c.in-Some-Some.field-0.now c.in-Some-Some.end look.3.0 look.1 c.in-Some-Some.field-0-is) in
     let carries : Carries link before who p = carries_here link before c.args.caller c.args.inc p q.0 c.in-Some-Some.end q.1 user in
     let turned : c.turn_by.new.seat.me ≡ seat_turned who p before = turned_front link before who p c.out_before-before.result c.turn_by.new.seat.me carrier (c.out_before-before.ensures ∙ ap (λ (k : ℕ). out_before k before.out) c.side_of-side.ensures.side) c.turn_by.ensures.turned in
-    let s = c.step_on-step in let b = s.new.seat.me in let said = said_by s.result s.new.phase in let next = left_by s.result s.new.phase in
+    let s = c.step_on-step in let b = s.new.seat.me in let said = progress_of s.result s.new.phase in let next = phase_behind s.result s.new.phase in
     let h : HasAdvanced coded meaning link who p said next before b = has_advanced coded meaning link who p said next before b p c.turn_by.new.seat.me refl turned carrier carries s.ensures.alone s.ensures.seat.order s.ensures.next s.ensures.step in let t = has_gone coded meaning link who p said next before b h in
     let has : c.match-step.has ≡ slots_in next = elim c.match-step.branch [
-      | in-At w ↦ w.has-is ∙ (w.slots_in-has.ensures ∙ ap (λ (x : Step). slots_in (left_by x s.new.phase)) (sym w.in-At.is))
-      | in-Ended w ↦ w.has-is ∙ ap (λ (x : Step). slots_in (left_by x s.new.phase)) (sym w.in-Ended.is)
+      | in-At w ↦ w.has-is ∙ (w.slots-has.ensures ∙ ap (λ (x : Step). slots_in (phase_behind x s.new.phase)) (sym w.in-At.is))
+      | in-Ended w ↦ w.has-is ∙ ap (λ (x : Step). slots_in (phase_behind x s.new.phase)) (sym w.in-Ended.is)
     ] in
-    let out : slice_set before.out c.side_of-side.result (slice_index before.out c.side_of-side.result + c.match-step.has - c.slots_in-had.result) ≡ out_after link who p next before b t
-    = λ i. slice_set before.out (c.side_of-side.ensures.side i) (slice_index before.out (c.side_of-side.ensures.side i) + has i - c.slots_in-had.ensures i) in
-    let after : Manager = record { seat = c.turn_by-2.new.seat; users = before.users; out = slice_set before.out c.side_of-side.result (slice_index before.out c.side_of-side.result + c.match-step.has - c.slots_in-had.result) } in
+    let out : slice_set before.out c.side_of-side.result (slice_index before.out c.side_of-side.result + c.match-step.has - c.slots-had.result) ≡ out_after link who p next before b t
+    = λ i. slice_set before.out (c.side_of-side.ensures.side i) (slice_index before.out (c.side_of-side.ensures.side i) + has i - c.slots-had.ensures i) in
+    let after : Manager = record { seat = c.turn_by-2.new.seat; users = before.users; out = slice_set before.out c.side_of-side.result (slice_index before.out c.side_of-side.result + c.match-step.has - c.slots-had.result) } in
     let rest : c.out_before.result - c.out_before-before.result ≡ out_before 4 (out_after link who p next before b t) - out_before (side_of who.end p) before.out
     = λ i. (c.out_before.ensures ∙ ap (out_before 4) out) i - (c.out_before-before.ensures ∙ ap (λ (k : ℕ). out_before k before.out) c.side_of-side.ensures.side) i in
     let seat : after.seat.me ≡ seat_after link who p next before b t = turned_again link who p next before b t (c.out_before.result - c.out_before-before.result) c.turn_by-2.new.seat.me rest c.turn_by-2.ensures.turned in
@@ -95,15 +95,15 @@ returns-clause-call g c = λ end is.
     let user : end_of before.users c.args.caller ≡ Some c.in-Some-Some.end = let look = c.in-Some-Some.ensures.lookup in subst (λ (k : ℕ). end_of before.users k ≡ Some c.in-Some-Some.end) c.from.ensures (user_of before.users c.from.result c.in-Some-Some.field-0.now c.in-Some-Some.end look.3.0 look.1 c.in-Some-Some.field-0-is) in
     let carries : Carries link before who p = carries_here link before c.args.caller c.args.inc p q.0 c.in-Some-Some.end q.1 user in
     let turned : c.turn_by.new.seat.me ≡ seat_turned who p before = turned_front link before who p c.out_before-before.result c.turn_by.new.seat.me carrier (c.out_before-before.ensures ∙ ap (λ (k : ℕ). out_before k before.out) c.side_of-side.ensures.side) c.turn_by.ensures.turned in
-    let s = c.step_on-step in let b = s.new.seat.me in let said = said_by s.result s.new.phase in let next = left_by s.result s.new.phase in
+    let s = c.step_on-step in let b = s.new.seat.me in let said = progress_of s.result s.new.phase in let next = phase_behind s.result s.new.phase in
     let h : HasAdvanced coded meaning link who p said next before b = has_advanced coded meaning link who p said next before b p c.turn_by.new.seat.me refl turned carrier carries s.ensures.alone s.ensures.seat.order s.ensures.next s.ensures.step in let t = has_gone coded meaning link who p said next before b h in
     let has : c.match-step.has ≡ slots_in next = elim c.match-step.branch [
-      | in-At w ↦ w.has-is ∙ (w.slots_in-has.ensures ∙ ap (λ (x : Step). slots_in (left_by x s.new.phase)) (sym w.in-At.is))
-      | in-Ended w ↦ w.has-is ∙ ap (λ (x : Step). slots_in (left_by x s.new.phase)) (sym w.in-Ended.is)
+      | in-At w ↦ w.has-is ∙ (w.slots-has.ensures ∙ ap (λ (x : Step). slots_in (phase_behind x s.new.phase)) (sym w.in-At.is))
+      | in-Ended w ↦ w.has-is ∙ ap (λ (x : Step). slots_in (phase_behind x s.new.phase)) (sym w.in-Ended.is)
     ] in
-    let out : slice_set before.out c.side_of-side.result (slice_index before.out c.side_of-side.result + c.match-step.has - c.slots_in-had.result) ≡ out_after link who p next before b t
-    = λ i. slice_set before.out (c.side_of-side.ensures.side i) (slice_index before.out (c.side_of-side.ensures.side i) + has i - c.slots_in-had.ensures i) in
-    let after : Manager = record { seat = c.turn_by-2.new.seat; users = before.users; out = slice_set before.out c.side_of-side.result (slice_index before.out c.side_of-side.result + c.match-step.has - c.slots_in-had.result) } in
+    let out : slice_set before.out c.side_of-side.result (slice_index before.out c.side_of-side.result + c.match-step.has - c.slots-had.result) ≡ out_after link who p next before b t
+    = λ i. slice_set before.out (c.side_of-side.ensures.side i) (slice_index before.out (c.side_of-side.ensures.side i) + has i - c.slots-had.ensures i) in
+    let after : Manager = record { seat = c.turn_by-2.new.seat; users = before.users; out = slice_set before.out c.side_of-side.result (slice_index before.out c.side_of-side.result + c.match-step.has - c.slots-had.result) } in
     let rest : c.out_before.result - c.out_before-before.result ≡ out_before 4 (out_after link who p next before b t) - out_before (side_of who.end p) before.out
     = λ i. (c.out_before.ensures ∙ ap (out_before 4) out) i - (c.out_before-before.ensures ∙ ap (λ (k : ℕ). out_before k before.out) c.side_of-side.ensures.side) i in
     let seat : after.seat.me ≡ seat_after link who p next before b t = turned_again link who p next before b t (c.out_before.result - c.out_before-before.result) c.turn_by-2.new.seat.me rest c.turn_by-2.ensures.turned in
@@ -116,15 +116,15 @@ returns-clause-others g c = λ other r apart carried.
     let user : end_of before.users c.args.caller ≡ Some c.in-Some-Some.end = let look = c.in-Some-Some.ensures.lookup in subst (λ (k : ℕ). end_of before.users k ≡ Some c.in-Some-Some.end) c.from.ensures (user_of before.users c.from.result c.in-Some-Some.field-0.now c.in-Some-Some.end look.3.0 look.1 c.in-Some-Some.field-0-is) in
     let carries : Carries link before who p = carries_here link before c.args.caller c.args.inc p q.0 c.in-Some-Some.end q.1 user in
     let turned : c.turn_by.new.seat.me ≡ seat_turned who p before = turned_front link before who p c.out_before-before.result c.turn_by.new.seat.me carrier (c.out_before-before.ensures ∙ ap (λ (k : ℕ). out_before k before.out) c.side_of-side.ensures.side) c.turn_by.ensures.turned in
-    let s = c.step_on-step in let b = s.new.seat.me in let said = said_by s.result s.new.phase in let next = left_by s.result s.new.phase in
+    let s = c.step_on-step in let b = s.new.seat.me in let said = progress_of s.result s.new.phase in let next = phase_behind s.result s.new.phase in
     let h : HasAdvanced coded meaning link who p said next before b = has_advanced coded meaning link who p said next before b p c.turn_by.new.seat.me refl turned carrier carries s.ensures.alone s.ensures.seat.order s.ensures.next s.ensures.step in let t = has_gone coded meaning link who p said next before b h in
     let has : c.match-step.has ≡ slots_in next = elim c.match-step.branch [
-      | in-At w ↦ w.has-is ∙ (w.slots_in-has.ensures ∙ ap (λ (x : Step). slots_in (left_by x s.new.phase)) (sym w.in-At.is))
-      | in-Ended w ↦ w.has-is ∙ ap (λ (x : Step). slots_in (left_by x s.new.phase)) (sym w.in-Ended.is)
+      | in-At w ↦ w.has-is ∙ (w.slots-has.ensures ∙ ap (λ (x : Step). slots_in (phase_behind x s.new.phase)) (sym w.in-At.is))
+      | in-Ended w ↦ w.has-is ∙ ap (λ (x : Step). slots_in (phase_behind x s.new.phase)) (sym w.in-Ended.is)
     ] in
-    let out : slice_set before.out c.side_of-side.result (slice_index before.out c.side_of-side.result + c.match-step.has - c.slots_in-had.result) ≡ out_after link who p next before b t
-    = λ i. slice_set before.out (c.side_of-side.ensures.side i) (slice_index before.out (c.side_of-side.ensures.side i) + has i - c.slots_in-had.ensures i) in
-    let after : Manager = record { seat = c.turn_by-2.new.seat; users = before.users; out = slice_set before.out c.side_of-side.result (slice_index before.out c.side_of-side.result + c.match-step.has - c.slots_in-had.result) } in
+    let out : slice_set before.out c.side_of-side.result (slice_index before.out c.side_of-side.result + c.match-step.has - c.slots-had.result) ≡ out_after link who p next before b t
+    = λ i. slice_set before.out (c.side_of-side.ensures.side i) (slice_index before.out (c.side_of-side.ensures.side i) + has i - c.slots-had.ensures i) in
+    let after : Manager = record { seat = c.turn_by-2.new.seat; users = before.users; out = slice_set before.out c.side_of-side.result (slice_index before.out c.side_of-side.result + c.match-step.has - c.slots-had.result) } in
     let rest : c.out_before.result - c.out_before-before.result ≡ out_before 4 (out_after link who p next before b t) - out_before (side_of who.end p) before.out
     = λ i. (c.out_before.ensures ∙ ap (out_before 4) out) i - (c.out_before-before.ensures ∙ ap (λ (k : ℕ). out_before k before.out) c.side_of-side.ensures.side) i in
     let seat : after.seat.me ≡ seat_after link who p next before b t = turned_again link who p next before b t (c.out_before.result - c.out_before-before.result) c.turn_by-2.new.seat.me rest c.turn_by-2.ensures.turned in
@@ -137,15 +137,15 @@ returns-clause-step g c = λ end is.
     let user : end_of before.users c.args.caller ≡ Some c.in-Some-Some.end = let look = c.in-Some-Some.ensures.lookup in subst (λ (k : ℕ). end_of before.users k ≡ Some c.in-Some-Some.end) c.from.ensures (user_of before.users c.from.result c.in-Some-Some.field-0.now c.in-Some-Some.end look.3.0 look.1 c.in-Some-Some.field-0-is) in
     let carries : Carries link before who p = carries_here link before c.args.caller c.args.inc p q.0 c.in-Some-Some.end q.1 user in
     let turned : c.turn_by.new.seat.me ≡ seat_turned who p before = turned_front link before who p c.out_before-before.result c.turn_by.new.seat.me carrier (c.out_before-before.ensures ∙ ap (λ (k : ℕ). out_before k before.out) c.side_of-side.ensures.side) c.turn_by.ensures.turned in
-    let s = c.step_on-step in let b = s.new.seat.me in let said = said_by s.result s.new.phase in let next = left_by s.result s.new.phase in
+    let s = c.step_on-step in let b = s.new.seat.me in let said = progress_of s.result s.new.phase in let next = phase_behind s.result s.new.phase in
     let h : HasAdvanced coded meaning link who p said next before b = has_advanced coded meaning link who p said next before b p c.turn_by.new.seat.me refl turned carrier carries s.ensures.alone s.ensures.seat.order s.ensures.next s.ensures.step in let t = has_gone coded meaning link who p said next before b h in
     let has : c.match-step.has ≡ slots_in next = elim c.match-step.branch [
-      | in-At w ↦ w.has-is ∙ (w.slots_in-has.ensures ∙ ap (λ (x : Step). slots_in (left_by x s.new.phase)) (sym w.in-At.is))
-      | in-Ended w ↦ w.has-is ∙ ap (λ (x : Step). slots_in (left_by x s.new.phase)) (sym w.in-Ended.is)
+      | in-At w ↦ w.has-is ∙ (w.slots-has.ensures ∙ ap (λ (x : Step). slots_in (phase_behind x s.new.phase)) (sym w.in-At.is))
+      | in-Ended w ↦ w.has-is ∙ ap (λ (x : Step). slots_in (phase_behind x s.new.phase)) (sym w.in-Ended.is)
     ] in
-    let out : slice_set before.out c.side_of-side.result (slice_index before.out c.side_of-side.result + c.match-step.has - c.slots_in-had.result) ≡ out_after link who p next before b t
-    = λ i. slice_set before.out (c.side_of-side.ensures.side i) (slice_index before.out (c.side_of-side.ensures.side i) + has i - c.slots_in-had.ensures i) in
-    let after : Manager = record { seat = c.turn_by-2.new.seat; users = before.users; out = slice_set before.out c.side_of-side.result (slice_index before.out c.side_of-side.result + c.match-step.has - c.slots_in-had.result) } in
+    let out : slice_set before.out c.side_of-side.result (slice_index before.out c.side_of-side.result + c.match-step.has - c.slots-had.result) ≡ out_after link who p next before b t
+    = λ i. slice_set before.out (c.side_of-side.ensures.side i) (slice_index before.out (c.side_of-side.ensures.side i) + has i - c.slots-had.ensures i) in
+    let after : Manager = record { seat = c.turn_by-2.new.seat; users = before.users; out = slice_set before.out c.side_of-side.result (slice_index before.out c.side_of-side.result + c.match-step.has - c.slots-had.result) } in
     let rest : c.out_before.result - c.out_before-before.result ≡ out_before 4 (out_after link who p next before b t) - out_before (side_of who.end p) before.out
     = λ i. (c.out_before.ensures ∙ ap (out_before 4) out) i - (c.out_before-before.ensures ∙ ap (λ (k : ℕ). out_before k before.out) c.side_of-side.ensures.side) i in
     let seat : after.seat.me ≡ seat_after link who p next before b t = turned_again link who p next before b t (c.out_before.result - c.out_before-before.result) c.turn_by-2.new.seat.me rest c.turn_by-2.ensures.turned in
@@ -159,15 +159,15 @@ returns-clause-state g c = λ end is m known.
     let user : end_of before.users c.args.caller ≡ Some c.in-Some-Some.end = let look = c.in-Some-Some.ensures.lookup in subst (λ (k : ℕ). end_of before.users k ≡ Some c.in-Some-Some.end) c.from.ensures (user_of before.users c.from.result c.in-Some-Some.field-0.now c.in-Some-Some.end look.3.0 look.1 c.in-Some-Some.field-0-is) in
     let carries : Carries link before who p = carries_here link before c.args.caller c.args.inc p q.0 c.in-Some-Some.end q.1 user in
     let turned : c.turn_by.new.seat.me ≡ seat_turned who p before = turned_front link before who p c.out_before-before.result c.turn_by.new.seat.me carrier (c.out_before-before.ensures ∙ ap (λ (k : ℕ). out_before k before.out) c.side_of-side.ensures.side) c.turn_by.ensures.turned in
-    let s = c.step_on-step in let b = s.new.seat.me in let said = said_by s.result s.new.phase in let next = left_by s.result s.new.phase in
+    let s = c.step_on-step in let b = s.new.seat.me in let said = progress_of s.result s.new.phase in let next = phase_behind s.result s.new.phase in
     let h : HasAdvanced coded meaning link who p said next before b = has_advanced coded meaning link who p said next before b p c.turn_by.new.seat.me refl turned carrier carries s.ensures.alone s.ensures.seat.order s.ensures.next s.ensures.step in let t = has_gone coded meaning link who p said next before b h in
     let has : c.match-step.has ≡ slots_in next = elim c.match-step.branch [
-      | in-At w ↦ w.has-is ∙ (w.slots_in-has.ensures ∙ ap (λ (x : Step). slots_in (left_by x s.new.phase)) (sym w.in-At.is))
-      | in-Ended w ↦ w.has-is ∙ ap (λ (x : Step). slots_in (left_by x s.new.phase)) (sym w.in-Ended.is)
+      | in-At w ↦ w.has-is ∙ (w.slots-has.ensures ∙ ap (λ (x : Step). slots_in (phase_behind x s.new.phase)) (sym w.in-At.is))
+      | in-Ended w ↦ w.has-is ∙ ap (λ (x : Step). slots_in (phase_behind x s.new.phase)) (sym w.in-Ended.is)
     ] in
-    let out : slice_set before.out c.side_of-side.result (slice_index before.out c.side_of-side.result + c.match-step.has - c.slots_in-had.result) ≡ out_after link who p next before b t
-    = λ i. slice_set before.out (c.side_of-side.ensures.side i) (slice_index before.out (c.side_of-side.ensures.side i) + has i - c.slots_in-had.ensures i) in
-    let after : Manager = record { seat = c.turn_by-2.new.seat; users = before.users; out = slice_set before.out c.side_of-side.result (slice_index before.out c.side_of-side.result + c.match-step.has - c.slots_in-had.result) } in
+    let out : slice_set before.out c.side_of-side.result (slice_index before.out c.side_of-side.result + c.match-step.has - c.slots-had.result) ≡ out_after link who p next before b t
+    = λ i. slice_set before.out (c.side_of-side.ensures.side i) (slice_index before.out (c.side_of-side.ensures.side i) + has i - c.slots-had.ensures i) in
+    let after : Manager = record { seat = c.turn_by-2.new.seat; users = before.users; out = slice_set before.out c.side_of-side.result (slice_index before.out c.side_of-side.result + c.match-step.has - c.slots-had.result) } in
     let rest : c.out_before.result - c.out_before-before.result ≡ out_before 4 (out_after link who p next before b t) - out_before (side_of who.end p) before.out
     = λ i. (c.out_before.ensures ∙ ap (out_before 4) out) i - (c.out_before-before.ensures ∙ ap (λ (k : ℕ). out_before k before.out) c.side_of-side.ensures.side) i in
     let seat : after.seat.me ≡ seat_after link who p next before b t = turned_again link who p next before b t (c.out_before.result - c.out_before-before.result) c.turn_by-2.new.seat.me rest c.turn_by-2.ensures.turned in
@@ -182,5 +182,5 @@ returns-clause-lanes g c = λ end is m known.
     let coded = g.row.D.coded in let meaning = g.D.Desk.meaning in let before = c.args.manager.now in let p = c.args.call.now.phase in let s = c.step_on-step in
     let who : CallerId = record { number = c.args.caller; end = c.in-Some-Some.end; follows = c.args.inc } in
     let user : end_of before.users c.args.caller ≡ Some c.in-Some-Some.end = let look = c.in-Some-Some.ensures.lookup in subst (λ (k : ℕ). end_of before.users k ≡ Some c.in-Some-Some.end) c.from.ensures (user_of before.users c.from.result c.in-Some-Some.field-0.now c.in-Some-Some.end look.3.0 look.1 c.in-Some-Some.field-0-is) in
-    subst (λ (e : End). let who : CallerId = record { number = c.args.caller; end = e; follows = c.args.inc } in StepsLanes who (left_by s.result s.new.phase) m (after_deed meaning m (deed_of who p))) (same_user before.users c.args.caller who.end end user is)
+    subst (λ (e : End). let who : CallerId = record { number = c.args.caller; end = e; follows = c.args.inc } in StepsLanes who (phase_behind s.result s.new.phase) m (after_deed meaning m (deed_of who p))) (same_user before.users c.args.caller who.end end user is)
     (s.ensures.lanes m (subst (λ (x : SeatState). KnowsState coded x.0 m) (sym c.turn_by.ensures.turned) known.known))

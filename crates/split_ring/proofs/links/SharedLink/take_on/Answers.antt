@@ -4,7 +4,7 @@ use Rattle.lane_model.specs.declared.calls.Answer.TheVariants as answer
 use Rattle.lane_model.specs.declared.calls.CallEnd.TheVariants as ends
 use Rattle.lane_model.specs.declared.recoveries.LaneTurn.TheVariants as lane_turn
 use Rattle.lane_model.specs.declared.stages.TakeStage.TheVariants as take_stage
-use Rattle.split_ring.specs.declared.calls.Phase.TheVariants as phase
+use Rattle.split_ring.specs.CallPhases as phase
 use Rattle.split_ring.specs.Runs.{HasRun}
 use Rattle.split_ring.specs.Turns.{IsLeaving}
 use Rattle.split_ring.proofs.ReceiveRuns.{take_begins, take_goes}

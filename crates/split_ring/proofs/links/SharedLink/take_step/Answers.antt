@@ -1,6 +1,6 @@
 use Rattle.lane_model.specs.declared.calls.Answer.TheVariants as answer
 use Rattle.lane_model.specs.declared.stages.TakeStage.TheVariants as take_stage
-use Rattle.split_ring.specs.declared.calls.Phase.TheVariants as phase
+use Rattle.split_ring.specs.CallPhases as phase
 use Rattle.split_ring.specs.Focus.{seat_of}
 use Rattle.split_ring.proofs.CallSteps.{take_by, take_live, take_dead, take_found, take_empty, take_buffer}
 use Rattle.split_ring.proofs.links.SharedLink.take_step.Goals as goal
