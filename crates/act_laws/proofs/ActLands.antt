@@ -8,9 +8,8 @@ use Rattle.lane_model.specs.declared.calls.Wish.{Wish}
 use Rattle.lane_model.specs.declared.calls.Wish.TheVariants as wish
 use Rattle.lane_model.specs.declared.recoveries.ReclaimRefusal.{ReclaimRefusal}
 use Rattle.lane_model.specs.Conditions.{MayStep, is_holding}
-use Rattle.lane_model.specs.Links.{LinkState, end_of, free_number, with_caller}
+use Rattle.lane_model.specs.Links.{end_of, free_number, with_caller}
 use Rattle.lane_model.specs.Recoveries.{link_reclaim_refusal}
-use Rattle.channel_bus.specs.Sides.{EndState}
 use Rattle.link_bench.specs.declared.acts.ActAnswer.{ActAnswer}
 use Rattle.link_bench.specs.declared.acts.ActAnswer.TheVariants as answer
 use Rattle.link_bench.specs.declared.acts.CallWish.{CallWish}

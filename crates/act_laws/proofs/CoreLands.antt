@@ -1,7 +1,6 @@
 -- The deeds of a crash, of a recovery and of the actors of a core leave what these leave of its link.
-use Rattle.std.proofs.Common.{◌≡◌, ℕ, zero, suc, ◌+◌, ◌-◌, ◌==◌, eqb, Bool, true, false, cond, ◌&&◌, List, Option, Some, None, IfSome, is_some, option_map, Result, Ok, Err, refl, sym, ap, subst, inl, inr}
-use Rattle.std.proofs.lemmas.Bool.{cond_both, true≢false}
-use Rattle.std.proofs.lemmas.Bool.Decides.{eqb_tells}
+use Rattle.std.proofs.Common.{◌≡◌, ℕ, zero, suc, ◌+◌, ◌-◌, ◌==◌, Bool, true, false, cond, Option, Some, None, IfSome, is_some, option_map, Result, Ok, Err, refl, sym, subst}
+use Rattle.std.proofs.lemmas.Bool.{true≢false}
 use Rattle.rp_base.specs.declared.kinds.End.{End}
 use Rattle.rp_base.specs.declared.kinds.End.TheVariants as side
 use Rattle.proc_state.specs.declared.answers.LifeFault.{LifeFault}
@@ -10,9 +9,9 @@ use Rattle.proc_state.specs.declared.answers.Report.TheVariants as report
 use Rattle.proc_state.specs.Lives.{CoreLife, life_after_crash}
 use Rattle.lane_model.specs.declared.calls.Wish.{Wish}
 use Rattle.lane_model.specs.declared.recoveries.ReclaimRefusal.{ReclaimRefusal}
-use Rattle.lane_model.specs.Lanes.{holder, is_live_in}
-use Rattle.lane_model.specs.Links.{LinkState, end_of, free_number, with_caller}
-use Rattle.lane_model.specs.Recoveries.{link_after_close, link_reclaim_refusal}
+use Rattle.lane_model.specs.Lanes.{holder}
+use Rattle.lane_model.specs.Links.{LinkState, end_of}
+use Rattle.lane_model.specs.Recoveries.{link_reclaim_refusal}
 use Rattle.lane_laws.specs.Moves.{Close, Enlist, Reclaim}
 use Rattle.lane_laws.proofs.LinkRuns.{move_shut}
 use Rattle.channel_bus.specs.Sides.{EndState, side_meaning}

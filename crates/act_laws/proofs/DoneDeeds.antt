@@ -1,5 +1,5 @@
 -- Deeds that land are what was done.
-use Rattle.std.proofs.Common.{◌≡◌, Option, Some, IfSome, sym, subst}
+use Rattle.std.proofs.Common.{◌≡◌, Option, Some, subst}
 use Rattle.link_bench.specs.Benches.{BenchState}
 use Rattle.crash_recover.specs.Cores.{CoreState}
 use Rattle.crash_recover.specs.Drives.{drive_step}

@@ -1,15 +1,19 @@
 -- What the actors of a core, its crash and its recovery do of its link and tell of takes (own).
-use Rattle.std.specs.Prelude.{ℕ, zero, suc, ◌+◌, ◌-◌, ◌==◌, true, Option, Some, None, is_some, Result, Ok, Err, if◌then◌else◌}
+use Rattle.std.specs.Prelude.{ℕ, zero, suc, ◌+◌, ◌-◌, ◌==◌, true, List, [], Option, Some, None, is_some, Result, Ok, Err, if◌then◌else◌}
+use Rattle.rp_base.specs.declared.kinds.End.{End}
 use Rattle.rp_base.specs.declared.kinds.End.TheVariants as side
+use Rattle.rp_base.specs.declared.limits.TheConstants.{CALLERS_MOST}
 use Rattle.proc_state.specs.declared.answers.LifeFault.{LifeFault}
 use Rattle.lane_model.specs.declared.calls.Wish.{Wish}
 use Rattle.lane_model.specs.declared.recoveries.ReclaimRefusal.{ReclaimRefusal}
 use Rattle.lane_model.specs.Lanes.{holder}
 use Rattle.lane_model.specs.Links.{end_of}
 use Rattle.lane_model.specs.Recoveries.{link_reclaim_refusal}
+use Rattle.lane_laws.specs.Handings.{Handing}
 use Rattle.lane_laws.specs.Moves.{Close, Enlist, Reclaim}
 use Rattle.link_bench.specs.BenchCrashes.{after_close}
 use Rattle.link_bench.specs.BenchEnds.{is_first, is_remote, without_one, without_other}
+use Rattle.link_bench.specs.declared.benches.Reach.TheVariants as reach
 use Rattle.link_bench.specs.Benches.{BenchState, begin_fault, begun_call_of, is_in_call, link_in, start_walk}
 use Rattle.core_actors.specs.declared.actors.Actor.{Actor}
 use Rattle.core_actors.specs.declared.actors.Actor.TheVariants as actor
@@ -21,7 +25,7 @@ use Rattle.crash_recover.specs.CoreCrashes.{report_of}
 use Rattle.crash_recover.specs.Cores.{CoreState}
 use Rattle.core_actors.specs.ActorSteps.{first_or_take, has_calls}
 use Rattle.crash_recover.specs.Drives.{actor_to_step, is_idle, record_run, with_turn_after}
-use Rattle.act_laws.specs.Deeds.{Deeds, advance_deeds, call_moves, deeds_then, no_deeds, one_move, walk_deeds}
+use Rattle.act_laws.specs.Deeds.{Deeds, advance_deeds, call_moves, deeds_then, no_deeds, one_move, reach_takes, walk_deeds}
 
 -- ---- a crash
 
@@ -48,7 +52,7 @@ abbrev pub crash_deeds : BenchState → Deeds
 crash_deeds bench =
     let first = holder (link_in (after_close bench)).to_remote.receiver in
     deeds_then (one_move (Close (link_in bench).era.inc))
-    (deeds_then (one_remote (after_close bench) first) (others_deeds first (without_one (after_close bench) first) 0 64))
+    (deeds_then (one_remote (after_close bench) first) (others_deeds first (without_one (after_close bench) first) 0 CALLERS_MOST))
 
 -- a report of a crash on the link of a core, which crashes it or doesn't
 abbrev pub reported_deeds : Result Crash LifeFault → Option BenchState → Deeds
@@ -103,3 +107,9 @@ actor_deeds actor.Worker core =
 -- one step of the actors of a core
 abbrev pub drive_deeds : CoreState → Deeds
 drive_deeds core = if is_idle core then no_deeds else actor_deeds (actor_to_step core) (with_turn_after (actor_to_step core) core)
+
+-- what a step of the actors that was this tells of takes at an end, on the link that it left: the handing where it ended a call as a take
+abbrev pub driven_takes : Driven → Option BenchState → End → List Handing
+driven_takes (driven.Ended caller came) (Some bench) end = reach_takes (link_in bench) caller (reach.Ended came) end
+driven_takes (driven.Ended caller came) None end = []
+driven_takes other found end = []

@@ -27,38 +27,28 @@ core_tells_all core steps told = record { core = core; steps = steps; events = t
 abbrev pub core_tells : CoreState → ℕ → Event → CoreEffect
 core_tells core steps told = core_tells_all core steps (told ∷ [])
 
--- why a region is not added (want of memory is no such reason, and ends the run)
-abbrev pub add_fault_event : List ℕ → AddFault → Event
-add_fault_event name add.NotOffline = event.NotOffline name
-add_fault_event name (add.Region why) = event.Fault name (unwrap_or (region_fault_number why) 0)
--- (no region is refused for a driver)
-add_fault_event name add.DriverTaken = event.NotOffline name
-add_fault_event name add.DriversFull = event.NotOffline name
-add_fault_event name add.NoMemory = event.NotOffline name
+-- why a region is not added, or a driver of this name not declared (want of memory is told by no line of a core, and ends the run)
+abbrev pub add_fault_events : List ℕ → List ℕ → AddFault → List Event
+add_fault_events name channel add.NotOffline = event.NotOffline name ∷ []
+add_fault_events name channel (add.Region why) = event.Fault name (unwrap_or (region_fault_number why) 0) ∷ []
+add_fault_events name channel add.DriverTaken = event.DriverTaken name channel ∷ []
+add_fault_events name channel add.DriversFull = event.DriversFull name ∷ []
+add_fault_events name channel add.NoMemory = []
 
 -- a region that is added behind the others, or why it isn't
 abbrev pub added_effect : List ℕ → CoreState → ℕ → Region → Option AddFault → CoreEffect
 added_effect name core steps region None =
     core_tells (record core { regions = core.regions ++ region ∷ [] }) steps (event.Region name (length core.regions))
-added_effect name core steps region (Some why) = core_tells core steps (add_fault_event name why)
+added_effect name core steps region (Some why) = core_tells_all core steps (add_fault_events name name why)
 
 -- `region X KIND DA PA LEN`
 unfoldable pub region_effect : List ℕ → CoreState → ℕ → Region → CoreEffect
 region_effect name core steps region = added_effect name core steps region (add_fault core region)
 
--- why a driver of this name is not declared (want of memory is no such reason, and ends the run)
-abbrev pub driver_fault_event : List ℕ → List ℕ → AddFault → Event
-driver_fault_event name channel add.NotOffline = event.NotOffline name
-driver_fault_event name channel add.DriverTaken = event.DriverTaken name channel
-driver_fault_event name channel add.DriversFull = event.DriversFull name
--- (no driver is refused for a region)
-driver_fault_event name channel (add.Region why) = event.NotOffline name
-driver_fault_event name channel add.NoMemory = event.NotOffline name
-
 -- a driver that is declared behind the others, or why it isn't
 abbrev pub declared_effect : List ℕ → CoreState → ℕ → List ℕ → DriverKind → Option AddFault → CoreEffect
 declared_effect name core steps channel kind None = core_tells (with_driver core (channel, kind)) steps (event.Driver name channel kind)
-declared_effect name core steps channel kind (Some why) = core_tells core steps (driver_fault_event name channel why)
+declared_effect name core steps channel kind (Some why) = core_tells_all core steps (add_fault_events name channel why)
 
 -- `driver X NAME KIND`
 unfoldable pub driver_effect : List ℕ → CoreState → ℕ → List ℕ → DriverKind → CoreEffect

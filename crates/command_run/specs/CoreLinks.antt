@@ -1,11 +1,10 @@
 -- What is done on the link of a core (own).
 use Rattle.std.specs.Prelude.{ℕ, List, Option, Some, None}
-use Rattle.std.specs.Option.{option_and_then}
 use Rattle.journal.specs.declared.events.Event.TheVariants as event
 use Rattle.link_bench.specs.declared.acts.LinkAct.{LinkAct}
 use Rattle.link_bench.specs.Benches.{BenchState, link_in}
-use Rattle.link_bench.specs.BenchRings.{turn_holder}
 use Rattle.crash_recover.specs.CoreActs.{act_on_core, core_after_act}
+use Rattle.crash_recover.specs.CoreCallers.{core_turn_holder}
 use Rattle.crash_recover.specs.CoreRings.{core_ring}
 use Rattle.crash_recover.specs.Cores.{CoreState}
 use Rattle.command_run.specs.declared.acts.LinkView.{LinkView}
@@ -21,10 +20,6 @@ core_link_effect name core steps act None = core_tells core steps (event.NoLink 
 core_link_effect name core steps act (Some bench) =
     let acted = act_on_core core bench steps act in
     record { core = core_after_act core acted; steps = acted.steps; events = answer_events name (link_in acted.bench) acted.answer; ending = answer_ending acted.answer }
-
--- who has the first turn of a core's link that is out
-abbrev pub core_turn_holder : CoreState → Option ℕ
-core_turn_holder core = option_and_then (λ (bench : BenchState). turn_holder (link_in bench)) core.bench
 
 -- the bytes of a ring that a core has or not
 abbrev pub found_ring_effect : List ℕ → CoreState → ℕ → ℕ → Option (List ℕ) → CoreEffect

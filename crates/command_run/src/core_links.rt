@@ -3,7 +3,8 @@ ghost use Rattle.link_bench.specs.Acts.{IsFitAct, bare_act};
 ghost use Rattle.command_run.specs.Acts.{IsFitView};
 ghost use Rattle.command_run.specs.declared.acts.LinkView.TheVariants as view;
 ghost use Rattle.command_run.specs.Logs.{HasCoreEffect};
-ghost use Rattle.command_run.specs.CoreLinks.{core_link_effect, core_ring_effect, core_turn_holder, core_view_effect, found_view_effect};
+ghost use Rattle.crash_recover.specs.CoreCallers.{core_turn_holder};
+ghost use Rattle.command_run.specs.CoreLinks.{core_link_effect, core_ring_effect, core_view_effect, found_view_effect};
 
 use crate::act_events::tell_answer;
 use crate::channel_lists::tell_channels;

@@ -1,7 +1,8 @@
-ghost use Rattle.std.specs.Prelude.{◌≡◌, IfOk};
+ghost use Rattle.std.specs.Prelude.{◌≡◌, ◌≢◌, IfOk, OnOk};
+ghost use Rattle.crash_recover.specs.declared.core_faults.AddFault.TheVariants as add_fault;
 ghost use Rattle.command_run.specs.Acts.{IsFitCore, IsFitNamed, bare_named_act};
 ghost use Rattle.command_run.specs.Logs.{HasCoreEffect};
-ghost use Rattle.command_run.specs.CoreEffects.{core_tells, driver_effect, is_on, recovery_effect, region_effect, state_effect};
+ghost use Rattle.command_run.specs.CoreEffects.{add_fault_events, core_tells, core_tells_all, driver_effect, is_on, recovery_effect, region_effect, state_effect};
 ghost use Rattle.command_run.specs.CoreCommands.{core_act_effect, core_effect};
 ghost use Rattle.command_run.specs.Fetches.{answer_of};
 
@@ -103,14 +104,10 @@ impl NamedCore {
         ensures effect { IfOk result (λ ending. HasCoreEffect (region_effect self.old.name self.old.core log.old.steps region) self.new.core log.old log.new ending) }
     {
         let name = self.name;
-        let event = match self.core.add_region(log.alloc(), region) {
-            Ok(region) => event!(Region, name, [region]),
-            Err(AddFault::NotOffline) => Event::NotOffline { name },
-            Err(AddFault::Region(fault)) => fault_at(name, fault.number().unwrap_or(0), None),
-            Err(AddFault::DriverTaken | AddFault::DriversFull) => unreachable!(),
-            Err(AddFault::NoMemory) => return Err(NoMemory),
-        };
-        self.tell(&event, log)
+        match self.core.add_region(log.alloc(), region) {
+            Ok(region) => self.tell(&event!(Region, name, [region]), log),
+            Err(fault) => self.refuse_addition(name, fault, log),
+        }
     }
 
     /// Declares a driver for the channels of a name.
@@ -125,17 +122,37 @@ impl NamedCore {
         ensures effect { IfOk result (λ ending. HasCoreEffect (driver_effect self.old.name self.old.core log.old.steps channel kind) self.new.core log.old log.new ending) }
     {
         let name = self.name;
-        let event = match self.core.add_driver(log.alloc(), channel, kind) {
-            Ok(()) => Event::Driver {
-                name,
-                channel,
-                kind,
-            },
-            Err(AddFault::NotOffline) => Event::NotOffline { name },
-            Err(AddFault::DriverTaken) => Event::DriverTaken { name, channel },
-            Err(AddFault::DriversFull) => Event::DriversFull { name },
-            Err(AddFault::Region(_)) => unreachable!(),
-            Err(AddFault::NoMemory) => return Err(NoMemory),
+        match self.core.add_driver(log.alloc(), channel, kind) {
+            Ok(()) => self.tell(
+                &Event::Driver {
+                    name,
+                    channel,
+                    kind,
+                },
+                log,
+            ),
+            Err(fault) => self.refuse_addition(channel, fault, log),
+        }
+    }
+
+    /// Tells why a region is not added, or a driver for the channels of this name not declared.
+    fn refuse_addition(
+        &mut self,
+        channel: Name,
+        fault: AddFault,
+        log: &mut RunLog,
+    ) -> Result<Option<Stop>, NoMemory>
+        ensures same { self.new ≡ self.old }
+        ensures known { OnOk result (fault ≢ add_fault.NoMemory) }
+        ensures effect { IfOk result (λ ending. HasCoreEffect (core_tells_all self.old.core log.old.steps (add_fault_events self.old.name channel fault)) self.new.core log.old log.new ending) }
+    {
+        let name = self.name;
+        let event = match fault {
+            AddFault::NotOffline => Event::NotOffline { name },
+            AddFault::Region(fault) => fault_at(name, fault.number().unwrap_or(0), None),
+            AddFault::DriverTaken => Event::DriverTaken { name, channel },
+            AddFault::DriversFull => Event::DriversFull { name },
+            AddFault::NoMemory => return Err(NoMemory),
         };
         self.tell(&event, log)
     }

@@ -1,3 +1,4 @@
+ghost use Rattle.rp_base.specs.declared.limits.TheConstants.{CALLERS_MOST};
 ghost use Rattle.std.specs.Prelude.{◌≡◌, ◌<◌, length, false, is_some, None, IfOk, OnErr, OnOk};
 ghost use Rattle.channel_bus.specs.Sides.{EndState};
 ghost use Rattle.lane_model.specs.Links.{LinkState};
@@ -34,7 +35,7 @@ fn link_step(
     calls: &VecDeque<Wish>,
     reach: &mut Reach,
 )
-    requires caller { caller < 64 }
+    requires caller { caller < CALLERS_MOST }
     requires calling { goes_on ≡ is_in_call bench.old caller }
     ensures bench { bench.new ≡ (link_step bench.old caller (first_or_take calls.now.items)).bench }
     ensures reach { reach.new ≡ (link_step bench.old caller (first_or_take calls.now.items)).reach }
@@ -53,7 +54,7 @@ fn link_step(
 /// Begins a call of a caller in none, and does its first step. One that can't begin does nothing.
 #[inline(never)]
 fn begin_step(bench: &mut Bench, caller: CallerNo, wished: &Wish, reach: &mut Reach)
-    requires caller { caller < 64 }
+    requires caller { caller < CALLERS_MOST }
     requires calling { is_in_call bench.old caller ≡ false }
     ensures bench { bench.new ≡ (begun_step bench.old caller wished.now).bench }
     ensures reach { reach.new ≡ (begun_step bench.old caller wished.now).reach }
@@ -68,7 +69,7 @@ fn begin_step(bench: &mut Bench, caller: CallerNo, wished: &Wish, reach: &mut Re
 
 /// Whether a caller that is in no call can't begin this one.
 fn is_refused(bench: &Bench, caller: CallerNo, wished: &Wish) -> bool
-    requires caller { caller < 64 }
+    requires caller { caller < CALLERS_MOST }
     requires calling { is_in_call bench.now caller ≡ false }
     ensures { result ≡ is_some (begin_fault bench.now caller wished.now) }
 {
@@ -199,7 +200,7 @@ impl Actors {
     ///
     /// Errors: only for want of memory. The link and the actors are as they were then.
     pub fn step_of(&mut self, bench: &mut Bench, caller: CallerNo) -> Result<Reach, NoMemory>
-        requires caller { caller < 64 }
+        requires caller { caller < CALLERS_MOST }
         requires may { step_fault bench.old caller ≡ None }
         ensures bench { OnOk result (bench.new ≡ (advance_walk bench.old 0 0 caller).bench) }
         ensures actors { OnOk result (let walk = advance_walk bench.old 0 0 caller in

@@ -1,4 +1,5 @@
-ghost use Rattle.std.specs.Prelude.{◌≡◌, ◌<◌, ◌≤◌, [], ◌∷◌, ◌++◌, length, slice_get, vec_capacity, vec_len, ◌+◌, IfOk, IfSome};
+ghost use Rattle.std.specs.Prelude.{◌≡◌, ◌<◌, ◌≤◌, [], ◌∷◌, ◌++◌, length, slice_get, vec_capacity, vec_len, ◌+◌, All, IfOk, IfSome};
+ghost use Rattle.lane_model.specs.Books.{IsMarkIn, entry_in};
 ghost use Rattle.std.specs.Option.{option_map};
 ghost use Rattle.rp_base.specs.declared.limits.TheConstants.{MESSAGE_MOST, BOOK_MOST};
 
@@ -15,6 +16,10 @@ pub struct Book {
     marks: Vec<Mark>,
     room: u32,
 }
+
+/// From how many bytes on a message of the same bytes as the one before lies where that lies. All shorter
+/// ones of the largest book take 17 MB, and are not worth the look.
+const REPEAT_LEAST: usize = 64;
 
 /// Who sent a message, and where it lies among the bytes of all.
 #[derive(Clone, Copy)]
@@ -63,12 +68,22 @@ impl Book {
         self.room
     }
 
-    /// Adds a message of this caller under the next number. Takes no memory.
+    /// Adds a message of this caller under the next number. A long one of the same bytes as the message before
+    /// lies where that lies, so a sender that repeats itself fills no memory. Takes no memory.
     pub fn push(&mut self, caller: CallerNo, message: &[u8])
         requires room { length self.old.entries < self.old.room }
         requires fits { length message.now ≤ MESSAGE_MOST }
         ensures { self.new ≡ record self.old { entries = self.old.entries ++ record { caller = caller; message = message.now } ∷ [] } }
     {
+        let book = &*self;
+        if let Some(last) = repeated(&book.bytes, &book.marks, message) {
+            self.marks.push_reserved(Mark {
+                caller,
+                start: last.start,
+                end: last.end,
+            });
+            return;
+        }
         let start = self.bytes.len() as u32;
         append(&mut self.bytes, message);
         self.marks.push_reserved(Mark {
@@ -93,6 +108,19 @@ impl Book {
     {
         let mark = self.marks.get(number as usize)?;
         Some(mark.caller)
+    }
+}
+
+/// The mark of the last message, where that has these bytes and they are many.
+fn repeated(bytes: &[u8], marks: &[Mark], message: &[u8]) -> Option<Mark>
+    requires { All (IsMarkIn (length bytes.now)) marks.now }
+    ensures { IfSome result (λ mark. IsMarkIn (length bytes.now) mark × ((entry_in bytes.now mark).message ≡ message.now)) }
+{
+    let last = *marks.last()?;
+    if message.len() >= REPEAT_LEAST && &bytes[last.start as usize..last.end as usize] == message {
+        Some(last)
+    } else {
+        None
     }
 }
 

@@ -11,6 +11,11 @@ ghost use Rattle.endpoint_map.specs.declared.endpoints.TheConstants.{ANY_ADDRESS
 ghost use Rattle.channel_bus.specs.declared.sides.TheConstants.{NAME_SERVICE};
 ghost use Rattle.lane_model.specs.declared.TheConstants.{MANAGER};
 ghost use Rattle.journal_check.specs.declared.limits.TheConstants.{TRANSCRIPT_MOST};
+ghost use Rattle.crash_recover.specs.declared.core_faults.TheConstants.{CALLER_OUT, RINGS_CHANGED};
+ghost use Rattle.command_run.specs.declared.dumps.TheConstants.{DUMPS_MOST};
+ghost use Rattle.storm_run.specs.declared.plans.TheConstants.{COUNT_MOST, END_CALLERS_MOST};
+ghost use Rattle.chart.specs.declared.limits.TheConstants.{LIFELINES_MOST, LINES_MOST};
+ghost use Rattle.c_forms.specs.declared.TheConstants.{DONE, NOTHING, NO_MEMORY, WRONG_FIX, WRONG_LENGTH};
 
 /// The limits of links and messages: bytes of a message and of its payload, entries of a ring, buffers of a lane, messages of a book,
 /// callers, and the manager's number.
@@ -34,7 +39,8 @@ pub fn end_limits()
     ensures first_dynamic { FIRST_DYNAMIC ≡ 1024 }
 {}
 
-/// The limits of cores: bytes of an image, entries of a resource table, regions, bytes of memory, bytes of the standard memory, drivers.
+/// The limits of cores: bytes of an image, entries of a resource table, regions, bytes of memory, bytes of the standard memory, drivers; and
+/// the faults of a recovery with other rings, and of a caller that is out.
 pub fn core_limits()
     ensures image { IMAGE_MOST ≡ 4194304 }
     ensures entries { ENTRIES_MOST ≡ 256 }
@@ -42,16 +48,33 @@ pub fn core_limits()
     ensures memory { MEMORY_MOST ≡ 16777216 }
     ensures standard_memory { STANDARD_MEMORY ≡ 65536 }
     ensures drivers { DRIVERS_MOST ≡ 16 }
+    ensures rings_changed { RINGS_CHANGED ≡ 42 }
+    ensures caller_out { CALLER_OUT ≡ 54 }
 {}
 
-/// The limits of scripts: bytes, lines, links and cores together, steps of a run, bytes of a name, sessions of a demo; and the bytes of a
-/// transcript that is audited.
+/// The limits of scripts: bytes, lines, links and cores together, steps of a run, bytes of a name, dumps, sessions of a demo; the bytes of a
+/// transcript that is audited; and the callers on an end of a storm and the messages of each.
 pub fn script_limits()
     ensures bytes { SCRIPT_MOST ≡ 1048576 }
     ensures lines { SCRIPT_LINES_MOST ≡ 10000 }
     ensures objects { OBJECTS_MOST ≡ 8 }
     ensures steps { STEPS_MOST ≡ 4000000 }
     ensures name { NAME_MOST ≡ 31 }
+    ensures dumps { DUMPS_MOST ≡ 64 }
     ensures sessions { SESSIONS_MOST ≡ 500 }
     ensures transcript { TRANSCRIPT_MOST ≡ 16777216 }
+    ensures end_callers { END_CALLERS_MOST ≡ 31 }
+    ensures count { COUNT_MOST ≡ 8192 }
+{}
+
+/// The limits of a chart: lines of a transcript and lifelines; and the statuses of the library for C that are no fault's number, and what
+/// stands for no number there.
+pub fn outside_limits()
+    ensures lines { LINES_MOST ≡ 100000 }
+    ensures lifelines { LIFELINES_MOST ≡ 1032 }
+    ensures done { DONE ≡ 0 }
+    ensures no_memory { NO_MEMORY ≡ 100 }
+    ensures wrong_length { WRONG_LENGTH ≡ 101 }
+    ensures wrong_fix { WRONG_FIX ≡ 102 }
+    ensures nothing { NOTHING ≡ 0xffffffff }
 {}

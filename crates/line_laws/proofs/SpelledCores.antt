@@ -93,8 +93,9 @@ use Rattle.command_run.specs.declared.acts.NamedAct.TheVariants as under
 use Rattle.command_run.specs.CallEvents.{end_event}
 use Rattle.command_run.specs.CoreCommands.{core_act_effect, core_effect}
 use Rattle.command_run.specs.CoreDrives.{actor_end_events, crash_events, drive_effect, drive_steps, driven_events, is_crashed, rest_event, rests_or, step_events, step_then}
-use Rattle.command_run.specs.CoreEffects.{CoreEffect, add_fault_event, added_effect, core_tells, declared_effect, driver_effect, driver_fault_event, region_effect, recovery_effect, state_effect}
-use Rattle.command_run.specs.CoreLinks.{core_link_effect, core_ring_effect, core_shown_effect, core_turn_holder, core_view_effect, found_ring_effect, found_view_effect}
+use Rattle.command_run.specs.CoreEffects.{CoreEffect, add_fault_events, added_effect, core_tells, declared_effect, driver_effect, region_effect, recovery_effect, state_effect}
+use Rattle.crash_recover.specs.CoreCallers.{core_turn_holder}
+use Rattle.command_run.specs.CoreLinks.{core_link_effect, core_ring_effect, core_shown_effect, core_view_effect, found_ring_effect, found_view_effect}
 use Rattle.command_run.specs.CoreLives.{boot_effect, booted_image, core_fault_events, core_stops, crash_effect, detach_effect, fault_at, found_image, handover_effect, leave_events, life_fault_event, load_fault_event, may_step, recover_effect, report_events, shutdown_effect, start_event, start_events, found_or_told, image_bytes}
 use Rattle.command_run.specs.CoreViews.{loaded_table_effect, mem_effect, shown_memory_event, shown_trace_event, table_effect, table_event, trace_bytes, trace_effect}
 use Rattle.command_run.specs.NamedCores.{NamedCoreState}
@@ -361,19 +362,12 @@ module _ (name : List ℕ) (named : IsName name) where
 
   -- ---- what a core is made of
 
-  add_told : (why : AddFault) → IsSpelled (add_fault_event name why)
-  add_told add.NotOffline = ((named, tt), tt)
-  add_told (add.Region why) = ((named, (region_number why, tt)), tt)
-  add_told add.DriverTaken = ((named, tt), tt)
-  add_told add.DriversFull = ((named, tt), tt)
-  add_told add.NoMemory = ((named, tt), tt)
-
-  driver_told : (channel : List ℕ) (why : AddFault) → IsName channel → IsSpelled (driver_fault_event name channel why)
-  driver_told channel add.NotOffline called = ((named, tt), tt)
-  driver_told channel (add.Region why) called = ((named, tt), tt)
-  driver_told channel add.DriverTaken called = ((named, (called, tt)), tt)
-  driver_told channel add.DriversFull called = ((named, tt), tt)
-  driver_told channel add.NoMemory called = ((named, tt), tt)
+  add_told : (channel : List ℕ) (why : AddFault) → IsName channel → All IsSpelled (add_fault_events name channel why)
+  add_told channel add.NotOffline called = one (event.NotOffline name) ((named, tt), tt)
+  add_told channel (add.Region why) called = one (event.Fault name (unwrap_or (region_fault_number why) 0)) ((named, (region_number why, tt)), tt)
+  add_told channel add.DriverTaken called = one (event.DriverTaken name channel) ((named, (called, tt)), tt)
+  add_told channel add.DriversFull called = one (event.DriversFull name) ((named, tt), tt)
+  add_told channel add.NoMemory called = none
 
   module _ (core : CoreState) (steps : ℕ) (is : IsFieldCore core) where
     added : (region : Region) (why : Option AddFault) → add_fault core region ≡ why → LeavesSpelled (added_effect name core steps region why)
@@ -391,7 +385,7 @@ module _ (name : List ℕ) (named : IsName name) where
       };
       events = one (event.Region name (length core.regions)) (((named, (regions_small core region clear, tt)), tt));
     }
-    added region (Some why) found = told core steps (add_fault_event name why) is (add_told why)
+    added region (Some why) found = record { left = is; events = add_told name why named }
 
     region_spelled : (region : Region) → LeavesSpelled (region_effect name core steps region)
     unfolding region_effect
@@ -402,7 +396,7 @@ module _ (name : List ℕ) (named : IsName name) where
       left = record { book = is.book; life = is.life; image = is.image; loaded = is.loaded; placed = is.placed; rest = is.rest; bench = is.bench; calls = record { host = is.calls.host; worker = is.calls.worker } };
       events = one (event.Driver name channel kind) (((named, (called, (tt, tt))), tt));
     }
-    declared channel kind (Some why) called = told core steps (driver_fault_event name channel why) is (driver_told channel why called)
+    declared channel kind (Some why) called = record { left = is; events = add_told channel why called }
 
     driver_spelled : (channel : List ℕ) (kind : DriverKind) → IsName channel → LeavesSpelled (driver_effect name core steps channel kind)
     unfolding driver_effect

@@ -1,5 +1,5 @@
 -- The callers of the remote end of a closed link end one after the other, and nothing keeps one of them from it.
-use Rattle.std.proofs.Common.{◌≡◌, ◌≢◌, ℕ, suc, ◌+◌, ◌-◌, ◌<◌, ◌==◌, ◌&&◌, Bool, true, false, cond, eqb, Option, Some, None, refl, sym, ap, subst, ◌∙◌, inl, inr, arith}
+use Rattle.std.proofs.Common.{◌≡◌, ℕ, suc, ◌+◌, ◌-◌, ◌<◌, ◌==◌, Bool, true, false, cond, Option, Some, None, refl, sym, ap, subst, ◌∙◌, inl, inr, arith}
 use Rattle.std.proofs.lemmas.Bool.{cond_both, false≢true}
 use Rattle.std.proofs.lemmas.Bool.Decides.{eqb_tells}
 use Rattle.std.proofs.lemmas.Option.{none-some, same_Some}
@@ -8,12 +8,12 @@ use Rattle.rp_base.specs.declared.kinds.End.TheVariants as side
 use Rattle.lane_model.specs.declared.stages.Turn.{Turn}
 use Rattle.lane_model.specs.declared.stages.Turn.TheVariants as turn
 use Rattle.lane_model.specs.Crashes.{ended_turn, other_holder}
-use Rattle.lane_model.specs.Lanes.{has_call, holder, is_live_in}
+use Rattle.lane_model.specs.Lanes.{has_call, holder}
 use Rattle.lane_model.specs.Links.{LinkState, end_of}
 use Rattle.lane_model.specs.Recoveries.{without_caller}
 use Rattle.channel_bus.specs.Sides.{EndState}
-use Rattle.link_bench.specs.Benches.{BenchState, LinkRings, link_in, on_lists}
-use Rattle.link_bench.specs.BenchCrashes.{after_close, after_reclaim}
+use Rattle.link_bench.specs.Benches.{BenchState, link_in, on_lists}
+use Rattle.link_bench.specs.BenchCrashes.{after_reclaim}
 use Rattle.link_bench.specs.BenchEnds.{is_first, is_remote, with_fresh_caller, without_other, without_others, without_remote}
 use Rattle.link_bench.proofs.Lists.{reclaim_lists}
 

@@ -1,5 +1,5 @@
 -- Calls, step by step, on a link of any form.
-use Rattle.std.proofs.Common.{◌≡◌, ◌≢◌, ◌<◌, ℕ, suc, ◌+◌, eqb, true, false, cond, Option, Some, None, refl, sym, ap, subst, ◌∙◌, inl, inr}
+use Rattle.std.proofs.Common.{◌≡◌, ◌≢◌, ◌<◌, ℕ, suc, ◌+◌, eqb, false, cond, Option, Some, None, refl, sym, ap, subst, ◌∙◌, inl, inr}
 use Rattle.std.proofs.lemmas.Bool.Decides.{eqb_tells}
 use Rattle.rp_base.specs.declared.limits.TheConstants.{STEPS_MOST}
 use Rattle.lane_model.specs.declared.calls.Outcome.{Outcome}

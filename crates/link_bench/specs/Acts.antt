@@ -3,7 +3,7 @@ use Rattle.std.specs.Prelude.{◌≡◌, ℕ, ◌<◌, ◌≤◌, nat_le, nat_lt
 use Rattle.std.specs.Option.{option_or}
 use Rattle.rp_base.specs.declared.kinds.End.{End}
 use Rattle.rp_base.specs.declared.kinds.End.TheVariants as side
-use Rattle.rp_base.specs.declared.limits.TheConstants.{MESSAGE_MOST, PAYLOAD_MOST, STEPS_MOST}
+use Rattle.rp_base.specs.declared.limits.TheConstants.{CALLERS_MOST, MESSAGE_MOST, PAYLOAD_MOST, STEPS_MOST}
 use Rattle.rpmsg_header.specs.Headers.{header_bytes}
 use Rattle.lane_model.specs.declared.calls.Wish.{Wish}
 use Rattle.lane_model.specs.declared.calls.Wish.TheVariants as wish
@@ -52,10 +52,10 @@ IsFitWish other = Unit {0}
 -- an act of callers that a link may have, of no more steps and turns than a run has steps
 abbrev pub IsFitAct : LinkAct (List ℕ) → Type 0
 IsFitAct (act.Caller end) = Unit {0}
-IsFitAct (act.Call caller made wanted) = (caller < 64) × IsFitWish wanted
-IsFitAct (act.Step caller more) = (caller < 64) × (more < STEPS_MOST)
-IsFitAct (act.Pump sender receiver count) = (sender < 64) × (receiver < 64) × (count ≤ STEPS_MOST)
-IsFitAct (act.Reclaim caller) = caller < 64
+IsFitAct (act.Call caller made wanted) = (caller < CALLERS_MOST) × IsFitWish wanted
+IsFitAct (act.Step caller more) = (caller < CALLERS_MOST) × (more < STEPS_MOST)
+IsFitAct (act.Pump sender receiver count) = (sender < CALLERS_MOST) × (receiver < CALLERS_MOST) × (count ≤ STEPS_MOST)
+IsFitAct (act.Reclaim caller) = caller < CALLERS_MOST
 
 -- what an act leaves of the bench and of who watches its link, the steps of the run until then, and what comes of it
 pub record Acted (W : Type 0) : Type 0 where

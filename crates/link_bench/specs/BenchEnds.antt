@@ -1,4 +1,5 @@
 -- What the crash of the remote end leaves of a bench, and how its caller 0 is made anew for the next incarnation (own).
+use Rattle.rp_base.specs.declared.limits.TheConstants.{CALLERS_MOST}
 use Rattle.std.specs.Prelude.{ℕ, ◌==◌, Bool, true, false, Option, Some, None, fold, if◌then◌else◌}
 use Rattle.std.specs.List.{range_with_len}
 use Rattle.rp_base.specs.declared.kinds.End.{End}
@@ -50,7 +51,7 @@ without_others first bench from count = fold (without_other first) bench (range_
 abbrev pub without_remotes : BenchState → BenchState
 without_remotes bench =
     let first = holder (link_in bench).to_remote.receiver in
-    without_others first (without_one bench first) 0 64
+    without_others first (without_one bench first) 0 CALLERS_MOST
 
 -- the bench after a crash of the remote end: its incarnation is closed, and its remote callers are gone
 abbrev pub crashed_bench : BenchState → BenchState

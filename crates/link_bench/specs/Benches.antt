@@ -3,11 +3,10 @@ use Rattle.std.specs.Prelude.{◌≡◌, ◌≢◌, ◌≤◌, ℕ, zero, suc, �
 use Rattle.std.specs.Option.{option_or}
 use Rattle.rp_base.specs.declared.kinds.End.{End}
 use Rattle.rp_base.specs.declared.kinds.End.TheVariants as side
-use Rattle.rp_base.specs.declared.limits.TheConstants.{STEPS_MOST, MESSAGE_MOST}
+use Rattle.rp_base.specs.declared.limits.TheConstants.{CALLERS_MOST, STEPS_MOST, MESSAGE_MOST}
 use Rattle.lane_model.specs.declared.states.LaneState.{LaneState}
 use Rattle.lane_model.specs.declared.calls.Wish.{Wish}
 use Rattle.lane_model.specs.declared.calls.Wish.TheVariants as wish
-use Rattle.lane_model.specs.declared.calls.CallEnd.{CallEnd}
 use Rattle.lane_model.specs.declared.calls.Outcome.{Outcome}
 use Rattle.lane_model.specs.declared.calls.Outcome.TheVariants as outcome
 use Rattle.lane_model.specs.declared.calls.LinkConfig.{LinkConfig}
@@ -45,7 +44,7 @@ link_in bench = lists_of bench.rings
 
 -- nothing is begun
 abbrev pub no_begun_calls : List (Option BegunCall)
-no_begun_calls = replicate 64 None
+no_begun_calls = replicate CALLERS_MOST None
 
 -- a bench over a new link
 abbrev pub new_bench_of : LinkConfig → EndState → EndState → BenchState

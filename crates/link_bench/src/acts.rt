@@ -1,5 +1,5 @@
 ghost use Rattle.std.specs.Prelude.{◌≡◌, ◌<◌, ◌≤◌, IfOk, IfSome, None};
-ghost use Rattle.rp_base.specs.declared.limits.TheConstants.{STEPS_MOST};
+ghost use Rattle.rp_base.specs.declared.limits.TheConstants.{CALLERS_MOST, STEPS_MOST};
 ghost use Rattle.lane_model.specs.Links.{LinkState};
 ghost use Rattle.channel_bus.specs.Sides.{EndState};
 ghost use Rattle.link_bench.specs.Benches.{HoldsReachTaken, IsSendable, link_in, ready_fault};
@@ -187,7 +187,7 @@ impl Bench {
         wish: &CallWish<&[u8]>,
         steps: &mut StepCount,
     ) -> Result<ActAnswer, NoMemory>
-        requires caller { caller < 64 }
+        requires caller { caller < CALLERS_MOST }
         requires fit { IsFitWish (bare_wish (λ bytes. bytes.now) wish.now) }
         ensures acted { IfOk result (HasActed (call_act W.sees self.old (W.state watcher.old) steps.old caller how (bare_wish (λ bytes. bytes.now) wish.now)) self.new (W.state watcher.new) steps.new) }
         ensures taken { IfOk result (HoldsAnswerTaken (link_in self.new)) }
@@ -225,7 +225,7 @@ impl Bench {
         wish: &CallWish<&[u8]>,
         steps: &mut StepCount,
     ) -> Result<ActAnswer, NoMemory>
-        requires caller { caller < 64 }
+        requires caller { caller < CALLERS_MOST }
         requires ready { ready_fault self.old caller ≡ None }
         requires fits { misfit self.old caller (bare_wish (λ bytes. bytes.now) wish.now) ≡ None }
         requires fit { IsFitWish (bare_wish (λ bytes. bytes.now) wish.now) }
@@ -255,7 +255,7 @@ impl Bench {
         more: u64,
         steps: &mut StepCount,
     ) -> Result<ActAnswer, NoMemory>
-        requires caller { caller < 64 }
+        requires caller { caller < CALLERS_MOST }
         requires more { more < STEPS_MOST }
         ensures acted { IfOk result (HasActed (step_act W.sees self.old (W.state watcher.old) steps.old caller more) self.new (W.state watcher.new) steps.new) }
         ensures taken { IfOk result (HoldsAnswerTaken (link_in self.new)) }
@@ -296,8 +296,8 @@ impl Bench {
         count: u64,
         steps: &mut StepCount,
     ) -> Result<ActAnswer, NoMemory>
-        requires sender { sender < 64 }
-        requires receiver { receiver < 64 }
+        requires sender { sender < CALLERS_MOST }
+        requires receiver { receiver < CALLERS_MOST }
         requires count { count ≤ STEPS_MOST }
         ensures acted { IfOk result (HasActed (pump_act W.sees self.old (W.state watcher.old) steps.old sender receiver count) self.new (W.state watcher.new) steps.new) }
         ensures taken { IfOk result (HoldsAnswerTaken (link_in self.new)) }
@@ -313,8 +313,8 @@ impl Bench {
     /// Why two callers make no turns.
     #[tactic(auto, unfolding(crate::specs::Acts::pump_refusal))]
     fn pump_refusal(&self, sender: CallerNo, receiver: CallerNo) -> Option<ActAnswer>
-        requires sender { sender < 64 }
-        requires receiver { receiver < 64 }
+        requires sender { sender < CALLERS_MOST }
+        requires receiver { receiver < CALLERS_MOST }
         ensures refusal { result ≡ pump_refusal self.now sender receiver }
         ensures taken { IfSome result (HoldsAnswerTaken (link_in self.now)) }
     {

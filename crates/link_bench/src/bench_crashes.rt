@@ -1,3 +1,4 @@
+ghost use Rattle.rp_base.specs.declared.limits.TheConstants.{CALLERS_MOST};
 ghost use Rattle.std.specs.Prelude.{◌≡◌, ◌⊎◌, ◌<◌, IfOk, IfErr, None, Some, length};
 ghost use Rattle.lane_model.specs.declared.recoveries.ReopenFault.TheVariants as reopen_fault;
 ghost use Rattle.lane_model.specs.Recoveries.{link_close_refusal, link_reopen_refusal, link_reclaim_refusal};
@@ -63,7 +64,7 @@ impl Bench {
 
     /// Ends a caller that nothing keeps from being reclaimed.
     pub fn end_caller(&mut self, caller: CallerNo)
-        requires caller { caller < 64 }
+        requires caller { caller < CALLERS_MOST }
         requires free { link_reclaim_refusal (link_in self.old) caller ≡ None }
         ensures { self.new ≡ after_reclaim self.old caller }
     {

@@ -1,3 +1,4 @@
+ghost use Rattle.rp_base.specs.declared.limits.TheConstants.{CALLERS_MOST};
 ghost use Rattle.std.specs.Prelude.{◌≡◌, ◌<◌, false, None, IfNone, IfSome};
 ghost use Rattle.lane_model.specs.Lanes.{holder};
 ghost use Rattle.lane_model.specs.Links.{end_of};
@@ -51,7 +52,7 @@ impl Bench {
         requires closed { (link_in self.old).era.is_live ≡ false }
         requires free { IfSome (holder (link_in self.old).to_remote.receiver) (λ other. other ≡ caller) }
         ensures left { self.new ≡ without_remote self.old caller }
-        ensures low { IfSome (end_of (link_in self.old).callers caller) (λ _. caller < 64) }
+        ensures low { IfSome (end_of (link_in self.old).callers caller) (λ _. caller < CALLERS_MOST) }
     {
         if !matches!(self.end_of(caller), Some(End::Remote)) {
             return;

@@ -1,3 +1,4 @@
+ghost use Rattle.rp_base.specs.declared.limits.TheConstants.{CALLERS_MOST};
 ghost use Rattle.std.specs.Prelude.{◌≡◌, ◌≢◌, ◌<◌, true, None, IfErr, IfNone, IfOk, OnErr, OnOk};
 ghost use Rattle.link_bench.specs.Benches.{HoldsReachTaken, advance_walk, is_in_call, link_in, step_fault};
 ghost use Rattle.link_bench.specs.declared.benches.Reach.TheVariants as reached;
@@ -11,7 +12,7 @@ impl Bench {
     /// Why this caller can do no step of a call, if it can't: it isn't in use, or it is in no call.
     pub fn step_fault(&self, caller: CallerNo) -> Option<BenchFault>
         ensures fault { result ≡ step_fault self.now caller }
-        ensures within { IfNone result (caller < 64) }
+        ensures within { IfNone result (caller < CALLERS_MOST) }
     {
         match self.end_of(caller) {
             None => Some(BenchFault::NoCaller),
@@ -41,7 +42,7 @@ impl Bench {
 
     /// Does one step of the call that a caller is in.
     pub fn next_step(&mut self, caller: CallerNo) -> Reach
-        requires caller { caller < 64 }
+        requires caller { caller < CALLERS_MOST }
         requires may { step_fault self.old caller ≡ None }
         ensures left { self.new ≡ (advance_walk self.old 0 0 caller).bench }
         ensures reach { result ≡ (advance_walk self.old 0 0 caller).reach }
@@ -56,7 +57,7 @@ impl Bench {
     /// The same; `reach` says how far the call came.
     #[inline(always)]
     pub fn step_on(&mut self, caller: CallerNo, reach: &mut Reach)
-        requires caller { caller < 64 }
+        requires caller { caller < CALLERS_MOST }
         requires calling { is_in_call self.old caller ≡ true }
         ensures left { self.new ≡ (advance_walk self.old 0 0 caller).bench }
         ensures reach { reach.new ≡ (advance_walk self.old 0 0 caller).reach }

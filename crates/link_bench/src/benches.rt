@@ -1,5 +1,5 @@
 ghost use Rattle.std.specs.Prelude.{◌≡◌, ◌<◌, ◌≤◌, length, true, false, IfOk, IfErr, IfNone, IfSome, Some, None};
-ghost use Rattle.rp_base.specs.declared.limits.TheConstants.{BOOK_MOST, MESSAGE_MOST, STEPS_MOST};
+ghost use Rattle.rp_base.specs.declared.limits.TheConstants.{CALLERS_MOST, BOOK_MOST, MESSAGE_MOST, STEPS_MOST};
 ghost use Rattle.lane_model.specs.Links.{end_of, free_number};
 ghost use Rattle.channel_bus.specs.Sides.{side_meaning};
 ghost use Rattle.lane_model.specs.Desks.{IsFreshDesk};
@@ -56,6 +56,7 @@ pub struct Bench {
 }
 
 impl Model for Bench {
+    ghost use Rattle.rp_base.specs.declared.limits.TheConstants.{CALLERS_MOST};
     ghost use Rattle.link_bench.specs.Benches.{BenchState};
 
     ghost Value = { BenchState };
@@ -65,7 +66,7 @@ impl Model for Bench {
 
     ghost view = { λ b. record { rings = b.link; begun = b.begun.items } };
 
-    ghost invariant = { λ b. (length b.begun.items ≡ 64) × AreFitCalls (lists_of b.link) b.begun.items };
+    ghost invariant = { λ b. (length b.begun.items ≡ CALLERS_MOST) × AreFitCalls (lists_of b.link) b.begun.items };
 }
 
 impl Bench {
@@ -98,7 +99,7 @@ impl Bench {
     /// The end of the caller of this number, where it is in use.
     pub fn end_of(&self, caller: CallerNo) -> Option<End>
         ensures end { result ≡ end_of (link_in self.now).callers caller }
-        ensures within { IfSome result (λ _. caller < 64) }
+        ensures within { IfSome result (λ _. caller < CALLERS_MOST) }
     {
         self.link.end_of(caller)
     }
@@ -114,7 +115,7 @@ impl Bench {
     /// The same of a number that is known to be below 64.
     #[inline(always)]
     pub fn is_caller_busy(&self, caller: CallerNo) -> bool
-        requires { caller < 64 }
+        requires { caller < CALLERS_MOST }
         ensures { result ≡ is_in_call self.now caller }
     {
         self.begun[usize::from(caller)].is_some() || self.link.is_calling(caller)
@@ -130,7 +131,7 @@ impl Bench {
     /// Why this caller can't begin a call, if it can't: it isn't in use, or it is in a call.
     pub fn ready_fault(&self, caller: CallerNo) -> Option<BenchFault>
         ensures fault { result ≡ ready_fault self.now caller }
-        ensures within { IfNone result (caller < 64) }
+        ensures within { IfNone result (caller < CALLERS_MOST) }
     {
         match self.end_of(caller) {
             None => Some(BenchFault::NoCaller),
@@ -143,7 +144,7 @@ impl Bench {
     /// doesn't hold the buffer that it is to give back.
     pub fn begin_fault(&self, caller: CallerNo, wished: &Wish) -> Option<BenchFault>
         ensures fault { result ≡ begin_fault self.now caller wished.now }
-        ensures within { IfNone result (caller < 64) }
+        ensures within { IfNone result (caller < CALLERS_MOST) }
     {
         if let Some(fault) = self.ready_fault(caller) {
             return Some(fault);
@@ -175,7 +176,7 @@ impl Bench {
 
     /// Begins a call of a caller that may begin it.
     pub fn put_call(&mut self, caller: CallerNo, wished: Wish)
-        requires caller { caller < 64 }
+        requires caller { caller < CALLERS_MOST }
         requires ready { begin_fault self.old caller wished ≡ None }
         ensures { self.new ≡ with_begun self.old caller (Some (record { follows = (link_in self.old).era.inc; wish = wished })) }
     {
@@ -190,7 +191,7 @@ impl Bench {
     /// call has and the run may still take; `steps` counts them, and `reach` says how far the call came.
     #[inline(always)]
     pub fn advance(&mut self, caller: CallerNo, more: u64, steps: &mut StepCount, reach: &mut Reach)
-        requires caller { caller < 64 }
+        requires caller { caller < CALLERS_MOST }
         requires calling { is_in_call self.old caller ≡ true }
         requires more { more < STEPS_MOST }
         ensures bench { self.new ≡ (advance_walk self.old more steps.old caller).bench }

@@ -1,5 +1,5 @@
 ghost use Rattle.std.specs.Prelude.{◌≡◌, ◌<◌, ◌≤◌, ◌+◌, ◌++◌, IfNone, IfOk, IfSome, MatchOption, OnOk, length};
-ghost use Rattle.rp_base.specs.declared.limits.TheConstants.{MESSAGE_MOST, PAYLOAD_MOST, STEPS_MOST};
+ghost use Rattle.rp_base.specs.declared.limits.TheConstants.{CALLERS_MOST, MESSAGE_MOST, PAYLOAD_MOST, STEPS_MOST};
 ghost use Rattle.lane_model.specs.declared.calls.Wish.TheVariants as wish;
 ghost use Rattle.byteorder.specs.Endian.{little_bytes};
 ghost use Rattle.rpmsg_header.specs.Headers.{header_bytes};
@@ -47,8 +47,8 @@ impl Bench {
         steps: &mut StepCount,
         ended: &mut TurnEnd,
     ) -> Result<u64, NoMemory>
-        requires sender { sender < 64 }
-        requires receiver { receiver < 64 }
+        requires sender { sender < CALLERS_MOST }
+        requires receiver { receiver < CALLERS_MOST }
         requires count { count ≤ STEPS_MOST }
         ensures bench { OnOk result (self.new ≡ (pump_turns W.sees count 0 sender receiver self.old (W.state watcher.old) steps.old).turns.bench) }
         ensures watcher { OnOk result (W.state watcher.new ≡ (pump_turns W.sees count 0 sender receiver self.old (W.state watcher.old) steps.old).turns.watcher) }
@@ -78,8 +78,8 @@ impl Bench {
         steps: &mut StepCount,
         ended: &mut TurnEnd,
     ) -> Result<(), NoMemory>
-        requires sender { sender < 64 }
-        requires receiver { receiver < 64 }
+        requires sender { sender < CALLERS_MOST }
+        requires receiver { receiver < CALLERS_MOST }
         requires number { number ≤ STEPS_MOST }
         ensures bench { OnOk result (self.new ≡ (one_turn W.sees sender receiver number self.old (W.state watcher.old) steps.old).bench) }
         ensures watcher { OnOk result (W.state watcher.new ≡ (one_turn W.sees sender receiver number self.old (W.state watcher.old) steps.old).watcher) }
@@ -102,7 +102,7 @@ impl Bench {
         steps: &mut StepCount,
         ended: &mut TurnEnd,
     ) -> Result<(), NoMemory>
-        requires receiver { receiver < 64 }
+        requires receiver { receiver < CALLERS_MOST }
         ensures bench { OnOk result (self.new ≡ (take_turn W.sees receiver self.old (W.state watcher.old) steps.old).bench) }
         ensures watcher { OnOk result (W.state watcher.new ≡ (take_turn W.sees receiver self.old (W.state watcher.old) steps.old).watcher) }
         ensures steps { OnOk result (steps.new ≡ (take_turn W.sees receiver self.old (W.state watcher.old) steps.old).steps) }
@@ -128,7 +128,7 @@ impl Bench {
         steps: &mut StepCount,
         ended: &mut TurnEnd,
     )
-        requires receiver { receiver < 64 }
+        requires receiver { receiver < CALLERS_MOST }
         ensures bench { self.new ≡ (turn_call self.old steps.old receiver (wish.Give number)).bench }
         ensures steps { steps.new ≡ (turn_call self.old steps.old receiver (wish.Give number)).steps }
         ensures ended { ended.new ≡ turn_end_of (turn_call self.old steps.old receiver (wish.Give number)).number }
@@ -149,7 +149,7 @@ impl Bench {
         steps: &mut StepCount,
         ended: &mut TurnEnd,
     ) -> Option<u64>
-        requires sender { sender < 64 }
+        requires sender { sender < CALLERS_MOST }
         requires fits { length payload.now ≤ PAYLOAD_MOST }
         ensures bench { self.new ≡ (turn_call self.old steps.old sender (wish.Send (header_bytes 0 1024 payload.now))).bench }
         ensures steps { steps.new ≡ (turn_call self.old steps.old sender (wish.Send (header_bytes 0 1024 payload.now))).steps }
@@ -173,7 +173,7 @@ impl Bench {
         reach: &mut Reach,
         ended: &mut TurnEnd,
     ) -> Option<u64>
-        requires caller { caller < 64 }
+        requires caller { caller < CALLERS_MOST }
         ensures bench { self.new ≡ (turn_call self.old steps.old caller wished.now).bench }
         ensures steps { steps.new ≡ (turn_call self.old steps.old caller wished.now).steps }
         ensures number { number_of result ended.new ≡ (turn_call self.old steps.old caller wished.now).number }

@@ -17,16 +17,6 @@ pub(crate) struct CarriedCall {
     pub call: RingCall<Side>,
 }
 
-impl CarriedCall {
-    /// One that has ended.
-    fn ended() -> CarriedCall {
-        CarriedCall {
-            follows: 0,
-            call: RingCall::ended(),
-        }
-    }
-}
-
 /// The call that a caller is in, if any. A call begins in the place of the one before, so that the room for its message isn't moved.
 #[derive(Drop)]
 pub(crate) struct CallSlot {
@@ -50,7 +40,10 @@ impl CallSlot {
     {
         CallSlot {
             is_used: false,
-            carried: CarriedCall::ended(),
+            carried: CarriedCall {
+                follows: 0,
+                call: RingCall::ended(),
+            },
         }
     }
 

@@ -36,7 +36,8 @@ use Rattle.command_run.specs.Acts.{IsFitNamed}
 use Rattle.command_run.specs.CoreCommands.{core_act_effect, core_effect}
 use Rattle.command_run.specs.CoreDrives.{drive_effect, drive_steps}
 use Rattle.command_run.specs.CoreEffects.{CoreEffect, added_effect, core_tells, declared_effect, driver_effect, region_effect}
-use Rattle.command_run.specs.CoreLinks.{core_link_effect, core_ring_effect, core_shown_effect, core_turn_holder, core_view_effect, found_ring_effect, found_view_effect}
+use Rattle.crash_recover.specs.CoreCallers.{core_turn_holder}
+use Rattle.command_run.specs.CoreLinks.{core_link_effect, core_ring_effect, core_shown_effect, core_view_effect, found_ring_effect, found_view_effect}
 use Rattle.command_run.specs.CoreLives.{boot_effect, crash_effect, detach_effect, found_image, handover_effect, may_step, shutdown_effect}
 use Rattle.command_run.specs.CoreViews.{loaded_table_effect, mem_effect, table_effect, trace_effect}
 use Rattle.command_run.specs.NamedCores.{NamedCoreState}

@@ -1,5 +1,5 @@
 -- The manager behind a step of a call that it carries: it is a carrier still, and each call that it carries is where it was or where the step left it.
-use Rattle.std.proofs.Common.{◌≡◌, ◌≢◌, ◌+◌, ◌-◌, ◌<◌, ◌≤◌, ℕ, zero, suc, length, get_or, List, [], ◌∷◌, refl, sym, ap, ◌∙◌, subst, arith}
+use Rattle.std.proofs.Common.{◌≡◌, ◌≢◌, ◌+◌, ◌-◌, ◌<◌, ◌≤◌, ℕ, List, refl, sym, ap, ◌∙◌, subst, arith}
 use Rattle.std.specs.Prelude.{Option, Some, None, slice_index, slice_set}
 use lib.ListN.{get_elem?}
 use base.Stored.{Coded}
@@ -199,17 +199,17 @@ end_or (Some e) = e
 pub same_user : (users : List (Option End)) (n : ℕ) (e e' : End) → end_of users n ≡ Some e → end_of users n ≡ Some e' → e ≡ e'
 same_user users n e e' one two = ap end_or (sym one ∙ two)
 
-pub user_of : (users : List (Option End)) (n : ℕ) (found : Option End) (e : End) → n < length users → found ≡ get_or users n found → found ≡ Some e → end_of users n ≡ Some e
-user_of [] n found e low is has = absurd (omega (arith, low))
-user_of (x ∷ xs) zero found e low is has = sym is ∙ has
-user_of (x ∷ xs) (suc n) found e low is has = user_of xs n found e (omega (arith, low)) is has
-
 abbrev pub caller_id : ℕ → End → ℕ → CallerId
 caller_id number end follows = record { number = number; end = end; follows = follows }
 
-module _ {D : Type 0} (link : SharedLink D) (before : Manager) (n inc : ℕ) (p : Phase) where
-  pub carries_here : (e e' : End) → Carries link before (caller_id n e inc) p → end_of before.users n ≡ Some e' → Carries link before (caller_id n e' inc) p
-  carries_here e e' c user = subst (λ (x : End). Carries link before (caller_id n x inc) p) (same_user before.users n e e' c.user user) c
+-- the caller of a number that the manager carries
+module _ (before : Manager) (n inc : ℕ) (who : CallerId) (is : (who.number ≡ n) × (end_of before.users n ≡ Some who.end) × (who.follows ≡ inc)) where
+  pub carried_is : (end : End) → end_of before.users n ≡ Some end → who ≡ caller_id n end inc
+  carried_is end user = λ i. record { number = is.0 i; end = same_user before.users n who.end end is.1 user i; follows = is.2 i }
+
+  -- it carries that caller with its call in this phase
+  pub carried_call : {D : Type 0} (link : SharedLink D) (p : Phase) (e : End) → Carries link before (caller_id n e inc) p → Carries link before who p
+  carried_call link p e c = subst (λ w. Carries link before w p) (sym (carried_is e c.user)) c
 
 -- the slots of the call come to the front
 pub turned_front : {D : Type 0} (link : SharedLink D) (before : Manager) (who : CallerId) (p : Phase) (count : ℕ) (me : SeatState) → IsManagerOf link before → count ≡ out_before (side_of who.end p) before.out → me ≡ (before.seat.me.0, turned_by count before.seat.me.1) → me ≡ seat_turned who p before

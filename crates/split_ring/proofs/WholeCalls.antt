@@ -23,21 +23,17 @@ use Rattle.split_ring.specs.ManagerCalls.{CallsState}
 use Rattle.split_ring.specs.Receives.{IsHeldBy}
 use Rattle.split_ring.specs.Runs.{RunsCall}
 use Rattle.split_ring.specs.Seats.{IsAt}
-use Rattle.split_ring.proofs.CarriedLinks.{caller_id, same_user}
+use Rattle.split_ring.proofs.CarriedLinks.{caller_id, carried_call, carried_is}
 use Rattle.split_ring.proofs.Runs.{calls_state, carrier_behind, idle_behind, others_behind}
 
--- the caller of a number that the manager carries
+-- a buffer that is in the hands of the caller of a number that the manager carries
 module _ (before : Manager) (n inc : ℕ) (who : CallerId) (is : (who.number ≡ n) × (end_of before.users n ≡ Some who.end) × (who.follows ≡ inc)) where
-  pub carried_is : (end : End) → end_of before.users n ≡ Some end → who ≡ caller_id n end inc
-  carried_is end user = λ i. record { number = is.0 i; end = same_user before.users n who.end end is.1 user i; follows = is.2 i }
-
-  -- a buffer that is in its hands
   pub carried_held : (held : HeldBuffer) (e : End) → end_of before.users n ≡ Some e → IsHeldBy (caller_id n e inc) held (carried_seat (caller_id n e inc) phase.Ended before) → IsHeldBy who held (seat_of who.number before.seat.me)
-  carried_held held e user h = subst (λ (w : CallerId). IsHeldBy w held (seat_of w.number before.seat.me)) (sym (carried_is e user)) (record { lane = h.lane; caller = h.caller; numbered = h.numbered })
+  carried_held held e user h = subst (λ (w : CallerId). IsHeldBy w held (seat_of w.number before.seat.me)) (sym (carried_is before n inc who is e user)) (record { lane = h.lane; caller = h.caller; numbered = h.numbered })
 
 -- it carries that caller in no call
 pub carried_idle : {D : Type 0} (link : SharedLink D) (before : Manager) (n inc : ℕ) (who : CallerId) → (who.number ≡ n) × (end_of before.users n ≡ Some who.end) × (who.follows ≡ inc) → (e : End) → CarriesIdle link before (caller_id n e inc) → CarriesIdle link before who
-carried_idle link before n inc who is e idle = subst (CarriesIdle link before) (sym (carried_is before n inc who is e idle.user)) idle
+carried_idle link before n inc who is = carried_call before n inc who is link phase.Ended
 
 -- and a whole call of it left the manager's seat so
 pub record HasCalled {D : Type 0} (link : SharedLink D) (before after : Manager) (who : CallerId) : Type 0 where

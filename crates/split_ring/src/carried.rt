@@ -84,8 +84,7 @@ impl<D: Desk> SharedLink<D> {
         progress_of(step, &mut call.phase)
     }
 
-    /// The same step of the call in its place. One that ends the call leaves its answer there, which
-    /// `into_answer` hands out.
+    /// The same step of the call in its place. One that ends the call leaves its answer there.
     pub fn step_by(
         &self,
         manager: &mut Manager,
@@ -107,16 +106,8 @@ impl<D: Desk> SharedLink<D> {
         ensures state { (end : End) → end_of manager.old.users caller ≡ Some end → (m : LaneLink (RingState D)) → IsStateOf D.row.coded manager.old m
             → IsStateOf D.row.coded manager.new (after_deed D.meaning m (deed_of (record { number = caller; end = end; follows = inc }) call.old.phase)) }
     {
-        let end = match manager.users.get(usize::from(caller)) {
-            Some(Some(end)) => *end,
-            Some(None) | None => unreachable!(),
-        };
-        let who = CallerId {
-            number: caller,
-            end,
-            follows: inc,
-        };
-        let side = call.phase.side_of(end);
+        let who = manager.carried_id(caller, inc);
+        let side = call.phase.side_of(who.end);
         let had = call.phase.slots();
         let before = manager.out_before(side);
         turn_by(&mut manager.seat, before);

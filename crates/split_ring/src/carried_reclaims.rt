@@ -96,27 +96,12 @@ impl<D: Desk> SharedLink<D> {
         if era.is_live {
             return Err(ReclaimRefusal::StillOpen(era));
         }
-        let who = self.carried_id(manager, caller);
+        // What its calls follow plays no part in a reclaim.
+        let who = manager.carried_id(caller, self.sizes.first);
         self.end_by(manager, who, call, turn_of(call), is_holding)?;
         end_carried(&self.table.shared, &mut manager.seat, caller);
         manager.users[usize::from(caller)] = None;
         Ok(())
-    }
-
-    /// The caller of this number that the manager carries. What its calls follow plays no part in a reclaim.
-    fn carried_id(&self, manager: &Manager, number: CallerNo) -> CallerId
-        requires { (end : End) × (end_of manager.now.users number ≡ Some end) }
-        ensures { (result.number ≡ number) × (end_of manager.now.users number ≡ Some result.end) }
-    {
-        let end = match manager.users.get(usize::from(number)) {
-            Some(Some(end)) => *end,
-            Some(None) | None => unreachable!(),
-        };
-        CallerId {
-            number,
-            end,
-            follows: self.sizes.first,
-        }
     }
 
     /// Parts 1 to 4 of a reclaim of this caller, whose call is this one: it is in no call then, and holds nothing.

@@ -73,13 +73,9 @@ impl HeldPlace {
     pub fn handed(who: CallerId, handing: Handing, message: Message) -> HeldPlace
         ensures { result ≡ (taken_of who handing message).held }
     {
-        HeldPlace {
-            lane: lane_number(who.end),
-            caller: who.number,
-            number: handing.number,
-            buffer: handing.buffer,
-            message,
-        }
+        let mut place = HeldPlace::with(message);
+        place.hold(who, handing);
+        place
     }
 
     /// The buffer that stands there, out of its place.

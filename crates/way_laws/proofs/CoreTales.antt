@@ -1,5 +1,5 @@
 -- What is done under the name of a core keeps the tale of its link.
-use Rattle.std.proofs.Common.{◌≡◌, ℕ, [], zero, suc, ◌+◌, ◌==◌, Bool, true, false, cond, List, Option, Some, None, IfSome, option_map, Result, Ok, Err, refl, sym, ap, subst}
+use Rattle.std.proofs.Common.{◌≡◌, ℕ, [], zero, suc, ◌+◌, ◌==◌, Bool, true, false, cond, List, Option, Some, None, IfSome, option_map, Result, Ok, Err, refl, sym, subst}
 use Rattle.std.proofs.lemmas.Bool.{cond_both}
 use Rattle.rp_base.specs.declared.kinds.End.{End}
 use Rattle.rp_base.specs.declared.kinds.End.TheVariants as side
@@ -55,7 +55,8 @@ use Rattle.command_run.specs.declared.acts.NamedAct.TheVariants as under
 use Rattle.command_run.specs.CoreCommands.{core_act_effect, core_effect}
 use Rattle.command_run.specs.CoreDrives.{drive_effect, drive_steps, rest_event, rests_or, step_then}
 use Rattle.command_run.specs.CoreEffects.{CoreEffect, added_effect, core_tells, declared_effect, driver_effect, region_effect}
-use Rattle.command_run.specs.CoreLinks.{core_link_effect, core_ring_effect, core_shown_effect, core_turn_holder, core_view_effect, found_ring_effect, found_view_effect}
+use Rattle.crash_recover.specs.CoreCallers.{core_turn_holder}
+use Rattle.command_run.specs.CoreLinks.{core_link_effect, core_ring_effect, core_shown_effect, core_view_effect, found_ring_effect, found_view_effect}
 use Rattle.command_run.specs.CoreLives.{boot_effect, booted_image, core_stops, crash_effect, detach_effect, found_image, handover_effect, may_step, recover_effect, shutdown_effect}
 use Rattle.command_run.specs.CoreViews.{loaded_table_effect, mem_effect, table_effect, trace_effect}
 use Rattle.command_run.specs.NamedCores.{NamedCoreState}

@@ -7,3 +7,4 @@ pub mod RunCoreTales
 pub mod CoreRungs
 pub mod RunCoreRungs
 pub mod Worded
+pub mod DrivenTakes

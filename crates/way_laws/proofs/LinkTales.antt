@@ -1,5 +1,5 @@
 -- What is done under the name of a link keeps the tale of it.
-use Rattle.std.proofs.Common.{ℕ, ◌+◌, ◌==◌, Bool, true, false, List, Option, Some, None, refl, ap}
+use Rattle.std.proofs.Common.{ℕ, ◌+◌, ◌==◌, Bool, true, false, List, Option, Some, None, refl}
 use Rattle.rp_base.specs.Limits.{IsRingSize}
 use Rattle.rp_base.specs.declared.kinds.End.{End}
 use Rattle.rp_base.specs.declared.limits.TheConstants.{STEPS_MOST}

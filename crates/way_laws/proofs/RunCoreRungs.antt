@@ -19,7 +19,7 @@ use Rattle.run_laws.proofs.CoreWalks.{FitsNamed}
 use Rattle.run_laws.proofs.RunWalks.{item_at}
 use Rattle.run_laws.proofs.RunsReached.{effect_reached, line_fits}
 use Rattle.way_laws.specs.CoreAccounts.{done_on_core}
-use Rattle.way_laws.proofs.CoreRungs.{IsRung, IsRungCore, core_rung, new_core_rung}
+use Rattle.way_laws.proofs.CoreRungs.{IsRungCore, core_rung, new_core_rung}
 use Rattle.way_laws.proofs.Noted.{noted_kept}
 use Rattle.way_laws.proofs.RunTales.{MakesFit, makes_fit}
 use Rattle.way_laws.proofs.RunCoreTales.{core_behind, done_fits, holds_after, made_core}

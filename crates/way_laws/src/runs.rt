@@ -17,6 +17,10 @@ ghost use Rattle.link_bench.specs.declared.benches.Reach.TheVariants as reach;
 ghost use Rattle.link_bench.specs.Acts.{link_act};
 ghost use Rattle.link_bench.specs.Watchers.{nobody_sees};
 ghost use Rattle.command_run.specs.CallEvents.{end_event, took_event};
+ghost use Rattle.crash_recover.specs.Cores.{CoreState};
+ghost use Rattle.crash_recover.specs.CoreActs.{act_on_core};
+ghost use Rattle.crash_recover.specs.Drives.{drive_step};
+ghost use Rattle.act_laws.specs.CoreDeeds.{drive_deeds, driven_takes};
 ghost use Rattle.act_laws.specs.Deeds.{act_deeds, reach_takes};
 ghost use Rattle.link_bench.specs.Benches.{BenchState, link_in};
 ghost use Rattle.command_run.specs.NamedCores.{NamedCoreState};
@@ -24,7 +28,7 @@ ghost use Rattle.command_run.specs.NamedLinks.{NamedLink};
 ghost use Rattle.command_run.specs.Runs.{run_of};
 ghost use Rattle.command_run.specs.Stores.{Told};
 ghost use Rattle.act_laws.specs.Accounts.{IsAccount};
-ghost use Rattle.way_laws.specs.CoreAccounts.{core_account_of};
+ghost use Rattle.way_laws.specs.CoreAccounts.{core_account_of, core_act_deeds};
 ghost use Rattle.way_laws.specs.RunAccounts.{account_of};
 
 /// After each list of commands, and so after each front of a script, a link of the run comes by the run's own moves since it was made or last
@@ -52,12 +56,17 @@ pub fn links_own()
         → slice_get (run_of told commands).last.objects.cores place ≡ Some on → IfSome on.core.bench (λ (bench : BenchState). HasSoundRings bench.rings) }
 {}
 
-/// Where an act answers how far a call came, as each call and step of a script does that nothing refuses, what it tells of takes is by how that call
-/// ended; and the line of a take has the number, the bytes and the verdict of the handing that is told.
+/// Where an act answers how far a call came, as each call and step of a script does that nothing refuses, on a link of the script or of a core, what
+/// it tells of takes is by how that call ended. A step of a core's actors tells of the call that it ended, and of no other. And the line of a take has
+/// the number, the bytes and the verdict of the handing that is told.
 pub fn takes_are_worded()
     ensures reached { (own : ℕ) (bench : BenchState) (steps : ℕ) (asked : LinkAct (List ℕ)) (caller : ℕ) (came : Reach)
         → (link_act nobody_sees own bench tt steps asked).answer ≡ answer.Reached caller came
         → (end : End) → (act_deeds nobody_sees own bench tt steps asked).takes end ≡ reach_takes (link_in (link_act nobody_sees own bench tt steps asked).bench) caller came end }
+    ensures of_core { (core : CoreState) (bench : BenchState) (steps : ℕ) (asked : LinkAct (List ℕ)) (caller : ℕ) (came : Reach)
+        → (act_on_core core bench steps asked).answer ≡ answer.Reached caller came
+        → (end : End) → (core_act_deeds core (Some bench) steps asked).takes end ≡ reach_takes (link_in (act_on_core core bench steps asked).bench) caller came end }
+    ensures driven { (core : CoreState) (end : End) → (drive_deeds core).takes end ≡ driven_takes (drive_step core).driven (drive_step core).core.bench end }
     ensures line { (name : List ℕ) (link : LinkState EndState) (caller number : ℕ) (judged : Verdict) (handing : Handing) (end : End) → end_of link.callers caller ≡ Some end
         → reach_takes link caller (reach.Ended (call_end.Took number judged)) end ≡ handing ∷ []
         → end_event name link caller (call_end.Took number judged) ≡ took_event name caller handing.sent.number handing.sent.message handing.verdict }

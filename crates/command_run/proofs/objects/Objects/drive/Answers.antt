@@ -17,8 +17,15 @@ use Rattle.command_run.proofs.Handed.{front_of_none, no_write}
 use Rattle.command_run.proofs.Placing.{drive_cut, drive_placed, drive_run, kept_run}
 use Rattle.command_run.proofs.objects.Objects.drive.Goals as goal
 
-pub returns-in-Some-clause-effect : goal.returns-in-Some-clause-effect
-returns-in-Some-clause-effect g c =
+-- where a drive of a core was cut off, so is what holds of it
+cut_so : (result : Result (Option Stop) CommandFault) (First Second : Type 0) → (First → Second) → IfErr result (λ why. IfWrite why First) → IfErr result (λ why. IfWrite why Second)
+cut_so (Ok answer) First Second so cut = cut
+cut_so (Err command_fault.Store) First Second so cut = cut
+cut_so (Err command_fault.Write) First Second so cut = so cut
+cut_so (Err command_fault.NoMemory) First Second so cut = cut
+
+pub returns-in-Some : goal.returns-in-Some
+returns-in-Some g c =
     let sink = g.K.Sink in
     let items = c.self.inside.cores.items in
     let links = c.self.inside.links.items in
@@ -34,38 +41,36 @@ returns-in-Some-clause-effect g c =
     c.in-Some.ensures.link ∙ ap (λ (o : ObjectsState). place_of o.links c.bytes.result.now) (sym c.self.view_is) ∙ ap (place_of links) c.bytes.ensures.bytes in
     let found : slice_get items place ≡ Some named =
     slice_get_read items (length items) place named refl (subst (λ (o : ObjectsState). place < length o.cores) (sym c.self.view_is) c.in-Some.ensures.within) c.index_mut.ensures.value in
+    let now = c.drive_handing.new.self in
     let did : (objects : ObjectsState) → Option Stop → Type 0 = λ objects ending.
     HandsRunEffect (name_effect (Err fetch_fault.Missing) (record { objects = objects; steps = log.steps }) c.args.name (under.Core (core.Drive c.args.count)))
     (record { links = links; cores = slice_set items place c.drive_handing.new.self; images = images; is_quiet = is_quiet }) log c.drive_handing.new.log (sink.written c.args.out.now) (sink.written c.drive_handing.new.out) ending in
-    subst (λ (objects : ObjectsState). IfOk c.drive_handing.result (did objects)) c.self.view_is
-    (IfOk-weaker c.drive_handing.result
-    (λ ending. HandsCoreEffect (drive_effect named.name is_quiet named.core log.steps c.args.count) c.drive_handing.new.self.core log c.drive_handing.new.log (sink.written c.args.out.now) (sink.written c.drive_handing.new.out) ending)
-    (did run.objects)
-    (λ ending has. drive_run (Err fetch_fault.Missing) run c.args.name c.args.count place named bare placed found log c.drive_handing.new.log (sink.written c.args.out.now) (sink.written c.drive_handing.new.out)
-    ending c.drive_handing.new.self c.drive_handing.ensures.name has)
-    c.drive_handing.ensures.effect)
-
-pub returns-in-Some-clause-cut : goal.returns-in-Some-clause-cut
-returns-in-Some-clause-cut g c =
-    let sink = g.K.Sink in
-    let items = c.self.inside.cores.items in
-    let links = c.self.inside.links.items in
-    let images = c.self.inside.images.items in
-    let is_quiet = c.self.inside.is_quiet in
-    let place = c.in-Some.place in
-    let named = c.index_mut.result.now in
-    let log = c.args.log.now in
-    let run : RunState = record { objects = record { links = links; cores = items; images = images; is_quiet = is_quiet }; steps = log.steps } in
-    let placed : Some place ≡ core_place items c.args.name =
-    c.in-Some.ensures.core ∙ ap (λ (o : ObjectsState). core_place o.cores c.bytes.result.now) (sym c.self.view_is) ∙ ap (core_place items) c.bytes.ensures.bytes in
-    let bare : None ≡ place_of links c.args.name =
-    c.in-Some.ensures.link ∙ ap (λ (o : ObjectsState). place_of o.links c.bytes.result.now) (sym c.self.view_is) ∙ ap (place_of links) c.bytes.ensures.bytes in
-    let found : slice_get items place ≡ Some named =
-    slice_get_read items (length items) place named refl (subst (λ (o : ObjectsState). place < length o.cores) (sym c.self.view_is) c.in-Some.ensures.within) c.index_mut.ensures.value in
     let cut : List Event → Type 0 = λ events. IfErr c.drive_handing.result (λ why. EndsCut why (log.lines ++ transcript events)
     (sink.written c.args.out.now) (sink.written c.drive_handing.new.out) (sink.faults c.args.out.now) (sink.faults c.drive_handing.new.out)) in
-    subst (λ (objects : ObjectsState). cut (name_effect (Err fetch_fault.Missing) (record { objects = objects; steps = log.steps }) c.args.name (under.Core (core.Drive c.args.count))).events) c.self.view_is
-    (subst cut (sym (ap (λ (e : RunEffect). e.events) (drive_placed (Err fetch_fault.Missing) run c.args.name c.args.count place named bare placed found))) c.drive_handing.ensures.cut)
+    let left : ObjectsState = record { links = links; cores = slice_set items place now; images = images; is_quiet = is_quiet } in
+    let written = sink.written c.args.out.now in
+    let after = sink.written c.drive_handing.new.out in
+    let cuts : ObjectsState → Type 0 = λ objects.
+    CutsRun (λ done. name_effect (Err fetch_fault.Missing) (record { objects = objects; steps = log.steps }) c.args.name (under.Core (core.Drive done))) c.args.count left log.lines written after in
+    record {
+      effect =
+          subst (λ (objects : ObjectsState). IfOk c.drive_handing.result (did objects)) c.self.view_is
+          (IfOk-weaker c.drive_handing.result
+          (λ ending. HandsCoreEffect (drive_effect named.name is_quiet named.core log.steps c.args.count) c.drive_handing.new.self.core log c.drive_handing.new.log (sink.written c.args.out.now) (sink.written c.drive_handing.new.out) ending)
+          (did run.objects)
+          (λ ending has. drive_run (Err fetch_fault.Missing) run c.args.name c.args.count place named bare placed found log c.drive_handing.new.log (sink.written c.args.out.now) (sink.written c.drive_handing.new.out)
+          ending c.drive_handing.new.self c.drive_handing.ensures.name has)
+          c.drive_handing.ensures.effect);
+      same = c.drive_handing.ensures.same;
+      cut =
+          subst (λ (objects : ObjectsState). cut (name_effect (Err fetch_fault.Missing) (record { objects = objects; steps = log.steps }) c.args.name (under.Core (core.Drive c.args.count))).events) c.self.view_is
+          (subst cut (sym (ap (λ (e : RunEffect). e.events) (drive_placed (Err fetch_fault.Missing) run c.args.name c.args.count place named bare placed found))) c.drive_handing.ensures.cut);
+      paused =
+          subst (λ (objects : ObjectsState). IfErr c.drive_handing.result (λ why. IfWrite why (cuts objects))) c.self.view_is
+          (cut_so c.drive_handing.result (CutsCore (λ done. drive_effect named.name is_quiet named.core log.steps done) c.args.count now.core log.lines written after) (cuts run.objects)
+          (drive_cut (Err fetch_fault.Missing) run c.args.name c.args.count place named now log.lines written after bare placed found c.drive_handing.ensures.name)
+          c.drive_handing.ensures.paused);
+    }
 
 pub returns-in_err-run_on_links-in-None-clause-cut : goal.returns-in_err-run_on_links-in-None-clause-cut
 returns-in_err-run_on_links-in-None-clause-cut g c =
@@ -80,41 +85,6 @@ pub returns-in_ok-run_on_links-in-None-clause-effect : goal.returns-in_ok-run_on
 returns-in_ok-run_on_links-in-None-clause-effect g c =
     let effect = name_effect (Err fetch_fault.Missing) (record { objects = c.args.self.now; steps = c.args.log.now.steps }) c.args.name (under.Core (core.Drive c.args.count)) in
     kept_run effect c.run_on_links.new.self c.args.log.now c.run_on_links.new.log (g.K.Sink.written c.args.out.now) c.in_ok-run_on_links-in-None.field-0 c.in_ok-run_on_links-in-None.ensures
-
--- where a drive of a core was cut off, so is what holds of it
-cut_so : (result : Result (Option Stop) CommandFault) (First Second : Type 0) → (First → Second) → IfErr result (λ why. IfWrite why First) → IfErr result (λ why. IfWrite why Second)
-cut_so (Ok answer) First Second so cut = cut
-cut_so (Err command_fault.Store) First Second so cut = cut
-cut_so (Err command_fault.Write) First Second so cut = so cut
-cut_so (Err command_fault.NoMemory) First Second so cut = cut
-
-pub returns-in-Some-clause-paused : goal.returns-in-Some-clause-paused
-returns-in-Some-clause-paused g c =
-    let sink = g.K.Sink in
-    let items = c.self.inside.cores.items in
-    let links = c.self.inside.links.items in
-    let images = c.self.inside.images.items in
-    let is_quiet = c.self.inside.is_quiet in
-    let place = c.in-Some.place in
-    let named = c.index_mut.result.now in
-    let now = c.drive_handing.new.self in
-    let log = c.args.log.now in
-    let run : RunState = record { objects = record { links = links; cores = items; images = images; is_quiet = is_quiet }; steps = log.steps } in
-    let placed : Some place ≡ core_place items c.args.name =
-    c.in-Some.ensures.core ∙ ap (λ (o : ObjectsState). core_place o.cores c.bytes.result.now) (sym c.self.view_is) ∙ ap (core_place items) c.bytes.ensures.bytes in
-    let bare : None ≡ place_of links c.args.name =
-    c.in-Some.ensures.link ∙ ap (λ (o : ObjectsState). place_of o.links c.bytes.result.now) (sym c.self.view_is) ∙ ap (place_of links) c.bytes.ensures.bytes in
-    let found : slice_get items place ≡ Some named =
-    slice_get_read items (length items) place named refl (subst (λ (o : ObjectsState). place < length o.cores) (sym c.self.view_is) c.in-Some.ensures.within) c.index_mut.ensures.value in
-    let left : ObjectsState = record { links = links; cores = slice_set items place now; images = images; is_quiet = is_quiet } in
-    let written = sink.written c.args.out.now in
-    let after = sink.written c.drive_handing.new.out in
-    let cuts : ObjectsState → Type 0 = λ objects.
-    CutsRun (λ done. name_effect (Err fetch_fault.Missing) (record { objects = objects; steps = log.steps }) c.args.name (under.Core (core.Drive done))) c.args.count left log.lines written after in
-    subst (λ (objects : ObjectsState). IfErr c.drive_handing.result (λ why. IfWrite why (cuts objects))) c.self.view_is
-    (cut_so c.drive_handing.result (CutsCore (λ done. drive_effect named.name is_quiet named.core log.steps done) c.args.count now.core log.lines written after) (cuts run.objects)
-    (drive_cut (Err fetch_fault.Missing) run c.args.name c.args.count place named now log.lines written after bare placed found c.drive_handing.ensures.name)
-    c.drive_handing.ensures.paused)
 
 pub returns-in_err-run_on_links-in-None-clause-paused : goal.returns-in_err-run_on_links-in-None-clause-paused
 returns-in_err-run_on_links-in-None-clause-paused g c =

@@ -5,9 +5,9 @@ use Rattle.split_ring.specs.declared.callers.Manager.{Manager}
 use Rattle.split_ring.specs.Calls.{take_answer}
 use Rattle.split_ring.specs.ManagerCalls.{CallsState}
 use Rattle.split_ring.specs.Receives.{took}
-use Rattle.split_ring.proofs.CarriedLinks.{caller_id}
+use Rattle.split_ring.proofs.CarriedLinks.{caller_id, carried_is}
 use Rattle.split_ring.proofs.Runs.{idle_caller, idle_seat}
-use Rattle.split_ring.proofs.WholeCalls.{HasCalled, called_caller, called_manager, called_others, called_state, carried_idle, carried_is}
+use Rattle.split_ring.proofs.WholeCalls.{HasCalled, called_caller, called_manager, called_others, called_state, carried_idle}
 use Rattle.split_ring.proofs.links.SharedLink.take_by.Goals as goal
 
 pub carried_id-who-requires : goal.carried_id-who-requires

@@ -1,0 +1,139 @@
+-- What a step of a core's actors tells of takes is by the call that it ended.
+use Rattle.std.proofs.Common.{◌≡◌, ℕ, zero, suc, ◌+◌, ◌++◌, ◌==◌, Bool, true, false, [], Option, Some, None, is_some, Result, Ok, Err, refl}
+use Rattle.std.specs.Prelude.{if◌then◌else◌}
+use Rattle.rp_base.specs.declared.kinds.End.{End}
+use Rattle.rp_base.specs.declared.kinds.End.TheVariants as side
+use Rattle.rp_base.specs.declared.limits.TheConstants.{CALLERS_MOST}
+use Rattle.proc_state.specs.declared.answers.LifeFault.{LifeFault}
+use Rattle.lane_model.specs.declared.calls.Wish.{Wish}
+use Rattle.lane_model.specs.Lanes.{holder}
+use Rattle.lane_model.specs.Links.{end_of}
+use Rattle.lane_laws.specs.Moves.{Close, Enlist, Reclaim}
+use Rattle.remote_core.specs.declared.workers.Work.{Work}
+use Rattle.remote_core.specs.declared.workers.Work.TheVariants as work
+use Rattle.remote_core.specs.Works.{work_of}
+use Rattle.link_bench.specs.declared.benches.BegunCall.{BegunCall}
+use Rattle.link_bench.specs.declared.benches.Reach.{Reach}
+use Rattle.link_bench.specs.declared.benches.Reach.TheVariants as reach
+use Rattle.link_bench.specs.BenchCrashes.{after_close}
+use Rattle.link_bench.specs.BenchEnds.{is_first, is_remote, without_one, without_other}
+use Rattle.link_bench.specs.Benches.{BenchState, BenchWalk, advance_steps, advance_walk, begin_fault, begun_call_of, is_in_call, link_in, start_walk}
+use Rattle.core_actors.specs.declared.actors.Actor.{Actor}
+use Rattle.core_actors.specs.declared.actors.Actor.TheVariants as actor
+use Rattle.core_actors.specs.ActorSteps.{begun_step, drive_of_reach, drive_of_work, first_or_take, has_calls, link_step}
+use Rattle.crash_recover.specs.declared.core_answers.Crash.{Crash}
+use Rattle.crash_recover.specs.declared.core_answers.Crash.TheVariants as crash
+use Rattle.crash_recover.specs.CoreCrashes.{report_of}
+use Rattle.crash_recover.specs.Cores.{CoreState, LoadState}
+use Rattle.crash_recover.specs.Drives.{DriveStep, actor_step, actor_to_step, after_record, core_with_report, drive_step, host_step, is_idle, placed_map, record_run, record_step, step_with_report, with_turn_after, worker_call}
+use Rattle.act_laws.specs.CoreDeeds.{actor_deeds, actor_link_deeds, begun_deeds, crash_deeds, drive_deeds, driven_takes, link_deeds, one_remote, other_deeds, others_deeds, record_deeds, remote_deeds, reported_deeds}
+use Rattle.act_laws.specs.Deeds.{Deeds, advance_deeds, deeds_then, no_deeds, one_move, reach_takes}
+
+-- two choices by one test
+both : {A B : Type 0} (P : A → B → Type 0) (test : Bool) (one other : A) (first second : B) → P one first → P other second
+    → P (if test then one else other) (if test then first else second)
+both P true one other first second is none = is
+both P false one other first second is none = none
+
+module _ (end : End) where
+  -- ---- a crash
+
+  abbrev TellsNone : Deeds → Type 0
+  TellsNone deeds = deeds.takes end ≡ []
+
+  either_none : (test : Bool) (one other : Deeds) → TellsNone one → TellsNone other → TellsNone (if test then one else other)
+  either_none true one other first second = first
+  either_none false one other first second = second
+
+  then_none : (one other : Deeds) → TellsNone one → TellsNone other → TellsNone (deeds_then one other)
+  then_none one other first second = λ i. first i ++ second i
+
+  remote_none : (bench : BenchState) (caller : ℕ) → TellsNone (remote_deeds bench caller)
+  remote_none bench caller =
+      either_none (is_remote (end_of (link_in bench).callers caller)) _ no_deeds
+      (either_none (caller == 1) (deeds_then (one_move (Reclaim caller)) (one_move (Enlist side.Remote))) (one_move (Reclaim caller)) refl refl) refl
+
+  one_none : (bench : BenchState) (found : Option ℕ) → TellsNone (one_remote bench found)
+  one_none bench None = refl
+  one_none bench (Some caller) = remote_none bench caller
+
+  others_none : (first : Option ℕ) (bench : BenchState) (from count : ℕ) → TellsNone (others_deeds first bench from count)
+  unfolding others_deeds
+  others_none first bench from zero = refl
+  others_none first bench from (suc count) =
+      then_none (other_deeds first bench from) (others_deeds first (without_other first bench from) (from + 1) count)
+      (either_none (is_first first from) no_deeds (remote_deeds bench from) refl (remote_none bench from))
+      (others_none first (without_other first bench from) (from + 1) count)
+
+  crash_none : (bench : BenchState) → TellsNone (crash_deeds bench)
+  crash_none bench =
+      let first = holder (link_in (after_close bench)).to_remote.receiver in
+      let others = others_deeds first (without_one (after_close bench) first) 0 CALLERS_MOST in
+      then_none (one_move (Close (link_in bench).era.inc)) (deeds_then (one_remote (after_close bench) first) others) refl
+      (then_none (one_remote (after_close bench) first) others (one_none (after_close bench) first) (others_none first (without_one (after_close bench) first) 0 CALLERS_MOST))
+
+  reported_none : (answer : Result Crash LifeFault) (found : Option BenchState) → TellsNone (reported_deeds answer found)
+  reported_none (Ok (crash.First closed)) (Some bench) = crash_none bench
+  reported_none (Ok (crash.First closed)) None = refl
+  reported_none (Ok crash.Already) found = refl
+  reported_none (Ok crash.Limit) found = refl
+  reported_none (Err why) found = refl
+
+  -- ---- a step on the link
+
+  -- what this step tells is by the call that it ended
+  abbrev IsToldBy : DriveStep → Deeds → Type 0
+  IsToldBy step deeds = deeds.takes end ≡ driven_takes step.driven step.core.bench end
+
+  abbrev IsWalkTold : ℕ → BenchWalk → Deeds → Type 0
+  IsWalkTold caller walk deeds = deeds.takes end ≡ driven_takes (drive_of_reach caller walk.reach) (Some walk.bench) end
+
+  reach_told : (bench : BenchState) (caller : ℕ) (came : Reach) → reach_takes (link_in bench) caller came end ≡ driven_takes (drive_of_reach caller came) (Some bench) end
+  reach_told bench caller (reach.At step) = refl
+  reach_told bench caller (reach.Ended ended) = refl
+  reach_told bench caller reach.Limit = refl
+
+  advance_told : (bench : BenchState) (caller : ℕ) (found : Option BegunCall) → IsWalkTold caller (advance_steps bench 0 0 caller found) (advance_deeds bench 0 0 caller found)
+  advance_told bench caller None = let walk = advance_steps bench 0 0 caller None in reach_told walk.bench caller walk.reach
+  advance_told bench caller (Some begun) = let walk = advance_steps bench 0 0 caller (Some begun) in reach_told walk.bench caller walk.reach
+
+  link_told : (bench : BenchState) (caller : ℕ) (wanted : Wish) → IsWalkTold caller (link_step bench caller wanted) (link_deeds bench caller wanted)
+  link_told bench caller wanted =
+      let walk = start_walk bench 0 caller wanted in
+      both (IsWalkTold caller) (is_in_call bench caller) (advance_walk bench 0 0 caller) (begun_step bench caller wanted) (advance_deeds bench 0 0 caller (begun_call_of bench caller)) (begun_deeds bench caller wanted)
+      (advance_told bench caller (begun_call_of bench caller))
+      (both (IsWalkTold caller) (is_some (begin_fault bench caller wanted)) (record { bench = bench; steps = 0; reach = reach.Limit }) walk no_deeds _ refl (reach_told walk.bench caller walk.reach))
+
+  -- ---- a step of an actor
+
+  host_told : (core : CoreState) (found : Option BenchState) → IsToldBy (host_step core found) (actor_link_deeds found 0 (first_or_take core.actors.host_calls))
+  host_told core None = refl
+  host_told core (Some bench) = link_told bench 0 (first_or_take core.actors.host_calls)
+
+  call_told : (core : CoreState) (found : Option BenchState) → IsToldBy (worker_call core found) (actor_link_deeds found 1 (first_or_take core.actors.worker_calls))
+  call_told core None = refl
+  call_told core (Some bench) = link_told bench 1 (first_or_take core.actors.worker_calls)
+
+  work_told : (core : CoreState) (done : Work) → (record_deeds (drive_of_work done) core).takes end ≡ driven_takes (drive_of_work done) (core_with_report (drive_of_work done) core).bench end
+  work_told core work.Nothing = refl
+  work_told core (work.Ask wanted) = refl
+  work_told core work.Halted = refl
+  work_told core (work.Crash kind) = reported_none (report_of true core).answer core.bench
+  work_told core (work.Fault why) = reported_none (report_of true core).answer core.bench
+
+  record_told : (core : CoreState) (found : Option LoadState) → IsToldBy (step_with_report (record_run core found)) (record_deeds (record_run core found).driven (record_run core found).core)
+  record_told core None = refl
+  record_told core (Some load) =
+      let map = placed_map core.regions load in work_told (after_record core load map) (work_of load.memory map (is_some core.bench) core.actors.worker)
+
+  actor_told : (who : Actor) (core : CoreState) → IsToldBy (actor_step who core) (actor_deeds who core)
+  actor_told actor.Host core = host_told core core.bench
+  actor_told actor.Worker core =
+      both IsToldBy (has_calls core.bench core.actors) (worker_call core core.bench) (record_step core) (actor_link_deeds core.bench 1 (first_or_take core.actors.worker_calls)) _
+      (call_told core core.bench) (record_told core core.loaded)
+
+  -- what a step of the actors of a core tells of takes
+  pub drive_told : (core : CoreState) → IsToldBy (drive_step core) (drive_deeds core)
+  drive_told core =
+      both IsToldBy (is_idle core) _ (actor_step (actor_to_step core) (with_turn_after (actor_to_step core) core)) no_deeds (actor_deeds (actor_to_step core) (with_turn_after (actor_to_step core) core))
+      refl (actor_told (actor_to_step core) (with_turn_after (actor_to_step core) core))
