@@ -33,7 +33,7 @@ use Rattle.crash_recover.specs.Drives.{DriveStep, actor_step, actor_to_step, cor
 use Rattle.core_laws.specs.BenchMoves.{IsReachedBench, IsReachedCore}
 use Rattle.core_laws.proofs.BenchMoves.{reclaimable_is_shut}
 use Rattle.core_laws.proofs.CoreMoves.{first_sendable}
-use Rattle.core_laws.proofs.KeptCrashes.{close_shut}
+use Rattle.crash_recover.proofs.KeptCrashes.{close_shut}
 use Rattle.act_laws.specs.CoreDeeds.{actor_deeds, actor_link_deeds, crash_deeds, drive_deeds, link_deeds, one_remote, other_deeds, others_deeds, ready_deeds, record_deeds, remote_deeds, renewed_deeds, reported_deeds}
 use Rattle.act_laws.specs.Deeds.{Deeds, advance_deeds, call_moves, deeds_then, no_deeds, one_move, walk_deeds}
 use Rattle.act_laws.proofs.ActLands.{LandsAt, advance_lands, begin_lands, stays, then_at}
@@ -188,8 +188,8 @@ reported_lands : (came : Driven) (core : CoreState) → LandsIf core.bench (reco
 reported_lands driven.Idle core = stays_if core.bench
 reported_lands driven.Stepped core = stays_if core.bench
 reported_lands (driven.Ended caller end) core = stays_if core.bench
-reported_lands (driven.Worker fault) core = report_lands true core
-reported_lands (driven.Crashed kind) core = report_lands true core
+reported_lands (driven.Worker fault closed) core = report_lands true core
+reported_lands (driven.Crashed kind closed) core = report_lands true core
 
 run_bench : (core : CoreState) (loaded : Option LoadState) → (record_run core loaded).core.bench ≡ core.bench
 run_bench core None = refl

@@ -9,7 +9,7 @@ use Rattle.link_bench.specs.Benches.{BenchState, begun_call_of, is_in_call, link
 use Rattle.link_bench.specs.Watchers.{Seeing}
 use Rattle.core_laws.specs.BenchMoves.{IsReachedBench}
 use Rattle.core_laws.proofs.BenchMoves.{begun_at, begun_or, calling_may, reclaimable_is_shut}
-use Rattle.core_laws.proofs.KeptActs.{calls_sendable}
+use Rattle.core_laws.proofs.SendableActs.{calls_sendable}
 use Rattle.act_laws.specs.Deeds.{act_deeds}
 use Rattle.act_laws.proofs.ActLands.{FitSends, LandsAt, MayAct, MayGo, act_lands}
 

@@ -91,8 +91,8 @@ actor_link_deeds (Some bench) caller wanted = link_deeds bench caller wanted
 
 -- a record of the worker may report a crash
 abbrev pub record_deeds : Driven → CoreState → Deeds
-record_deeds (driven.Worker fault) core = reported_deeds (report_of true core).answer core.bench
-record_deeds (driven.Crashed kind) core = reported_deeds (report_of true core).answer core.bench
+record_deeds (driven.Worker fault closed) core = reported_deeds (report_of true core).answer core.bench
+record_deeds (driven.Crashed kind closed) core = reported_deeds (report_of true core).answer core.bench
 record_deeds driven.Idle core = no_deeds
 record_deeds driven.Stepped core = no_deeds
 record_deeds (driven.Ended caller end) core = no_deeds

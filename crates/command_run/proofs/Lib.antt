@@ -7,3 +7,4 @@ pub mod Shelves
 pub mod Placing
 pub mod RingRows
 pub mod FoundChannels
+pub mod Started

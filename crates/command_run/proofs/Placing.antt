@@ -28,7 +28,7 @@ with_bench now named bench name same =
     sym (ap (λ (n : List ℕ). record now { name = n }) name ∙ ap (λ (b : BenchState). record named { bench = b }) same)
 
 -- a core of the same name after a command
-with_core : (now named : NamedCoreState) (core : CoreState) → now.name ≡ named.name → now.core ≡ core → record named { core = core } ≡ now
+pub with_core : (now named : NamedCoreState) (core : CoreState) → now.name ≡ named.name → now.core ≡ core → record named { core = core } ≡ now
 with_core now named core name same =
     sym (ap (λ (n : List ℕ). record now { name = n }) name ∙ ap (λ (b : CoreState). record named { core = b }) same)
 

@@ -1,7 +1,6 @@
 -- What a drive of a core's actors leaves of it and tells (own).
 use Rattle.std.specs.Prelude.{ℕ, zero, suc, ◌+◌, ◌==◌, ◌||◌, Bool, true, false, List, [], ◌∷◌, ◌++◌, Option, Some, None, is_some, unwrap_or, if◌then◌else◌}
 use Rattle.rp_base.specs.declared.limits.TheConstants.{STEPS_MOST}
-use Rattle.rp_base.specs.declared.kinds.CrashKind.{CrashKind}
 use Rattle.rp_base.specs.declared.kinds.CrashKind.TheVariants as kind
 use Rattle.rp_base.specs.declared.kinds.LifeState.{LifeState}
 use Rattle.rp_base.specs.declared.kinds.LifeState.TheVariants.{Crashed}
@@ -17,12 +16,7 @@ use Rattle.core_actors.specs.declared.progress.Driven.TheVariants as driven
 use Rattle.crash_recover.specs.Drives.{DriveStep, drive_step, is_idle}
 use Rattle.command_run.specs.CallEvents.{end_event}
 use Rattle.command_run.specs.CoreEffects.{CoreEffect, core_tells}
-use Rattle.command_run.specs.CoreLives.{core_stops}
-
--- a crash: the link was closed, where there is one
-abbrev pub crash_events : List ℕ → CrashKind → Option BenchState → List Event
-crash_events name kind None = event.Crashed name kind ∷ []
-crash_events name kind (Some bench) = event.Closed name (link_in bench).era.inc ∷ event.Crashed name kind ∷ []
+use Rattle.command_run.specs.CoreLives.{core_stops, crash_events}
 
 -- the end of a call of an actor on this link
 abbrev pub actor_end_events : List ℕ → ℕ → CallEnd → Option BenchState → List Event
@@ -34,8 +28,8 @@ abbrev pub driven_events : List ℕ → Bool → Option BenchState → Driven �
 driven_events name is_quiet bench driven.Idle = []
 driven_events name is_quiet bench driven.Stepped = []
 driven_events name is_quiet bench (driven.Ended caller end) = if is_quiet then [] else actor_end_events name caller end bench
-driven_events name is_quiet bench (driven.Worker fault) = event.WorkerFault name (fault_number fault) ∷ crash_events name kind.Fatal bench
-driven_events name is_quiet bench (driven.Crashed kind) = crash_events name kind bench
+driven_events name is_quiet bench (driven.Worker fault closed) = event.WorkerFault name (fault_number fault) ∷ crash_events name kind.Fatal closed
+driven_events name is_quiet bench (driven.Crashed kind closed) = crash_events name kind closed
 
 -- the same by the step
 abbrev pub step_events : List ℕ → Bool → DriveStep → List Event

@@ -146,10 +146,14 @@ shutdown_effect name core steps = leave_effect name (event.Offline name) steps (
 unfoldable pub detach_effect : List ℕ → CoreState → ℕ → CoreEffect
 detach_effect name core steps = leave_effect name (event.Detached name) steps (detach_of (may_step steps) core)
 
+-- a crash, and which incarnation of the link it closed, if it closed one
+abbrev pub crash_events : List ℕ → CrashKind → Option ℕ → List Event
+crash_events name kind None = event.Crashed name kind ∷ []
+crash_events name kind (Some inc) = event.Closed name inc ∷ event.Crashed name kind ∷ []
+
 -- what a crash report tells
 abbrev pub report_events : List ℕ → CrashKind → Result Crash LifeFault → List Event
-report_events name kind (Ok (crash.First None)) = event.Crashed name kind ∷ []
-report_events name kind (Ok (crash.First (Some inc))) = event.Closed name inc ∷ event.Crashed name kind ∷ []
+report_events name kind (Ok (crash.First closed)) = crash_events name kind closed
 report_events name kind (Ok crash.Already) = event.AlreadyCrashed name ∷ []
 report_events name kind (Ok crash.Limit) = []
 report_events name kind (Err why) = life_fault_event name why ∷ []

@@ -20,3 +20,4 @@ pub mod Runs
 pub mod Lookups
 pub mod Logs
 pub mod Fetches
+pub mod Starts

@@ -9,7 +9,8 @@ ghost use Rattle.link_bench.specs.Benches.{HoldsTaken, link_in};
 ghost use Rattle.crash_recover.specs.Drives.{drive_step, is_idle};
 ghost use Rattle.remote_code.specs.Faults.{fault_number};
 ghost use Rattle.rp_base.specs.declared.kinds.CrashKind.TheVariants as kind;
-ghost use Rattle.command_run.specs.CoreDrives.{actor_end_events, crash_events, drive_effect, drive_end, drive_steps, driven_events, is_crashed, is_over, rest_event, step_events};
+ghost use Rattle.command_run.specs.CoreLives.{crash_events};
+ghost use Rattle.command_run.specs.CoreDrives.{actor_end_events, drive_effect, drive_end, drive_steps, driven_events, is_crashed, is_over, rest_event, step_events};
 
 use crate::act_events::tell_reach;
 use crate::logs::event;
@@ -18,7 +19,7 @@ use crash_recover::{Driven, Reach};
 use journal::Event;
 use lane_model::CallEnd;
 use remote_code::WorkerFault;
-use rp_base::{CallerNo, CrashKind, LifeState, NoMemory, STEPS_MOST};
+use rp_base::{CallerNo, CrashKind, Inc, LifeState, NoMemory, STEPS_MOST};
 use rp_io::Sink;
 
 /// After how many steps of a drive it is looked whether what is kept is a whole piece.
@@ -202,19 +203,24 @@ impl NamedCore {
             Driven::Idle | Driven::Stepped => Ok(()),
             Driven::Ended(_, _) if is_quiet => Ok(()),
             Driven::Ended(caller, end) => self.tell_end(*caller, end, log),
-            Driven::Worker(fault) => self.tell_fault(*fault, log),
-            Driven::Crashed(kind) => self.tell_crash(*kind, log),
+            Driven::Worker(fault, closed) => self.tell_fault(*fault, *closed, log),
+            Driven::Crashed(kind, closed) => self.tell_crash(*kind, *closed, log),
         }
     }
 
     /// Tells a record that can't run, which crashed the core.
     #[inline(never)]
-    fn tell_fault(&self, fault: WorkerFault, log: &mut RunLog) -> Result<(), NoMemory>
-        ensures { IfOk result (λ _. Keeps log.old log.new (event.WorkerFault self.now.name (fault_number fault) ∷ crash_events self.now.name kind.Fatal self.now.core.bench)) }
+    fn tell_fault(
+        &self,
+        fault: WorkerFault,
+        closed: Option<Inc>,
+        log: &mut RunLog,
+    ) -> Result<(), NoMemory>
+        ensures { IfOk result (λ _. Keeps log.old log.new (event.WorkerFault self.now.name (fault_number fault) ∷ crash_events self.now.name kind.Fatal closed)) }
     {
         let (name, fault) = (self.name, fault.number());
         log.tell(&event!(WorkerFault, name, [fault]))?;
-        self.tell_crash(CrashKind::Fatal, log)
+        self.tell_crash(CrashKind::Fatal, closed, log)
     }
 
     /// Tells the end of a call of an actor.
@@ -235,14 +241,18 @@ impl NamedCore {
         Ok(())
     }
 
-    /// Tells a crash of the core, whose link was closed by it.
+    /// Tells a crash of the core, and which incarnation of its link this closed, if it closed one.
     #[inline(never)]
-    fn tell_crash(&self, kind: CrashKind, log: &mut RunLog) -> Result<(), NoMemory>
-        ensures { IfOk result (λ _. Keeps log.old log.new (crash_events self.now.name kind self.now.core.bench)) }
+    fn tell_crash(
+        &self,
+        kind: CrashKind,
+        closed: Option<Inc>,
+        log: &mut RunLog,
+    ) -> Result<(), NoMemory>
+        ensures { IfOk result (λ _. Keeps log.old log.new (crash_events self.now.name kind closed)) }
     {
         let name = self.name;
-        if let Some(bench) = self.core.link() {
-            let inc = bench.era().inc;
+        if let Some(inc) = closed {
             log.tell(&event!(Closed, name, [inc]))?;
         }
         log.tell(&Event::Crashed { name, kind })

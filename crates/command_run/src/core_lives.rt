@@ -1,6 +1,5 @@
-ghost use Rattle.std.specs.Prelude.{◌≡◌, ◌≢◌, ◌<◌, ◌+◌, ◌++◌, ℕ, IfOk, OnOk, Ok, Err, Some};
-ghost use Rattle.std.specs.Option.{option_copied};
-ghost use Rattle.std.specs.Result.{result_map_both};
+ghost use Rattle.std.specs.Prelude.{◌≡◌, ◌≢◌, ◌<◌, ◌+◌, ◌++◌, ℕ, false, IfOk, OnOk, Ok, Err, Some};
+ghost use Rattle.proc_state.specs.Lives.{is_offline};
 ghost use Rattle.rp_base.specs.declared.limits.TheConstants.{STEPS_MOST};
 ghost use Rattle.crash_recover.specs.declared.core_answers.Crash.TheVariants as crash;
 ghost use Rattle.crash_recover.specs.declared.core_answers.Leave.TheVariants as leave;
@@ -9,77 +8,23 @@ ghost use Rattle.journal.specs.Lines.{line};
 ghost use Rattle.journal.specs.declared.events.Event.TheVariants as event;
 ghost use Rattle.command_run.specs.Logs.{HasCoreEffect};
 ghost use Rattle.command_run.specs.CoreEffects.{core_tells_all};
-ghost use Rattle.command_run.specs.CoreLives.{boot_effect, booted_image, core_fault_events, crash_effect, detach_effect, fault_at, found_image, handover_effect, image_bytes, leave_effect, life_fault_event, load_fault_event, may_step, recover_effect, report_effect, shutdown_effect, start_event, start_events};
-ghost use Rattle.command_run.specs.Fetches.{answer_of};
+ghost use Rattle.command_run.specs.CoreLives.{booted_image, core_fault_events, crash_effect, detach_effect, fault_at, leave_effect, life_fault_event, load_fault_event, may_step, report_effect, shutdown_effect, start_event, start_events};
 
 use crate::logs::event;
-use crate::{Fetched, NamedCore, RunLog, ScriptImage, Stop};
+use crate::{NamedCore, RunLog, Stop};
 use crash_recover::{CALLER_OUT, CoreFault, Crash, Leave, RINGS_CHANGED, Start};
 use fw_load::LoadFault;
 use journal::Event;
 use lane_model::ReopenFault;
 use proc_state::LifeFault;
-use rp_base::{CrashKind, Era, IMAGE_MOST, Inc, Name, NoMemory, STEPS_MOST};
+use rp_base::{CrashKind, Era, Inc, Name, NoMemory, STEPS_MOST};
 use rp_io::FetchFault;
 
 impl NamedCore {
-    /// Boots the core with the image of a name, attaches it, or adds a user. An image that the script
-    /// made comes before one of the store.
-    #[tactic(auto, unfolding(crate::specs::CoreLives::boot_effect))]
-    pub(crate) fn boot(
-        &mut self,
-        image: Name,
-        images: &[ScriptImage],
-        fetched: &Fetched,
-        log: &mut RunLog,
-    ) -> Result<Option<Stop>, NoMemory>
-        ensures name { self.new.name ≡ self.old.name }
-        ensures effect { IfOk result (λ ending. HasCoreEffect (boot_effect images.now (answer_of fetched.now) self.old.name self.old.core log.old.steps image) self.new.core log.old log.new ending) }
-    {
-        let found = find_image(images, fetched, image.bytes());
-        let started = self.core.boot_with(log.alloc(), image, found);
-        self.tell_start(image, started, log)
-    }
-
-    /// Hands the core over with the image of a name. An image that the script made comes before one of
-    /// the store.
-    #[tactic(auto, unfolding(crate::specs::CoreLives::handover_effect))]
-    pub(crate) fn handover(
-        &mut self,
-        image: Name,
-        images: &[ScriptImage],
-        fetched: &Fetched,
-        log: &mut RunLog,
-    ) -> Result<Option<Stop>, NoMemory>
-        ensures name { self.new.name ≡ self.old.name }
-        ensures effect { IfOk result (λ ending. HasCoreEffect (handover_effect images.now (answer_of fetched.now) self.old.name self.old.core log.old.steps image) self.new.core log.old log.new ending) }
-    {
-        let found = find_image(images, fetched, image.bytes());
-        let started = self.core.handover_with(log.alloc(), image, found);
-        self.tell_start(image, started, log)
-    }
-
-    /// Recovers a crashed core with the image that was booted or handed over. An image that the script
-    /// made comes before one of the store.
-    #[tactic(auto, unfolding(crate::specs::CoreLives::recover_effect))]
-    pub(crate) fn recover(
-        &mut self,
-        images: &[ScriptImage],
-        fetched: &Fetched,
-        log: &mut RunLog,
-    ) -> Result<Option<Stop>, NoMemory>
-        ensures name { self.new.name ≡ self.old.name }
-        ensures effect { IfOk result (λ ending. HasCoreEffect (recover_effect images.now (answer_of fetched.now) self.old.name self.old.core log.old.steps) self.new.core log.old log.new ending) }
-    {
-        let image = self.booted_image();
-        let found = find_image(images, fetched, image.bytes());
-        let started = self.core.recover_with(log.alloc(), found);
-        self.tell_start(image, started, log)
-    }
-
     /// The name of the image that the core was booted or handed over with; of an offline core its own.
-    fn booted_image(&self) -> Name
-        ensures { result ≡ booted_image self.now.name self.now.core }
+    pub(crate) fn booted_image(&self) -> Name
+        ensures image { result ≡ booted_image self.now.name self.now.core }
+        ensures there { is_offline self.now.core.life.state ≡ false → Some result ≡ self.now.core.image }
     {
         match self.core.image() {
             Some(image) => *image,
@@ -88,7 +33,7 @@ impl NamedCore {
     }
 
     /// Tells what a start of the core with the image of a name was, or why it was refused.
-    fn tell_start(
+    pub(crate) fn tell_start(
         &mut self,
         image: Name,
         started: Result<Start, CoreFault>,
@@ -245,33 +190,6 @@ fn start_event(name: Name, start: Start) -> Event
         Start::Users(users) => event!(Users, name, [users]),
         Start::Detached => Event::Detached { name },
     }
-}
-
-/// The image of a name: the first that the script made, or what was told of it.
-fn find_image<'a>(
-    images: &'a [ScriptImage],
-    fetched: &'a Fetched,
-    name: &[u8],
-) -> Result<&'a [u8], FetchFault>
-    ensures { result_map_both (λ bytes. bytes.now) (λ why. why) result ≡ found_image images.now (answer_of fetched.now) name.now }
-{
-    match image_bytes(images, name) {
-        Some(bytes) if bytes.len() > IMAGE_MOST => Err(FetchFault::TooLarge(bytes.len() as u64)),
-        Some(bytes) => Ok(bytes),
-        None => match fetched {
-            Fetched::Found(bytes) => Ok(bytes),
-            Fetched::TooLarge(len) => Err(FetchFault::TooLarge(*len)),
-            Fetched::Missing => Err(FetchFault::Missing),
-        },
-    }
-}
-
-/// The bytes of the first image of this name.
-fn image_bytes<'a>(images: &'a [ScriptImage], name: &[u8]) -> Option<&'a [u8]>
-    ensures { option_copied result ≡ image_bytes images.now name.now }
-{
-    let image = images.iter().find(|image| image.name() == name)?;
-    Some(image.bytes())
 }
 
 /// Why the life of a core refuses something.

@@ -1,14 +1,14 @@
-ghost use Rattle.std.specs.Prelude.{◌≡◌, ◌≢◌, IfOk, OnOk};
+ghost use Rattle.std.specs.Prelude.{◌≡◌, ◌≢◌, Err, IfOk, OnOk};
+ghost use Rattle.rp_io.specs.declared.faults.FetchFault.TheVariants as fetch_fault;
 ghost use Rattle.crash_recover.specs.declared.core_faults.AddFault.TheVariants as add_fault;
 ghost use Rattle.command_run.specs.Acts.{IsFitCore, IsFitNamed, bare_named_act};
 ghost use Rattle.command_run.specs.Logs.{HasCoreEffect};
 ghost use Rattle.command_run.specs.CoreEffects.{add_fault_events, core_tells, core_tells_all, driver_effect, is_on, recovery_effect, region_effect, state_effect};
 ghost use Rattle.command_run.specs.CoreCommands.{core_act_effect, core_effect};
-ghost use Rattle.command_run.specs.Fetches.{answer_of};
 
 use crate::core_lives::fault_at;
 use crate::logs::event;
-use crate::{CoreAct, Fetched, NamedAct, RunLog, ScriptImage, Stop};
+use crate::{CoreAct, NamedAct, RunLog, ScriptImage, Starting, Stop};
 use crash_recover::{AddFault, Core};
 use journal::Event;
 use memory_pool::Region;
@@ -31,28 +31,27 @@ impl Model for NamedCore {
 }
 
 impl NamedCore {
-    /// Does what is asked under the name of this core, over the images that the script made, what was
-    /// told of the one that is asked for, and whether drives are quiet: tells what came of it, and
-    /// answers why the run stops in its midst, if it does.
+    /// Does what is asked under the name of this core, over the images that the script made and no
+    /// store, and whether drives are quiet: tells what came of it, and answers why the run stops in
+    /// its midst, if it does.
     #[tactic(auto, unfolding(crate::specs::CoreCommands::core_effect))]
     pub(crate) fn run(
         &mut self,
         act: &NamedAct<&[u8]>,
         images: &[ScriptImage],
-        fetched: &Fetched,
         is_quiet: bool,
         log: &mut RunLog,
     ) -> Result<Option<Stop>, NoMemory>
         requires fit { IsFitNamed (bare_named_act (λ bytes. bytes.now) act.now) }
         ensures name { self.new.name ≡ self.old.name }
-        ensures effect { IfOk result (λ ending. HasCoreEffect (core_effect images.now (answer_of fetched.now) is_quiet self.old log.old.steps (bare_named_act (λ bytes. bytes.now) act.now)) self.new.core log.old log.new ending) }
+        ensures effect { IfOk result (λ ending. HasCoreEffect (core_effect images.now (Err fetch_fault.Missing) is_quiet self.old log.old.steps (bare_named_act (λ bytes. bytes.now) act.now)) self.new.core log.old log.new ending) }
     {
         match act {
             NamedAct::Make(_) => self.tell(&Event::Exists { name: self.name }, log),
             NamedAct::Link(act) => self.act(act, log),
             NamedAct::Manage(_) => self.tell(&Event::Unknown { name: self.name }, log),
             NamedAct::Show(view) => self.show(*view, log),
-            NamedAct::Core(act) => self.run_core(*act, images, fetched, is_quiet, log),
+            NamedAct::Core(act) => self.run_core(*act, images, is_quiet, log),
         }
     }
 
@@ -62,19 +61,20 @@ impl NamedCore {
         &mut self,
         act: CoreAct,
         images: &[ScriptImage],
-        fetched: &Fetched,
         is_quiet: bool,
         log: &mut RunLog,
     ) -> Result<Option<Stop>, NoMemory>
         requires fit { IsFitCore act }
         ensures name { self.new.name ≡ self.old.name }
-        ensures effect { IfOk result (λ ending. HasCoreEffect (core_act_effect images.now (answer_of fetched.now) is_quiet self.old log.old.steps act) self.new.core log.old log.new ending) }
+        ensures effect { IfOk result (λ ending. HasCoreEffect (core_act_effect images.now (Err fetch_fault.Missing) is_quiet self.old log.old.steps act) self.new.core log.old log.new ending) }
     {
         match act {
             CoreAct::Region(region) => self.add_region(region, log),
             CoreAct::Driver { channel, kind } => self.add_driver(channel, kind, log),
-            CoreAct::Boot { image } => self.boot(image, images, fetched, log),
-            CoreAct::Handover { image } => self.handover(image, images, fetched, log),
+            CoreAct::Boot { image } => self.start_alone(Starting::Boot { image }, images, log),
+            CoreAct::Handover { image } => {
+                self.start_alone(Starting::Handover { image }, images, log)
+            }
             CoreAct::Shutdown => self.shutdown(log),
             CoreAct::Detach => self.detach(log),
             CoreAct::State => self.tell_state(log),
@@ -82,7 +82,7 @@ impl NamedCore {
             CoreAct::Trace { trace } => self.tell_trace(trace, log),
             CoreAct::Mem { da, len } => self.tell_memory(da, len, log),
             CoreAct::Crash { kind } => self.crash(kind, log),
-            CoreAct::Recover => self.recover(images, fetched, log),
+            CoreAct::Recover => self.start_alone(Starting::Recover, images, log),
             CoreAct::Recovery { switch } => self.set_recovery(switch, log),
             CoreAct::Drive { count } => self.drive(count, is_quiet, log),
         }

@@ -1,24 +1,54 @@
-ghost use Rattle.std.specs.Prelude.{◌≡◌, None, IsTrue, is_some, IfOk, IfErr, OnOk, IsErrOf};
+ghost use Rattle.std.specs.Prelude.{◌≡◌, None, Some, IsTrue, is_some, IfNone, IfOk, IfErr, IfSome, OnOk, IsErrOf};
+ghost use Rattle.std.specs.Option.{option_copied};
+ghost use Rattle.std.specs.Result.{result_map_both};
 ghost use Rattle.script_lang.specs.Runnable.{IsRunnable};
 ghost use Rattle.command_run.specs.declared.fetches.CommandFault.TheVariants as command_fault;
-ghost use Rattle.command_run.specs.Runs.{asked_name};
-ghost use Rattle.command_run.specs.Fetches.{IsFetchFault, IsToldFor, IsToldUnder, RunsTold, answer_of};
+ghost use Rattle.command_run.specs.CoreLives.{image_bytes};
+ghost use Rattle.command_run.specs.Runs.{ObjectsState, asked_name, outside_image};
+ghost use Rattle.command_run.specs.Fetches.{IsFetchFault, IsToldUnder, RunsTold, answer_of};
+ghost use Rattle.command_run.specs.Starts.{IsImageOf, image_answer, start_command};
 
-use crate::{Objects, RunLog, Stop};
-use rp_base::NoMemory;
+use crate::{Objects, RunLog, ScriptImage, Starting, Stop};
+use rp_base::{IMAGE_MOST, Name, NoMemory};
 use rp_io::{Failed, FetchFault, FirmwareStore, Sink};
 use script_lang::Command;
 use std::alloc::Global;
 
-/// What the store told of the image that a command asks for.
+/// What the store told of an image.
 #[derive(Drop)]
 pub enum Fetched {
-    /// There is no image of this name, or the command asks for none.
+    /// There is no image of this name.
     Missing,
     /// The image is longer than [`IMAGE_MOST`](rp_base::IMAGE_MOST): its length in bytes.
     TooLarge(u64),
     /// The bytes of the image.
     Found(Vec<u8>),
+}
+
+/// An image that was looked for.
+#[derive(Drop)]
+pub enum FoundImage<'a> {
+    /// The script made it: its bytes.
+    Made(&'a [u8]),
+    /// The script didn't make it, and the store told this of it.
+    Told(Fetched),
+}
+
+impl FoundImage<'_> {
+    /// The bytes of the image, unless it is missing or too large.
+    pub(crate) fn image(&self) -> Result<&[u8], FetchFault>
+        ensures { result_map_both (λ bytes. bytes.now) (λ why. why) result ≡ image_answer self.now }
+    {
+        match self {
+            FoundImage::Made(bytes) if bytes.len() > IMAGE_MOST => {
+                Err(FetchFault::TooLarge(bytes.len() as u64))
+            }
+            FoundImage::Made(bytes) => Ok(bytes),
+            FoundImage::Told(Fetched::Found(bytes)) => Ok(bytes),
+            FoundImage::Told(Fetched::TooLarge(len)) => Err(FetchFault::TooLarge(*len)),
+            FoundImage::Told(Fetched::Missing) => Err(FetchFault::Missing),
+        }
+    }
 }
 
 /// Why a command was not run to its end.
@@ -66,29 +96,55 @@ pub fn run_command<F: FirmwareStore, K: Sink>(
     if let Command::Drive { name, count } = command {
         return objects.drive(*name, *count, log, out);
     }
-    let fetched = fetch_for_command(log.alloc(), objects, command, store)?;
-    Ok(objects.run(command, &fetched, log)?)
+    match start_of(command) {
+        Some((name, start)) => objects.start(name, start, store, log),
+        None => Ok(objects.run(command, log)?),
+    }
 }
 
-/// Fetches the image for which a command asks the store. A command that asks for none leaves the
-/// store as it is.
-fn fetch_for_command<F: FirmwareStore>(
+/// The start of a core that a command is, with the core's name. No other command asks the store.
+fn start_of(command: &Command) -> Option<(Name, Starting)>
+    ensures start { IfSome result (λ found. start_command found.0 found.1 ≡ command.now) }
+    ensures none { IfNone result ((objects : ObjectsState) → asked_name objects command.now ≡ None) }
+{
+    match command {
+        Command::Boot { name, image } => Some((*name, Starting::Boot { image: *image })),
+        Command::Handover { name, image } => Some((*name, Starting::Handover { image: *image })),
+        Command::Recover { name } => Some((*name, Starting::Recover)),
+        _ => None,
+    }
+}
+
+/// The image of a name: the first that the script made, or else what the store tells of it. A name that
+/// is no text is missing in each store.
+pub(crate) fn find_image<'a, F: FirmwareStore>(
     alloc: Global,
-    objects: &Objects,
-    command: &Command,
+    images: &'a [ScriptImage],
+    name: &[u8],
     store: &mut F,
-) -> Result<Fetched, CommandFault>
-    ensures told { IfOk result (λ fetched. IsToldFor (F.images store.old) (asked_name objects.now command.now) (answer_of fetched)) }
+) -> Result<FoundImage<'a>, CommandFault>
+    ensures told { IfOk result (IsImageOf (F.images store.old) images.now name.now) }
     ensures same { OnOk result (F.faults store.new ≡ F.faults store.old) }
     ensures fault { IfErr result (λ why. IsFetchFault why (F.faults store.old) (F.faults store.new)) }
-    ensures asked { IsErrOf result command_fault.Store → IsTrue (is_some (asked_name objects.now command.now)) }
+    ensures asked { IsErrOf result command_fault.Store → IsTrue (is_some (outside_image images.now name.now)) }
     ensures kept { F.images store.new ≡ F.images store.old }
-    ensures unasked { asked_name objects.now command.now ≡ None → store.new ≡ store.old }
+    ensures unasked { outside_image images.now name.now ≡ None → store.new ≡ store.old }
 {
-    match objects.asked_name(command) {
-        Some(name) => fetch(alloc, name, store),
-        None => Ok(Fetched::Missing),
+    if let Some(bytes) = image_bytes(images, name) {
+        return Ok(FoundImage::Made(bytes));
     }
+    match str::from_utf8(name) {
+        Ok(name) => Ok(FoundImage::Told(fetch(alloc, name, store)?)),
+        Err(_) => Ok(FoundImage::Told(Fetched::Missing)),
+    }
+}
+
+/// The bytes of the first image of this name.
+fn image_bytes<'a>(images: &'a [ScriptImage], name: &[u8]) -> Option<&'a [u8]>
+    ensures { option_copied result ≡ image_bytes images.now name.now }
+{
+    let image = images.iter().find(|image| image.name() == name)?;
+    Some(image.bytes())
 }
 
 /// Fetches the image of a name.

@@ -17,12 +17,14 @@ mod logs;
 mod objects;
 mod recoveries;
 mod rings;
+mod starts;
 mod stops;
 
 pub use acts::{CoreAct, Line, LinkView, Making, ManagerAct, NamedAct};
 pub use cores::NamedCore;
-pub use fetches::{CommandFault, Fetched, run_command};
+pub use fetches::{CommandFault, run_command};
 pub use links::NamedBench;
 pub use logs::RunLog;
 pub use objects::{Objects, ScriptImage};
+pub use starts::Starting;
 pub use stops::Stop;

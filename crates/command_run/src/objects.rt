@@ -1,4 +1,4 @@
-ghost use Rattle.std.specs.Prelude.{◌≡◌, ◌<◌, ◌++◌, Some, None, Err, [], IfOk, IfErr, OnOk, IfSome, false, true, length};
+ghost use Rattle.std.specs.Prelude.{◌≡◌, ◌<◌, ◌++◌, ℕ, List, Option, Some, None, Err, [], IfOk, IfErr, IfNone, OnOk, IfSome, false, true, length};
 ghost use Rattle.std.specs.Option.{option_copied};
 ghost use Rattle.lane_model.specs.Conditions.{IsConfig};
 ghost use Rattle.script_lang.specs.Runnable.{IsBook, IsRunnable};
@@ -8,23 +8,25 @@ ghost use Rattle.journal.specs.Lines.{transcript};
 ghost use Rattle.command_run.specs.declared.acts.CoreAct.TheVariants as core;
 ghost use Rattle.command_run.specs.declared.acts.NamedAct.TheVariants as under;
 ghost use Rattle.command_run.specs.Logs.{CutsRun, HandsRunEffect, HasRunEffect};
-ghost use Rattle.command_run.specs.Runs.{core_made_effect, core_place, without_link_effect, is_full, regions_of, asked_name, core_named, find_core, outside_image, effect_of, has_image, image_effect, image_place, made_effect, name_effect, new_run, place_of, quiet_effect, unnamed_effect};
+ghost use Rattle.command_run.specs.Runs.{core_made_effect, core_place, without_link_effect, is_full, regions_of, asked_name, core_named, find_core, effect_of, has_image, image_effect, image_place, made_effect, name_effect, new_run, place_of, quiet_effect, unnamed_effect};
 ghost use Rattle.command_run.specs.Lookups.{bench_named, core_taken, find_link, is_bare, link_taken, without_core, without_link};
-ghost use Rattle.command_run.specs.Fetches.{EndsCut, IfWrite, answer_of};
+ghost use Rattle.command_run.specs.Fetches.{EndsCut, IfWrite, RunsTold};
+ghost use Rattle.command_run.specs.Starts.{start_command};
 
 use crate::acts::{CoreAct, Line, Making, NamedAct, line_of};
 use crate::cores::{NamedCore, is_on};
-use crate::fetches::{CommandFault, Fetched};
+use crate::fetches::CommandFault;
 use crate::links::NamedBench;
 use crate::logs::RunLog;
+use crate::starts::Starting;
 use crate::stops::Stop;
 use channel_bus::Side;
 use crash_recover::{Bench, Core};
 use journal::Event;
 use lane_model::LinkConfig;
 use memory_pool::Regions;
-use rp_base::{LifeState, Name, NoMemory, OBJECTS_MOST, Switch};
-use rp_io::Sink;
+use rp_base::{Name, NoMemory, OBJECTS_MOST, Switch};
+use rp_io::{FirmwareStore, Sink};
 use script_lang::{Command, Recipe, RegionSet};
 use std::alloc::Global;
 use std::marker::Model;
@@ -120,23 +122,18 @@ impl Objects {
         Some(self.cores.remove(place).core)
     }
 
-    /// Runs one command over what was told of the image that it asks for, tells its events, and
-    /// answers why the run stops in its midst, if it does.
+    /// Runs one command over no store, tells its events, and answers why the run stops in its midst, if
+    /// it does.
     #[tactic(auto, unfolding(crate::specs::Runs::effect_of))]
-    pub fn run(
-        &mut self,
-        command: &Command,
-        fetched: &Fetched,
-        log: &mut RunLog,
-    ) -> Result<Option<Stop>, NoMemory>
+    pub fn run(&mut self, command: &Command, log: &mut RunLog) -> Result<Option<Stop>, NoMemory>
         requires { IsRunnable command.now }
-        ensures { IfOk result (λ ending. HasRunEffect (effect_of (answer_of fetched.now) (record { objects = self.old; steps = log.old.steps }) command.now) self.new log.old log.new ending) }
+        ensures { IfOk result (λ ending. HasRunEffect (effect_of (Err fetch_fault.Missing) (record { objects = self.old; steps = log.old.steps }) command.now) self.new log.old log.new ending) }
     {
         match line_of(command) {
             Line::Image { name, recipe } => self.make_image(name, recipe, log),
             Line::Quiet { switch } => self.set_quiet(switch, log),
             Line::Dump { name, image } => self.dump(name, image, log),
-            Line::On { name, act } => self.run_on_links(name, &act, fetched, log),
+            Line::On { name, act } => self.run_on_links(name, &act, log),
         }
     }
 
@@ -147,39 +144,6 @@ impl Objects {
     {
         self.is_quiet = is_on(switch);
         Ok(None)
-    }
-
-    /// The name of the image for which a command asks the store: one that a core needs, and that the
-    /// script didn't make.
-    pub(crate) fn asked_name<'a>(&'a self, command: &'a Command) -> Option<&'a str>
-        ensures { option_copied result ≡ asked_name self.now command.now }
-    {
-        match command {
-            Command::Boot { name, image } => {
-                let named = self.core_named(name.bytes())?;
-                if named.core.needs_image() {
-                    outside_image(self.images.as_slice(), image.bytes())
-                } else {
-                    None
-                }
-            }
-            Command::Handover { name, image } => {
-                let named = self.core_named(name.bytes())?;
-                if named.core.life().state() == LifeState::Offline {
-                    outside_image(self.images.as_slice(), image.bytes())
-                } else {
-                    None
-                }
-            }
-            Command::Recover { name } => {
-                let named = self.core_named(name.bytes())?;
-                match named.core.recovery_fault() {
-                    Some(_) => None,
-                    None => outside_image(self.images.as_slice(), named.core.image()?.bytes()),
-                }
-            }
-            _ => None,
-        }
     }
 
     /// The core of this name, which no link has.
@@ -197,15 +161,14 @@ impl Objects {
         &mut self,
         name: Name,
         act: &NamedAct<&[u8]>,
-        fetched: &Fetched,
         log: &mut RunLog,
     ) -> Result<Option<Stop>, NoMemory>
         requires fit { IsFitNamed (bare_named_act (λ bytes. bytes.now) act.now) }
-        ensures { IfOk result (λ ending. HasRunEffect (name_effect (answer_of fetched.now) (record { objects = self.old; steps = log.old.steps }) name (bare_named_act (λ bytes. bytes.now) act.now)) self.new log.old log.new ending) }
+        ensures { IfOk result (λ ending. HasRunEffect (name_effect (Err fetch_fault.Missing) (record { objects = self.old; steps = log.old.steps }) name (bare_named_act (λ bytes. bytes.now) act.now)) self.new log.old log.new ending) }
     {
         match place_of(self.links.as_slice(), name.bytes()) {
             Some(place) => self.links[place].run(act, log),
-            None => self.run_on_cores(name, act, fetched, log),
+            None => self.run_on_cores(name, act, log),
         }
     }
 
@@ -233,7 +196,33 @@ impl Objects {
             }
             None => {
                 let act = NamedAct::Core(CoreAct::Drive { count });
-                Ok(self.run_on_links(name, &act, &Fetched::Missing, log)?)
+                Ok(self.run_on_links(name, &act, log)?)
+            }
+        }
+    }
+
+    /// Starts the core of this name. Under the name of a link, or of nothing, that there is no such core
+    /// is all that is told.
+    pub(crate) fn start<F: FirmwareStore>(
+        &mut self,
+        name: Name,
+        start: Starting,
+        store: &mut F,
+        log: &mut RunLog,
+    ) -> Result<Option<Stop>, CommandFault>
+        ensures told { (written : Option (List ℕ)) (faults : ℕ) → RunsTold result (F.images store.old) (record { objects = self.old; steps = log.old.steps }) (start_command name start) self.new log.old log.new
+            written written faults faults (F.faults store.old) (F.faults store.new) }
+        ensures kept { F.images store.new ≡ F.images store.old }
+        ensures unasked { asked_name self.old (start_command name start) ≡ None → store.new ≡ store.old }
+    {
+        match self.place_without_link(name.bytes()) {
+            Some(place) => {
+                let images = self.images.as_slice();
+                self.cores[place].start(start, images, store, log)
+            }
+            None => {
+                let act = NamedAct::Core(start.act());
+                Ok(self.run_on_links(name, &act, log)?)
             }
         }
     }
@@ -242,6 +231,7 @@ impl Objects {
     fn place_without_link(&self, name: &[u8]) -> Option<usize>
         ensures core { IfSome result (λ place. Some place ≡ core_place self.now.cores name.now) }
         ensures link { IfSome result (λ _. None ≡ place_of self.now.links name.now) }
+        ensures none { IfNone result (core_named self.now name.now ≡ None) }
         ensures within { IfSome result (λ place. place < length self.now.cores) }
     {
         match place_of(self.links.as_slice(), name) {
@@ -255,16 +245,15 @@ impl Objects {
         &mut self,
         name: Name,
         act: &NamedAct<&[u8]>,
-        fetched: &Fetched,
         log: &mut RunLog,
     ) -> Result<Option<Stop>, NoMemory>
         requires fit { IsFitNamed (bare_named_act (λ bytes. bytes.now) act.now) }
-        ensures { IfOk result (λ ending. HasRunEffect (without_link_effect (answer_of fetched.now) (record { objects = self.old; steps = log.old.steps }) name (bare_named_act (λ bytes. bytes.now) act.now)) self.new log.old log.new ending) }
+        ensures { IfOk result (λ ending. HasRunEffect (without_link_effect (Err fetch_fault.Missing) (record { objects = self.old; steps = log.old.steps }) name (bare_named_act (λ bytes. bytes.now) act.now)) self.new log.old log.new ending) }
     {
         match core_place(self.cores.as_slice(), name.bytes()) {
             Some(place) => {
                 let images = self.images.as_slice();
-                self.cores[place].run(act, images, fetched, self.is_quiet, log)
+                self.cores[place].run(act, images, self.is_quiet, log)
             }
             None => self.run_on_new_name(name, act, log),
         }
@@ -418,19 +407,6 @@ fn regions_of(alloc: Global, set: RegionSet) -> Result<Regions, NoMemory>
     match set {
         RegionSet::Standard => Regions::standard(alloc),
         RegionSet::Bare => Regions::new(alloc),
-    }
-}
-
-/// The name of an image that the script didn't make.
-fn outside_image<'a>(images: &[ScriptImage], name: &'a [u8]) -> Option<&'a str>
-    ensures { option_copied result ≡ outside_image images.now name.now }
-{
-    if has_image(images, name) {
-        return None;
-    }
-    match str::from_utf8(name) {
-        Ok(text) => Some(text),
-        Err(_) => None,
     }
 }
 

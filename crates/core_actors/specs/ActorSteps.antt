@@ -22,8 +22,8 @@ abbrev pub HoldsDrivenTaken : LinkState EndState → Driven → Type 0
 HoldsDrivenTaken link driven.Idle = Unit {0}
 HoldsDrivenTaken link driven.Stepped = Unit {0}
 HoldsDrivenTaken link (driven.Ended caller end) = HoldsTaken link caller end
-HoldsDrivenTaken link (driven.Worker fault) = Unit {0}
-HoldsDrivenTaken link (driven.Crashed kind) = Unit {0}
+HoldsDrivenTaken link (driven.Worker fault closed) = Unit {0}
+HoldsDrivenTaken link (driven.Crashed kind closed) = Unit {0}
 
 -- whether a step found that there was nothing to do
 abbrev pub is_rest : Driven → Bool
@@ -81,13 +81,13 @@ wishes_of_work work.Halted = []
 wishes_of_work (work.Crash kind) = []
 wishes_of_work (work.Fault fault) = []
 
--- what the step of a record was
+-- what the step of a record was; it has closed no link yet
 abbrev pub drive_of_work : Work → Driven
 drive_of_work work.Nothing = driven.Stepped
 drive_of_work (work.Ask wanted) = driven.Stepped
 drive_of_work work.Halted = driven.Stepped
-drive_of_work (work.Crash kind) = driven.Crashed kind
-drive_of_work (work.Fault fault) = driven.Worker fault
+drive_of_work (work.Crash kind) = driven.Crashed kind None
+drive_of_work (work.Fault fault) = driven.Worker fault None
 
 -- the actors once the worker ran a record of this memory
 abbrev pub actors_after_record : ActorsState → List ℕ → Mapping → Bool → ActorsState

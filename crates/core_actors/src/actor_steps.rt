@@ -190,8 +190,8 @@ impl Actors {
                 self.worker_calls.push_back_reserved(wish);
                 *driven = Driven::Stepped;
             }
-            Task::Crash(kind) => *driven = Driven::Crashed(kind),
-            Task::Fault(fault) => *driven = Driven::Worker(fault),
+            Task::Crash(kind) => *driven = Driven::Crashed(kind, None),
+            Task::Fault(fault) => *driven = Driven::Worker(fault, None),
         }
         Ok(())
     }

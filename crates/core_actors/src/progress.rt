@@ -3,7 +3,7 @@ ghost use Rattle.core_actors.specs.ActorSteps.{is_rest};
 
 use lane_model::CallEnd;
 use remote_code::WorkerFault;
-use rp_base::{CallerNo, CrashKind};
+use rp_base::{CallerNo, CrashKind, Inc};
 
 /// What a step of a core's actors was.
 #[derive(Clone, Copy)]
@@ -14,10 +14,11 @@ pub enum Driven {
     Stepped,
     /// The last step of a call of this caller.
     Ended(CallerNo, CallEnd),
-    /// A record that can't run, which crashed the core.
-    Worker(WorkerFault),
-    /// A record that reported a crash of the core.
-    Crashed(CrashKind),
+    /// A record that can't run, which crashed the core, and the incarnation of its link that this closed,
+    /// if it closed one.
+    Worker(WorkerFault, Option<Inc>),
+    /// A record that reported a crash of the core, and what this closed.
+    Crashed(CrashKind, Option<Inc>),
 }
 
 impl Driven {

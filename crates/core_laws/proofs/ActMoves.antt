@@ -23,7 +23,8 @@ use Rattle.core_laws.specs.BenchMoves.{ComesBy, IsReachedBench}
 use Rattle.core_laws.specs.ClosedLinks.{StaysClosed}
 use Rattle.core_laws.proofs.BenchMoves.{advanced, begun_at, begun_or, begun_reached, called, calling_may, comes_reclaim, enlisted, reclaim_tried, reclaimable_is_shut}
 use Rattle.core_laws.proofs.CallMoves.{call_leaves, later_leaves}
-use Rattle.core_laws.proofs.KeptActs.{AreKeptSteps, act_kept, calls_sendable}
+use Rattle.crash_recover.proofs.KeptActs.{AreKeptSteps, act_kept}
+use Rattle.core_laws.proofs.SendableActs.{calls_sendable}
 use Rattle.core_laws.proofs.LinkMoves.{comes_move, comes_none, comes_then}
 
 -- ---- moves

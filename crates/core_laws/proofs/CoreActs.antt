@@ -4,13 +4,11 @@ use Rattle.std.proofs.lemmas.Bool.{cond_both}
 use Rattle.rp_base.specs.declared.kinds.End.{End}
 use Rattle.rp_base.specs.declared.kinds.LifeState.{LifeState}
 use Rattle.rp_base.specs.declared.limits.TheConstants.{STEPS_MOST}
-use Rattle.lane_model.specs.declared.calls.Wish.{Wish}
 use Rattle.lane_model.specs.declared.recoveries.ReclaimRefusal.{ReclaimRefusal}
 use Rattle.lane_model.specs.Links.{end_of}
 use Rattle.lane_model.specs.Recoveries.{link_reclaim_refusal}
-use Rattle.proc_state.specs.Lives.{CoreLife, is_up}
+use Rattle.proc_state.specs.Lives.{is_up}
 use Rattle.link_bench.specs.declared.acts.LinkAct.{LinkAct}
-use Rattle.link_bench.specs.declared.acts.LinkAct.TheVariants as act
 use Rattle.link_bench.specs.declared.benches.BegunCall.{BegunCall}
 use Rattle.link_bench.specs.declared.benches.Reach.TheVariants as reach
 use Rattle.link_bench.specs.Acts.{IsFitAct, link_act}
@@ -19,16 +17,16 @@ use Rattle.link_bench.specs.Benches.{BenchState, BenchWalk, IsSendable, advance_
 use Rattle.link_bench.specs.Watchers.{Seeing}
 use Rattle.core_actors.specs.Actors.{ActorsState}
 use Rattle.crash_recover.specs.CoreActs.{core_act, core_act_on}
-use Rattle.crash_recover.specs.Cores.{CoreState}
+use Rattle.crash_recover.specs.Cores.{CoreState, IsKeptCore}
 use Rattle.core_actors.specs.ActorEnds.{actors_after_end, message_of}
 use Rattle.core_laws.specs.BenchMoves.{AreSendable, IsReachedBench, IsReachedCore}
-use Rattle.core_laws.specs.KeptCores.{IsKeptBench, IsKeptCore}
+use Rattle.crash_recover.specs.KeptCores.{IsKeptBench}
 use Rattle.core_laws.specs.PendingCalls.{HasNoneBegun, IsReadyBench, IsReadyCore}
 use Rattle.core_laws.proofs.BenchMoves.{advanced, begun_reached, called, enlisted, reclaim_tried}
 use Rattle.core_laws.proofs.CoreMoves.{seen_calls}
-use Rattle.core_laws.proofs.KeptActs.{AreKeptSteps, FitCalls, act_kept, calls_sendable}
-use Rattle.core_laws.proofs.KeptCores.{caller_kept, reclaim_kept}
-use Rattle.core_laws.proofs.KeptLinks.{advance_kept, whole_kept}
+use Rattle.crash_recover.proofs.KeptActs.{AreKeptSteps, act_kept}
+use Rattle.crash_recover.proofs.KeptBenches.{act_keeps}
+use Rattle.core_laws.proofs.SendableActs.{calls_sendable}
 use Rattle.core_laws.proofs.PendingDrives.{cleared_begun, reclaim_begun}
 use Rattle.core_laws.proofs.PendingOthers.{advance_ready, begun_ready, call_ready, put_other, reclaim_ready, seen_ready}
 
@@ -79,32 +77,11 @@ core_act_reached core steps asked fit is = reached_on core steps asked core.benc
 
 -- ---- kept
 
--- nothing is asked of what a call wishes
-abbrev AnyWish : Wish → Type 0
-AnyWish wanted = Unit {0}
-
-any_calls : (asked : LinkAct (List ℕ)) → FitCalls AnyWish asked
-any_calls (act.Caller end) = tt
-any_calls (act.Call caller made wanted) = λ bench none. tt
-any_calls (act.Step caller more) = tt
-any_calls (act.Pump sender receiver count) = λ number. (tt, tt, tt)
-any_calls (act.Reclaim caller) = tt
-
-kept_steps : (life : CoreLife) → AreKeptSteps actors_after_end 2 AnyWish (λ bench actors. IsKeptBench life bench)
-kept_steps life = record {
-  joined = λ bench actors end is. caller_kept life bench end is;
-  begun = λ bench actors caller wanted other ready fit is. is;
-  called = λ bench actors steps caller wanted other ready fit is. whole_kept life bench steps caller wanted is;
-  advanced = λ bench actors more steps caller other in_call is. advance_kept life bench more steps caller is;
-  reclaimed = λ bench actors caller other is. reclaim_kept life bench caller (omega (arith, other)) is;
-  seen = λ bench actors caller end is. is;
-}
-
 kept_on : (core : CoreState) (steps : ℕ) (asked : LinkAct (List ℕ)) (found : Option BenchState) → IsKeptCore core → IfSome found (IsKeptBench core.life)
     → IsKeptCore (core_act_on core steps asked found).core
 kept_on core steps asked None is kept = is
 kept_on core steps asked (Some bench) is kept =
-    act_kept actors_after_end 2 AnyWish (λ bench actors. IsKeptBench core.life bench) (kept_steps core.life) bench core.actors steps asked (any_calls asked) kept
+    act_keeps core.life bench core.actors steps asked kept
 
 pub core_act_kept : (core : CoreState) (steps : ℕ) (asked : LinkAct (List ℕ)) → IsKeptCore core → IsKeptCore (core_act core steps asked).core
 core_act_kept core steps asked is = kept_on core steps asked core.bench is is

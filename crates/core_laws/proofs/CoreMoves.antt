@@ -1,19 +1,16 @@
 -- What the calls of a core leave of its link is reached where it was.
-use Rattle.std.proofs.Common.{◌≡◌, ℕ, zero, suc, ◌+◌, eqb, cond, Bool, true, false, ◌&&◌, List, [], ◌∷◌, All, Option, Some, None, IfSome, is_some, option_map, refl, ap, subst, inl, inr, arith, length, ◌≤◌}
+use Rattle.std.proofs.Common.{◌≡◌, ℕ, zero, suc, ◌+◌, eqb, cond, Bool, true, false, List, [], ◌∷◌, All, Option, Some, None, IfSome, is_some, option_map, refl, ap, arith, length, ◌≤◌}
 use Rattle.std.specs.Option.{option_or}
 use Rattle.std.proofs.lemmas.Bool.{cond_both, true≢false}
-use Rattle.std.proofs.lemmas.Bool.Decides.{eqb_tells}
 use Rattle.rp_base.specs.declared.kinds.End.{End}
 use Rattle.rp_base.specs.declared.kinds.End.TheVariants as side
 use Rattle.lane_model.specs.declared.calls.CallEnd.{CallEnd}
 use Rattle.lane_model.specs.declared.calls.Wish.{Wish}
 use Rattle.lane_model.specs.declared.recoveries.ReclaimRefusal.{ReclaimRefusal}
 use Rattle.lane_model.specs.declared.recoveries.ReopenFault.{ReopenFault}
-use Rattle.lane_model.specs.Lanes.{holder, is_live_in}
-use Rattle.lane_model.specs.Forms.{list_form}
-use Rattle.lane_model.specs.Links.{LinkState, end_of}
-use Rattle.lane_model.specs.Recoveries.{link_after_close, link_reopen_refusal, link_reclaim_refusal, without_caller}
-use Rattle.channel_bus.specs.Sides.{EndState, side_meaning}
+use Rattle.lane_model.specs.Lanes.{holder}
+use Rattle.lane_model.specs.Links.{end_of}
+use Rattle.lane_model.specs.Recoveries.{link_reopen_refusal, link_reclaim_refusal, without_caller}
 use Rattle.fw_load.specs.declared.rings.RingPair.{RingPair}
 use Rattle.core_actors.specs.declared.actors.Actor.{Actor}
 use Rattle.core_actors.specs.declared.actors.Actor.TheVariants as actor
@@ -43,7 +40,7 @@ use Rattle.crash_recover.specs.Drives.{DriveStep, actor_step, actor_to_step, cor
 use Rattle.core_laws.proofs.Outcomes.{Stays, report_stays}
 use Rattle.core_laws.specs.BenchMoves.{AreSendable, IsReachedBench, IsReachedCore, IsShortLink}
 use Rattle.core_laws.proofs.Sendable.{end_short, gives_sendable, left_sendable, message_short, none_sendable, sends_sendable, work_sendable}
-use Rattle.core_laws.proofs.KeptCrashes.{close_shut}
+use Rattle.crash_recover.proofs.KeptCrashes.{close_shut}
 use Rattle.core_laws.proofs.BenchMoves.{advanced, called, closed, enlisted, new_reached, reclaimed, reopened, reclaimable_is_shut}
 
 -- the link of a core
@@ -248,8 +245,8 @@ reported_reached : (event : Driven) (core : CoreState) → IsReachedCore core �
 reported_reached driven.Idle core is = is
 reported_reached driven.Stepped core is = is
 reported_reached (driven.Ended caller end) core is = is
-reported_reached (driven.Worker fault) core is = core_reported core is
-reported_reached (driven.Crashed kind) core is = core_reported core is
+reported_reached (driven.Worker fault closed) core is = core_reported core is
+reported_reached (driven.Crashed kind closed) core is = core_reported core is
 
 run_reached : (core : CoreState) (loaded : Option LoadState) → IsReachedCore core → IsReachedCore (record_run core loaded).core
 run_reached core None is = is

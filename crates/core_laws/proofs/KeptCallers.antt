@@ -4,17 +4,16 @@ use Rattle.std.proofs.lemmas.Bool.{cases_lt, cond_both, eqb-false, eqb-true, fal
 use Rattle.std.proofs.lemmas.Bool.Decides.{eqb_tells}
 use Rattle.rp_base.specs.declared.kinds.End.{End}
 use Rattle.rp_base.specs.declared.kinds.End.TheVariants as side
-use Rattle.lane_model.specs.Forms.{list_form}
 use Rattle.lane_model.specs.Lanes.{holder}
-use Rattle.lane_model.specs.Links.{LinkState, end_of, free_number, with_caller}
+use Rattle.lane_model.specs.Links.{end_of, free_number, with_caller}
 use Rattle.lane_model.specs.Recoveries.{without_caller}
 use Rattle.lane_model.proofs.CrashMay.{freed}
-use Rattle.channel_bus.specs.Sides.{EndState, side_meaning}
 use Rattle.link_bench.specs.BenchCrashes.{after_close, after_reclaim}
 use Rattle.link_bench.specs.Benches.{BenchState, LinkRings, link_in, on_rings}
 use Rattle.link_bench.specs.BenchEnds.{crashed_bench, is_first, is_remote, with_fresh_caller, without_one, without_other, without_others, without_remote}
-use Rattle.core_laws.specs.KeptCores.{AreOwnUsed, end_after_crash}
-use Rattle.core_laws.proofs.KeptCrashes.{close_leaves, cleared, host_is_no_remote, is_remote_end, no_end, remote_again}
+use Rattle.crash_recover.specs.KeptCores.{AreOwnUsed}
+use Rattle.core_laws.specs.CrashCallers.{end_after_crash}
+use Rattle.crash_recover.proofs.KeptCrashes.{close_leaves, cleared, host_is_no_remote, is_remote_end, no_end, remote_again}
 
 -- ---- one caller
 

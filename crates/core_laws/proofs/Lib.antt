@@ -5,8 +5,7 @@ pub mod BenchMoves
 pub mod Handed
 pub mod Sendable
 pub mod CoreMoves
-pub mod KeptLinks
-pub mod KeptCrashes
+pub mod CrashReclaims
 pub mod KeptCallers
 pub mod KeptCores
 pub mod PendingLanes
@@ -15,7 +14,7 @@ pub mod PendingCores
 pub mod PendingDrives
 pub mod PendingOthers
 pub mod Outcomes
-pub mod KeptActs
+pub mod SendableActs
 pub mod CoreActs
 pub mod Starts
 pub mod Beginnings

@@ -1,9 +1,8 @@
 -- What stays of a core over its calls, whatever they answer: one walk over the outcomes for each property that a core keeps.
-use Rattle.std.proofs.Common.{◌≡◌, ◌==◌, ℕ, Bool, true, false, List, Option, Some, None, Result, Ok, Err, is_some, refl, sym, ap}
+use Rattle.std.proofs.Common.{◌≡◌, ℕ, Bool, true, List, Option, Some, None, Result, Ok, Err, is_some, refl, ap}
 use Rattle.std.specs.Option.{option_and_then, option_map}
 use Rattle.std.proofs.lemmas.Bool.{cond_both, true≢false}
 use Rattle.rp_base.specs.declared.kinds.LifeState.{LifeState}
-use Rattle.rp_base.specs.declared.kinds.LifeState.TheVariants.{Offline, Running, Crashed, Attached, Detached}
 use Rattle.proc_state.specs.declared.answers.Left.{Left}
 use Rattle.proc_state.specs.declared.answers.Left.TheVariants as left
 use Rattle.proc_state.specs.declared.answers.LifeFault.{LifeFault}
@@ -12,7 +11,7 @@ use Rattle.proc_state.specs.declared.answers.Power.{Power}
 use Rattle.proc_state.specs.declared.answers.Power.TheVariants as power
 use Rattle.proc_state.specs.declared.answers.Report.{Report}
 use Rattle.proc_state.specs.declared.answers.Report.TheVariants as report
-use Rattle.proc_state.specs.Lives.{CoreLife, Outcome, boot_to, crash_as, first_start, handover_to, is_offline, is_up, leave_to, life_after_boot, life_after_crash, life_after_detach, life_after_handover, life_after_shutdown, line_of, most, refusal_of, with_user}
+use Rattle.proc_state.specs.Lives.{CoreLife, is_offline, is_up, leave_to, life_after_boot, life_after_crash, life_after_detach, life_after_handover, life_after_shutdown, line_of}
 use Rattle.crash_recover.specs.declared.core_answers.Crash.{Crash}
 use Rattle.crash_recover.specs.declared.core_answers.Leave.{Leave}
 use Rattle.crash_recover.specs.declared.core_answers.Start.{Start}
@@ -24,67 +23,8 @@ use Rattle.crash_recover.specs.Cores.{CoreOutcome, CoreState, LoadState, refuse_
 use Rattle.crash_recover.specs.CoreBoots.{Found, boot_as, boot_of, first_boot, handover_as, handover_of, image_fault, load_in, started_core, with_load}
 use Rattle.crash_recover.specs.CoreCrashes.{crashed_core, first_report, report_as, report_of}
 use Rattle.crash_recover.specs.CoreLeaves.{close_or, detach_of, detached_core, leave_as, live_inc, shutdown_of, unloaded_core}
+use Rattle.crash_recover.proofs.SameLives.{IsSame, IsStopped, boot_same, crash_stops, handover_same, leave_same, starts_up}
 use Rattle.crash_recover.specs.CoreRecoveries.{after_recovery, core_to_reopen, recovery_fault, recovery_of, reload_fault, reopen_fault}
-
--- ---- lives
-
--- a life in the same incarnation that is up where the one before is
-pub record IsSame (before after : CoreLife) : Type 0 where
-  pub inc : after.incarnation ≡ before.incarnation
-  pub up : is_up after.state ≡ is_up before.state
-
-first_up : (state : LifeState) (life : CoreLife) → is_up state ≡ true → (first_start state 1 power.First life).answer ≡ Ok power.First → is_up (first_start state 1 power.First life).life.state ≡ true
-first_up state life up =
-    cond_both (life.incarnation == most) (refusal_of life_fault.IncarnationsSpent life) _ (λ (out : Outcome Power). out.answer ≡ Ok power.First → is_up out.life.state ≡ true)
-    (λ _ is. absurd (cc)) (λ _ is. up)
-
-pub no_first : (life : CoreLife) → (with_user life).answer ≡ Ok power.First → ⊥
-no_first life =
-    cond_both (life.users == most) (refusal_of life_fault.UsersFull life) _ (λ (out : Outcome Power). out.answer ≡ Ok power.First → ⊥) (λ _ is. absurd (cc)) (λ _ is. absurd (cc))
-
-boots_up : (state : LifeState) (life : CoreLife) → (boot_to (line_of state).boot life).answer ≡ Ok power.First → is_up (boot_to (line_of state).boot life).life.state ≡ true
-boots_up Offline life is = first_up Running life refl is
-boots_up Running life is = absurd (no_first life is)
-boots_up Crashed life is = absurd (no_first life is)
-boots_up Attached life is = absurd (no_first life is)
-boots_up Detached life is = first_up Attached life refl is
-
--- the first boot of a core starts it
-pub starts_up : (life : CoreLife) → (life_after_boot life).answer ≡ Ok power.First → is_up (life_after_boot life).life.state ≡ true
-starts_up life is = boots_up life.state life is
-
-user_same : (life : CoreLife) → IsSame life (with_user life).life
-user_same life = cond_both (life.users == most) (refusal_of life_fault.UsersFull life) _ (λ (out : Outcome Power). IsSame life out.life) (λ _. record { inc = refl; up = refl }) (λ _. record { inc = refl; up = refl })
-
-boot_same : (to : Option LifeState) (life : CoreLife) (users : ℕ) → (boot_to to life).answer ≡ Ok (power.Counted users) → IsSame life (boot_to to life).life
-boot_same None life users is = user_same life
-boot_same (Some state) life users is =
-    cond_both (life.incarnation == most) (refusal_of life_fault.IncarnationsSpent life) _ (λ (out : Outcome Power). out.answer ≡ Ok (power.Counted users) → IsSame life out.life)
-    (λ _ is. absurd (cc)) (λ _ is. absurd (cc)) is
-
-leave_same : (why : LifeFault) (to : Option LifeState) (life : CoreLife) (users : ℕ) → (leave_to why to life).answer ≡ Ok (left.Users users) → IsSame life (leave_to why to life).life
-leave_same why None life users is = record { inc = refl; up = refl }
-leave_same why (Some state) life users is =
-    cond_both (life.users == 1) _ _ (λ (out : Outcome Left). out.answer ≡ Ok (left.Users users) → IsSame life out.life)
-    (λ _ is. absurd (cc)) (λ _ is. record { inc = refl; up = refl }) is
-
-handover_same : (state : LifeState) (life : CoreLife) (done : Unit {0}) → life.state ≡ state → (handover_to (line_of state).handover life).answer ≡ Ok done → IsSame life (handover_to (line_of state).handover life).life
-handover_same Offline life done state is = record { inc = refl; up = ap is_up (sym state) }
-handover_same Running life done state is = absurd (cc)
-handover_same Crashed life done state is = absurd (cc)
-handover_same Attached life done state is = absurd (cc)
-handover_same Detached life done state is = absurd (cc)
-
--- a life that a crash has stopped
-pub record IsStopped (before after : CoreLife) : Type 0 where
-  pub inc : after.incarnation ≡ before.incarnation
-  pub stopped : is_up after.state ≡ false
-
-crash_stops : (found : Option Report) (life : CoreLife) → (crash_as found life).answer ≡ Ok report.First → IsStopped life (crash_as found life).life
-crash_stops None life is = absurd (cc)
-crash_stops (Some told) life is = record { inc = refl; stopped = refl }
-
--- ---- outcomes
 
 -- a refusal that is named otherwise is there just where it was
 pub none_mapped : {A B : Type 0} (f : A → B) (found : Option A) → option_map f found ≡ None → found ≡ None

@@ -30,16 +30,17 @@ use Rattle.core_laws.specs.BenchMoves.{AreSendable, IsReachedBench, IsReachedCor
 use Rattle.link_bench.specs.Benches.{BenchState, BenchWalk, advance_steps, advance_walk, begin_fault, begun_call_of, is_in_call, link_in, start_walk}
 use Rattle.link_bench.specs.BenchEnds.{crashed_bench, is_first, is_remote, with_fresh_caller, without_one, without_other, without_others, without_remote}
 use Rattle.crash_recover.specs.CoreCrashes.{after_report, crashed_core}
-use Rattle.crash_recover.specs.Cores.{CoreState, LoadState}
+use Rattle.crash_recover.specs.Cores.{CoreState, LoadState, IsKeptCore}
 use Rattle.core_actors.specs.ActorEnds.{calls_after_end, end_answer, gives_of, message_of, sends_of, taken_number}
 use Rattle.core_actors.specs.ActorSteps.{actors_after_record, first_or_take, has_calls, host_after_step, host_at_step, host_at_step_as, link_step, wishes_of_work, worker_after_step}
 use Rattle.crash_recover.specs.Drives.{DriveStep, actor_step, actor_to_step, core_with_report, drive_step, host_step, is_idle, placed_map, record_run, record_step, with_turn_after, worker_call, worker_step}
-use Rattle.core_laws.specs.KeptCores.{AreOwnUsed, IsKeptBench, IsKeptCore}
+use Rattle.crash_recover.specs.KeptCores.{AreOwnUsed, IsKeptBench}
 use Rattle.core_laws.specs.PendingCalls.{AreFitLanes, AreGivable, HasNoneBegun, IsReadyBench, IsReadyCore, given_by}
 use Rattle.link_bench.proofs.Begun.{begin_may}
 use Rattle.core_laws.proofs.CoreMoves.{first_sendable}
-use Rattle.core_laws.proofs.Outcomes.{IsStopped, report_left}
-use Rattle.core_laws.proofs.KeptCrashes.{reached_sound}
+use Rattle.crash_recover.proofs.SameLives.{IsStopped}
+use Rattle.core_laws.proofs.Outcomes.{report_left}
+use Rattle.core_laws.proofs.CrashReclaims.{reached_sound}
 use Rattle.core_laws.proofs.PendingCores.{begins, calling, given_both, given_now, host_calls_left, linked, next_of_host, next_of_worker, none_behind, sends_nothing, silent, worker_calls_left}
 use Rattle.core_laws.proofs.PendingSteps.{ReachFollows, other_call, other_later, own_call, own_later}
 
@@ -303,8 +304,8 @@ event_ready : (event : Driven) (core : CoreState) → IsReadyCore core → IsRea
 event_ready driven.Idle core is = is
 event_ready driven.Stepped core is = is
 event_ready (driven.Ended caller end) core is = is
-event_ready (driven.Worker fault) core is = report_ready core is
-event_ready (driven.Crashed kind) core is = report_ready core is
+event_ready (driven.Worker fault closed) core is = report_ready core is
+event_ready (driven.Crashed kind closed) core is = report_ready core is
 
 -- ---- a drive's step
 

@@ -1,10 +1,9 @@
 -- Steps on the link of a core leave what the calls of an actor give back in its hands.
-use Rattle.std.proofs.Common.{◌≡◌, ◌≢◌, ℕ, zero, suc, ◌+◌, eqb, cond, Bool, true, false, ◌||◌, List, Option, Some, None, refl, sym, ap, subst, ◌∙◌}
-use Rattle.std.proofs.lemmas.Bool.{cond_both, false≢true, or_parts, true≢false}
+use Rattle.std.proofs.Common.{◌≡◌, ◌≢◌, ℕ, cond, Bool, true, false, ◌||◌, List, Option, Some, None, refl, sym, ap, subst, ◌∙◌}
+use Rattle.std.proofs.lemmas.Bool.{false≢true, or_parts, true≢false}
 use Rattle.rp_base.specs.declared.kinds.Era.{Era}
 use Rattle.rp_base.specs.declared.kinds.End.{End}
 use Rattle.rp_base.specs.declared.kinds.End.TheVariants as side
-use Rattle.rp_base.specs.declared.limits.TheConstants.{STEPS_MOST}
 use Rattle.lane_model.specs.declared.calls.CallEnd.{CallEnd}
 use Rattle.lane_model.specs.declared.calls.CallEnd.TheVariants as end
 use Rattle.lane_model.specs.declared.calls.Outcome.{Outcome}
@@ -24,7 +23,6 @@ use Rattle.lane_model.specs.Links.{LinkState, Lanes, begun_outcome, caller_step,
 use Rattle.lane_model.specs.Sends.{sender_step}
 use Rattle.lane_model.specs.Receives.{receiver_step}
 use Rattle.lane_model.specs.Soundness.{IsSoundLane, SoundLink}
-use Rattle.lane_model.specs.WholeCalls.{WhereOn}
 use Rattle.lane_model.proofs.Steps.{same}
 use Rattle.channel_bus.specs.Sides.{EndState, side_meaning}
 use Rattle.link_bench.specs.declared.benches.Reach.{Reach}

@@ -1,5 +1,5 @@
 pub mod BenchMoves
-pub mod KeptCores
+pub mod CrashCallers
 pub mod PendingCalls
 pub mod FoundImages
 pub mod Beginnings

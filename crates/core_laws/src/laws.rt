@@ -21,14 +21,15 @@ ghost use Rattle.crash_recover.specs.CoreBoots.{Found, boot_of, core_bench, hand
 ghost use Rattle.link_bench.specs.BenchEnds.{bench_to_reopen, crashed_bench};
 ghost use Rattle.crash_recover.specs.CoreCrashes.{report_of};
 ghost use Rattle.crash_recover.specs.CoreLeaves.{detach_of, shutdown_of};
-ghost use Rattle.crash_recover.specs.CoreRecoveries.{core_to_reopen, recovery_fault, recovery_of, reopen_fault, reopened_core};
-ghost use Rattle.crash_recover.specs.Cores.{CoreState, new_core};
+ghost use Rattle.crash_recover.specs.CoreRecoveries.{core_to_reopen, recovery_fault, recovery_of, reopen_fault, reopened_core, with_next_life};
+ghost use Rattle.crash_recover.specs.Cores.{CoreState, new_core, IsKeptCore};
 ghost use Rattle.crash_recover.specs.CoreActs.{core_act};
 ghost use Rattle.core_actors.specs.ActorEnds.{actors_after_end};
 ghost use Rattle.core_actors.specs.ActorSteps.{first_or_take};
 ghost use Rattle.crash_recover.specs.Drives.{drive_step};
 ghost use Rattle.core_laws.specs.BenchMoves.{ComesBy, IsReached, IsReachedBench, IsReachedCore, WasBoundOnTheWay, history_of};
-ghost use Rattle.core_laws.specs.KeptCores.{AreOwnUsed, IsKeptBench, IsKeptCore, IsUnmanaged, crash_reaches, end_after_crash, with_next_life};
+ghost use Rattle.crash_recover.specs.KeptCores.{AreOwnUsed, IsKeptBench, IsUnmanaged};
+ghost use Rattle.core_laws.specs.CrashCallers.{crash_reaches, end_after_crash};
 ghost use Rattle.core_laws.specs.PendingCalls.{HasNoneBegun, IsReadyBench, IsReadyCore};
 ghost use Rattle.proc_state.specs.Lives.{CoreLife, most};
 ghost use Rattle.rp_base.specs.declared.kinds.LifeState.TheVariants as state;

@@ -1,5 +1,5 @@
 -- Who makes a step of a drive.
-use Rattle.std.proofs.Common.{◌≡◌, Bool, false, cond, sym, ap, refl, ◌∙◌}
+use Rattle.std.proofs.Common.{◌≡◌, Bool, false, cond, sym, ap, ◌∙◌}
 use Rattle.std.proofs.lemmas.Bool.{and_right}
 use Rattle.core_actors.specs.declared.actors.Actor.{Actor}
 use Rattle.core_actors.specs.declared.actors.Actor.TheVariants as actor

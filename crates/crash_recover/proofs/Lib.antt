@@ -10,3 +10,10 @@ pub mod KeptParts
 pub mod CoreParts
 pub mod Unfound
 pub mod Restarts
+pub mod BootLives
+pub mod SameLives
+pub mod KeptLinks
+pub mod KeptCrashes
+pub mod KeptActs
+pub mod KeptBenches
+pub mod SoundCores

@@ -1,5 +1,5 @@
 -- What a call does that finds no image.
-use Rattle.std.proofs.Common.{◌≡◌, ℕ, ◌==◌, Bool, true, false, not, List, Option, Some, None, Result, Ok, Err, Vec, refl, sym, ap, ◌∙◌}
+use Rattle.std.proofs.Common.{◌≡◌, ℕ, ◌==◌, true, false, not, List, Option, Some, None, Result, Ok, Err, Vec, refl, sym, ap, ◌∙◌}
 use Rattle.std.specs.Result.{result_map_both}
 use Rattle.std.specs.declared.alloc.Global.{Global}
 use Rattle.std.proofs.lemmas.Bool.{and_parts, not-true, true≢false}
@@ -8,7 +8,7 @@ use Rattle.rp_base.specs.declared.kinds.LifeState.TheVariants.{Offline, Running,
 use Rattle.rp_io.specs.Images.{IsFetched}
 use Rattle.rp_io.specs.declared.faults.FetchFault.{FetchFault}
 use Rattle.rp_io.specs.declared.faults.FetchFault.TheVariants as fetch
-use Rattle.proc_state.specs.Lives.{boot_to, handover_to, is_offline, line_of, most}
+use Rattle.proc_state.specs.Lives.{boot_to, handover_to, is_offline, life_after_handover, line_of, most}
 use Rattle.proc_state.specs.declared.answers.LifeFault.{LifeFault}
 use Rattle.crash_recover.specs.declared.core_answers.Start.{Start}
 use Rattle.crash_recover.specs.declared.core_faults.CoreFault.{CoreFault}
@@ -66,6 +66,12 @@ pub refused_recovery : (core : CoreState) (found : Found) (why : LifeFault) → 
 unfolding recovery_of
 refused_recovery core found why refused = rw refused refl
 
+-- a handover that the life of the core refuses
+pub refused_handover : (core : CoreState) (name : List ℕ) (found : Found) (why : LifeFault) → (life_after_handover core.life).answer ≡ Err why
+    → handover_of core name found ≡ record { core = core; answer = Err (fault.Life why) }
+unfolding handover_of
+refused_handover core name found why is = ap (λ (answer : Result (Unit {0}) LifeFault). handover_as (life_after_handover core.life).life answer core name found) is
+
 -- a call that finds no image, and is refused for that
 pub did_unfound : {A : Type 0} (IsHad : Found → Type 0) (does : Found → CoreOutcome A CoreFault) (core : CoreState) (why : FetchFault) (answer : Result A CoreFault) → IsHad (Err why)
     → does (Err why) ≡ record { core = core; answer = Err (core_fault_of_fetch why) } → answer ≡ Err (core_fault_of_fetch why) → DidWith IsHad does core answer
@@ -75,8 +81,3 @@ did_unfound {A} IsHad does core why answer had is same = record {
   core = sym (ap (λ (out : CoreOutcome A CoreFault). out.core) is);
   answers = same ∙ sym (ap (λ (out : CoreOutcome A CoreFault). out.answer) is);
 }
-
--- what never fails where it is not needed was needed
-pub is_needed : (needed : Bool) → (needed ≡ false → ⊥) → needed ≡ true
-is_needed true never = refl
-is_needed false never = absurd (never refl)

@@ -1,5 +1,5 @@
 -- What a boot and a handover of a core answer and leave (`rproc_boot`, `rproc_fw_boot` and `rproc_attach` of Linux remoteproc_core.c; the handover, the faults and their order are own).
-use Rattle.std.specs.Prelude.{◌≡◌, ℕ, ◌==◌, Bool, false, not, ◌&&◌, List, [], Option, Some, None, option_map, unwrap_or, Result, Ok, Err, if◌then◌else◌}
+use Rattle.std.specs.Prelude.{◌≡◌, ℕ, ◌==◌, Bool, true, false, not, ◌&&◌, List, [], Option, Some, None, option_map, unwrap_or, Result, Ok, Err, if◌then◌else◌}
 use Rattle.std.specs.Result.{result_map_both, result_ok}
 use Rattle.rp_base.specs.declared.kinds.End.TheVariants as side
 use Rattle.rp_io.specs.Images.{fetch_answer}
@@ -24,6 +24,8 @@ use Rattle.proc_state.specs.declared.answers.Power.TheVariants as power
 use Rattle.endpoint_map.specs.Bindings.{no_bindings}
 use Rattle.channel_bus.specs.Sides.{EndState}
 use Rattle.lane_model.specs.declared.calls.LinkConfig.{LinkConfig}
+use Rattle.crash_recover.specs.declared.core_answers.Boot.{Boot}
+use Rattle.crash_recover.specs.declared.core_answers.Boot.TheVariants as boot
 use Rattle.crash_recover.specs.declared.core_answers.Start.{Start}
 use Rattle.crash_recover.specs.declared.core_answers.Start.TheVariants as start
 use Rattle.crash_recover.specs.declared.core_faults.CoreFault.{CoreFault}
@@ -134,6 +136,14 @@ boot_as life (Ok power.First) core name found = first_boot life core name found
 -- a boot with an image that was found under this name, or wasn't
 unfoldable pub boot_of : CoreState → List ℕ → Found → CoreOutcome Start CoreFault
 boot_of core name found = boot_as (life_after_boot core.life).life (life_after_boot core.life).answer core name found
+
+-- a boot that goes as far as it can without an image: it is done, or refused, whatever image would be found, or it needs one, with which the core comes to its next life (own)
+abbrev pub BeginsBoot : CoreState → CoreState → Result Boot CoreFault → Type 0
+BeginsBoot core left (Ok (boot.Done did)) =
+    (needs_image core ≡ false) × ((name : List ℕ) (found : Found) → boot_of core name found ≡ record { core = left; answer = Ok did })
+BeginsBoot core left (Ok (boot.NeedsImage life)) = (needs_image core ≡ true) × (life ≡ (life_after_boot core.life).life) × (left ≡ core)
+BeginsBoot core left (Err why) =
+    (needs_image core ≡ false) × ((name : List ℕ) (found : Found) → boot_of core name found ≡ record { core = left; answer = Err why })
 
 -- ---- handovers
 

@@ -1,8 +1,9 @@
 -- What a recovery of a core answers and leaves (`rproc_trigger_recovery` of Linux remoteproc_core.c; the faults and their order, and what becomes of the callers, are own).
-use Rattle.std.specs.Prelude.{◌≡◌, ℕ, ◌==◌, Bool, true, false, not, ◌&&◌, List, Option, Some, None, Ok, Err, option_map, option_and_then, if◌then◌else◌}
+use Rattle.std.specs.Prelude.{◌≡◌, ℕ, ◌+◌, ◌==◌, Bool, true, false, not, ◌&&◌, List, Option, Some, None, Ok, Err, option_map, option_and_then, if◌then◌else◌}
 use Rattle.std.specs.Option.{option_or}
 use Rattle.std.specs.Str.{is_utf8}
 use Rattle.rp_base.specs.declared.kinds.LifeState.{LifeState}
+use Rattle.rp_base.specs.declared.kinds.LifeState.TheVariants.{Running}
 use Rattle.rp_io.specs.declared.faults.FetchFault.TheVariants as fetch
 use Rattle.resource_table.specs.declared.entries.Ring.{Ring}
 use Rattle.fw_load.specs.declared.rings.RingPair.{RingPair}
@@ -81,6 +82,14 @@ core_to_reopen core = record core { bench = option_map bench_to_reopen core.benc
 -- the core with its link reopened
 abbrev pub reopened_core : CoreState → CoreState
 reopened_core core = record core { bench = option_map (λ bench. after_reopen (bench_to_reopen bench)) core.bench }
+
+-- the next incarnation of a life, which runs (own)
+abbrev pub next_life : CoreLife → CoreLife
+next_life life = record life { state = Running; incarnation = life.incarnation + 1 }
+
+-- the core in the next incarnation of its life (own)
+abbrev pub with_next_life : CoreState → CoreState
+with_next_life core = record core { life = next_life core.life }
 
 -- the core after a recovery with this load, where nothing refuses it
 abbrev pub after_recovery : CoreState → LoadState → CoreState

@@ -1,3 +1,4 @@
+pub mod KeptCores
 pub mod Cores
 pub mod CoreBoots
 pub mod CoreCrashes

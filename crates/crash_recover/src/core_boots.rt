@@ -6,39 +6,31 @@ ghost use Rattle.rp_io.specs.Causes.{Rose};
 ghost use Rattle.rp_io.specs.declared.faults.FetchFault.{FetchFault};
 ghost use Rattle.rp_io.specs.declared.faults.FetchFault.TheVariants as fetch;
 ghost use Rattle.lane_model.specs.Conditions.{IsConfig};
-ghost use Rattle.proc_state.specs.Lives.{is_offline, life_after_boot};
-ghost use Rattle.proc_state.specs.declared.answers.Power.TheVariants as power;
+ghost use Rattle.proc_state.specs.Lives.{is_offline, is_up, life_after_boot, life_after_handover};
 ghost use Rattle.core_actors.specs.Actors.{driver_names};
 ghost use Rattle.crash_recover.specs.Cores.{IsSoundLoad, load_view, loaded_rings};
 ghost use Rattle.fw_load.specs.Loading.{load_fault};
-ghost use Rattle.crash_recover.specs.CoreBoots.{DidWith, Found, IsFoundIn, boot_of, config_of, core_bench, done, handover_of, in_short, load_of, loaded_entry, needs_image, power_of, started_core, with_load};
+ghost use Rattle.crash_recover.specs.CoreBoots.{BeginsBoot, DidWith, Found, IsFoundIn, boot_of, config_of, core_bench, done, handover_of, in_short, load_of, loaded_entry, needs_image, power_of, started_core, with_load};
 ghost use Rattle.crash_recover.specs.declared.core_answers.Start.TheVariants as start;
 ghost use Rattle.crash_recover.specs.declared.core_faults.CoreFault.TheVariants as fault;
 
-use crate::core_answers::Start;
+use crate::core_answers::{Boot, Start};
 use crate::core_faults::CoreFault;
 use crate::cores::Core;
 use channel_bus::Side;
 use fw_load::{Loaded, RingPair, load};
 use lane_model::LinkConfig;
 use link_bench::Bench;
-use proc_state::{Life, Power};
+use proc_state::{Life, LifeFault, Power};
 use rp_base::{Da, End, Inc, LifeState, Name, NoMemory};
 use rp_io::{FetchFault, FirmwareStore};
 use std::alloc::Global;
 
 impl Core {
-    /// Whether a boot needs an image: the core is offline, and its incarnations are not spent.
-    pub fn needs_image(&self) -> bool
-        ensures { result ≡ needs_image self.now }
-    {
-        self.life.state() == LifeState::Offline && self.life.incarnation() != Inc::MAX
-    }
-
-    /// Boots the core with the image that a store has under a name, as [`Core::boot_with`] does. The
-    /// store is only asked where the core needs an image.
+    /// Boots the core with the image that a store has under a name: [`Core::begin_boot`], and
+    /// [`Core::boot_image`] where that needs an image. The store is only asked then.
     ///
-    /// Errors: those of [`Core::boot_with`]. The core is as it was then.
+    /// Errors: those of both. The core is as it was then.
     pub fn boot<F: FirmwareStore>(
         &mut self,
         alloc: Global,
@@ -57,53 +49,74 @@ impl Core {
         ensures failed { IsErrOf result (fault.Fetch fetch.Failed) → Rose (F.faults store.old) (F.faults store.new) }
         ensures same { result ≢ Err (fault.Fetch fetch.Failed) → F.faults store.new ≡ F.faults store.old }
     {
-        let image = fetch_where(self.needs_image(), alloc, name, store)?;
-        let start = self.boot_with(alloc, name_of(name), Ok(image.as_slice()))?;
-        Ok(start.power())
+        match self.begin_boot(alloc)? {
+            Boot::Done(start) => Ok(start.power()),
+            Boot::NeedsImage(life) => {
+                let image = store.fetch(alloc, name)?;
+                let start = self.boot_image(alloc, life, name_of(name), Ok(image.as_slice()))?;
+                Ok(start.power())
+            }
+        }
     }
 
-    /// Boots the core with an image that was found under this name, or wasn't. An offline core loads it
-    /// and runs, with a link where the image has a device for RPMsg. A detached core is attached: it
-    /// keeps its memory and its image's name, and gets such a link. A core with users counts one more.
+    /// Boots the core as far as it can be without an image: a core with users counts one more, and a
+    /// detached one is attached, with a link where its image has a device for RPMsg; it keeps its
+    /// memory and its image's name. An offline core with an incarnation left needs an image:
+    /// [`Core::boot_image`] goes on.
     ///
-    /// # Errors
-    ///
-    /// [`CoreFault::Life`] where the users or the incarnations can't be counted on, then, of an offline
-    /// core, [`CoreFault::Fetch`] where no image was found and [`CoreFault::Load`] as [`load`] answers,
-    /// and [`CoreFault::NoMemory`] where memory ran out, which only a boot that starts the core
-    /// answers. The core is as it was then.
-    #[tactic(auto, unfolding(crate::specs::CoreBoots::boot_of))]
-    pub fn boot_with(
-        &mut self,
-        alloc: Global,
-        name: Name,
-        found: Result<&[u8], FetchFault>,
-    ) -> Result<Start, CoreFault>
-        ensures answer { result ≢ Err fault.NoMemory → result ≡ (boot_of self.old name (result_map_both (λ image. image.now) (λ why. why) found.entry)).answer }
-        ensures left { result ≢ Err fault.NoMemory → self.new ≡ (boot_of self.old name (result_map_both (λ image. image.now) (λ why. why) found.entry)).core }
-        ensures fetched { (why : FetchFault) → result ≡ Err (fault.Fetch why) → found.entry ≡ Err why }
-        ensures memory { IsErrOf result fault.NoMemory → (life_after_boot self.old.life).answer ≡ Ok power.First }
+    /// Errors: [`CoreFault::Life`] where the users or the incarnations can't be counted on, and
+    /// [`CoreFault::NoMemory`] where memory ran out, which only an attach answers. The core is as it
+    /// was then.
+    pub fn begin_boot(&mut self, alloc: Global) -> Result<Boot, CoreFault>
+        ensures begun { result ≢ Err fault.NoMemory → BeginsBoot self.old self.new result }
+        ensures unneeded { IsErrOf result fault.NoMemory → needs_image self.old ≡ false }
+        ensures unfetched { (why : FetchFault) → result ≢ Err (fault.Fetch why) }
         ensures unchanged { OnErr result (self.new ≡ self.old) }
-        ensures attached { is_offline self.old.life.state ≡ false → self.new.loaded ≡ self.old.loaded }
+        ensures attached { self.new.loaded ≡ self.old.loaded }
     {
         let mut life = self.life.copy();
         match life.boot()? {
             Power::Counted(users) => {
                 self.life = life;
-                Ok(Start::Users(users))
+                Ok(Boot::Done(Start::Users(users)))
             }
             Power::First => match self.life.state() {
-                LifeState::Offline => self.boot_image(alloc, life, name, found?),
+                LifeState::Offline => Ok(Boot::NeedsImage(life)),
                 LifeState::Running
                 | LifeState::Crashed
                 | LifeState::Attached
-                | LifeState::Detached => self.attach(alloc, life),
+                | LifeState::Detached => Ok(Boot::Done(self.attach(alloc, life)?)),
             },
         }
     }
 
+    /// Goes on with a boot that needs an image, with one that was found under this name, or wasn't:
+    /// the core loads it and runs in this life, with a link where the image has a device for RPMsg.
+    ///
+    /// # Errors
+    ///
+    /// [`CoreFault::Fetch`] where no image was found, [`CoreFault::Load`] as [`load`] answers, and
+    /// [`CoreFault::NoMemory`] where memory ran out. The core is as it was then.
+    #[tactic(auto, unfolding(crate::specs::CoreBoots::boot_of))]
+    pub fn boot_image(
+        &mut self,
+        alloc: Global,
+        life: Life,
+        name: Name,
+        found: Result<&[u8], FetchFault>,
+    ) -> Result<Start, CoreFault>
+        requires needed { needs_image self.old ≡ true }
+        requires life { life ≡ (life_after_boot self.old.life).life }
+        ensures answer { result ≢ Err fault.NoMemory → result ≡ (boot_of self.old name (result_map_both (λ image. image.now) (λ why. why) found.entry)).answer }
+        ensures left { result ≢ Err fault.NoMemory → self.new ≡ (boot_of self.old name (result_map_both (λ image. image.now) (λ why. why) found.entry)).core }
+        ensures fetched { (why : FetchFault) → result ≡ Err (fault.Fetch why) → found.entry ≡ Err why }
+        ensures unchanged { OnErr result (self.new ≡ self.old) }
+    {
+        self.run_image(alloc, life, name, found?)
+    }
+
     /// Starts an offline core in this life with an image.
-    fn boot_image(
+    fn run_image(
         &mut self,
         alloc: Global,
         life: Life,
@@ -111,6 +124,7 @@ impl Core {
         image: &[u8],
     ) -> Result<Start, CoreFault>
         requires loaded { is_offline life.state ≡ false }
+        requires up { is_up life.state ≡ true }
         requires users { 1 ≤ life.users }
         requires first { 1 ≤ life.incarnation }
         ensures loads { OnOk result (load_fault image.now self.old.regions ≡ None) }
@@ -135,6 +149,7 @@ impl Core {
     fn attach(&mut self, alloc: Global, life: Life) -> Result<Start, CoreFault>
         requires loaded { is_offline self.old.life.state ≡ false }
         requires stays { is_offline life.state ≡ false }
+        requires up { is_up life.state ≡ true }
         requires users { 1 ≤ life.users }
         requires first { 1 ≤ life.incarnation }
         ensures answer { IfOk result (λ did. did ≡ start.Attached life.incarnation) }
@@ -151,25 +166,38 @@ impl Core {
         Ok(Start::Attached(inc))
     }
 
-    /// Hands the core over with an image that was found under this name, or wasn't: another party has
-    /// loaded it and started the core, which is detached.
+    /// The life to which a handover brings the core: another party has loaded its image and started
+    /// it. [`Core::handover_image`] goes on.
     ///
-    /// Errors: [`CoreFault::Life`] where the core isn't offline, then those of the image, as
-    /// [`Core::boot_with`] answers them. The core is as it was then.
+    /// Errors: [`LifeFault::NotOffline`] exactly where the core isn't offline.
+    pub fn handover_life(&self) -> Result<Life, LifeFault>
+        ensures life { IfOk result (λ life. life ≡ (life_after_handover self.now.life).life) }
+        ensures answer { result_map_both (λ _. tt) (λ why. why) result ≡ (life_after_handover self.now.life).answer }
+    {
+        let mut life = self.life.copy();
+        life.handover()?;
+        Ok(life)
+    }
+
+    /// Hands the core over, in this life, with an image that was found under this name, or wasn't:
+    /// the core is detached.
+    ///
+    /// Errors: those of the image, as [`Core::boot_image`] answers them. The core is as it was then.
     #[tactic(auto, unfolding(crate::specs::CoreBoots::handover_of))]
-    pub fn handover_with(
+    pub fn handover_image(
         &mut self,
         alloc: Global,
+        life: Life,
         name: Name,
         found: Result<&[u8], FetchFault>,
     ) -> Result<Start, CoreFault>
+        requires may { (life_after_handover self.old.life).answer ≡ Ok tt }
+        requires life { life ≡ (life_after_handover self.old.life).life }
         ensures answer { result ≢ Err fault.NoMemory → result ≡ (handover_of self.old name (result_map_both (λ image. image.now) (λ why. why) found.entry)).answer }
         ensures left { result ≢ Err fault.NoMemory → self.new ≡ (handover_of self.old name (result_map_both (λ image. image.now) (λ why. why) found.entry)).core }
         ensures fetched { (why : FetchFault) → result ≡ Err (fault.Fetch why) → found.entry ≡ Err why }
         ensures unchanged { OnErr result (self.new ≡ self.old) }
     {
-        let mut life = self.life.copy();
-        life.handover()?;
         let loaded = self.load_image(alloc, found?)?;
         self.life = life;
         self.image = Some(name);
@@ -177,17 +205,10 @@ impl Core {
         Ok(Start::Detached)
     }
 
-    /// Whether a handover needs an image: the core is offline.
-    fn is_offline(&self) -> bool
-        ensures { result ≡ is_offline self.now.life.state }
-    {
-        self.life.state() == LifeState::Offline
-    }
-
-    /// Hands the core over with the image that a store has under a name, as [`Core::handover_with`]
-    /// does. The store is only asked where the core is offline.
+    /// Hands the core over with the image that a store has under a name: [`Core::handover_life`] and
+    /// [`Core::handover_image`]. The store is only asked where the core is offline.
     ///
-    /// Errors: those of [`Core::handover_with`]. The core is as it was then.
+    /// Errors: those of both. The core is as it was then.
     pub fn handover<F: FirmwareStore>(
         &mut self,
         alloc: Global,
@@ -206,8 +227,9 @@ impl Core {
         ensures failed { IsErrOf result (fault.Fetch fetch.Failed) → Rose (F.faults store.old) (F.faults store.new) }
         ensures same { result ≢ Err (fault.Fetch fetch.Failed) → F.faults store.new ≡ F.faults store.old }
     {
-        let image = fetch_where(self.is_offline(), alloc, name, store)?;
-        self.handover_with(alloc, name_of(name), Ok(image.as_slice()))?;
+        let life = self.handover_life()?;
+        let image = store.fetch(alloc, name)?;
+        self.handover_image(alloc, life, name_of(name), Ok(image.as_slice()))?;
         Ok(())
     }
 
@@ -258,29 +280,6 @@ impl Core {
             Some(loaded) => loaded.entry,
             None => 0,
         }
-    }
-}
-
-/// The image that a store has under a name, where it is needed; else the store is not asked.
-#[tactic(auto, using(crate::proofs::Unfound::found_in))]
-fn fetch_where<F: FirmwareStore>(
-    is_needed: bool,
-    alloc: Global,
-    name: &str,
-    store: &mut F,
-) -> Result<Vec<u8>, FetchFault>
-    ensures had { is_needed ≡ true → IsFoundIn (F.images store.old) name.now (result_map_both (λ image. image.items) (λ why. why) result) }
-    ensures unneeded { is_needed ≡ false → OnErr result ⊥ }
-    ensures unasked { is_needed ≡ false → store.new ≡ store.old }
-    ensures kept { F.images store.new ≡ F.images store.old }
-    ensures later { F.faults store.old ≤ F.faults store.new }
-    ensures failed { IsErrOf result fetch.Failed → Rose (F.faults store.old) (F.faults store.new) }
-    ensures same { result ≢ Err fetch.Failed → F.faults store.new ≡ F.faults store.old }
-{
-    if is_needed {
-        store.fetch(alloc, name)
-    } else {
-        Ok(Vec::new(alloc))
     }
 }
 

@@ -1,6 +1,6 @@
-ghost use Rattle.std.specs.Prelude.{◌≡◌, ℕ, true, Ok, Some};
+ghost use Rattle.std.specs.Prelude.{◌≡◌, ℕ, false, true, Ok, Some};
 ghost use Rattle.std.specs.Result.{result_map_both};
-ghost use Rattle.proc_state.specs.Lives.{is_offline};
+ghost use Rattle.proc_state.specs.Lives.{is_offline, is_up};
 ghost use Rattle.crash_recover.specs.CoreCrashes.{after_report, first_report, report_in_short, report_of};
 ghost use Rattle.crash_recover.specs.declared.core_answers.Crash.TheVariants as crash;
 
@@ -41,6 +41,8 @@ impl Core {
     fn crash_first(&mut self, life: Life, may_step: bool) -> Crash
         requires loaded { is_offline life.state ≡ is_offline self.old.life.state }
         requires users { life.users ≡ self.old.life.users }
+        requires same { life.incarnation ≡ self.old.life.incarnation }
+        requires stopped { is_up life.state ≡ false }
         ensures answer { Ok result ≡ (first_report may_step life self.old self.old.bench).answer }
         ensures left { self.new ≡ (first_report may_step life self.old self.old.bench).core }
         ensures step { (inc : ℕ) → result ≡ crash.First (Some inc) → may_step ≡ true }

@@ -1,14 +1,16 @@
-ghost use Rattle.std.specs.Prelude.{◌≡◌, false, OnErr, OnOk, IfOk, IfSome};
+ghost use Rattle.std.specs.Prelude.{◌≡◌, false, true, OnErr, OnOk, IfOk, IfSome};
 ghost use Rattle.channel_bus.specs.Sides.{EndState};
 ghost use Rattle.lane_model.specs.Links.{LinkState};
 ghost use Rattle.core_actors.specs.declared.actors.Actor.TheVariants as actor;
 ghost use Rattle.core_actors.specs.ActorSteps.{HoldsDrivenTaken, host_is_idle, is_rest, worker_is_idle};
 ghost use Rattle.link_bench.specs.Benches.{link_in};
-ghost use Rattle.crash_recover.specs.Drives.{core_with_report, drive_step, is_idle, record_run, record_step, step_or_rest, with_turn_after};
+ghost use Rattle.crash_recover.specs.CoreCrashes.{after_report, report_of};
+ghost use Rattle.crash_recover.specs.Drives.{closed_by, core_with_report, drive_step, driven_with_report, is_idle, record_run, record_step, step_or_rest, with_turn_after};
 
+use crate::core_answers::Crash;
 use crate::cores::Core;
 use core_actors::{Actor, Driven};
-use rp_base::{CrashKind, NoMemory};
+use rp_base::{CrashKind, Inc, NoMemory};
 use std::alloc::Global;
 
 impl Core {
@@ -151,18 +153,32 @@ impl Core {
         Ok(())
     }
 
-    /// Reports the crash that a step of the worker was, if it was one.
-    fn report_crash(&mut self, driven: &Driven)
-        ensures { self.new ≡ core_with_report driven.now self.old }
+    /// Reports the crash that a step of the worker was, if it was one, and says what that closed.
+    fn report_crash(&mut self, driven: &mut Driven)
+        ensures core { self.new ≡ core_with_report driven.old self.old }
+        ensures driven { driven.new ≡ driven_with_report driven.old self.old }
+        ensures works { is_rest driven.new ≡ is_rest driven.old }
+        ensures taken { (link : LinkState EndState) → HoldsDrivenTaken link driven.old → HoldsDrivenTaken link driven.new }
     {
         match driven {
-            Driven::Worker(_) => {
-                let _ = self.report(CrashKind::Fatal);
-            }
-            Driven::Crashed(kind) => {
-                let _ = self.report(*kind);
-            }
-            Driven::Idle | Driven::Stepped | Driven::Ended(_, _) => {}
+            Driven::Worker(_, closed) => *closed = self.report_closing(CrashKind::Fatal),
+            Driven::Crashed(kind, closed) => *closed = self.report_closing(*kind),
+            Driven::Idle => {}
+            Driven::Stepped => {}
+            Driven::Ended(_, _) => {}
+        }
+    }
+
+    /// Reports a crash, and answers which incarnation of the link this closed, if it closed one.
+    fn report_closing(&mut self, kind: CrashKind) -> Option<Inc>
+        ensures closed { result ≡ closed_by (report_of true self.old).answer }
+        ensures left { self.new ≡ after_report self.old }
+    {
+        match self.report_within(kind, true) {
+            Ok(Crash::First(closed)) => closed,
+            Ok(Crash::Already) => None,
+            Ok(Crash::Limit) => None,
+            Err(_) => None,
         }
     }
 }

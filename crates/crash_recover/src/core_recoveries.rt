@@ -1,4 +1,4 @@
-ghost use Rattle.std.specs.Prelude.{◌≡◌, ◌≢◌, ◌≤◌, ◌⊎◌, Some, None, Ok, Err, OnOk, OnErr, IfOk, IfErr, IsErrOf};
+ghost use Rattle.std.specs.Prelude.{◌≡◌, ◌≢◌, ◌≤◌, ◌⊎◌, Some, None, Ok, Err, OnOk, OnErr, IfOk, IfErr, IsErrOf, option_map};
 ghost use Rattle.std.specs.Option.{option_or};
 ghost use Rattle.std.specs.Result.{result_err, result_map_both};
 ghost use Rattle.rp_io.specs.Causes.{Rose};
@@ -7,12 +7,11 @@ ghost use Rattle.rp_io.specs.declared.faults.FetchFault.TheVariants as fetch;
 ghost use Rattle.proc_state.specs.Lives.{life_after_recovery};
 ghost use Rattle.crash_recover.specs.declared.core_answers.Start.TheVariants as start;
 ghost use Rattle.crash_recover.specs.declared.core_faults.CoreFault.TheVariants as fault;
-ghost use Rattle.core_actors.specs.Actors.{fresh_actors};
 ghost use Rattle.crash_recover.specs.Cores.{IsSoundLoad, load_view, loaded_rings};
 ghost use Rattle.crash_recover.specs.CoreBoots.{DidWith, Found, done, in_short, load_in};
 ghost use Rattle.link_bench.specs.BenchCrashes.{after_reopen};
 ghost use Rattle.link_bench.specs.BenchEnds.{bench_to_reopen};
-ghost use Rattle.crash_recover.specs.CoreRecoveries.{IsFoundAs, asked_text, core_to_reopen, link_fault, recovery_fault, recovery_of, reload_fault, reopen_fault, reopened_core, same_pair, same_ring, same_rings, spent_fault};
+ghost use Rattle.crash_recover.specs.CoreRecoveries.{IsFoundAs, after_recovery, asked_text, core_to_reopen, fault_with, link_fault, recovery_fault, recovery_of, reload_fault, reopen_fault, same_pair, same_ring, same_rings, spent_fault};
 
 use crate::core_answers::Start;
 use crate::core_faults::CoreFault;
@@ -39,10 +38,11 @@ impl Core {
         }
     }
 
-    /// Recovers the core with the image that a store has under the name that was booted or handed over,
-    /// as [`Core::recover_with`] does. Where the core's life refuses it, the store is not asked.
+    /// Recovers the core with the image that a store has under the name that was booted or handed over.
+    /// Where the core's life refuses it, the store is not asked.
     ///
-    /// Errors: those of [`Core::recover_with`]. A name that is no text is [`FetchFault::Missing`].
+    /// Errors: [`CoreFault::Life`] as [`Core::recovery_fault`] answers, then those of
+    /// [`Core::recover_image`]. A name that is no text is [`FetchFault::Missing`].
     pub fn recover<F: FirmwareStore>(
         &mut self,
         alloc: Global,
@@ -62,7 +62,7 @@ impl Core {
             return Err(CoreFault::Life(fault));
         }
         let image = self.fetch_image(alloc, store)?;
-        self.recover_with(alloc, Ok(image.as_slice()))?;
+        self.recover_image(alloc, Ok(image.as_slice()))?;
         Ok(())
     }
 
@@ -87,36 +87,32 @@ impl Core {
         }
     }
 
-    /// Recovers the core with an image that was found under the name that was booted or handed over, or
-    /// wasn't: caller 0 is reclaimed, a new host caller is made at once, and the link is reopened. The
-    /// core runs, and its users stay.
+    /// Recovers a core whose life doesn't refuse it, with an image that was found under the name that
+    /// was booted or handed over, or wasn't: caller 0 is reclaimed, a new host caller is made at once,
+    /// and the link is reopened. The core runs, and its users stay.
     ///
     /// # Errors
     ///
-    /// [`CoreFault::Life`] as [`Core::recovery_fault`] answers, then [`CoreFault::Fetch`] where no
-    /// image was found, then [`CoreFault::Load`] as [`fw_load::load`] answers, then [`CoreFault::RingsChanged`]
-    /// where the rings are other ones than before: the core is as it was then. Then
-    /// [`CoreFault::Reopen`], which names who has the turn that the reclaim of caller 0 needs as
-    /// [`lane_model::ReopenFault::StillTurn`], and [`CoreFault::Life`] where no incarnation is left: the
-    /// core stays crashed, with a new caller 0 where the old one was reclaimed. [`CoreFault::NoMemory`]
-    /// may come at the load, or after all other tests.
-    #[tactic(auto, using(crate::proofs::Restarts::recovers, crate::proofs::Restarts::start_fault), unfolding(crate::specs::CoreRecoveries::recovery_of))]
-    pub fn recover_with(
+    /// [`CoreFault::Fetch`] where no image was found, then [`CoreFault::Load`] as [`fw_load::load`]
+    /// answers, then [`CoreFault::RingsChanged`] where the rings are other ones than before: the core
+    /// is as it was then. Then [`CoreFault::Reopen`], which names who has the turn that the reclaim of
+    /// caller 0 needs as [`lane_model::ReopenFault::StillTurn`], and [`CoreFault::Life`] where no
+    /// incarnation is left: the core stays crashed, with a new caller 0 where the old one was
+    /// reclaimed. [`CoreFault::NoMemory`] may come at the load, or after all other tests.
+    #[tactic(auto, unfolding(crate::specs::CoreRecoveries::recovery_of))]
+    pub fn recover_image(
         &mut self,
         alloc: Global,
         found: Result<&[u8], FetchFault>,
     ) -> Result<Start, CoreFault>
+        requires may { recovery_fault self.old.life ≡ None }
         ensures answer { result ≢ Err fault.NoMemory → result ≡ (recovery_of self.old (result_map_both (λ image. image.now) (λ why. why) found.entry)).answer }
         ensures left { result ≢ Err fault.NoMemory → self.new ≡ (recovery_of self.old (result_map_both (λ image. image.now) (λ why. why) found.entry)).core }
         ensures memory { IsErrOf result fault.NoMemory → (self.new ≡ self.old) ⊎ (self.new ≡ core_to_reopen self.old) }
         ensures fetched { (why : FetchFault) → result ≡ Err (fault.Fetch why) → found.entry ≡ Err why }
     {
-        if let Some(fault) = self.recovery_fault() {
-            return Err(CoreFault::Life(fault));
-        }
         let loaded = self.reload(alloc, found)?;
-        self.reopen(alloc)?;
-        Ok(self.restart(loaded))
+        self.restart(alloc, loaded)
     }
 
     /// What an image becomes that has the rings of the one before.
@@ -144,32 +140,24 @@ impl Core {
         }
     }
 
-    /// Reopens the link of a core, where it has one, unless no incarnation is left.
-    fn reopen(&mut self, alloc: Global) -> Result<(), CoreFault>
+    /// Reopens the link of a core, where it has one, and starts the core again with what an image
+    /// became, unless no incarnation is left.
+    fn restart(&mut self, alloc: Global, loaded: Loaded) -> Result<Start, CoreFault>
+        requires may { recovery_fault self.old.life ≡ None }
+        requires sound { IsSoundLoad self.old.regions loaded }
         ensures open { OnOk result (reopen_fault self.old ≡ None) }
-        ensures left { OnOk result (self.new ≡ reopened_core self.old) }
+        ensures answer { IfOk result (λ did. did ≡ start.Running (life_after_recovery self.old.life).life.incarnation) }
+        ensures left { OnOk result (self.new ≡ after_recovery self.old (load_view loaded)) }
         ensures refused { IfErr result (λ why. option_or (reopen_fault self.old) (Some fault.NoMemory) ≡ Some why) }
         ensures ready { OnErr result (self.new ≡ core_to_reopen self.old) }
         ensures unfetched { (why : FetchFault) → result ≢ Err (fault.Fetch why) }
     {
         let is_spent = self.life.incarnation() == Inc::MAX;
-        if let Some(bench) = &mut self.bench {
-            return reopen_bench(bench, alloc, is_spent);
-        }
-        test_incarnation(is_spent)
-    }
-
-    /// Starts a core again whose link is reopened.
-    fn restart(&mut self, loaded: Loaded) -> Start
-        requires life_after_recovery { (life_after_recovery self.old.life).answer ≡ Ok tt }
-        requires sound { IsSoundLoad self.old.regions loaded }
-        ensures answer { result ≡ start.Running (life_after_recovery self.old.life).life.incarnation }
-        ensures left { self.new ≡ record self.old { life = (life_after_recovery self.old.life).life; loaded = Some (load_view loaded); actors = fresh_actors self.old.actors loaded.entry } }
-    {
+        reopen_link(&mut self.bench, alloc, is_spent)?;
         let _ = self.life.recover();
         self.actors.restart(loaded.entry);
         self.loaded = Some(loaded);
-        Start::Running(self.life.incarnation())
+        Ok(Start::Running(self.life.incarnation()))
     }
 }
 
@@ -184,7 +172,21 @@ fn test_incarnation(is_spent: bool) -> Result<(), CoreFault>
     Ok(())
 }
 
-/// Reopens the link of a core with a new caller 0, unless no incarnation is left.
+/// Reopens the link of a core with a new caller 0, where there is one, unless no incarnation is left.
+fn reopen_link(link: &mut Option<Bench>, alloc: Global, is_spent: bool) -> Result<(), CoreFault>
+    ensures open { OnOk result (fault_with link.old is_spent ≡ None) }
+    ensures left { OnOk result (link.new ≡ option_map (λ bench. after_reopen (bench_to_reopen bench)) link.old) }
+    ensures refused { IfErr result (λ why. option_or (fault_with link.old is_spent) (Some fault.NoMemory) ≡ Some why) }
+    ensures ready { OnErr result (link.new ≡ option_map bench_to_reopen link.old) }
+    ensures unfetched { (why : FetchFault) → result ≢ Err (fault.Fetch why) }
+{
+    match link {
+        Some(bench) => reopen_bench(bench, alloc, is_spent),
+        None => test_incarnation(is_spent),
+    }
+}
+
+/// Reopens a link with a new caller 0, unless no incarnation is left.
 fn reopen_bench(bench: &mut Bench, alloc: Global, is_spent: bool) -> Result<(), CoreFault>
     ensures open { OnOk result (link_fault bench.old is_spent ≡ None) }
     ensures left { OnOk result (bench.new ≡ after_reopen (bench_to_reopen bench.old)) }

@@ -15,7 +15,7 @@ mod core_rings;
 mod cores;
 
 pub use core_actors::{Actor, Actors, Driven};
-pub use core_answers::{Crash, Leave, Start};
+pub use core_answers::{Boot, Crash, Leave, Start};
 pub use core_callers::StepFault;
 pub use core_faults::{AddFault, CALLER_OUT, CoreFault, RINGS_CHANGED};
 pub use cores::Core;

@@ -11,7 +11,8 @@ use Rattle.crash_recover.specs.Drives.{placed_map}
 use Rattle.demo_laws.proofs.ActorBounds.{LinkWithin}
 use Rattle.demo_laws.proofs.DriveBounds.{IsProgram, IsWithin, OnLink}
 use Rattle.core_laws.proofs.CoreMoves.{reached_stays}
-use Rattle.core_laws.proofs.KeptCores.{found_same, kept_stays}
+use Rattle.crash_recover.proofs.KeptBenches.{found_same}
+use Rattle.core_laws.proofs.KeptCores.{kept_stays}
 use Rattle.core_laws.proofs.PendingOthers.{ready_stays}
 use Rattle.link_bench.specs.Benches.{link_in}
 

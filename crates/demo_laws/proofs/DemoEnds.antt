@@ -27,8 +27,8 @@ use Rattle.crash_recover.specs.declared.core_answers.Leave.TheVariants as leave
 use Rattle.crash_recover.specs.declared.core_answers.Start.{Start}
 use Rattle.crash_recover.specs.declared.core_answers.Start.TheVariants as start
 use Rattle.link_bench.specs.BenchHolds.{caller_out}
-use Rattle.crash_recover.specs.Cores.{CoreOutcome, CoreState, driver_add_fault, refuse_or}
-use Rattle.crash_recover.specs.Drives.{drive_step, is_idle}
+use Rattle.crash_recover.specs.Cores.{CoreOutcome, CoreState, driver_add_fault, refuse_or, IsKeptCore}
+use Rattle.crash_recover.specs.Drives.{drive_step, is_idle, placed_map}
 use Rattle.command_run.specs.CoreDrives.{drive_effect, drive_steps, is_crashed, rest_event, rests_or, step_then}
 use Rattle.command_run.specs.CoreEffects.{CoreEffect, core_tells, core_tells_all, declared_effect, driver_effect}
 use Rattle.command_run.specs.CoreLives.{boot_effect, core_stops, found_image, found_or_told, image_bytes, leave_effect, may_step, shutdown_effect}
@@ -71,12 +71,11 @@ use Rattle.image_maker.proofs.DemoSizes.{demo_is_said}
 use Rattle.image_maker.specs.Demo.{demo_text}
 use Rattle.crash_recover.specs.declared.core_faults.CoreFault.TheVariants as core_fault
 use Rattle.core_laws.specs.BenchMoves.{IsReachedBench, IsReachedCore}
-use Rattle.crash_recover.specs.Drives.{placed_map}
-use Rattle.core_laws.specs.KeptCores.{IsKeptCore}
 use Rattle.core_laws.specs.PendingCalls.{IsReadyCore}
 use Rattle.demo_laws.proofs.BootBounds.{AreRoomy, boot_within, users_within}
 use Rattle.demo_laws.proofs.DriveBounds.{IsProgram, IsWithin, drive_within, more_on}
-use Rattle.core_laws.proofs.Outcomes.{no_first, none_mapped, refused}
+use Rattle.crash_recover.proofs.SameLives.{no_first}
+use Rattle.core_laws.proofs.Outcomes.{none_mapped, refused}
 use Rattle.run_laws.proofs.CoresKept.{effect_kept}
 use Rattle.run_laws.proofs.CoresReady.{AreSound, effect_ready}
 use Rattle.run_laws.proofs.RunsReached.{effect_reached}

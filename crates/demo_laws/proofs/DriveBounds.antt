@@ -29,21 +29,21 @@ use Rattle.channel_bus.specs.Sides.{EndState, side_meaning}
 use Rattle.link_bench.specs.declared.benches.BegunCall.{BegunCall}
 use Rattle.link_bench.specs.declared.benches.Reach.TheVariants as reach
 use Rattle.core_actors.specs.Actors.{ActorsState}
-use Rattle.core_laws.specs.BenchMoves.{IsReachedBench}
+use Rattle.core_laws.specs.BenchMoves.{IsReachedBench, IsReachedCore}
 use Rattle.link_bench.specs.Benches.{BenchState, BenchWalk, LinkRings, Walk, advance_walk, begin_fault, begun_call_of, bench_walk, call_steps, is_in_call, later_steps, link_in, on_lists, start_walk}
 use Rattle.link_bench.proofs.Lists.{call_lists, later_lists}
-use Rattle.crash_recover.specs.Cores.{CoreState, LoadState}
+use Rattle.crash_recover.specs.Cores.{CoreState, LoadState, IsKeptCore}
 use Rattle.core_actors.specs.ActorEnds.{message_of, taken_number, worker_after_end}
 use Rattle.core_actors.specs.ActorSteps.{first_or_take, host_at_step_as, host_is_idle, host_after_step, is_drained, is_empty, worker_after_step, begins_with_take}
-use Rattle.crash_recover.specs.Drives.{host_step, placed_map}
-use Rattle.core_laws.specs.KeptCores.{AreOwnUsed}
-use Rattle.core_laws.specs.PendingCalls.{HasNoneBegun}
+use Rattle.crash_recover.specs.Drives.{host_step, placed_map, DriveStep, actor_step, actor_to_step, core_with_report, drive_step, is_idle, is_idle_actor, record_run, record_step, step_with_report, with_turn_after, worker_call, worker_step}
+use Rattle.crash_recover.specs.KeptCores.{AreOwnUsed, IsKeptBench}
+use Rattle.core_laws.specs.PendingCalls.{HasNoneBegun, IsReadyBench, IsReadyCore}
 use Rattle.demo_laws.proofs.ActorBounds.{HasMessageNow, HostLeft, LinkWithin, WorkerLeft, host_first_step, host_later, more_link, paid, worker_asks, worker_first_step, worker_later}
 use Rattle.demo_laws.proofs.CallCosts.{AreWorkerCalls, WorkerFits, call_cost, calls_cost, gives_in, one_give, one_send, one_take, sends_in, takes_in, worker_after}
 use Rattle.demo_laws.proofs.ActorCalls.{IsNoUnbind, TurnsOf}
-use Rattle.core_laws.proofs.KeptCrashes.{reached_sound}
+use Rattle.core_laws.proofs.CrashReclaims.{reached_sound}
 use Rattle.demo_laws.proofs.OwnCalls.{IsFree, IsOwnSend, IsOwnWork}
-use Rattle.core_laws.proofs.PendingCores.{linked}
+use Rattle.core_laws.proofs.PendingCores.{linked, begins}
 use Rattle.core_laws.proofs.PendingSteps.{one_call, one_later, reach_by}
 use Rattle.std.proofs.Common.{◌≢◌, ⊎_elim}
 use Rattle.std.proofs.lemmas.Bool.{cases_lt}
@@ -51,17 +51,12 @@ use Rattle.memory_pool.specs.declared.regions.Region.{Region}
 use Rattle.core_actors.specs.declared.actors.Actor.{Actor}
 use Rattle.core_actors.specs.declared.actors.Actor.TheVariants as actor
 use Rattle.core_actors.specs.declared.progress.Driven.TheVariants as driven
-use Rattle.core_laws.specs.BenchMoves.{IsReachedCore}
 use Rattle.crash_recover.specs.CoreCrashes.{after_report, first_report, report_as, report_of}
 use Rattle.core_actors.specs.Actors.{other_actor}
 use Rattle.core_actors.specs.ActorSteps.{drive_of_work, has_calls, wishes_of_work, worker_is_idle}
-use Rattle.crash_recover.specs.Drives.{DriveStep, actor_step, actor_to_step, core_with_report, drive_step, is_idle, is_idle_actor, record_run, record_step, step_with_report, with_turn_after, worker_call, worker_step}
-use Rattle.core_laws.specs.KeptCores.{IsKeptBench, IsKeptCore}
-use Rattle.core_laws.specs.PendingCalls.{IsReadyBench, IsReadyCore}
 use Rattle.core_laws.proofs.CoreMoves.{core_driven as core_moved}
 use Rattle.core_laws.proofs.KeptCores.{core_driven}
 use Rattle.demo_laws.proofs.OwnCalls.{handed_so_far}
-use Rattle.core_laws.proofs.PendingCores.{begins}
 use Rattle.core_laws.proofs.PendingDrives.{drive_ready}
 
 -- ---- whether an actor is in a call

@@ -112,8 +112,8 @@ pub reported_keeps : (step : Driven) (core : CoreState) → (core_with_report st
 reported_keeps driven.Idle core = refl
 reported_keeps driven.Stepped core = refl
 reported_keeps (driven.Ended caller end) core = refl
-reported_keeps (driven.Worker fault) core = report_keeps core core.life.state core.bench
-reported_keeps (driven.Crashed kind) core = report_keeps core core.life.state core.bench
+reported_keeps (driven.Worker fault closed) core = report_keeps core core.life.state core.bench
+reported_keeps (driven.Crashed kind closed) core = report_keeps core core.life.state core.bench
 
 -- the actors after a record, whatever was reported
 pub record_actors : (core : CoreState) (load : LoadState) → let map = placed_map core.regions load in

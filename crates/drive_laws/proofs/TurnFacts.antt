@@ -21,7 +21,7 @@ use Rattle.core_actors.specs.Actors.{ActorsState, other_actor}
 use Rattle.crash_recover.specs.Cores.{CoreState, LoadState}
 use Rattle.core_actors.specs.ActorEnds.{actors_after_end, actors_at_end, end_answer, message_of, sends_of}
 use Rattle.core_actors.specs.ActorSteps.{begun_step, drive_of_reach, drive_of_work, first_or_take, has_calls, host_is_idle, is_empty, link_step, worker_is_idle}
-use Rattle.crash_recover.specs.Drives.{DriveStep, actor_to_step, drive_step, host_step, is_idle, is_idle_actor, placed_map, record_run, record_step, with_turn_after, worker_call, worker_step}
+use Rattle.crash_recover.specs.Drives.{DriveStep, actor_to_step, after_record, drive_step, driven_with_report, host_step, is_idle, is_idle_actor, placed_map, record_run, record_step, step_with_report, with_turn_after, worker_call, worker_step}
 use Rattle.drive_laws.specs.Queues.{IsQueued}
 use Rattle.drive_laws.specs.Steps.{step_by, after_steps}
 use Rattle.drive_laws.proofs.QueueFacts.{all_stay, more_behind, queues_on}
@@ -108,20 +108,20 @@ abbrev IsSome : Driven → Type 0
 IsSome driven.Idle = ⊥
 IsSome driven.Stepped = Unit {0}
 IsSome (driven.Ended caller end) = Unit {0}
-IsSome (driven.Worker fault) = Unit {0}
-IsSome (driven.Crashed kind) = Unit {0}
+IsSome (driven.Worker fault closed) = Unit {0}
+IsSome (driven.Crashed kind closed) = Unit {0}
 
 walk_is : (caller : ℕ) (far : Reach) → IsSome (drive_of_reach caller far)
 walk_is caller (reach.At step) = tt
 walk_is caller (reach.Ended end) = tt
 walk_is caller reach.Limit = tt
 
-work_is : (done : Work) → IsSome (drive_of_work done)
-work_is work.Nothing = tt
-work_is (work.Ask wanted) = tt
-work_is work.Halted = tt
-work_is (work.Crash kind) = tt
-work_is (work.Fault fault) = tt
+work_is : (done : Work) (core : CoreState) → IsSome (driven_with_report (drive_of_work done) core)
+work_is work.Nothing core = tt
+work_is (work.Ask wanted) core = tt
+work_is work.Halted core = tt
+work_is (work.Crash kind) core = tt
+work_is (work.Fault fault) core = tt
 
 host_is : (core : CoreState) (actors : ActorsState) (found : Option BenchState) → host_is_idle found actors ≡ false → IsSome (host_step core found).driven
 host_is core actors None busy = absurd cc
@@ -134,9 +134,9 @@ worker_is core loaded = by (has_calls core.bench core.actors) refl
     on_link None calls = absurd cc
     on_link (Some bench) calls = walk_is 1 (link_step bench 1 (first_or_take core.actors.worker_calls)).reach
 
-    of_record : (given : Option LoadState) → is_some given ≡ true → IsSome (record_run core given).driven
+    of_record : (given : Option LoadState) → is_some given ≡ true → IsSome (step_with_report (record_run core given)).driven
     of_record None there = absurd cc
-    of_record (Some load) there = work_is (work_of load.memory (placed_map core.regions load) (is_some core.bench) core.actors.worker)
+    of_record (Some load) there = let map = placed_map core.regions load in work_is (work_of load.memory map (is_some core.bench) core.actors.worker) (after_record core load map)
 
     by : (calls : Bool) → has_calls core.bench core.actors ≡ calls → IsSome (cond calls (worker_call core core.bench) (record_step core)).driven
     by true calls = on_link core.bench calls

@@ -45,8 +45,9 @@ use Rattle.link_bench.specs.Watchers.{Seeing, watcher_after}
 use Rattle.link_bench.proofs.Begun.{begin_may}
 use Rattle.core_laws.specs.BenchMoves.{IsReachedBench}
 use Rattle.core_laws.proofs.BenchMoves.{advanced, begun_reached, called, enlisted, reclaim_tried}
-use Rattle.core_laws.proofs.KeptActs.{AreKeptSteps, FitCalls, act_kept, calls_sendable}
-use Rattle.core_laws.proofs.KeptCrashes.{reached_sound}
+use Rattle.crash_recover.proofs.KeptActs.{AreKeptSteps, FitCalls, act_kept}
+use Rattle.core_laws.proofs.SendableActs.{calls_sendable}
+use Rattle.core_laws.proofs.CrashReclaims.{reached_sound}
 use Rattle.field_laws.specs.Fields.{AreBytes, IsFieldLink, IsFieldWish}
 use Rattle.field_laws.specs.FieldBenches.{IsFieldAct, IsFieldActed, IsFieldBench, IsFieldBenchFault, IsFieldCall, IsFieldReach, IsFieldTurnEnd}
 use Rattle.field_laws.proofs.Benches.{advance_fields, begun_fields, call_fields, caller_fields, tried_fields}

@@ -41,7 +41,7 @@ use Rattle.link_bench.proofs.KeptWalks.{next_may}
 use Rattle.link_bench.proofs.Lists.{call_lists, close_lists, later_lists, reclaim_lists}
 use Rattle.core_laws.specs.BenchMoves.{IsReachedBench}
 use Rattle.core_laws.proofs.BenchMoves.{begun_at, begun_or, calling_may}
-use Rattle.core_laws.proofs.KeptCrashes.{reached_sound}
+use Rattle.core_laws.proofs.CrashReclaims.{reached_sound}
 use Rattle.field_laws.specs.Fields.{IsFieldLane, IsFieldLink, IsFieldOutcome, IsFieldReceiving, IsFieldSending, IsFieldSide, IsFieldTurn, IsFieldWish}
 use Rattle.field_laws.specs.FieldBenches.{IsFieldBegun, IsFieldBench, IsFieldReach}
 use Rattle.field_laws.proofs.Bytes.{no_bytes}

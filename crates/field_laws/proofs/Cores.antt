@@ -54,8 +54,9 @@ use Rattle.crash_recover.specs.CoreRecoveries.{core_to_reopen, fault_with, recov
 use Rattle.crash_recover.specs.Cores.{CoreOutcome, CoreState, loaded_rings, new_core, refuse_or}
 use Rattle.core_laws.specs.BenchMoves.{IsReachedBench, IsReachedCore}
 use Rattle.core_laws.proofs.CoreMoves.{readied}
-use Rattle.core_laws.proofs.Outcomes.{none_mapped, starts_up}
-use Rattle.core_laws.proofs.KeptCrashes.{reached_sound}
+use Rattle.core_laws.proofs.Outcomes.{none_mapped}
+use Rattle.crash_recover.proofs.SameLives.{starts_up}
+use Rattle.core_laws.proofs.CrashReclaims.{reached_sound}
 use Rattle.field_laws.specs.Fields.{AreBytes, IsFieldLink, IsFieldWish}
 use Rattle.field_laws.specs.FieldBenches.{IsFieldBench}
 use Rattle.field_laws.specs.FieldCores.{AreFieldCalls, IsFieldCore, IsFieldCoreFault, IsFieldCrash, IsFieldLeave, IsFieldLife, IsFieldLoad, IsFieldPlaced, IsFieldRefused, IsFieldReopen, IsFieldStart, IsImageName}

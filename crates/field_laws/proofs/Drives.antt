@@ -1,5 +1,9 @@
 -- Steps of a core's actors, and acts on its link, keep the numbers and bytes of the core within their types.
-use Rattle.std.proofs.Common.{◌≡◌, ℕ, ◌<◌, ◌^◌, true, false, cond, List, Option, Some, None, IfSome, is_some, refl, sym, ap, ◌∙◌, arith}
+use Rattle.std.proofs.Common.{◌≡◌, ℕ, ◌<◌, ◌^◌, true, false, cond, List, Option, Some, None, IfSome, is_some, Result, Ok, Err, IfOk, refl, sym, ap, ◌∙◌, arith}
+use Rattle.proc_state.specs.declared.answers.LifeFault.{LifeFault}
+use Rattle.crash_recover.specs.declared.core_answers.Crash.{Crash}
+use Rattle.crash_recover.specs.declared.core_answers.Crash.TheVariants as crash
+use Rattle.crash_recover.specs.CoreCrashes.{report_of}
 use Rattle.std.proofs.lemmas.Bool.{cond_both, true≢false}
 use Rattle.memory_pool.specs.Regions.{memory_len}
 use Rattle.remote_core.specs.declared.workers.Work.{Work}
@@ -23,14 +27,14 @@ use Rattle.core_actors.specs.ActorEnds.{actors_after_end}
 use Rattle.core_actors.specs.ActorSteps.{drive_of_reach, drive_of_work, first_or_take, has_calls, host_at_step, link_step}
 use Rattle.crash_recover.specs.CoreActs.{act_on_core, core_after_act}
 use Rattle.crash_recover.specs.Cores.{CoreState, LoadState}
-use Rattle.crash_recover.specs.Drives.{DriveStep, actor_step, actor_to_step, core_with_report, drive_step, host_step, is_idle, placed_map, record_run, record_step, with_turn_after, worker_call, worker_step}
+use Rattle.crash_recover.specs.Drives.{DriveStep, actor_step, actor_to_step, closed_by, core_with_report, drive_step, driven_with_report, host_step, is_idle, placed_map, record_run, record_step, with_turn_after, worker_call, worker_step}
 use Rattle.core_laws.specs.BenchMoves.{IsReachedBench, IsReachedCore}
 use Rattle.core_laws.proofs.CoreMoves.{first_sendable}
-use Rattle.core_laws.proofs.KeptActs.{AreKeptSteps, act_kept}
+use Rattle.crash_recover.proofs.KeptActs.{AreKeptSteps, act_kept}
 use Rattle.core_laws.proofs.BenchMoves.{advanced, begun_reached, enlisted, reclaim_tried}
 use Rattle.field_laws.specs.Fields.{IsFieldWish}
 use Rattle.field_laws.specs.FieldBenches.{IsFieldAct, IsFieldActed, IsFieldBench, IsFieldReach}
-use Rattle.field_laws.specs.FieldCores.{AreFieldCalls, IsFieldCore, IsFieldDriven, IsFieldLoad, IsFieldPlaced}
+use Rattle.field_laws.specs.FieldCores.{AreFieldCalls, IsFieldCore, IsFieldCrash, IsFieldDriven, IsFieldLoad, IsFieldPlaced}
 use Rattle.field_laws.proofs.Actors.{first_fields, host_begun_fields, host_fields, memory_fields, ran_fields, seen_fields, worker_fields}
 use Rattle.field_laws.proofs.Acts.{HoldsBench, IsFit, act_told, call_holds, fit_calls, ready_wish}
 use Rattle.field_laws.proofs.Benches.{HoldsBenchWalk, advance_fields, begun_fields, caller_fields, start_fields, tried_fields}
@@ -121,13 +125,27 @@ reported_fields : (event : Driven) (core : CoreState) → IsFieldCore core → I
 reported_fields driven.Idle core is = is
 reported_fields driven.Stepped core is = is
 reported_fields (driven.Ended caller ended) core is = is
-reported_fields (driven.Worker why) core is = (report_fields true core is).core
-reported_fields (driven.Crashed kind) core is = (report_fields true core is).core
+reported_fields (driven.Worker why closed) core is = (report_fields true core is).core
+reported_fields (driven.Crashed kind closed) core is = (report_fields true core is).core
+
+-- what a report closed is a number of the line
+closed_field : (answer : Result Crash LifeFault) → IfOk answer IsFieldCrash → IfSome (closed_by answer) (λ inc. inc < 2 ^ 64)
+closed_field (Ok (crash.First closed)) is = is
+closed_field (Ok crash.Already) is = tt
+closed_field (Ok crash.Limit) is = tt
+closed_field (Err why) is = tt
+
+closed_fields : (event : Driven) (core : CoreState) → IsFieldCore core → IsFieldDriven event → IsFieldDriven (driven_with_report event core)
+closed_fields driven.Idle core is told = told
+closed_fields driven.Stepped core is told = told
+closed_fields (driven.Ended caller ended) core is told = told
+closed_fields (driven.Worker why closed) core is told = closed_field (report_of true core).answer (report_fields true core is).answer
+closed_fields (driven.Crashed kind closed) core is told = closed_field (report_of true core).answer (report_fields true core is).answer
 
 record_fields : (core : CoreState) → IsFieldCore core → HoldsDrive (record_step core)
 record_fields core is =
     let ran = run_fields core core.loaded refl is is.loaded is.placed in
-    record { core = reported_fields (record_run core core.loaded).driven (record_run core core.loaded).core ran.core; driven = ran.driven }
+    record { core = reported_fields (record_run core core.loaded).driven (record_run core core.loaded).core ran.core; driven = closed_fields (record_run core core.loaded).driven (record_run core core.loaded).core ran.core ran.driven }
 
 -- ---- a step of the actors
 

@@ -63,8 +63,8 @@ abbrev pub IsFieldDriven : Driven → Type 0
 IsFieldDriven driven.Idle = Unit {0}
 IsFieldDriven driven.Stepped = Unit {0}
 IsFieldDriven (driven.Ended caller ended) = (caller < 2 ^ 64) × IsFieldEnd ended
-IsFieldDriven (driven.Worker why) = Unit {0}
-IsFieldDriven (driven.Crashed kind) = Unit {0}
+IsFieldDriven (driven.Worker why closed) = IfSome closed (λ inc. inc < 2 ^ 64)
+IsFieldDriven (driven.Crashed kind closed) = IfSome closed (λ inc. inc < 2 ^ 64)
 
 abbrev pub IsFieldReopen : ReopenFault → Type 0
 IsFieldReopen (reopen.StillOpen era) = era.inc < 2 ^ 32

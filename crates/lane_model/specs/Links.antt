@@ -4,6 +4,7 @@ use Rattle.std.specs.List.{position}
 use Rattle.rp_base.specs.declared.kinds.Era.{Era}
 use Rattle.rp_base.specs.declared.kinds.End.{End}
 use Rattle.rp_base.specs.declared.kinds.End.TheVariants as side
+use Rattle.rp_base.specs.declared.limits.TheConstants.{CALLERS_MOST}
 use Rattle.rp_base.specs.Limits.{ring_capacity}
 use Rattle.lane_model.specs.declared.states.LaneState.{LaneState}
 use Rattle.lane_model.specs.declared.lane_links.LaneLink.{LaneLink}
@@ -137,7 +138,7 @@ opened first to_host to_remote = record {
   era = record { inc = first; is_live = true };
   to_host = to_host;
   to_remote = to_remote;
-  callers = replicate 64 None;
+  callers = replicate CALLERS_MOST None;
 }
 
 -- a new link: live in its first incarnation, with empty lanes, free turns and no callers

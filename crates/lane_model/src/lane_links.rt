@@ -1,3 +1,4 @@
+ghost use Rattle.rp_base.specs.declared.limits.TheConstants.{CALLERS_MOST};
 ghost use Rattle.std.specs.Prelude.{◌≡◌, ◌<◌, ◌≤◌, ◌+◌, ◌++◌, length, Some, None, IfSome};
 ghost use Rattle.lane_model.specs.Links.{Lanes, lanes_step, begun_outcome, free_number};
 ghost use Rattle.lane_model.specs.Conditions.{MayLanesStep};
@@ -6,16 +7,16 @@ ghost use Rattle.lane_model.specs.Answers.{outcome_of};
 use crate::calls::{CallEnd, Step, Wish};
 use crate::lane_forms::LaneForm;
 use crate::stages::{GiveStage, TakeStage, Work};
-use rp_base::{CallerNo, End, Era, Inc};
+use rp_base::{CALLERS_MOST, CallerNo, End, Era, Inc};
 
 /// A link for one thread, whatever the form of its lanes: its era, its lanes, and the end of each
 /// caller in use by number.
 #[derive(Drop)]
 pub struct LaneLink<L> {
-    pub era: Era,
-    pub to_host: L,
-    pub to_remote: L,
-    pub callers: [Option<End>; 64],
+    pub(crate) era: Era,
+    pub(crate) to_host: L,
+    pub(crate) to_remote: L,
+    pub(crate) callers: [Option<End>; CALLERS_MOST],
 }
 
 impl<L: LaneForm> LaneLink<L> {
@@ -39,12 +40,33 @@ impl<L: LaneForm> LaneLink<L> {
             },
             to_host,
             to_remote,
-            callers: [None; 64],
+            callers: [None; CALLERS_MOST],
         }
     }
 
+    /// The incarnation that the link is in, and whether it is live.
+    pub fn era(&self) -> Era
+        ensures { result ≡ self.now.era }
+    {
+        self.era
+    }
+
+    /// The lane to the host.
+    pub fn to_host(&self) -> &L
+        ensures { result.now ≡ self.now.to_host }
+    {
+        &self.to_host
+    }
+
+    /// The lane to the remote end.
+    pub fn to_remote(&self) -> &L
+        ensures { result.now ≡ self.now.to_remote }
+    {
+        &self.to_remote
+    }
+
     /// A new caller at this end, under the least number that is not in use. There is none exactly
-    /// where all 64 are.
+    /// where all are.
     pub fn caller(&mut self, end: End) -> Option<CallerNo>
         ensures number { result ≡ free_number self.old.callers }
         ensures left { self.new ≡ record self.old { callers = with_caller self.old.callers end (free_number self.old.callers) } }
@@ -57,9 +79,9 @@ impl<L: LaneForm> LaneLink<L> {
     /// The end of the caller of this number, where it is in use.
     pub fn end_of(&self, caller: u64) -> Option<End>
         ensures end { result ≡ end_of self.now.callers caller }
-        ensures within { IfSome result (λ _. caller < 64) }
+        ensures within { IfSome result (λ _. caller < CALLERS_MOST) }
     {
-        if caller < 64 {
+        if caller < CALLERS_MOST as u64 {
             self.callers[caller as usize]
         } else {
             None
@@ -368,9 +390,9 @@ fn begun(holder: Option<CallerNo>, end: &mut CallEnd) -> Step
 }
 
 /// The least number that is not in use.
-fn least_free(callers: &[Option<End>; 64]) -> Option<CallerNo>
+fn least_free(callers: &[Option<End>; CALLERS_MOST]) -> Option<CallerNo>
     ensures number { result ≡ free_number callers.now }
-    ensures within { IfSome result (λ number. number < 64) }
+    ensures within { IfSome result (λ number. number < CALLERS_MOST) }
 {
     match callers.iter().position(|found| found.is_none()) {
         None => None,

@@ -72,6 +72,11 @@ fn has_both(books: &Books) -> bool {
         && books.to_remote_takers.is_empty()
 }
 
+/// Whether caller 0 sends on neither lane.
+fn is_quiet<L: LaneForm>(link: &LaneLink<L>) -> bool {
+    !link.to_host().is_sending(0) && !link.to_remote().is_sending(0)
+}
+
 /// Whether a message goes there and its buffer back, and the link is closed, reclaimed from and reopened with its books.
 fn lives_twice<L: LaneForm>(link: &mut LaneLink<L>, alloc: Global) -> bool {
     let is_handed = link.caller(End::Remote) == Some(0)
@@ -85,7 +90,9 @@ fn lives_twice<L: LaneForm>(link: &mut LaneLink<L>, alloc: Global) -> bool {
         && link.reclaim(0, None, Vec::new(alloc)).is_ok()
         && link.end_of(0).is_none();
     match link.reopen(alloc) {
-        Ok(books) => is_handed && is_closed && has_both(&books) && link.era.inc == 2,
+        Ok(books) => {
+            is_handed && is_closed && has_both(&books) && link.era().inc == 2 && is_quiet(link)
+        }
         Err(_) => false,
     }
 }

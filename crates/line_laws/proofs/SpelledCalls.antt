@@ -45,7 +45,7 @@ use Rattle.link_bench.specs.BenchCrashes.{after_close}
 use Rattle.link_bench.specs.BenchRings.{first_holder, lane_base, lane_bytes, lane_words, turn_holder}
 use Rattle.link_bench.specs.Watchers.{nobody_sees}
 use Rattle.core_laws.specs.BenchMoves.{IsShortLink}
-use Rattle.core_laws.proofs.KeptCrashes.{reached_sound}
+use Rattle.core_laws.proofs.CrashReclaims.{reached_sound}
 use Rattle.command_run.specs.declared.acts.LinkView.{LinkView}
 use Rattle.command_run.specs.declared.acts.LinkView.TheVariants as view
 use Rattle.command_run.specs.declared.acts.ManagerAct.{ManagerAct}

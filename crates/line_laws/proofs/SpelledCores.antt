@@ -83,7 +83,7 @@ use Rattle.crash_recover.specs.Drives.{drive_step, is_idle}
 use Rattle.core_laws.specs.BenchMoves.{IsReachedBench, IsReachedCore}
 use Rattle.core_laws.proofs.CoreActs.{acted_reached}
 use Rattle.core_laws.proofs.CoreMoves.{core_driven}
-use Rattle.core_laws.proofs.KeptCrashes.{reached_sound}
+use Rattle.core_laws.proofs.CrashReclaims.{reached_sound}
 use Rattle.command_run.specs.declared.acts.CoreAct.{CoreAct}
 use Rattle.command_run.specs.declared.acts.CoreAct.TheVariants as act
 use Rattle.command_run.specs.declared.acts.LinkView.{LinkView}
@@ -92,11 +92,11 @@ use Rattle.command_run.specs.declared.acts.NamedAct.{NamedAct}
 use Rattle.command_run.specs.declared.acts.NamedAct.TheVariants as under
 use Rattle.command_run.specs.CallEvents.{end_event}
 use Rattle.command_run.specs.CoreCommands.{core_act_effect, core_effect}
-use Rattle.command_run.specs.CoreDrives.{actor_end_events, crash_events, drive_effect, drive_steps, driven_events, is_crashed, rest_event, rests_or, step_events, step_then}
+use Rattle.command_run.specs.CoreDrives.{actor_end_events, drive_effect, drive_steps, driven_events, is_crashed, rest_event, rests_or, step_events, step_then}
 use Rattle.command_run.specs.CoreEffects.{CoreEffect, add_fault_events, added_effect, core_tells, declared_effect, driver_effect, region_effect, recovery_effect, state_effect}
 use Rattle.crash_recover.specs.CoreCallers.{core_turn_holder}
 use Rattle.command_run.specs.CoreLinks.{core_link_effect, core_ring_effect, core_shown_effect, core_view_effect, found_ring_effect, found_view_effect}
-use Rattle.command_run.specs.CoreLives.{boot_effect, booted_image, core_fault_events, core_stops, crash_effect, detach_effect, fault_at, found_image, handover_effect, leave_events, life_fault_event, load_fault_event, may_step, recover_effect, report_events, shutdown_effect, start_event, start_events, found_or_told, image_bytes}
+use Rattle.command_run.specs.CoreLives.{boot_effect, booted_image, core_fault_events, core_stops, crash_effect, crash_events, detach_effect, fault_at, found_image, handover_effect, leave_events, life_fault_event, load_fault_event, may_step, recover_effect, report_events, shutdown_effect, start_event, start_events, found_or_told, image_bytes}
 use Rattle.command_run.specs.CoreViews.{loaded_table_effect, mem_effect, shown_memory_event, shown_trace_event, table_effect, table_event, trace_bytes, trace_effect}
 use Rattle.command_run.specs.NamedCores.{NamedCoreState}
 use Rattle.command_run.specs.NamedImages.{ImageState}
@@ -496,9 +496,12 @@ module _ (name : List ℕ) (named : IsName name) where
   crash_told crash_kind.Watchdog = ((named, tt), tt)
   crash_told crash_kind.Fatal = ((named, tt), tt)
 
+  crashed_told : (kind : CrashKind) (closed : Option ℕ) → IfSome closed (λ inc. inc < 2 ^ 64) → All IsSpelled (crash_events name kind closed)
+  crashed_told kind None is = one (event.Crashed name kind) (crash_told kind)
+  crashed_told kind (Some inc) is = two (event.Closed name inc) (event.Crashed name kind) (((named, (is, tt)), tt)) (crash_told kind)
+
   report_told : (kind : CrashKind) (came : Result Crash LifeFault) → IfOk came IsFieldCrash → All IsSpelled (report_events name kind came)
-  report_told kind (Ok (crash.First None)) is = one (event.Crashed name kind) (crash_told kind)
-  report_told kind (Ok (crash.First (Some inc))) is = two (event.Closed name inc) (event.Crashed name kind) (((named, (is, tt)), tt)) (crash_told kind)
+  report_told kind (Ok (crash.First closed)) is = crashed_told kind closed is
   report_told kind (Ok crash.Already) is = one (event.AlreadyCrashed name) (((named, tt), tt))
   report_told kind (Ok crash.Limit) is = none
   report_told kind (Err why) is = one (life_fault_event name why) (life_told why)
@@ -551,11 +554,6 @@ module _ (name : List ℕ) (named : IsName name) where
 
   -- ---- drives
 
-  crashed_told : (kind : CrashKind) (found : Option BenchState) → IfSome found IsFieldBench → All IsSpelled (crash_events name kind found)
-  crashed_told kind None is = one (event.Crashed name kind) (crash_told kind)
-  crashed_told kind (Some bench) is =
-      let inc = is.link.inc in two (event.Closed name (link_in bench).era.inc) (event.Crashed name kind) (((named, (omega (arith, inc), tt)), tt)) (crash_told kind)
-
   ended_told : (caller : ℕ) (end : CallEnd) (found : Option BenchState) → caller < 2 ^ 64 → IsFieldEnd end → IfSome found IsReachedBench → IfSome found IsFieldBench
       → All IsSpelled (actor_end_events name caller end found)
   ended_told caller end None small of reached is = none
@@ -568,9 +566,9 @@ module _ (name : List ℕ) (named : IsName name) where
   driven_told is_quiet found driven.Stepped of reached is = none
   driven_told is_quiet found (driven.Ended caller end) of reached is =
       cond_both is_quiet [] (actor_end_events name caller end found) (All IsSpelled) (λ _. none) (λ _. ended_told caller end found of.0 of.1 reached is)
-  driven_told is_quiet found (driven.Worker why) of reached is =
-      All-cons IsSpelled (event.WorkerFault name (worker.fault_number why)) (crash_events name crash_kind.Fatal found) (((named, (worker_number why, tt)), tt)) (crashed_told crash_kind.Fatal found is)
-  driven_told is_quiet found (driven.Crashed kind) of reached is = crashed_told kind found is
+  driven_told is_quiet found (driven.Worker why closed) of reached is =
+      All-cons IsSpelled (event.WorkerFault name (worker.fault_number why)) (crash_events name crash_kind.Fatal closed) (((named, (worker_number why, tt)), tt)) (crashed_told crash_kind.Fatal closed of)
+  driven_told is_quiet found (driven.Crashed kind closed) of reached is = crashed_told kind closed of
 
   rest_told : (crashed idle : Bool) → IfSome (cond crashed (Some (event.Stopped name)) (cond idle (Some (event.Idle name)) None)) IsSpelled
   rest_told true idle = ((named, tt), tt)

@@ -8,3 +8,4 @@ pub mod Outs
 pub mod RemoteEnds
 pub mod BenchMay
 pub mod BenchSteps
+pub mod Cuts

@@ -1,5 +1,5 @@
 -- Turns of a pump, one after the other.
-use Rattle.std.proofs.Common.{◌≡◌, ℕ, suc, ◌+◌, ◌-◌, ◌<◌, ◌≤◌, true, false, cond, refl, sym, ap, ◌∙◌, arith}
+use Rattle.std.proofs.Common.{◌≡◌, ℕ, suc, ◌+◌, true, false, cond, refl, sym, ap, ◌∙◌}
 use Rattle.link_bench.specs.declared.turns.TurnEnd.{TurnEnd}
 use Rattle.link_bench.specs.declared.turns.TurnEnd.TheVariants as turn_end
 use Rattle.link_bench.specs.Benches.{BenchState}
@@ -10,61 +10,59 @@ use Rattle.link_bench.specs.Turns.{Turns, Pumped, is_whole, one_turn, pump_turns
 abbrev pub whole_pump : {W : Type 0} → BenchState → W → ℕ → ℕ → Pumped W
 whole_pump bench watcher steps done = record { turns = record { bench = bench; watcher = watcher; steps = steps; ended = turn_end.Whole }; done = done }
 
-module _ {W : Type 0} (sees : Seeing W) where
+module _ {W : Type 0} (sees : Seeing W) (done sender receiver : ℕ) where
   -- no turn more
-  turns_none : (done sender receiver : ℕ) (bench : BenchState) (watcher : W) (steps : ℕ)
+  pub turns_none : (bench : BenchState) (watcher : W) (steps : ℕ)
       → pump_turns sees 0 done sender receiver bench watcher steps ≡ whole_pump bench watcher steps done
   unfolding pump_turns
-  turns_none done sender receiver bench watcher steps = refl
+  turns_none bench watcher steps = refl
 
   -- one turn and more
-  abbrev after_turn : ℕ → ℕ → ℕ → ℕ → Turns W → Pumped W
-  after_turn more done sender receiver turn =
+  abbrev after_turn : ℕ → Turns W → Pumped W
+  after_turn more turn =
       cond (is_whole turn.ended) (pump_turns sees more (done + 1) sender receiver turn.bench turn.watcher turn.steps) (record { turns = turn; done = done })
 
-  turns_one : (more done sender receiver : ℕ) (bench : BenchState) (watcher : W) (steps : ℕ)
-      → pump_turns sees (suc more) done sender receiver bench watcher steps ≡ after_turn more done sender receiver (one_turn sees sender receiver done bench watcher steps)
+  turns_one : (more : ℕ) (bench : BenchState) (watcher : W) (steps : ℕ)
+      → pump_turns sees (suc more) done sender receiver bench watcher steps ≡ after_turn more (one_turn sees sender receiver done bench watcher steps)
   unfolding pump_turns
-  turns_one more done sender receiver bench watcher steps = refl
+  turns_one more bench watcher steps = refl
 
-  module _ (count done sender receiver : ℕ) (bench : BenchState) (watcher : W) (steps : ℕ) where
-    -- where all turns are done
-    pub turns_end : count ≤ done → done ≤ count → pump_turns sees (count - done) done sender receiver bench watcher steps ≡ whole_pump bench watcher steps count
-    turns_end all most =
-        let none : count - done ≡ 0 = omega (arith, all) in
-        let same : done ≡ count = omega (arith, all, most) in
-        ap (λ n. pump_turns sees n done sender receiver bench watcher steps) none ∙ turns_none done sender receiver bench watcher steps
-        ∙ ap (whole_pump bench watcher steps) same
+  -- the bench that a last turn leaves, whole or not
+  last_bench : (turn : Turns W) → turn.bench ≡ (after_turn 0 turn).turns.bench
+  unfolding pump_turns
+  last_bench turn =
+      elim (is_whole turn.ended) as (λ b. turn.bench ≡ (cond b (pump_turns sees 0 (done + 1) sender receiver turn.bench turn.watcher turn.steps) (record { turns = turn; done = done })).turns.bench)
+      [ true ↦ refl | false ↦ refl ]
 
-    module _ (left : BenchState) (seen : W) (after : ℕ) (ended : TurnEnd) (more : done < count)
+  module _ (bench : BenchState) (watcher : W) (steps : ℕ) where
+    pub turns_last : (one_turn sees sender receiver done bench watcher steps).bench ≡ (pump_turns sees 1 done sender receiver bench watcher steps).turns.bench
+    turns_last =
+        last_bench (one_turn sees sender receiver done bench watcher steps)
+        ∙ ap (λ (pumped : Pumped W). pumped.turns.bench) (sym (turns_one 0 bench watcher steps))
+
+    module _ (left : BenchState) (seen : W) (after : ℕ) (ended : TurnEnd) (more : ℕ)
         (benched : left ≡ (one_turn sees sender receiver done bench watcher steps).bench) (sights : seen ≡ (one_turn sees sender receiver done bench watcher steps).watcher)
         (stepped : after ≡ (one_turn sees sender receiver done bench watcher steps).steps) (ends : ended ≡ (one_turn sees sender receiver done bench watcher steps).ended) where
-      -- a turn more, which left this and ended so
-      turns_on : after_turn (count - (done + 1)) done sender receiver (record { bench = left; watcher = seen; steps = after; ended = ended })
-          ≡ pump_turns sees (count - done) done sender receiver bench watcher steps
+      -- a turn and more, which left this and ended so
+      turns_on : after_turn more (record { bench = left; watcher = seen; steps = after; ended = ended }) ≡ pump_turns sees (suc more) done sender receiver bench watcher steps
       turns_on =
           let turn = one_turn sees sender receiver done bench watcher steps in
-          let left_count = count - (done + 1) in
-          let one : suc left_count ≡ count - done = omega (arith, more) in
           let made : record { bench = left; watcher = seen; steps = after; ended = ended } ≡ turn =
           ap (λ (b : BenchState). record { bench = b; watcher = seen; steps = after; ended = ended }) benched
           ∙ ap (λ (a : W). record { bench = turn.bench; watcher = a; steps = after; ended = ended }) sights
           ∙ ap (λ (s : ℕ). record { bench = turn.bench; watcher = turn.watcher; steps = s; ended = ended }) stepped
           ∙ ap (λ (e : TurnEnd). record { bench = turn.bench; watcher = turn.watcher; steps = turn.steps; ended = e }) ends in
-          ap (after_turn left_count done sender receiver) made
-          ∙ sym (turns_one left_count done sender receiver bench watcher steps)
-          ∙ ap (λ n. pump_turns sees n done sender receiver bench watcher steps) one
+          ap (after_turn more) made ∙ sym (turns_one more bench watcher steps)
 
       -- it was whole
-      pub turns_more : is_whole ended ≡ true
-          → pump_turns sees (count - (done + 1)) (done + 1) sender receiver left seen after ≡ pump_turns sees (count - done) done sender receiver bench watcher steps
+      pub turns_more : is_whole ended ≡ true → pump_turns sees more (done + 1) sender receiver left seen after ≡ pump_turns sees (suc more) done sender receiver bench watcher steps
       turns_more whole =
-          ap (λ b. cond b (pump_turns sees (count - (done + 1)) (done + 1) sender receiver left seen after) (record { turns = record { bench = left; watcher = seen; steps = after; ended = ended }; done = done })) (sym whole)
+          ap (λ b. cond b (pump_turns sees more (done + 1) sender receiver left seen after) (record { turns = record { bench = left; watcher = seen; steps = after; ended = ended }; done = done })) (sym whole)
           ∙ turns_on
 
       -- it was not
       pub turns_stop : is_whole ended ≡ false
-          → record { turns = record { bench = left; watcher = seen; steps = after; ended = ended }; done = done } ≡ pump_turns sees (count - done) done sender receiver bench watcher steps
+          → record { turns = record { bench = left; watcher = seen; steps = after; ended = ended }; done = done } ≡ pump_turns sees (suc more) done sender receiver bench watcher steps
       turns_stop not_whole =
-          ap (λ b. cond b (pump_turns sees (count - (done + 1)) (done + 1) sender receiver left seen after) (record { turns = record { bench = left; watcher = seen; steps = after; ended = ended }; done = done })) (sym not_whole)
+          ap (λ b. cond b (pump_turns sees more (done + 1) sender receiver left seen after) (record { turns = record { bench = left; watcher = seen; steps = after; ended = ended }; done = done })) (sym not_whole)
           ∙ turns_on

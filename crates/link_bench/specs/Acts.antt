@@ -1,5 +1,5 @@
 -- What is done on a link for its callers, what it leaves, and what comes of it (own).
-use Rattle.std.specs.Prelude.{◌≡◌, ℕ, ◌<◌, ◌≤◌, nat_le, nat_lt, List, length, Option, Some, None, is_some, option_map, Result, Ok, Err, if◌then◌else◌}
+use Rattle.std.specs.Prelude.{◌≡◌, ℕ, ◌<◌, ◌≤◌, min, nat_le, nat_lt, List, length, Option, Some, None, is_some, option_map, Result, Ok, Err, if◌then◌else◌}
 use Rattle.std.specs.Option.{option_or}
 use Rattle.rp_base.specs.declared.kinds.End.{End}
 use Rattle.rp_base.specs.declared.kinds.End.TheVariants as side
@@ -56,6 +56,17 @@ IsFitAct (act.Call caller made wanted) = (caller < CALLERS_MOST) × IsFitWish wa
 IsFitAct (act.Step caller more) = (caller < CALLERS_MOST) × (more < STEPS_MOST)
 IsFitAct (act.Pump sender receiver count) = (sender < CALLERS_MOST) × (receiver < CALLERS_MOST) × (count ≤ STEPS_MOST)
 IsFitAct (act.Reclaim caller) = caller < CALLERS_MOST
+
+-- an act, and of a pump at most so many turns
+abbrev pub cut_act : ℕ → LinkAct (List ℕ) → LinkAct (List ℕ)
+cut_act most (act.Pump sender receiver count) = act.Pump sender receiver (min most count)
+cut_act most other = other
+
+-- an act that ends early, for want of memory, leaves this bench: what the act leaves, or a pump of fewer turns, and that act is fit too
+pub record IsCutAct (leaves : LinkAct (List ℕ) → BenchState) (whole : LinkAct (List ℕ)) (left : BenchState) : Type 0 where
+  pub most : ℕ
+  pub fit : IsFitAct (cut_act most whole)
+  pub bench : left ≡ leaves (cut_act most whole)
 
 -- what an act leaves of the bench and of who watches its link, the steps of the run until then, and what comes of it
 pub record Acted (W : Type 0) : Type 0 where

@@ -1,5 +1,5 @@
 -- Turns of a send, its take and its give (own).
-use Rattle.std.specs.Prelude.{ℕ, zero, suc, ◌+◌, Bool, true, false, List, Option, Some, None, Result, Ok, Err, if◌then◌else◌}
+use Rattle.std.specs.Prelude.{◌≡◌, ℕ, zero, suc, ◌+◌, ◌≤◌, Bool, true, false, List, Option, Some, None, Result, Ok, Err, if◌then◌else◌}
 use Rattle.byteorder.specs.Endian.{little_bytes}
 use Rattle.rpmsg_header.specs.Headers.{header_bytes}
 use Rattle.lane_model.specs.declared.calls.Wish.{Wish}
@@ -99,6 +99,12 @@ pump_turns sees (suc more) done sender receiver bench watcher steps =
     let turn = one_turn sees sender receiver done bench watcher steps in
     if is_whole turn.ended then pump_turns sees more (done + 1) sender receiver turn.bench turn.watcher turn.steps
     else record { turns = turn; done = done }
+
+-- turns that end early, for want of memory, leave this bench: what so many of them leave, or fewer
+pub record IsCutPump (leaves : ℕ → BenchState) (count : ℕ) (left : BenchState) : Type 0 where
+  pub done : ℕ
+  pub most : done ≤ count
+  pub bench : left ≡ leaves done
 
 -- where a turn ended with a call that was handed a message, the call's caller holds its buffer and is in no call
 abbrev pub HoldsEndTaken : LinkState EndState → TurnEnd → Type 0

@@ -1,9 +1,10 @@
-ghost use Rattle.std.specs.Prelude.{◌≡◌, ◌<◌, ◌≤◌, IfOk, IfSome, None};
+ghost use Rattle.std.specs.Prelude.{◌≡◌, ◌<◌, ◌≤◌, IfOk, IfSome, None, OnErr};
 ghost use Rattle.rp_base.specs.declared.limits.TheConstants.{CALLERS_MOST, STEPS_MOST};
 ghost use Rattle.lane_model.specs.Links.{LinkState};
 ghost use Rattle.channel_bus.specs.Sides.{EndState};
 ghost use Rattle.link_bench.specs.Benches.{HoldsReachTaken, IsSendable, link_in, ready_fault};
-ghost use Rattle.link_bench.specs.Acts.{HasActed, HoldsAnswerTaken, IsFitAct, IsFitWish, bare_act, bare_wish, call_act, free_act, link_act, made_call, misfit, own_caller, own_in, pump_act, pump_refusal, side_refusal, step_act, walk_act, wish_of};
+ghost use Rattle.link_bench.specs.Turns.{IsCutPump};
+ghost use Rattle.link_bench.specs.Acts.{HasActed, HoldsAnswerTaken, IsCutAct, IsFitAct, IsFitWish, bare_act, bare_wish, call_act, free_act, link_act, made_call, misfit, own_caller, own_in, pump_act, pump_refusal, side_refusal, step_act, walk_act, wish_of};
 
 use crate::bench_crashes::Reclaim;
 use crate::benches::{Bench, BenchFault, Reach};
@@ -106,7 +107,8 @@ impl Bench {
     /// Does an act on the link, the first `own` of whose callers are not there to others. The watcher
     /// sees the end of each call, that of a turn's take before its give, and `steps` counts the steps.
     ///
-    /// Errors: only for want of memory, where the watcher needs it.
+    /// Errors: only for want of memory, where the watcher needs it: the bench is then as the act leaves it,
+    /// or as a pump of fewer turns does.
     #[tactic(auto, unfolding(crate::specs::Acts::link_act))]
     pub fn act<W: Watcher>(
         &mut self,
@@ -118,6 +120,7 @@ impl Bench {
         requires fit { IsFitAct (bare_act (λ bytes. bytes.now) act.now) }
         ensures acted { IfOk result (HasActed (link_act W.sees own self.old (W.state watcher.old) steps.old (bare_act (λ bytes. bytes.now) act.now)) self.new (W.state watcher.new) steps.new) }
         ensures taken { IfOk result (HoldsAnswerTaken (link_in self.new)) }
+        ensures cut { OnErr result (IsCutAct (λ cut. (link_act W.sees own self.old (W.state watcher.old) steps.old cut).bench) (bare_act (λ bytes. bytes.now) act.now) self.new) }
     {
         if let Some(caller) = self.own_in(own, act) {
             return Ok(ActAnswer::Refused(caller, BenchFault::NoCaller));
@@ -146,6 +149,9 @@ impl Bench {
     }
 
     /// Does an act that asks nothing for a caller of the link's own.
+    ///
+    /// Errors: only for want of memory, where the watcher needs it: the bench is then as the act leaves it,
+    /// or as a pump of fewer turns does.
     fn free_act<W: Watcher>(
         &mut self,
         watcher: &mut W,
@@ -155,6 +161,7 @@ impl Bench {
         requires fit { IsFitAct (bare_act (λ bytes. bytes.now) act.now) }
         ensures acted { IfOk result (HasActed (free_act W.sees self.old (W.state watcher.old) steps.old (bare_act (λ bytes. bytes.now) act.now)) self.new (W.state watcher.new) steps.new) }
         ensures taken { IfOk result (HoldsAnswerTaken (link_in self.new)) }
+        ensures cut { OnErr result (IsCutAct (λ cut. (free_act W.sees self.old (W.state watcher.old) steps.old cut).bench) (bare_act (λ bytes. bytes.now) act.now) self.new) }
     {
         match act {
             LinkAct::Caller { end } => match self.caller(*end) {
@@ -178,6 +185,8 @@ impl Bench {
     }
 
     /// A call of a caller, whole or only begun.
+    ///
+    /// Errors: only for want of memory, where the watcher needs it. The call is made all the same.
     #[tactic(auto, unfolding(crate::specs::Acts::call_act))]
     fn call_act<W: Watcher>(
         &mut self,
@@ -191,6 +200,7 @@ impl Bench {
         requires fit { IsFitWish (bare_wish (λ bytes. bytes.now) wish.now) }
         ensures acted { IfOk result (HasActed (call_act W.sees self.old (W.state watcher.old) steps.old caller how (bare_wish (λ bytes. bytes.now) wish.now)) self.new (W.state watcher.new) steps.new) }
         ensures taken { IfOk result (HoldsAnswerTaken (link_in self.new)) }
+        ensures bench { self.new ≡ (call_act W.sees self.old (W.state watcher.old) steps.old caller how (bare_wish (λ bytes. bytes.now) wish.now)).bench }
     {
         if let Some(fault) = self.ready_fault(caller) {
             return Ok(ActAnswer::Refused(caller, fault));
@@ -217,6 +227,8 @@ impl Bench {
     }
 
     /// A call of a caller that may make it.
+    ///
+    /// Errors: only for want of memory, where the watcher needs it. The call is made all the same.
     fn make_call<W: Watcher>(
         &mut self,
         watcher: &mut W,
@@ -231,6 +243,7 @@ impl Bench {
         requires fit { IsFitWish (bare_wish (λ bytes. bytes.now) wish.now) }
         ensures acted { IfOk result (HasActed (made_call W.sees self.old (W.state watcher.old) steps.old caller how (wish_of (bare_wish (λ bytes. bytes.now) wish.now))) self.new (W.state watcher.new) steps.new) }
         ensures taken { IfOk result (HoldsAnswerTaken (link_in self.new)) }
+        ensures bench { self.new ≡ (made_call W.sees self.old (W.state watcher.old) steps.old caller how (wish_of (bare_wish (λ bytes. bytes.now) wish.now))).bench }
     {
         let wished = wish_of(wish);
         match how {
@@ -247,6 +260,8 @@ impl Bench {
     }
 
     /// One step of the call that a caller is in, and `more` further ones.
+    ///
+    /// Errors: only for want of memory, where the watcher needs it. The steps are done all the same.
     #[tactic(auto, unfolding(crate::specs::Acts::step_act))]
     fn step_act<W: Watcher>(
         &mut self,
@@ -259,6 +274,7 @@ impl Bench {
         requires more { more < STEPS_MOST }
         ensures acted { IfOk result (HasActed (step_act W.sees self.old (W.state watcher.old) steps.old caller more) self.new (W.state watcher.new) steps.new) }
         ensures taken { IfOk result (HoldsAnswerTaken (link_in self.new)) }
+        ensures bench { self.new ≡ (step_act W.sees self.old (W.state watcher.old) steps.old caller more).bench }
     {
         if let Some(fault) = self.step_fault(caller) {
             return Ok(ActAnswer::Refused(caller, fault));
@@ -269,6 +285,8 @@ impl Bench {
     }
 
     /// A call of a caller came so far, at this count of steps, and the watcher sees its end.
+    ///
+    /// Errors: only for want of memory, where the watcher needs it.
     fn reach<W: Watcher>(
         &self,
         watcher: &mut W,
@@ -280,13 +298,14 @@ impl Bench {
         ensures acted { IfOk result (λ answer. HasActed (walk_act W.sees (W.state watcher.old) caller (record { bench = self.now; steps = steps.now; reach = reach })) self.now (W.state watcher.new) steps.now answer) }
         ensures taken { IfOk result (HoldsAnswerTaken (link_in self.now)) }
     {
-        if let Reach::Ended(end) = &reach {
-            watcher.see(self, caller, end)?;
-        }
+        self.see_reach(watcher, caller, &reach)?;
         Ok(ActAnswer::Reached(caller, reach))
     }
 
     /// So many turns of two callers on two ends, where both are in use and neither is in a call.
+    ///
+    /// Errors: only for want of memory, in a turn, where the watcher needs it: the bench is then as so many
+    /// turns leave it, or fewer.
     #[tactic(auto, unfolding(crate::specs::Acts::pump_act))]
     fn pump_act<W: Watcher>(
         &mut self,
@@ -301,6 +320,7 @@ impl Bench {
         requires count { count ≤ STEPS_MOST }
         ensures acted { IfOk result (HasActed (pump_act W.sees self.old (W.state watcher.old) steps.old sender receiver count) self.new (W.state watcher.new) steps.new) }
         ensures taken { IfOk result (HoldsAnswerTaken (link_in self.new)) }
+        ensures cut { OnErr result (IsCutPump (λ done. (pump_act W.sees self.old (W.state watcher.old) steps.old sender receiver done).bench) count self.new) }
     {
         if let Some(answer) = self.pump_refusal(sender, receiver) {
             return Ok(answer);

@@ -1,11 +1,12 @@
-ghost use Rattle.std.specs.Prelude.{◌≡◌, ◌<◌, ◌≤◌, ◌+◌, ◌++◌, IfNone, IfOk, IfSome, MatchOption, OnOk, length};
+ghost use Rattle.std.specs.Prelude.{◌≡◌, ◌<◌, ◌≤◌, ◌+◌, ◌++◌, IfNone, IfOk, IfSome, MatchOption, OnErr, OnOk, length};
 ghost use Rattle.rp_base.specs.declared.limits.TheConstants.{CALLERS_MOST, MESSAGE_MOST, PAYLOAD_MOST, STEPS_MOST};
 ghost use Rattle.lane_model.specs.declared.calls.Wish.TheVariants as wish;
 ghost use Rattle.byteorder.specs.Endian.{little_bytes};
 ghost use Rattle.rpmsg_header.specs.Headers.{header_bytes};
 ghost use Rattle.link_bench.specs.Benches.{HoldsReachTaken, call_walk, link_in};
 ghost use Rattle.link_bench.specs.declared.turns.TurnEnd.TheVariants as turn_end;
-ghost use Rattle.link_bench.specs.Turns.{HoldsEndTaken, is_whole, number_of, one_turn, pump_turns, reach_number, take_turn, turn_call, turn_end_of};
+ghost use Rattle.link_bench.specs.Watchers.{watcher_after};
+ghost use Rattle.link_bench.specs.Turns.{HoldsEndTaken, IsCutPump, is_whole, number_of, one_turn, pump_turns, reach_number, take_turn, turn_call, turn_end_of};
 
 use crate::benches::{Bench, BenchFault, Reach};
 use crate::step_counts::StepCount;
@@ -37,7 +38,8 @@ impl Bench {
     /// the end of each take before its give. `ended` says how the last turn ended, and `steps` counts
     /// the steps.
     ///
-    /// Errors: only for want of memory, in the midst of a turn, where the watcher needs it.
+    /// Errors: only for want of memory, in a turn, where the watcher needs it. That turn is the last one, and
+    /// is done like the others: the bench is then as so many turns leave it, or fewer.
     pub fn turns<W: Watcher>(
         &mut self,
         watcher: &mut W,
@@ -56,6 +58,7 @@ impl Bench {
         ensures ended { OnOk result (ended.new ≡ (pump_turns W.sees count 0 sender receiver self.old (W.state watcher.old) steps.old).turns.ended) }
         ensures taken { OnOk result (HoldsEndTaken (link_in self.new) ended.new) }
         ensures done { IfOk result (λ done. done ≡ (pump_turns W.sees count 0 sender receiver self.old (W.state watcher.old) steps.old).done) }
+        ensures cut { OnErr result (IsCutPump (λ done. (pump_turns W.sees done 0 sender receiver self.old (W.state watcher.old) steps.old).turns.bench) count self.new) }
     {
         for done in 0..count {
             self.turn(watcher, sender, receiver, done, steps, ended)?;
@@ -68,6 +71,8 @@ impl Bench {
     }
 
     /// A turn: a send of its number, a take, the give of what it took. `ended` says how it ended.
+    ///
+    /// Errors: only for want of memory, where the watcher needs it. The turn is done all the same.
     #[tactic(auto, unfolding(crate::specs::Turns::one_turn))]
     fn turn<W: Watcher>(
         &mut self,
@@ -81,11 +86,11 @@ impl Bench {
         requires sender { sender < CALLERS_MOST }
         requires receiver { receiver < CALLERS_MOST }
         requires number { number ≤ STEPS_MOST }
-        ensures bench { OnOk result (self.new ≡ (one_turn W.sees sender receiver number self.old (W.state watcher.old) steps.old).bench) }
+        ensures bench { self.new ≡ (one_turn W.sees sender receiver number self.old (W.state watcher.old) steps.old).bench }
         ensures watcher { OnOk result (W.state watcher.new ≡ (one_turn W.sees sender receiver number self.old (W.state watcher.old) steps.old).watcher) }
-        ensures steps { OnOk result (steps.new ≡ (one_turn W.sees sender receiver number self.old (W.state watcher.old) steps.old).steps) }
-        ensures ended { OnOk result (ended.new ≡ (one_turn W.sees sender receiver number self.old (W.state watcher.old) steps.old).ended) }
-        ensures taken { OnOk result (HoldsEndTaken (link_in self.new) ended.new) }
+        ensures steps { steps.new ≡ (one_turn W.sees sender receiver number self.old (W.state watcher.old) steps.old).steps }
+        ensures ended { ended.new ≡ (one_turn W.sees sender receiver number self.old (W.state watcher.old) steps.old).ended }
+        ensures taken { HoldsEndTaken (link_in self.new) ended.new }
     {
         match self.turn_send(sender, &turn_payload(number), steps, ended) {
             Some(_) => self.take_turn(watcher, receiver, steps, ended),
@@ -94,6 +99,8 @@ impl Bench {
     }
 
     /// The take of a turn, of which the watcher sees the end, and the give of what was taken.
+    ///
+    /// Errors: only for want of memory, where the watcher needs it. The give is made all the same.
     #[tactic(auto, unfolding(crate::specs::Turns::take_turn))]
     fn take_turn<W: Watcher>(
         &mut self,
@@ -103,21 +110,37 @@ impl Bench {
         ended: &mut TurnEnd,
     ) -> Result<(), NoMemory>
         requires receiver { receiver < CALLERS_MOST }
-        ensures bench { OnOk result (self.new ≡ (take_turn W.sees receiver self.old (W.state watcher.old) steps.old).bench) }
+        ensures bench { self.new ≡ (take_turn W.sees receiver self.old (W.state watcher.old) steps.old).bench }
         ensures watcher { OnOk result (W.state watcher.new ≡ (take_turn W.sees receiver self.old (W.state watcher.old) steps.old).watcher) }
-        ensures steps { OnOk result (steps.new ≡ (take_turn W.sees receiver self.old (W.state watcher.old) steps.old).steps) }
-        ensures ended { OnOk result (ended.new ≡ (take_turn W.sees receiver self.old (W.state watcher.old) steps.old).ended) }
-        ensures taken { OnOk result (HoldsEndTaken (link_in self.new) ended.new) }
+        ensures steps { steps.new ≡ (take_turn W.sees receiver self.old (W.state watcher.old) steps.old).steps }
+        ensures ended { ended.new ≡ (take_turn W.sees receiver self.old (W.state watcher.old) steps.old).ended }
+        ensures taken { HoldsEndTaken (link_in self.new) ended.new }
     {
         let mut reach = Reach::Limit;
         let Some(number) = self.turn_call(receiver, &Wish::Take, steps, &mut reach, ended) else {
             return Ok(());
         };
-        if let Reach::Ended(end) = &reach {
-            watcher.see(self, receiver, end)?;
-        }
+        let seen = self.see_reach(watcher, receiver, &reach);
         self.give_turn(receiver, number, steps, ended);
-        Ok(())
+        seen
+    }
+
+    /// The watcher sees the end of a call that came to its end.
+    ///
+    /// Errors: only for want of memory, where the watcher needs it.
+    pub(crate) fn see_reach<W: Watcher>(
+        &self,
+        watcher: &mut W,
+        caller: CallerNo,
+        reach: &Reach,
+    ) -> Result<(), NoMemory>
+        requires { HoldsReachTaken (link_in self.now) caller reach.now }
+        ensures { OnOk result (W.state watcher.new ≡ watcher_after W.sees self.now caller reach.now (W.state watcher.old)) }
+    {
+        match reach {
+            Reach::Ended(end) => watcher.see(self, caller, end),
+            Reach::At(_) | Reach::Limit => Ok(()),
+        }
     }
 
     /// The give of a turn.

@@ -1,5 +1,6 @@
 -- The call of a pass: at which stage it is, and what a step makes of it (own).
 use Rattle.std.specs.Prelude.{◌≡◌, Bool, true, false, ℕ, zero, suc, if◌then◌else◌, ◌==◌, ◌||◌, List, [], ◌∷◌}
+use Rattle.lane_model.specs.declared.TheConstants.{MANAGER}
 use Rattle.atomic_table.specs.Table.{Me, rest}
 use Rattle.rp_base.specs.declared.kinds.End.{End}
 use Rattle.lane_model.specs.declared.calls.CallEnd.{CallEnd}
@@ -118,7 +119,7 @@ call_at zero (p ∷ ps) = p.call
 call_at (suc k) (p ∷ ps) = call_at k ps
 
 abbrev pub number_at : ℕ → List Pass → ℕ
-number_at k [] = 64
+number_at k [] = MANAGER
 number_at zero (p ∷ ps) = p.number
 number_at (suc k) (p ∷ ps) = number_at k ps
 

@@ -1,5 +1,6 @@
 -- The part on histories: what the books say of a pass is what its own list says (own).
 use Rattle.std.specs.Prelude.{◌≡◌, ◌≢◌, ℕ, suc, ◌+◌, ◌==◌, ◌&&◌, ◌≤◌, ◌<◌, max, ◌⊎◌, length, Bool, true, false, if◌then◌else◌, List, [], ◌∷◌, ◌++◌, Option, Some}
+use Rattle.lane_model.specs.declared.TheConstants.{MANAGER}
 use Rattle.rp_base.specs.declared.kinds.End.{End}
 use Rattle.rp_base.specs.declared.kinds.End.TheVariants as side
 use Rattle.lane_model.specs.declared.lane_links.LaneLink.{LaneLink}
@@ -131,7 +132,7 @@ latest (Take lane i number message ∷ es) = i
 
 -- who holds something has done its latest step that names an incarnation in this one; nothing is said of the manager's own pass
 abbrev pub IsOfNow : ℕ → ℕ → List ℕ → List Event → Type 0
-IsOfNow inc number hands own = (number ≡ 64) ⊎ ((hands ≡ []) ⊎ (latest own ≡ inc))
+IsOfNow inc number hands own = (number ≡ MANAGER) ⊎ ((hands ≡ []) ⊎ (latest own ≡ inc))
 
 -- what the part on histories reads of a lane: the messages that were accepted, to whom each was handed, who holds what, and how many buffers
 -- are back

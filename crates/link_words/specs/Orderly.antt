@@ -1,5 +1,6 @@
 -- The passes of a view in order: no two alike, and each as the state of the link has it that the view knows (own).
 use Rattle.std.specs.Prelude.{◌≡◌, ◌≢◌, ℕ, Bool, true, false, [], Some}
+use Rattle.lane_model.specs.declared.TheConstants.{MANAGER}
 use mathlib.Core.Option.{some}
 use lib.ListN.{get_elem?}
 use Rattle.rp_base.specs.declared.kinds.End.{End}
@@ -50,7 +51,7 @@ pub record IsPassIn (k : LinkCopy) (q : Pass) : Type 0 where
 
 -- so it is of each caller that a manager carries which knows the state of its link
 abbrev pub ArePassesIn : View → Type 0
-ArePassesIn v = Manages v → v.out ≡ [] → (k : LinkCopy) → v.copy ≡ Some k → (place : ℕ) (q : Pass) → get_elem? v.passes place ≡ some q → q.number ≢ 64 → IsPassIn k q
+ArePassesIn v = Manages v → v.out ≡ [] → (k : LinkCopy) → v.copy ≡ Some k → (place : ℕ) (q : Pass) → get_elem? v.passes place ≡ some q → q.number ≢ MANAGER → IsPassIn k q
 
 -- no two passes have one number, and no two have one side state in their calls; and by the copy of a manager they are those of the state
 pub record IsOrderly (v : View) : Type 0 where

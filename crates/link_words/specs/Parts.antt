@@ -1,5 +1,7 @@
 -- The five parts of the rule, each over what it reads of a state of the ring form, of the slots and of the views (own).
 use Rattle.std.specs.Prelude.{◌≡◌, ◌≢◌, ◌⊎◌, ℕ, ◌+◌, ◌<◌, ◌≤◌, Bool, true, false, List, [], length, Option, Some, None}
+use Rattle.lane_model.specs.declared.TheConstants.{MANAGER}
+use Rattle.rp_base.specs.declared.limits.TheConstants.{CALLERS_MOST}
 use mathlib.Core.Option.{some}
 use mathlib.Core.Option.{Option as Option_of}
 use lib.ListN.{get_elem?}
@@ -53,7 +55,7 @@ pub record HasGathered (lane : LaneTurns) (sides : LaneSides) : Type 0 where
 -- a pass of this number is in this call, where a reopening has reset so many words. A call with a turn is the one that the turn names,
 -- a caller at rest has no turn, and a manager that reopens has the four turns in a closed era in which nothing is held
 abbrev pub IsCallAt : LinkTurns → ℕ → ℕ → Call → Type 0
-IsCallAt t p number Idle = number ≡ 64
+IsCallAt t p number Idle = number ≡ MANAGER
 IsCallAt t p number (Sends e u x buffer) = (end_of t.callers number ≡ Some (other e)) × SendsAt (t.lanes e) number u x buffer × IsCurrent u t.era.inc
 IsCallAt t p number (Receives e u x buffer message) = (end_of t.callers number ≡ Some e) × ReceivesAt (t.lanes e) number u x buffer message × IsCurrentTake u t.era.inc
 IsCallAt t p number (EndsReceive e u x buffer message) = (end_of t.callers number ≡ Some e) × ReceivesAt (t.lanes e) number u x buffer message × (t.era.is_live ≡ false)
@@ -62,9 +64,9 @@ IsCallAt t p number (EndsBoth e u x buffer y) = (end_of t.callers number ≡ Som
 IsCallAt t p number (Rests e) = (end_of t.callers number ≡ Some e) × (has_call (t.lanes (other e)).sender number ≡ false) × (has_call (t.lanes e).receiver number ≡ false)
 IsCallAt t p number (Reclaims e x) = (end_of t.callers number ≡ Some e) × ((t.lanes e).receiver ≡ turn.Manager) × (x ≡ (t.lanes e).receiver_side) × (p ≡ 0) × (has_call (t.lanes (other e)).sender number ≡ false)
 IsCallAt t p number (EndsHeld e x) = (end_of t.callers number ≡ Some e) × ((t.lanes e).receiver ≡ turn.Manager) × (x ≡ (t.lanes e).receiver_side) × (p ≡ 0) × (t.era.is_live ≡ false) × (has_call (t.lanes (other e)).sender number ≡ false)
-IsCallAt t p number (Reopens q inc a b) = (number ≡ 64) × (q ≡ p) × ((t.era.is_live ≡ false) × HasFourTurns (λ e. (t.lanes e).sender) (λ e. (t.lanes e).receiver)) × (t.era.inc ≡ inc)
+IsCallAt t p number (Reopens q inc a b) = (number ≡ MANAGER) × (q ≡ p) × ((t.era.is_live ≡ false) × HasFourTurns (λ e. (t.lanes e).sender) (λ e. (t.lanes e).receiver)) × (t.era.inc ≡ inc)
     × (((t.lanes side.Host).held ≡ []) × ((t.lanes side.Remote).held ≡ [])) × HasGathered (t.lanes side.Host) a × HasGathered (t.lanes side.Remote) b
-IsCallAt t p number (Gathers a b) = (number ≡ 64) × (p ≡ 0) × HasGathered (t.lanes side.Host) a × HasGathered (t.lanes side.Remote) b
+IsCallAt t p number (Gathers a b) = (number ≡ MANAGER) × (p ≡ 0) × HasGathered (t.lanes side.Host) a × HasGathered (t.lanes side.Remote) b
 
 -- a call that has the receiver's turn of the lane to this end for the manager
 abbrev pub has_for_manager : End → Call → Bool
@@ -165,5 +167,5 @@ ManagerKnows coded m views = (i : ℕ) (v : View) → get_elem? views i ≡ some
 pub record NumbersPart {D : Type 0} (coded : Coded D) (m : LaneLink (RingState D)) (views : List View) : Type 0 where
   pub places : AreNumbersApart views
   pub manager : ManagerKnows coded m views
-  pub many : length m.callers ≡ 64
+  pub many : length m.callers ≡ CALLERS_MOST
   pub short : m.era.inc < 4294967296

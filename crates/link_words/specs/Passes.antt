@@ -1,5 +1,6 @@
 -- Passes in views: where each stands, which one a step moves, and how passes go from one view to another (own).
 use Rattle.std.specs.Prelude.{true, Bool, ◌+◌, if◌then◌else◌, ◌==◌, ◌≡◌, ℕ, zero, suc, List, [], ◌∷◌, ◌++◌, false, slice_set, Some, None}
+use Rattle.lane_model.specs.declared.TheConstants.{MANAGER}
 use Rattle.std.specs.Prelude.{Option as Option_of}
 use Rattle.rp_base.specs.declared.kinds.End.{End}
 use Rattle.lane_model.specs.Links.{free_number}
@@ -26,7 +27,7 @@ HasNumber out n = (k : ℕ) × (get_elem? out k ≡ some n)
 
 -- the view has the manager's own pass
 abbrev pub Manages : View → Type 0
-Manages v = (k : ℕ) × (b : Pass) × (get_elem? v.passes k ≡ some b) × (b.number ≡ 64)
+Manages v = (k : ℕ) × (b : Pass) × (get_elem? v.passes k ≡ some b) × (b.number ≡ MANAGER)
 
 -- the pass of a view that a step moves
 pub record Mover (v : View) : Type 0 where

@@ -1,6 +1,7 @@
 -- What the steps tell by which the manager takes the turns of a link, leaves them, and opens the next incarnation (own).
 use Rattle.std.specs.Option.{option_map_or}
 use Rattle.std.specs.Prelude.{Bool, nat_lt, fold, if◌then◌else◌, ◌≡◌, ◌≢◌, ◌⊎◌, ◌<◌, ◌≤◌, ◌+◌, ◌-◌, ℕ, suc, true, false, List, [], ◌∷◌, length, map, Option, Some, None}
+use Rattle.lane_model.specs.declared.TheConstants.{MANAGER}
 use mathlib.Core.Option.{some}
 use lib.ListN.{get_elem?}
 use base.Stored.{Coded}
@@ -74,7 +75,7 @@ sides_of call e = gathers_or (reopens_or no_sides (λ q inc a b. sides_at e a b)
 
 -- where the manager's own pass stands, and its call
 abbrev pub manager_place : SeatState → ℕ
-manager_place me = place_of_number 64 me.0.passes
+manager_place me = place_of_number MANAGER me.0.passes
 
 abbrev pub manager_call : SeatState → Call
 manager_call me = call_at (manager_place me) me.0.passes
@@ -83,7 +84,7 @@ manager_call me = call_at (manager_place me) me.0.passes
 pub record ManagerAt (me : SeatState) (call : Call) : Type 0 where
   pub mover : Mover me.0
   pub here : mover.place ≡ manager_place me
-  pub number : mover.pass.number ≡ 64
+  pub number : mover.pass.number ≡ MANAGER
   pub in_call : mover.pass.call ≡ call
 
 -- both side states of a lane

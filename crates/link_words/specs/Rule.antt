@@ -2,6 +2,7 @@
 use Rattle.link_words.specs.declared.codes.DeskTables.{DeskTables}
 use Rattle.link_words.specs.PlacedDesks.{PlacedDesk, placed_coded, placed_meaning}
 use Rattle.std.specs.Prelude.{◌≡◌, ℕ, false, replicate, List, [], ◌∷◌, None, Some}
+use Rattle.rp_base.specs.declared.limits.TheConstants.{CALLERS_MOST}
 use Rattle.atomic_table.specs.Table.{State}
 use base.Stored.{Coded}
 use Rattle.lane_model.specs.declared.lane_links.LaneLink.{LaneLink}
@@ -33,7 +34,7 @@ abbrev pub first_view : LinkSizes → ℕ → View
 first_view z n = record {
   passes = record { number = n; call = Gathers no_sides no_sides; first = 0; own = []; hands = [] } ∷ [];
   out = [];
-  users = replicate 64 None;
+  users = replicate CALLERS_MOST None;
   inc = z.first;
   reclaims = [];
   ended_passes = [];

@@ -1,5 +1,6 @@
 -- What the steps tell that move, make and end callers, and those of the manager's own view (own).
 use Rattle.std.specs.Prelude.{not, ◌≡◌, ◌<◌, ◌==◌, ◌||◌, ℕ, Bool, true, false, Some}
+use Rattle.lane_model.specs.declared.TheConstants.{MANAGER}
 use mathlib.Core.Option.{Option, some, none}
 use Rattle.rp_base.specs.declared.kinds.Era.{Era}
 use Rattle.rp_base.specs.declared.kinds.End.{End}
@@ -18,13 +19,13 @@ EnlistsCaller e me me' = me' ≡ (with_new_caller e me.0 me'.0.copy, me.1)
 
 -- the caller that a step names
 abbrev pub named_by : Option Slot → ℕ
-named_by none = 64
-named_by (some Empty) = 64
-named_by (some (Sender x)) = 64
-named_by (some (Receiver x)) = 64
-named_by (some (Buffer x)) = 64
+named_by none = MANAGER
+named_by (some Empty) = MANAGER
+named_by (some (Sender x)) = MANAGER
+named_by (some (Receiver x)) = MANAGER
+named_by (some (Buffer x)) = MANAGER
 named_by (some (Caller n)) = n
-named_by (some (Start x)) = 64
+named_by (some (Start x)) = MANAGER
 
 -- the number of a carried caller is free
 abbrev pub EndsCaller : ℕ → SeatState → SeatState → Type 0

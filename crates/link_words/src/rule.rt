@@ -195,11 +195,12 @@ pub struct LinkWords<D> {
 }
 
 impl<D: Desk> TableRule<Slot, View, LinkSizes> for LinkWords<D> {
+    ghost use Rattle.lane_model.specs.declared.TheConstants.{MANAGER};
     ghost use Rattle.link_words.specs.Rule.{LinkRule, first_view};
 
     ghost holds = { LinkRule D.row.coded D.meaning };
 
-    ghost first = { λ key. first_view key 64 };
+    ghost first = { λ key. first_view key MANAGER };
 }
 
 /// The table of a link, as threads share it.

@@ -1,5 +1,7 @@
 //! Seats: callers that are made and end, and what the manager learns.
 ghost use Rattle.std.specs.Prelude.{◌≡◌, ◌≢◌, ℕ, ◌-◌, ◌<◌, ◌≤◌, true, length, List, [], ◌∷◌, Some};
+ghost use Rattle.lane_model.specs.declared.TheConstants.{MANAGER};
+ghost use Rattle.rp_base.specs.declared.limits.TheConstants.{CALLERS_MOST};
 ghost use mathlib.Core.Option.{some};
 ghost use lib.ListN.{get_elem?};
 ghost use Rattle.rp_base.specs.declared.kinds.End.{End};
@@ -24,7 +26,7 @@ use rp_base::{CallerNo, End, Inc};
 /// A caller of this end is made under the least number that is free, and goes out to a seat of its own. It loads the idle word twice.
 pub fn split<D: Desk>(table: &LinkTable<D>, manager: &mut LinkSeat, end: End) -> LinkSeat
     requires table { (manager.old.table_id ≡ table.now.table_id) × (words_in table.now.key ≤ table.now.table_id.words) × (manager.old.me.0.sizes ≡ table.now.key) }
-    requires manager { Manages manager.old.me.0 × ((n : ℕ) × (free_number manager.old.me.0.users ≡ Some n) × (n < 64)) }
+    requires manager { Manages manager.old.me.0 × ((n : ℕ) × (free_number manager.old.me.0.users ≡ Some n) × (n < CALLERS_MOST)) }
     ensures manager { (manager.new.table_id ≡ manager.old.table_id) × (manager.new.id ≡ manager.old.id) × (manager.new.me ≡ (without_new end manager.old.me.0 manager.new.me.0.copy, manager.old.me.1)) }
     ensures caller { (result.table_id ≡ manager.old.table_id) × (result.me ≡ (only_new end manager.old.me.0, [])) }
     ensures step { MakesCaller D.row.coded D.meaning end manager.old.me manager.new.me }
@@ -37,7 +39,7 @@ pub fn split<D: Desk>(table: &LinkTable<D>, manager: &mut LinkSeat, end: End) ->
 /// The last caller that the manager carries goes out, to a seat of its own.
 pub fn let_go<D: Desk>(table: &LinkTable<D>, manager: &mut LinkSeat) -> LinkSeat
     requires table { (manager.old.table_id ≡ table.now.table_id) × (words_in table.now.key ≤ table.now.table_id.words) }
-    requires manager { Manages manager.old.me.0 × ((p : Pass) → get_elem? manager.old.me.0.passes (length manager.old.me.0.passes - 1) ≡ some p → p.number ≢ 64) }
+    requires manager { Manages manager.old.me.0 × ((p : Pass) → get_elem? manager.old.me.0.passes (length manager.old.me.0.passes - 1) ≡ some p → p.number ≢ MANAGER) }
     ensures manager { (manager.new.table_id ≡ manager.old.table_id) × (manager.new.id ≡ manager.old.id) × (manager.new.me ≡ (without_last manager.old.me.0, manager.old.me.1)) }
     ensures caller { (result.table_id ≡ manager.old.table_id) × (result.me ≡ (only_last manager.old.me.0, [])) }
 {

@@ -1,5 +1,6 @@
 //! Turns are taken and left: the first and the last step of each call.
 ghost use Rattle.std.specs.Prelude.{◌≡◌, ◌≤◌, ◌<◌};
+ghost use Rattle.rp_base.specs.declared.limits.TheConstants.{CALLERS_MOST};
 ghost use Rattle.lane_model.specs.declared.recoveries.LaneTurn.TheVariants as lane_turn;
 ghost use Rattle.link_words.specs.Calls.{RestsAt};
 ghost use Rattle.link_words.specs.Orderly.{IsOrderly};
@@ -18,7 +19,7 @@ use rp_base::End;
 #[inline(always)]
 pub fn take_turn<D: Desk>(table: &LinkTable<D>, seat: &mut LinkSeat, start: CallStart) -> u64
     requires table { (seat.old.table_id ≡ table.now.table_id) × (words_in table.now.key ≤ table.now.table_id.words) × (seat.old.me.0.sizes ≡ table.now.key) }
-    requires caller { (r : RestsAt seat.old.me start.end start.caller) × IsFit start.wish r.mover.pass.hands × (start.caller < 64) }
+    requires caller { (r : RestsAt seat.old.me start.end start.caller) × IsFit start.wish r.mover.pass.hands × (start.caller < CALLERS_MOST) }
     ensures same { (seat.new.table_id ≡ seat.old.table_id) × (seat.new.id ≡ seat.old.id) }
     ensures told { TakesTurn start.end start.caller start.follows start.wish seat.old.me result seat.new.me }
     ensures holder { result ≤ 65 }

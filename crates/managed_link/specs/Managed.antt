@@ -7,7 +7,7 @@ use Rattle.std.specs.declared.alloc.Global.{Global}
 use Rattle.rp_base.specs.declared.kinds.End.{End}
 use Rattle.rp_base.specs.declared.kinds.Era.{Era}
 use Rattle.rp_base.specs.declared.kinds.End.TheVariants as side
-use Rattle.rp_base.specs.declared.limits.TheConstants.{BOOK_MOST, CAPACITY_MOST}
+use Rattle.rp_base.specs.declared.limits.TheConstants.{BOOK_MOST, CALLERS_MOST, CAPACITY_MOST}
 use Rattle.lane_model.specs.declared.calls.Answer.{Answer}
 use Rattle.lane_model.specs.declared.calls.Answer.TheVariants as answer
 use Rattle.lane_model.specs.declared.states.Lane.{Lane}
@@ -44,7 +44,7 @@ caller_id number end follows = record { number = number; end = end; follows = fo
 
 -- no caller is in a call
 abbrev pub no_calls : List (Option CarriedCall)
-no_calls = replicate 64 None
+no_calls = replicate CALLERS_MOST None
 
 -- the call that a caller is in
 abbrev pub call_of : List (Option CarriedCall) → ℕ → Option CarriedCall
@@ -105,7 +105,7 @@ pub record IsManaged (shared : SharedLink EndState) (manager : Manager) (calls :
   pub state : IsStateOf end_coded manager m
   pub sound : SoundLink (lists_of m)
   pub limits : IsLimited m.to_host.lane.lane × IsLimited m.to_remote.lane.lane
-  pub slots : length calls ≡ 64
+  pub slots : length calls ≡ CALLERS_MOST
   pub callers : (n : ℕ) (end : End) → end_of m.callers n ≡ Some end → IsCarriedIn shared manager m n end (call_of calls n)
   pub idle : (n : ℕ) → end_of m.callers n ≡ None → call_of calls n ≡ None
   pub to_host : AreHandsOf m side.Host calls host
@@ -113,7 +113,7 @@ pub record IsManaged (shared : SharedLink EndState) (manager : Manager) (calls :
 
 -- who has a turn, if any, is a caller, and not the manager
 abbrev pub IsOfCaller : Option ℕ → Type 0
-IsOfCaller found = IfSome found (λ caller. caller < 64)
+IsOfCaller found = IfSome found (λ caller. caller < CALLERS_MOST)
 
 -- what stands beside: the era, the counts of both lanes and who has their turns; no receiver's turn is the manager's
 pub record ShowsViews (era : Era) (to_host to_remote : LaneView) (m : LinkRings) : Type 0 where

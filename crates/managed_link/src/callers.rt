@@ -1,5 +1,6 @@
 //! The making of a managed link, and its callers.
 ghost use Rattle.std.specs.Prelude.{◌≡◌, ◌<◌, ◌||◌, IfOk, IfSome};
+ghost use Rattle.rp_base.specs.declared.limits.TheConstants.{CALLERS_MOST};
 ghost use Rattle.lane_model.specs.Conditions.{IsConfig, is_calling, is_holding};
 ghost use Rattle.lane_model.specs.Crashes.{has_held};
 ghost use Rattle.lane_model.specs.Desks.{IsFreshDesk};
@@ -65,7 +66,7 @@ impl ManagedLink {
         })
     }
 
-    /// A new caller at this end, under the least number that is not in use. There is none exactly where all 64 are.
+    /// A new caller at this end, under the least number that is not in use. There is none exactly where all are.
     pub fn caller(&mut self, end: End) -> Option<CallerNo>
         ensures number { result ≡ free_number self.old.callers }
         ensures left { self.new ≡ record self.old { callers = with_caller self.old.callers end (free_number self.old.callers) } }
@@ -77,7 +78,7 @@ impl ManagedLink {
     #[inline(always)]
     pub fn end_of(&self, caller: CallerNo) -> Option<End>
         ensures end { result ≡ end_of self.now.callers caller }
-        ensures within { IfSome result (λ _. caller < 64) }
+        ensures within { IfSome result (λ _. caller < CALLERS_MOST) }
     {
         self.manager.end_of(caller)
     }

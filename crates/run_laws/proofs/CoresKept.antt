@@ -3,7 +3,7 @@ use Rattle.std.proofs.Common.{ℕ, List, [], ◌∷◌}
 use Rattle.script_lang.specs.declared.commands.Command.{Command}
 use Rattle.link_bench.specs.declared.acts.LinkAct.{LinkAct}
 use Rattle.link_bench.specs.Benches.{BenchState}
-use Rattle.core_laws.specs.KeptCores.{IsKeptCore}
+use Rattle.crash_recover.specs.Cores.{IsKeptCore}
 use Rattle.core_laws.proofs.CoreActs.{core_act_kept}
 use Rattle.core_laws.proofs.KeptCores.{core_driven, kept_stays}
 use Rattle.command_run.specs.declared.acts.Line.{Line}

@@ -7,9 +7,8 @@ use Rattle.script_lang.specs.Runnable.{AreRunnable, IsRunnable}
 use Rattle.link_bench.specs.Acts.{IsFitAct}
 use Rattle.link_bench.specs.Benches.{BenchState, link_in}
 use Rattle.core_actors.specs.Actors.{ActorsState}
-use Rattle.crash_recover.specs.Cores.{CoreState}
+use Rattle.crash_recover.specs.Cores.{CoreState, IsKeptCore}
 use Rattle.core_laws.specs.BenchMoves.{IsReachedBench, IsReachedCore}
-use Rattle.core_laws.specs.KeptCores.{IsKeptCore}
 use Rattle.core_laws.specs.PendingCalls.{AreFitLanes, IsReadyBench, IsReadyCore}
 use Rattle.core_laws.proofs.CoreActs.{core_act_ready}
 use Rattle.core_laws.proofs.CoreMoves.{new_core_reached, reached_stays}

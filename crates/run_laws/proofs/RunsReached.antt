@@ -22,7 +22,7 @@ use Rattle.core_laws.proofs.BenchMoves.{closed, new_reached, reopened}
 use Rattle.core_laws.proofs.CoreActs.{acted_reached, core_act_reached}
 use Rattle.core_laws.proofs.CoreMoves.{core_driven, new_core_reached, reached_stays}
 use Rattle.core_laws.proofs.Handed.{got_front, got_whole, handed_once}
-use Rattle.core_laws.proofs.KeptCrashes.{reached_sound}
+use Rattle.core_laws.proofs.CrashReclaims.{reached_sound}
 use Rattle.command_run.specs.declared.acts.ManagerAct.{ManagerAct}
 use Rattle.command_run.specs.declared.acts.ManagerAct.TheVariants as manager
 use Rattle.command_run.specs.declared.acts.NamedAct.{NamedAct}

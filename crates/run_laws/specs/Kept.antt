@@ -1,6 +1,6 @@
 -- What the links of a run's cores keep, and what their actors hold (own).
 use Rattle.std.specs.Prelude.{All}
-use Rattle.core_laws.specs.KeptCores.{IsKeptCore}
+use Rattle.crash_recover.specs.Cores.{IsKeptCore}
 use Rattle.core_laws.specs.PendingCalls.{IsReadyCore}
 use Rattle.command_run.specs.NamedCores.{NamedCoreState}
 use Rattle.command_run.specs.Runs.{ObjectsState}

@@ -8,7 +8,7 @@ ghost use Rattle.script_run.specs.Endings.{Writes};
 
 use crate::endings::end_with;
 use crate::statuses::Status;
-use command_run::{Fetched, Objects, RunLog, Stop};
+use command_run::{Objects, RunLog, Stop};
 use crash_recover::Core;
 use image_maker::{SESSIONS_MOST, demo_script};
 use journal::Notice;
@@ -108,7 +108,7 @@ fn count_accepted(alloc: Global, commands: &[Command]) -> Result<Accepted, DemoF
     let mut log = RunLog::new(alloc);
     let mut accepted = Accepted::none();
     for command in commands {
-        let stop = objects.run(command, &Fetched::Missing, &mut log)?;
+        let stop = objects.run(command, &mut log)?;
         if let Some(stop) = stop {
             return Err(DemoFault::Stopped(stop));
         }

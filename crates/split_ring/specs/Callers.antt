@@ -1,5 +1,7 @@
 -- What a call asks and tells of its caller, by the link (own).
 use Rattle.std.specs.Prelude.{◌≡◌, ◌<◌, ℕ, List, [], ◌∷◌, Result}
+use Rattle.lane_model.specs.declared.TheConstants.{MANAGER}
+use Rattle.rp_base.specs.declared.limits.TheConstants.{CALLERS_MOST}
 use base.Stored.{Coded}
 use Rattle.link_words.specs.declared.rule.Event.{Event}
 use Rattle.link_words.specs.declared.rule.Call.TheVariants.{Gathers}
@@ -77,7 +79,7 @@ module _ {D : Type 0} where
     pub seat : IsSeatOf link.table.shared.table_id link.sizes caller.seat.table_id caller.seat.me
     pub one : caller.seat.me.0.passes ≡ pass_in caller.seat.me ∷ []
     pub number : (pass_in caller.seat.me).number ≡ caller.id.number
-    pub low : caller.id.number < 64
+    pub low : caller.id.number < CALLERS_MOST
 
   -- the manager of this link: its seat is one of it, has no turn itself, and knows who is in use; its passes are in order, and so are the slots that are out with the calls that it carries
   pub record IsManagerOf (link : SharedLink D) (manager : Manager) : Type 0 where
@@ -97,7 +99,7 @@ module _ {D : Type 0} where
   pub record MayAdvance (link : SharedLink D) (caller : Caller) (call : RingCall D) : Type 0 where
     pub seat : IsSeatOf link.table.shared.table_id link.sizes caller.seat.table_id caller.seat.me
     pub number : (pass_in caller.seat.me).number ≡ caller.id.number
-    pub low : caller.id.number < 64
+    pub low : caller.id.number < CALLERS_MOST
     pub stands : IsInPhase link.sizes caller.id call.phase caller.seat.me
 
   -- the same caller, in the same call, or in none where it was in none
@@ -155,7 +157,7 @@ module _ {D : Type 0} (coded : Coded D) (meaning : DeskMeaning D) where
 
   -- and so did the manager
   abbrev pub ManagerCloses : Manager → ℕ → Result (Unit {0}) Already → Manager → Type 0
-  ManagerCloses before inc answer after = HasClosed coded meaning 64 inc answer before.seat.me after.seat.me
+  ManagerCloses before inc answer after = HasClosed coded meaning MANAGER inc answer before.seat.me after.seat.me
 
   -- the caller took one step of this call, which said this
   abbrev pub TakesStep : SharedLink D → Caller → RingCall D → Progress → Caller → RingCall D → Type 0

@@ -1,5 +1,6 @@
 -- The calls that a manager carries: what is out with each, and where its caller stands in it (own).
 use Rattle.std.specs.Prelude.{◌≡◌, ◌≢◌, ◌≤◌, ◌<◌, ◌+◌, ℕ, zero, suc, List, [], ◌∷◌, ◌++◌, length, Some, true, slice_index}
+use Rattle.rp_base.specs.declared.limits.TheConstants.{CALLERS_MOST}
 use mathlib.Core.Option.{some}
 use lib.ListN.{get_elem?}
 use Rattle.atomic_table.specs.Table.{turned}
@@ -59,7 +60,7 @@ module _ {D : Type 0} where
   -- the manager carries this caller, which is in this phase of its call, or in no call, where the call has ended
   pub record Carries (link : SharedLink D) (manager : Manager) (who : CallerId) (p : Phase) : Type 0 where
     pub user : end_of manager.users who.number ≡ Some who.end
-    pub low : who.number < 64
+    pub low : who.number < CALLERS_MOST
     pub number : (pass_in (carried_seat who p manager)).number ≡ who.number
     pub counted : slots_in p ≢ 0 → slice_index manager.out (side_of who.end p) ≡ slots_in p
     pub stands : StandsIn link.sizes who p (carried_seat who p manager)

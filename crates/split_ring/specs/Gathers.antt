@@ -1,5 +1,6 @@
 -- The manager's own call over steps: its view but for that call, and the slots that are out (own).
 use Rattle.std.specs.Prelude.{◌≡◌, ◌⊎◌, ◌+◌, ℕ, List, ◌∷◌, Option, Some}
+use Rattle.lane_model.specs.declared.TheConstants.{MANAGER}
 use mathlib.Core.Option.{some}
 use lib.ListN.{get_elem?}
 use base.Stored.{Coded}
@@ -29,13 +30,13 @@ use Rattle.link_words.specs.Words.{sender_slot, receiver_slot}
 
 -- the view in which the manager's own pass is in this call
 abbrev pub called_view : View → Call → Option LinkCopy → View
-called_view v call copy = record v { copy = copy; passes = with_pass_at (λ p. with_call p call) (place_of_number 64 v.passes) v.passes }
+called_view v call copy = record v { copy = copy; passes = with_pass_at (λ p. with_call p call) (place_of_number MANAGER v.passes) v.passes }
 
 -- the seat's view is this one, but for the manager's own pass, which is in this call, and for the copy; and these slots are out
 pub record IsCalling (v : View) (call : Call) (slots : List (ℕ × Slot)) (me : SeatState) : Type 0 where
   pub manager : Pass
-  pub here : get_elem? v.passes (place_of_number 64 v.passes) ≡ some manager
-  pub number : manager.number ≡ 64
+  pub here : get_elem? v.passes (place_of_number MANAGER v.passes) ≡ some manager
+  pub number : manager.number ≡ MANAGER
   pub is : me ≡ (called_view v call me.0.copy, slots)
 
 -- the manager has a side state more or less of the lane to this end
@@ -58,7 +59,7 @@ FreesTurn coded meaning which lane me me' = ManagerDoes coded meaning me (Stores
 
 -- who has a turn is a caller that is in use; or the manager has it, by the seat of a caller that is in use
 abbrev pub IsHolderIn : View → ℕ → Type 0
-IsHolderIn v holder = ((e : End) × (end_of v.users holder ≡ Some e)) ⊎ ((holder ≡ 64) × SomeInUse v)
+IsHolderIn v holder = ((e : End) × (end_of v.users holder ≡ Some e)) ⊎ ((holder ≡ MANAGER) × SomeInUse v)
 
 -- the slots of both side states of a lane are out, with nothing in them
 abbrev pub lane_slots : End → List (ℕ × Slot) → List (ℕ × Slot)

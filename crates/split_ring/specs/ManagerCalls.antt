@@ -1,5 +1,6 @@
 -- What the manager's calls answer and leave of a link whose state it knows (own).
 use Rattle.std.specs.Prelude.{◌≡◌, ◌⊎◌, ◌*◌, ℕ, Option, Result, Vec, Ok, Err, Some, None}
+use Rattle.rp_base.specs.declared.limits.TheConstants.{MESSAGE_MOST}
 use base.Stored.{Coded}
 use Rattle.std.specs.declared.alloc.Global.{Global}
 use Rattle.lane_model.specs.declared.calls.Answer.{Answer}
@@ -60,7 +61,7 @@ pub record CallsState {D : Type 0} (coded : Coded D) (meaning : DeskMeaning D) (
 
 -- the era and the words of a link in this state, with its buffers from address 0 on, 512 bytes each, those of the lane to the host first
 abbrev pub snapshot_of : {D : Type 0} → LaneLink (RingState D) → Snapshot
-snapshot_of m = record { era = m.era; to_host = words_of m.to_host.rings 0; to_remote = words_of m.to_remote.rings (512 * m.to_host.rings.sizes.capacity) }
+snapshot_of m = record { era = m.era; to_host = words_of m.to_host.rings 0; to_remote = words_of m.to_remote.rings (MESSAGE_MOST * m.to_host.rings.sizes.capacity) }
 
 -- a snapshot of a link in this state has this answer
 abbrev pub ShowsState : {D : Type 0} → LaneLink (RingState D) → Result Snapshot SnapshotFault → Type 0

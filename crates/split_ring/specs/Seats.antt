@@ -1,5 +1,7 @@
 -- What a caller's seat knows: its one pass, its call, and the slots that are out with it (own).
 use Rattle.std.specs.Prelude.{◌≡◌, ◌<◌, ℕ, List, [], ◌∷◌}
+use Rattle.rp_base.specs.declared.limits.TheConstants.{CALLERS_MOST}
+use Rattle.lane_model.specs.declared.TheConstants.{MANAGER}
 use Rattle.atomic_table.specs.Seated.{TableId}
 use Rattle.link_words.specs.declared.rule.Call.{Call}
 use Rattle.link_words.specs.declared.rule.Call.TheVariants.{Idle, Rests}
@@ -11,7 +13,7 @@ use Rattle.split_ring.specs.declared.callers.CallerId.{CallerId}
 
 -- the first pass of a list, or one of nobody
 abbrev pub first_pass : List Pass → Pass
-first_pass [] = record { number = 64; call = Idle; first = 0; own = []; hands = [] }
+first_pass [] = record { number = MANAGER; call = Idle; first = 0; own = []; hands = [] }
 first_pass (p ∷ ps) = p
 
 -- the pass of a caller's seat
@@ -34,4 +36,4 @@ pub record IsCaller (table : TableId) (sizes : LinkSizes) (who : CallerId) (tabl
   pub seat : IsSeatOf table sizes table_id me
   pub rests : IsAt me (Rests who.end) []
   pub number : (pass_in me).number ≡ who.number
-  pub low : who.number < 64
+  pub low : who.number < CALLERS_MOST

@@ -1,5 +1,6 @@
 -- The words of a link as the manager finds them, one load after the other, while it has the four turns (own).
 use Rattle.std.specs.Prelude.{◌≡◌, ◌<◌, ◌*◌, ◌%◌, ℕ, Bool, true, false, not, length, slice_index, slice_index_or}
+use Rattle.rp_base.specs.declared.limits.TheConstants.{MESSAGE_MOST}
 use base.Stored.{Coded}
 use Rattle.rp_base.specs.declared.kinds.End.{End}
 use Rattle.rp_base.specs.declared.kinds.End.TheVariants as side
@@ -77,7 +78,7 @@ module _ {D : Type 0} (coded : Coded D) (meaning : DeskMeaning D) where
     pub all : HasAll v host_sender host_receiver remote_sender remote_receiver me
     pub era : FindsIn me (λ m. m.era ≡ snapshot.era)
     pub to_host : IsLaneFound me side.Host 0 snapshot.to_host
-    pub to_remote : IsLaneFound me side.Remote (512 * v.sizes.to_host.capacity) snapshot.to_remote
+    pub to_remote : IsLaneFound me side.Remote (MESSAGE_MOST * v.sizes.to_host.capacity) snapshot.to_remote
 
 -- a turn that is another's is that of a caller in use, or the manager's by the seat of a caller in use
 abbrev pub IsRefusedIn : View → SnapshotFault → Type 0

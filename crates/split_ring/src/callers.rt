@@ -1,9 +1,10 @@
 //! Who steps on a link: its callers and its manager.
 ghost use Rattle.std.specs.Prelude.{◌≡◌, ◌<◌, Some, None, IfSome};
+ghost use Rattle.rp_base.specs.declared.limits.TheConstants.{CALLERS_MOST};
 ghost use Rattle.lane_model.specs.Links.{free_number};
 
 use link_words::LinkSeat;
-use rp_base::{CallerNo, End, Inc};
+use rp_base::{CALLERS_MOST, CallerNo, End, Inc};
 
 /// A caller's number and end, and the incarnation that its calls follow.
 #[derive(Clone, Copy)]
@@ -55,12 +56,12 @@ impl Caller {
     }
 }
 
-/// The one who makes callers. Its own number is 64.
+/// The one who makes callers. Its own number is [`MANAGER`](lane_model::MANAGER).
 #[derive(Drop)]
 pub struct Manager {
     pub(crate) seat: LinkSeat,
     /// The callers in use, by number.
-    pub(crate) users: [Option<End>; 64],
+    pub(crate) users: [Option<End>; CALLERS_MOST],
     /// How many slots are out with the calls that it carries, by the slot of the side state.
     pub(crate) out: [u8; 4],
 }
@@ -71,7 +72,7 @@ impl Manager {
     /// The end of the caller of this number, where it is in use.
     pub fn end_of(&self, caller: CallerNo) -> Option<End>
         ensures end { result ≡ end_of self.now.users caller }
-        ensures within { IfSome result (λ _. caller < 64) }
+        ensures within { IfSome result (λ _. caller < CALLERS_MOST) }
     {
         match self.users.get(usize::from(caller)) {
             Some(found) => *found,
@@ -81,9 +82,9 @@ impl Manager {
 }
 
 /// The least number that is not in use.
-pub(crate) fn least_free(users: &[Option<End>; 64]) -> Option<CallerNo>
+pub(crate) fn least_free(users: &[Option<End>; CALLERS_MOST]) -> Option<CallerNo>
     ensures number { result ≡ free_number users.now }
-    ensures within { IfSome result (λ number. number < 64) }
+    ensures within { IfSome result (λ number. number < CALLERS_MOST) }
 {
     match users.iter().position(|found| found.is_none()) {
         None => None,

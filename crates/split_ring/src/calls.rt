@@ -1,5 +1,6 @@
 //! A call taken step by step: in which phase it is, and one step of it.
 ghost use Rattle.std.specs.Prelude.{◌≡◌, ◌≢◌, ◌+◌, ◌∷◌, [], ◌<◌, ℕ, None, Some, Err, is_some, option_and_then, option_copied, true};
+ghost use Rattle.rp_base.specs.declared.limits.TheConstants.{CALLERS_MOST};
 ghost use Rattle.lane_model.specs.declared.calls.Answer.TheVariants as answer;
 ghost use Rattle.lane_model.specs.declared.calls.Ask.{Ask};
 ghost use Rattle.lane_model.specs.declared.calls.Ask.TheVariants as ask;
@@ -204,7 +205,7 @@ impl<D: Desk> SharedLink<D> {
     /// The next step of the call of a seat in this phase, which it leaves in place. A step that ends the call leaves its answer there.
     pub(crate) fn step_on(&self, seat: &mut LinkSeat, who: CallerId, phase: &mut Phase) -> Step
         requires seat { IsOrderlySeat self.now.table.shared.table_id self.now.sizes seat.old.table_id seat.old.me }
-        requires number { ((pass_in (seat_of who.number seat.old.me)).number ≡ who.number) × (who.number < 64) }
+        requires number { ((pass_in (seat_of who.number seat.old.me)).number ≡ who.number) × (who.number < CALLERS_MOST) }
         requires stands { IsInPhase self.now.sizes who phase.old (seat_of who.number seat.old.me) }
         ensures seat { IsOrderlySeat self.now.table.shared.table_id self.now.sizes seat.new.table_id seat.new.me }
         ensures step { Advances D.row.coded D.meaning self.now.sizes who phase.old (progress_of result phase.new) (phase_behind result phase.new) (seat_of who.number seat.old.me) (seat_of who.number seat.new.me) }
@@ -258,7 +259,7 @@ impl<D: Desk> SharedLink<D> {
     #[inline(never)]
     fn first_step(&self, seat: &mut LinkSeat, who: CallerId, phase: &mut Phase) -> Step
         requires seat { IsOrderlySeat self.now.table.shared.table_id self.now.sizes seat.old.table_id seat.old.me }
-        requires number { ((pass_in (seat_of who.number seat.old.me)).number ≡ who.number) × (who.number < 64) }
+        requires number { ((pass_in (seat_of who.number seat.old.me)).number ≡ who.number) × (who.number < CALLERS_MOST) }
         requires stands { (asked : Ask) × (phase.old ≡ in_phase.Asked asked) × IsInPhase self.now.sizes who (in_phase.Asked asked) (seat_of who.number seat.old.me) }
         ensures seat { IsOrderlySeat self.now.table.shared.table_id self.now.sizes seat.new.table_id seat.new.me }
         ensures step { Advances D.row.coded D.meaning self.now.sizes who phase.old (progress_of result phase.new) (phase_behind result phase.new) (seat_of who.number seat.old.me) (seat_of who.number seat.new.me) }

@@ -18,12 +18,9 @@ ghost use Rattle.link_words.specs.Orderly.{IsOrderly};
 use crate::callers::{Caller, Manager};
 use crate::links::SharedLink;
 use crate::turns::{era_of, is_live_in};
-use lane_model::{Already, Desk};
+use lane_model::{Already, Desk, MANAGER};
 use link_words::{LinkSeat, close_era};
 use rp_base::{CallerNo, Inc};
-
-/// The number of the manager.
-const MANAGER: CallerNo = 64;
 
 impl<D: Desk> SharedLink<D> {
     /// One attempt to close this incarnation, by a caller that may be in the middle of a call. It takes no memory and does not wait.

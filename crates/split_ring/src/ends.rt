@@ -1,6 +1,7 @@
 //! The end of a caller's call in a reclaim, by its pass of a seat that may have several: a function for each part. What each asks and tells is of that pass alone, with the
 //! slots that are out with its call, which are in front.
 ghost use Rattle.std.specs.Prelude.{◌≡◌, ◌<◌, ◌++◌, ◌∷◌, length, if◌then◌else◌, [], Bool, true, false, IfOk, IfErr};
+ghost use Rattle.rp_base.specs.declared.limits.TheConstants.{CALLERS_MOST};
 ghost use Rattle.rp_base.specs.declared.kinds.Era.{Era};
 ghost use Rattle.lane_model.specs.declared.lane_links.LaneLink.{LaneLink};
 ghost use Rattle.lane_model.specs.declared.recoveries.LaneTurn.TheVariants as lane_turn;
@@ -68,7 +69,7 @@ impl<D: Desk> SharedLink<D> {
     ) -> Result<(), ReclaimRefusal>
         requires seat { IsOrderlySeat self.now.table.shared.table_id self.now.sizes seat.old.table_id seat.old.me }
         requires all { all ≡ length seat.old.me.1 }
-        requires number { ((pass_in (seat_of who.number seat.old.me)).number ≡ who.number) × (who.number < 64) }
+        requires number { ((pass_in (seat_of who.number seat.old.me)).number ≡ who.number) × (who.number < CALLERS_MOST) }
         requires stands { HasTurnHeld self.now.sizes who turn (seat_of who.number seat.old.me) }
         requires hands { is_holding ≡ false → (pass_in (seat_of who.number seat.old.me)).hands ≡ [] }
         ensures seat { IsOrderlySeat self.now.table.shared.table_id self.now.sizes seat.new.table_id seat.new.me }
@@ -104,7 +105,7 @@ impl<D: Desk> SharedLink<D> {
         is_holding: bool,
     ) -> Result<(), ReclaimRefusal>
         requires seat { IsSeatOf self.now.table.shared.table_id self.now.sizes seat.old.table_id seat.old.me }
-        requires number { ((pass_in seat.old.me).number ≡ who.number) × (who.number < 64) }
+        requires number { ((pass_in seat.old.me).number ≡ who.number) × (who.number < CALLERS_MOST) }
         requires stands { HasTurnHeld self.now.sizes who turn seat.old.me }
         requires hands { is_holding ≡ false → (pass_in seat.old.me).hands ≡ [] }
         ensures seat { IsSeatOf self.now.table.shared.table_id self.now.sizes seat.new.table_id seat.new.me }

@@ -1,5 +1,6 @@
 //! A link that threads share, and its making.
 ghost use Rattle.std.specs.Prelude.{◌≡◌, ◌+◌, ◌<◌, ◌≤◌, [], IfOk, IfSome, IfNone, Some, None, slice_set};
+ghost use Rattle.lane_model.specs.declared.TheConstants.{MANAGER};
 ghost use Rattle.lane_model.specs.Conditions.{IsConfig};
 ghost use Rattle.lane_model.specs.Desks.{IsFreshDesk};
 ghost use Rattle.lane_model.specs.Links.{free_number};
@@ -22,7 +23,7 @@ use link_words::{
     DeskRule, DeskTables, DeskView, LinkSeat, LinkSizes, LinkWords, Slot, View, split,
 };
 use ring_core::RingSizes;
-use rp_base::{End, Inc, NoMemory};
+use rp_base::{CALLERS_MOST, End, Inc, NoMemory};
 use std::alloc::Global;
 use std::snapshot::Snapshot;
 
@@ -84,7 +85,7 @@ impl<D: Desk> SharedLink<D> {
         requires desks { IsFreshDesk D.meaning host × IsFreshDesk D.meaning remote }
         ensures sizes { IfOk result (λ made. made.0.sizes ≡ sizes_for config made.0.sizes.desks) }
         ensures manager { IfOk result (λ made. IsManagerOf made.0 made.1) }
-        ensures view { IfOk result (λ made. made.1.seat.me ≡ (first_view made.0.sizes 64, [])) }
+        ensures view { IfOk result (λ made. made.1.seat.me ≡ (first_view made.0.sizes MANAGER, [])) }
         ensures state { IfOk result (λ made. IsStateOf D.row.coded made.1 (opened_ring_link config host remote)) }
     {
         let (host, host_seat) = desk_table(alloc, host)?;
@@ -114,7 +115,7 @@ impl<D: Desk> SharedLink<D> {
                 },
                 Manager {
                     seat,
-                    users: [None; 64],
+                    users: [None; CALLERS_MOST],
                     out: [0; 4],
                 },
             )),
@@ -123,7 +124,7 @@ impl<D: Desk> SharedLink<D> {
     }
 
     /// A new caller on this end, under the least number that is not in use. There is none exactly
-    /// where 64 are in use.
+    /// where all are in use.
     pub fn caller(&self, manager: &mut Manager, end: End) -> Option<Caller>
         requires { IsManagerOf self.now manager.old }
         ensures manager { IsManagerOf self.now manager.new }

@@ -26,7 +26,7 @@ use rp_base::{CallerNo, End};
 
 impl<D: Desk> SharedLink<D> {
     /// A new caller on this end, which the manager carries, under the least number that is not in use. There is
-    /// none exactly where 64 are in use.
+    /// none exactly where all are in use.
     pub fn enlist(&self, manager: &mut Manager, end: End) -> Option<CallerNo>
         requires { IsManagerOf self.now manager.old }
         ensures manager { IsManagerOf self.now manager.new }

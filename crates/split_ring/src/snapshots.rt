@@ -1,5 +1,6 @@
 //! The words of a link as they stand, while the manager has its four turns.
 ghost use Rattle.std.specs.Prelude.{◌≡◌, ◌<◌, ◌*◌, ◌%◌, ℕ, IfOk, IfErr, length, map, slice_index_or};
+ghost use Rattle.rp_base.specs.declared.limits.TheConstants.{MESSAGE_MOST};
 ghost use Rattle.rp_base.specs.declared.kinds.End.TheVariants as side;
 ghost use Rattle.rp_base.specs.Limits.{IsRingSize, ring_capacity};
 ghost use Rattle.lane_model.specs.declared.lane_links.LaneLink.{LaneLink};
@@ -19,7 +20,7 @@ use lane_model::Desk;
 use link_words::{
     ERA_PLACE, LinkSeat, Ring, entry_place, forward_place, look_for_manager, return_place,
 };
-use rp_base::{Da, End, NoMemory};
+use rp_base::{Da, End, MESSAGE_MOST, NoMemory};
 use std::alloc::Global;
 use vring_layout::{AvailableWords, RingWords, Snapshot, SnapshotFault, UsedWord, UsedWords};
 
@@ -105,11 +106,11 @@ impl<D: Desk> SharedLink<D> {
         ensures same { (seat.new.table_id ≡ seat.old.table_id) × (seat.new.me ≡ seat.old.me) }
         ensures era { IfOk result (λ snapshot. FindsIn D.row.coded D.meaning seat.old.me (λ m. m.era ≡ snapshot.era)) }
         ensures to_host { IfOk result (λ snapshot. IsLaneFound D.row.coded D.meaning seat.old.me side.Host 0 snapshot.to_host) }
-        ensures to_remote { IfOk result (λ snapshot. IsLaneFound D.row.coded D.meaning seat.old.me side.Remote (512 * self.now.sizes.to_host.capacity) snapshot.to_remote) }
+        ensures to_remote { IfOk result (λ snapshot. IsLaneFound D.row.coded D.meaning seat.old.me side.Remote (MESSAGE_MOST * self.now.sizes.to_host.capacity) snapshot.to_remote) }
     {
         let era = era_of(look_for_manager(&self.table.shared, seat, ERA_PLACE));
         let to_host = self.find_lane(alloc, seat, End::Host, 0)?;
-        let behind = u32::from(self.sizes.to_host.capacity) * 512;
+        let behind = u32::from(self.sizes.to_host.capacity) * MESSAGE_MOST as u32;
         let to_remote = self.find_lane(alloc, seat, End::Remote, behind)?;
         Ok(Snapshot {
             era,

@@ -294,8 +294,8 @@ reported_load : (came : Driven) (core : CoreState) → IsFitLoad core → IsFitL
 reported_load driven.Idle core is = is
 reported_load driven.Stepped core is = is
 reported_load (driven.Ended caller end) core is = is
-reported_load (driven.Worker why) core is = report_load core is
-reported_load (driven.Crashed kind) core is = report_load core is
+reported_load (driven.Worker why closed) core is = report_load core is
+reported_load (driven.Crashed kind closed) core is = report_load core is
 
 actor_load : (who : Actor) (core : CoreState) → IsFitLoad core → IsFitLoad (actor_step who core).core
 actor_load actor.Host core is = host_load core core.bench is

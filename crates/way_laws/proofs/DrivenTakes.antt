@@ -25,7 +25,7 @@ use Rattle.crash_recover.specs.declared.core_answers.Crash.{Crash}
 use Rattle.crash_recover.specs.declared.core_answers.Crash.TheVariants as crash
 use Rattle.crash_recover.specs.CoreCrashes.{report_of}
 use Rattle.crash_recover.specs.Cores.{CoreState, LoadState}
-use Rattle.crash_recover.specs.Drives.{DriveStep, actor_step, actor_to_step, after_record, core_with_report, drive_step, host_step, is_idle, placed_map, record_run, record_step, step_with_report, with_turn_after, worker_call}
+use Rattle.crash_recover.specs.Drives.{DriveStep, actor_step, actor_to_step, after_record, core_with_report, drive_step, driven_with_report, host_step, is_idle, placed_map, record_run, record_step, step_with_report, with_turn_after, worker_call}
 use Rattle.act_laws.specs.CoreDeeds.{actor_deeds, actor_link_deeds, begun_deeds, crash_deeds, drive_deeds, driven_takes, link_deeds, one_remote, other_deeds, others_deeds, record_deeds, remote_deeds, reported_deeds}
 use Rattle.act_laws.specs.Deeds.{Deeds, advance_deeds, deeds_then, no_deeds, one_move, reach_takes}
 
@@ -114,7 +114,7 @@ module _ (end : End) where
   call_told core None = refl
   call_told core (Some bench) = link_told bench 1 (first_or_take core.actors.worker_calls)
 
-  work_told : (core : CoreState) (done : Work) → (record_deeds (drive_of_work done) core).takes end ≡ driven_takes (drive_of_work done) (core_with_report (drive_of_work done) core).bench end
+  work_told : (core : CoreState) (done : Work) → (record_deeds (drive_of_work done) core).takes end ≡ driven_takes (driven_with_report (drive_of_work done) core) (core_with_report (drive_of_work done) core).bench end
   work_told core work.Nothing = refl
   work_told core (work.Ask wanted) = refl
   work_told core work.Halted = refl

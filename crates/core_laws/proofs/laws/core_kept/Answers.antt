@@ -1,5 +1,6 @@
-use Rattle.core_laws.proofs.KeptCores.{core_driven, core_readied, core_reopened, kept_stays}
-use Rattle.core_laws.specs.KeptCores.{IsKeptCore}
+use Rattle.core_laws.proofs.KeptCores.{core_driven, kept_stays}
+use Rattle.crash_recover.proofs.KeptBenches.{core_readied, core_reopened}
+use Rattle.crash_recover.specs.Cores.{IsKeptCore}
 use Rattle.core_laws.proofs.Outcomes.{boot_stays, detach_stays, handover_stays, recovery_stays, report_stays, shutdown_stays}
 use Rattle.core_laws.proofs.CoreActs.{core_act_kept}
 use Rattle.core_laws.proofs.laws.core_kept.Goals as goal

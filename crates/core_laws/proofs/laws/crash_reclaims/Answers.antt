@@ -1,6 +1,6 @@
 use Rattle.std.proofs.Common.{refl}
 use Rattle.core_laws.proofs.KeptCallers.{crash_callers}
-use Rattle.core_laws.proofs.KeptCrashes.{first_unrefused, other_unrefused}
+use Rattle.core_laws.proofs.CrashReclaims.{first_unrefused, other_unrefused}
 use Rattle.core_laws.proofs.laws.crash_reclaims.Goals as goal
 
 pub returns : goal.returns

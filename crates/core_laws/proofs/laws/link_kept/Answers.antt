@@ -1,5 +1,5 @@
-use Rattle.core_laws.proofs.KeptCores.{caller_kept, reclaim_kept}
-use Rattle.core_laws.proofs.KeptLinks.{advance_kept, start_kept, whole_kept}
+use Rattle.crash_recover.proofs.KeptBenches.{caller_kept, reclaim_kept}
+use Rattle.crash_recover.proofs.KeptLinks.{advance_kept, start_kept, whole_kept}
 use Rattle.core_laws.proofs.laws.link_kept.Goals as goal
 
 pub returns : goal.returns

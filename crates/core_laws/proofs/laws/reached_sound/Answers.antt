@@ -1,4 +1,4 @@
-use Rattle.core_laws.proofs.KeptCrashes.{reached_sound}
+use Rattle.core_laws.proofs.CrashReclaims.{reached_sound}
 use Rattle.core_laws.proofs.laws.reached_sound.Goals as goal
 
 pub returns : goal.returns

@@ -1,12 +1,12 @@
-use Rattle.std.proofs.Common.{◌≡◌, ◌<◌, List, Some, None, IfOk, length, slice_get, slice_set, refl, ap, subst, ◌∙◌}
+use Rattle.std.proofs.Common.{◌≡◌, ◌<◌, List, Some, None, Err, IfOk, length, slice_get, slice_set, refl, ap, subst, ◌∙◌}
 use Rattle.std.proofs.lemmas.Option.{slice_get_read}
 use Rattle.std.proofs.lemmas.Result.{IfOk-weaker}
+use Rattle.rp_io.specs.declared.faults.FetchFault.TheVariants as fetch_fault
 use Rattle.command_run.specs.NamedCores.{NamedCoreState}
 use Rattle.command_run.specs.NamedImages.{ImageState}
 use Rattle.command_run.specs.CoreCommands.{core_effect}
 use Rattle.command_run.specs.Acts.{bare_named_act}
 use Rattle.command_run.specs.Logs.{HasCoreEffect, HasRunEffect}
-use Rattle.command_run.specs.Fetches.{answer_of}
 use Rattle.command_run.specs.Runs.{ObjectsState, RunState, core_place, unnamed_effect, without_link_effect}
 use Rattle.command_run.proofs.Placing.{core_run, nameless_run}
 use Rattle.command_run.proofs.objects.Objects.run_on_cores.Goals as goal
@@ -26,14 +26,14 @@ returns-in-Some c =
     let is_quiet = c.self.inside.is_quiet in
     let run : RunState = record { objects = record { links = links; cores = items; images = images; is_quiet = is_quiet }; steps = c.args.log.now.steps } in
     subst (λ (objects : ObjectsState). IfOk c.run.result (λ ending.
-    HasRunEffect (without_link_effect (answer_of c.args.fetched.now) (record { objects = objects; steps = c.args.log.now.steps }) c.args.name (bare_named_act (λ bytes. bytes.now) c.args.act.now)) (record { links = links; cores = slice_set items place c.run.new.self; images = images; is_quiet = is_quiet })
+    HasRunEffect (without_link_effect (Err fetch_fault.Missing) (record { objects = objects; steps = c.args.log.now.steps }) c.args.name (bare_named_act (λ bytes. bytes.now) c.args.act.now)) (record { links = links; cores = slice_set items place c.run.new.self; images = images; is_quiet = is_quiet })
     c.args.log.now c.run.new.log ending))
     c.self.view_is
     (IfOk-weaker c.run.result
-    (λ ending. HasCoreEffect (core_effect images (answer_of c.args.fetched.now) is_quiet named c.args.log.now.steps (bare_named_act (λ bytes. bytes.now) c.args.act.now)) c.run.new.self.core c.args.log.now c.run.new.log ending)
-    (λ ending. HasRunEffect (without_link_effect (answer_of c.args.fetched.now) run c.args.name (bare_named_act (λ bytes. bytes.now) c.args.act.now)) (record { links = links; cores = slice_set items place c.run.new.self; images = images; is_quiet = is_quiet }) c.args.log.now c.run.new.log ending)
-    (λ ending did. core_run (answer_of c.args.fetched.now) run c.args.name (bare_named_act (λ bytes. bytes.now) c.args.act.now) c.args.log.now c.run.new.log ending place named c.run.new.self placed found c.run.ensures.name did)
-    (subst (λ (made : List ImageState). IfOk c.run.result (λ ending. HasCoreEffect (core_effect made (answer_of c.args.fetched.now) is_quiet named c.args.log.now.steps (bare_named_act (λ bytes. bytes.now) c.args.act.now)) c.run.new.self.core c.args.log.now c.run.new.log ending))
+    (λ ending. HasCoreEffect (core_effect images (Err fetch_fault.Missing) is_quiet named c.args.log.now.steps (bare_named_act (λ bytes. bytes.now) c.args.act.now)) c.run.new.self.core c.args.log.now c.run.new.log ending)
+    (λ ending. HasRunEffect (without_link_effect (Err fetch_fault.Missing) run c.args.name (bare_named_act (λ bytes. bytes.now) c.args.act.now)) (record { links = links; cores = slice_set items place c.run.new.self; images = images; is_quiet = is_quiet }) c.args.log.now c.run.new.log ending)
+    (λ ending did. core_run (Err fetch_fault.Missing) run c.args.name (bare_named_act (λ bytes. bytes.now) c.args.act.now) c.args.log.now c.run.new.log ending place named c.run.new.self placed found c.run.ensures.name did)
+    (subst (λ (made : List ImageState). IfOk c.run.result (λ ending. HasCoreEffect (core_effect made (Err fetch_fault.Missing) is_quiet named c.args.log.now.steps (bare_named_act (λ bytes. bytes.now) c.args.act.now)) c.run.new.self.core c.args.log.now c.run.new.log ending))
     c.as_slice-images.ensures.value c.run.ensures.effect))
 
 pub returns-in-None : goal.returns-in-None
@@ -45,6 +45,6 @@ returns-in-None c =
     ∙ ap (core_place c.args.self.now.cores) c.bytes.ensures.bytes in
     IfOk-weaker c.run_on_new_name.result
     (λ ending. HasRunEffect (unnamed_effect run c.args.name (bare_named_act (λ bytes. bytes.now) c.args.act.now)) c.run_on_new_name.new.self c.args.log.now c.run_on_new_name.new.log ending)
-    (λ ending. HasRunEffect (without_link_effect (answer_of c.args.fetched.now) run c.args.name (bare_named_act (λ bytes. bytes.now) c.args.act.now)) c.run_on_new_name.new.self c.args.log.now c.run_on_new_name.new.log ending)
-    (λ ending did. nameless_run (answer_of c.args.fetched.now) run c.args.name (bare_named_act (λ bytes. bytes.now) c.args.act.now) c.args.log.now c.run_on_new_name.new.log ending c.run_on_new_name.new.self none did)
+    (λ ending. HasRunEffect (without_link_effect (Err fetch_fault.Missing) run c.args.name (bare_named_act (λ bytes. bytes.now) c.args.act.now)) c.run_on_new_name.new.self c.args.log.now c.run_on_new_name.new.log ending)
+    (λ ending did. nameless_run (Err fetch_fault.Missing) run c.args.name (bare_named_act (λ bytes. bytes.now) c.args.act.now) c.args.log.now c.run_on_new_name.new.log ending c.run_on_new_name.new.self none did)
     c.run_on_new_name.ensures

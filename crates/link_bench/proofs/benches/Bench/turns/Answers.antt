@@ -1,6 +1,7 @@
-use Rattle.std.proofs.Common.{◌≡◌, sym, ap, ◌∙◌}
+use Rattle.std.proofs.Common.{◌≡◌, suc, ◌+◌, ◌-◌, sym, ap, ◌∙◌, arith}
 use Rattle.link_bench.specs.Turns.{Pumped, pump_turns}
-use Rattle.link_bench.proofs.TurnWalks.{turns_end, turns_more, turns_stop, whole_pump}
+use Rattle.link_bench.proofs.Cuts.{on_err}
+use Rattle.link_bench.proofs.TurnWalks.{turns_last, turns_more, turns_none, turns_stop, whole_pump}
 use Rattle.link_bench.proofs.benches.Bench.turns.Goals.{After-loop-done, Then-not-is_whole}
 use Rattle.link_bench.proofs.benches.Bench.turns.Goals as goal
 
@@ -8,17 +9,34 @@ use Rattle.link_bench.proofs.benches.Bench.turns.Goals as goal
 stopped : (g : _) (c : Then-not-is_whole g) → record { turns = record { bench = c.turn.new.self; watcher = g.W.Watcher.state c.turn.new.watcher; steps = c.turn.new.steps; ended = c.turn.new.ended }; done = c.loop-done.done }
     ≡ pump_turns g.W.Watcher.sees c.args.count 0 c.args.sender c.args.receiver c.args.self.now (g.W.Watcher.state c.args.watcher.now) c.args.steps.now
 stopped g c =
-    turns_stop g.W.Watcher.sees c.args.count c.loop-done.done c.args.sender c.args.receiver c.loop-done.self (g.W.Watcher.state c.loop-done.watcher) c.loop-done.steps
-    c.turn.new.self (g.W.Watcher.state c.turn.new.watcher) c.turn.new.steps c.turn.new.ended
-    c.loop-done-test.true c.in_ok-turn.ensures.bench c.in_ok-turn.ensures.watcher c.in_ok-turn.ensures.steps c.in_ok-turn.ensures.ended (sym c.is_whole.ensures ∙ c.if-not-is_whole.true)
-    ∙ c.loop-done.invariant.turns
+    let more = c.args.count - (c.loop-done.done + 1) in
+    let count : c.loop-done.done + suc more ≡ c.args.count = omega (arith, c.loop-done-test.true) in
+    turns_stop g.W.Watcher.sees c.loop-done.done c.args.sender c.args.receiver c.loop-done.self (g.W.Watcher.state c.loop-done.watcher) c.loop-done.steps
+    c.turn.new.self (g.W.Watcher.state c.turn.new.watcher) c.turn.new.steps c.turn.new.ended more
+    c.in_ok-turn.ensures.bench c.in_ok-turn.ensures.watcher c.in_ok-turn.ensures.steps c.in_ok-turn.ensures.ended (sym c.is_whole.ensures ∙ c.if-not-is_whole.true)
+    ∙ c.loop-done.invariant.turns (suc more)
+    ∙ ap (λ n. pump_turns g.W.Watcher.sees n 0 c.args.sender c.args.receiver c.args.self.now (g.W.Watcher.state c.args.watcher.now) c.args.steps.now) count
 
 -- all of them are done
 whole : (g : _) (c : After-loop-done g) → whole_pump c.loop-done.self (g.W.Watcher.state c.loop-done.watcher) c.loop-done.steps c.args.count
     ≡ pump_turns g.W.Watcher.sees c.args.count 0 c.args.sender c.args.receiver c.args.self.now (g.W.Watcher.state c.args.watcher.now) c.args.steps.now
 whole g c =
-    sym (turns_end g.W.Watcher.sees c.args.count c.loop-done.done c.args.sender c.args.receiver c.loop-done.self (g.W.Watcher.state c.loop-done.watcher) c.loop-done.steps c.loop-done-test.false c.loop-done.auto.done-end)
-    ∙ c.loop-done.invariant.turns
+    let all : c.loop-done.done ≡ c.args.count = omega (arith, c.loop-done-test.false, c.loop-done.auto.done-end) in
+    let count : c.loop-done.done + 0 ≡ c.args.count = omega (arith, all) in
+    ap (whole_pump c.loop-done.self (g.W.Watcher.state c.loop-done.watcher) c.loop-done.steps) (sym all)
+    ∙ sym (turns_none g.W.Watcher.sees c.loop-done.done c.args.sender c.args.receiver c.loop-done.self (g.W.Watcher.state c.loop-done.watcher) c.loop-done.steps)
+    ∙ c.loop-done.invariant.turns 0
+    ∙ ap (λ n. pump_turns g.W.Watcher.sees n 0 c.args.sender c.args.receiver c.args.self.now (g.W.Watcher.state c.args.watcher.now) c.args.steps.now) count
+
+-- the turn in which memory runs out is the last, and is done like the others
+pub returns-in_err-turn-clause-cut : goal.returns-in_err-turn-clause-cut
+returns-in_err-turn-clause-cut g c = on_err c.from_residual.result (record {
+  done = c.loop-done.done + 1;
+  most = omega (arith, c.loop-done-test.true);
+  bench = c.in_err-turn.ensures.bench
+      ∙ turns_last g.W.Watcher.sees c.loop-done.done c.args.sender c.args.receiver c.loop-done.self (g.W.Watcher.state c.loop-done.watcher) c.loop-done.steps
+      ∙ ap (λ (pumped : Pumped g.W.Watcher.State). pumped.turns.bench) (c.loop-done.invariant.turns 1);
+})
 
 pub returns-then-not-is_whole-clause-bench : goal.returns-then-not-is_whole-clause-bench
 returns-then-not-is_whole-clause-bench g c = ap (λ (pumped : Pumped g.W.Watcher.State). pumped.turns.bench) (stopped g c)
@@ -37,10 +55,13 @@ returns-then-not-is_whole-clause-done g c = ap (λ (pumped : Pumped g.W.Watcher.
 
 pub loop-done-preserved : goal.loop-done-preserved
 loop-done-preserved g c = record {
-  turns = turns_more g.W.Watcher.sees c.args.count c.loop-done.done c.args.sender c.args.receiver c.loop-done.self (g.W.Watcher.state c.loop-done.watcher) c.loop-done.steps
-      c.turn.new.self (g.W.Watcher.state c.turn.new.watcher) c.turn.new.steps c.turn.new.ended
-      c.loop-done-test.true c.in_ok-turn.ensures.bench c.in_ok-turn.ensures.watcher c.in_ok-turn.ensures.steps c.in_ok-turn.ensures.ended (sym c.is_whole.ensures ∙ c.if-not-is_whole.false)
-      ∙ c.loop-done.invariant.turns;
+  turns = λ more.
+      let count : c.loop-done.done + suc more ≡ c.loop-done.done + 1 + more = omega arith in
+      turns_more g.W.Watcher.sees c.loop-done.done c.args.sender c.args.receiver c.loop-done.self (g.W.Watcher.state c.loop-done.watcher) c.loop-done.steps
+      c.turn.new.self (g.W.Watcher.state c.turn.new.watcher) c.turn.new.steps c.turn.new.ended more
+      c.in_ok-turn.ensures.bench c.in_ok-turn.ensures.watcher c.in_ok-turn.ensures.steps c.in_ok-turn.ensures.ended (sym c.is_whole.ensures ∙ c.if-not-is_whole.false)
+      ∙ c.loop-done.invariant.turns (suc more)
+      ∙ ap (λ n. pump_turns g.W.Watcher.sees n 0 c.args.sender c.args.receiver c.args.self.now (g.W.Watcher.state c.args.watcher.now) c.args.steps.now) count;
 }
 
 pub returns-clause-bench : goal.returns-clause-bench

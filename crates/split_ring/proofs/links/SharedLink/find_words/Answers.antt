@@ -13,5 +13,5 @@ returns-clause-era g c = let s = c.look_for_manager in finds_era g.row.D.coded g
 
 pub returns-clause-to_remote : goal.returns-clause-to_remote
 returns-clause-to_remote g c =
-    let here = c.find_lane.ensures.same.1 ∙ c.look_for_manager.ensures.told in let from = c.from-behind.ensures in let behind : c.from-behind.result * 512 ≡ 512 * c.args.self.now.sizes.to_host.capacity = omega (arith, from) in
+    let here = c.find_lane.ensures.same.1 ∙ c.look_for_manager.ensures.told in let from = c.from.ensures in let behind : c.from.result * 512 ≡ 512 * c.args.self.now.sizes.to_host.capacity = omega (arith, from) in
     subst (λ (t : ℕ × SeatState). IsLaneFound g.row.D.coded g.D.Desk.meaning t.1 side.Remote t.0 c.in_ok-to_remote.to_remote) (λ i. (behind i, here i)) c.in_ok-to_remote.ensures.found

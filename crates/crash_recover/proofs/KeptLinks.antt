@@ -1,5 +1,5 @@
 -- Steps of calls keep what a core's link keeps.
-use Rattle.std.proofs.Common.{ℕ, zero, suc, ◌+◌, eqb, cond, Bool, true, false, length, Option, Some, None}
+use Rattle.std.proofs.Common.{ℕ, ◌+◌, eqb, cond, Bool, true, false, length, Option, Some, None}
 use Rattle.std.proofs.lemmas.Bool.{cond_both}
 use Rattle.rp_base.specs.declared.kinds.Era.{Era}
 use Rattle.rp_base.specs.declared.kinds.End.{End}
@@ -35,7 +35,7 @@ use Rattle.link_bench.specs.declared.benches.BegunCall.{BegunCall}
 use Rattle.link_bench.specs.declared.benches.Reach.TheVariants as reach
 use Rattle.link_bench.specs.Benches.{BenchState, BenchWalk, LinkRings, advance_steps, advance_walk, begun_call_of, bench_walk, call_steps, call_walk, later_steps, link_in, lists_of, on_rings, start_walk, with_begun}
 use Rattle.link_bench.proofs.KeptWalks.{call_keeps, later_keeps}
-use Rattle.core_laws.specs.KeptCores.{IsKeptBench, IsKeptLink, IsUnmanagedLane, IsUnmanagedTurn}
+use Rattle.crash_recover.specs.KeptCores.{IsKeptBench, IsKeptLink, IsUnmanagedLane, IsUnmanagedTurn}
 
 -- ---- turns
 

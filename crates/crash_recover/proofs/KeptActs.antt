@@ -1,10 +1,8 @@
 -- An act on a link keeps what its steps keep.
-use Rattle.std.proofs.Common.{◌≡◌, ℕ, zero, suc, ◌+◌, ◌≤◌, Bool, true, false, cond, ltb, nat_le, List, length, Option, Some, None, is_some, option_map, Result, Ok, Err, refl, ap, subst, ◌∙◌, arith}
+use Rattle.std.proofs.Common.{◌≡◌, ℕ, zero, suc, ◌+◌, ◌≤◌, Bool, true, false, cond, ltb, List, Option, Some, None, is_some, option_map, Result, Ok, Err, refl, ap, subst, ◌∙◌}
 use Rattle.std.specs.Option.{option_or}
-use Rattle.std.proofs.lemmas.Bool.{cond_both, leb-true, ltb-false, true≢false}
+use Rattle.std.proofs.lemmas.Bool.{cond_both, ltb-false, true≢false}
 use Rattle.rp_base.specs.declared.kinds.End.{End}
-use Rattle.rp_base.specs.declared.limits.TheConstants.{PAYLOAD_MOST}
-use Rattle.rpmsg_header.specs.Headers.{header_bytes}
 use Rattle.lane_model.specs.declared.calls.CallEnd.{CallEnd}
 use Rattle.lane_model.specs.Recoveries.{link_reclaim_refusal}
 use Rattle.link_bench.specs.BenchCrashes.{reclaim_leaves}
@@ -25,11 +23,10 @@ use Rattle.link_bench.specs.declared.benches.BenchFault.TheVariants as fault
 use Rattle.link_bench.specs.declared.benches.Reach.{Reach}
 use Rattle.link_bench.specs.declared.benches.Reach.TheVariants as reach
 use Rattle.link_bench.specs.declared.turns.TurnEnd.{TurnEnd}
-use Rattle.link_bench.specs.Benches.{BenchState, IsSendable, advance_fault, advance_walk, begin_fault, call_walk, is_in_call, link_in, ready_fault, step_fault, used_fault, wish_fault, with_begun, with_new_caller}
+use Rattle.link_bench.specs.Benches.{BenchState, advance_fault, advance_walk, begin_fault, call_walk, is_in_call, link_in, ready_fault, step_fault, used_fault, wish_fault, with_begun, with_new_caller}
 use Rattle.link_bench.specs.Turns.{Pumped, TurnCall, Turns, give_turn, is_whole, one_turn, pump_turns, take_turn, tested_call, then_more, turn_call, turn_message}
-use Rattle.link_bench.specs.Acts.{Acted, IsFitAct, IsFitWish, call_act, caller_act, first_refusal, free_act, link_act, made_call, misfit, own_caller, own_in, pump_act, pump_refusal, step_act, unless_own, unless_refused, wish_of}
+use Rattle.link_bench.specs.Acts.{Acted, call_act, caller_act, first_refusal, free_act, link_act, made_call, misfit, own_caller, own_in, pump_act, pump_refusal, step_act, unless_own, unless_refused, wish_of}
 use Rattle.link_bench.specs.Watchers.{Seeing, watcher_after}
-use Rattle.core_laws.proofs.Sendable.{header_length}
 
 -- ---- what a refusal that there isn't says
 
@@ -53,7 +50,8 @@ in_use : (found : Option End) → used_fault found ≡ None → is_some found �
 in_use None none = absurd (true≢false (ap is_some none))
 in_use (Some end) none = refl
 
-holds : {X : Type 0} (test : Bool) (why : X) → cond test None (Some why) ≡ None → test ≡ true
+-- a test that refuses nothing holds
+pub holds : {X : Type 0} (test : Bool) (why : X) → cond test None (Some why) ≡ None → test ≡ true
 holds true why none = refl
 holds false why none = absurd (true≢false (ap is_some none))
 
@@ -66,21 +64,6 @@ fits bench caller (call.Give number) none =
 fits bench caller (call.Bind address) none = refl
 fits bench caller (call.Unbind address) none = refl
 
-header_sendable : (source destination : ℕ) (payload : List ℕ) → length payload ≤ PAYLOAD_MOST → IsSendable (wish.Send (header_bytes source destination payload))
-header_sendable source destination payload short =
-    let long = header_length source destination payload in
-    omega arith
-
-sendable : (bench : BenchState) (caller : ℕ) (wanted : CallWish (List ℕ)) → IsFitWish wanted → misfit bench caller wanted ≡ None → IsSendable (wish_of wanted)
-sendable bench caller (call.Send source destination payload) fit none =
-    header_sendable source destination payload
-    (leb-true _ _ (holds (nat_le (length payload) PAYLOAD_MOST) (answer.TooLong caller (length payload)) none))
-sendable bench caller (call.Raw message) fit none = fit
-sendable bench caller call.Take fit none = tt
-sendable bench caller (call.Give number) fit none = tt
-sendable bench caller (call.Bind address) fit none = tt
-sendable bench caller (call.Unbind address) fit none = tt
-
 -- a caller that isn't the link's own
 other_at : (own caller : ℕ) (below : Bool) → ltb caller own ≡ below → cond below (Some caller) None ≡ None → own ≤ caller
 other_at own caller true is none = absurd (true≢false (ap is_some none))
@@ -92,11 +75,6 @@ other_caller own caller none = other_at own caller (ltb caller own) refl none
 none_or : (one other : Option ℕ) → option_or one other ≡ None → (one ≡ None) × (other ≡ None)
 none_or None other none = (refl, none)
 none_or (Some one) other none = absurd (true≢false (ap is_some none))
-
-turn_sendable : (number : ℕ) → IsSendable (wish.Send (turn_message number))
-turn_sendable number =
-    let short : length (turn_message number) ≡ 20 = refl in
-    omega (arith, short)
 
 -- each step of an act for callers that are not the link's own keeps this of a bench and of who watches its link, where this is known of what a call wishes
 pub record AreKeptSteps {W : Type 0} (sees : Seeing W) (own : ℕ) (Fits : Wish → Type 0) (P : BenchState → W → Type 0) : Type 0 where
@@ -117,14 +95,6 @@ FitCalls Fits (act.Call caller made wanted) = (bench : BenchState) → misfit be
 FitCalls Fits (act.Step caller more) = Unit {0}
 FitCalls Fits (act.Pump sender receiver count) = (number : ℕ) → Fits (wish.Send (turn_message number)) × Fits wish.Take × Fits (wish.Give number)
 FitCalls Fits (act.Reclaim caller) = Unit {0}
-
--- the messages of an act fit buffers
-pub calls_sendable : (asked : LinkAct (List ℕ)) → IsFitAct asked → FitCalls IsSendable asked
-calls_sendable (act.Caller end) fit = tt
-calls_sendable (act.Call caller made wanted) fit = λ bench none. sendable bench caller wanted fit.1 none
-calls_sendable (act.Step caller more) fit = tt
-calls_sendable (act.Pump sender receiver count) fit = λ number. (turn_sendable number, tt, tt)
-calls_sendable (act.Reclaim caller) fit = tt
 
 module _ {W : Type 0} (sees : Seeing W) (own : ℕ) (Fits : Wish → Type 0) (P : BenchState → W → Type 0) (keep : AreKeptSteps sees own Fits P) where
   abbrev Leaves : Acted W → Type 0

@@ -1,19 +1,14 @@
 -- What the link of a core keeps: the core's own two callers, turns of callers alone, and the incarnation of its life (own).
-use Rattle.std.specs.Prelude.{◌≡◌, ℕ, ◌+◌, ◌==◌, List, Option, Some, None, IfSome, if◌then◌else◌}
+use Rattle.std.specs.Prelude.{◌≡◌, List, Option, Some}
 use Rattle.rp_base.specs.declared.kinds.End.{End}
 use Rattle.rp_base.specs.declared.kinds.End.TheVariants as side
-use Rattle.rp_base.specs.declared.kinds.LifeState.TheVariants.{Running}
 use Rattle.proc_state.specs.Lives.{CoreLife, is_up}
 use Rattle.lane_model.specs.declared.states.LaneState.{LaneState}
 use Rattle.lane_model.specs.declared.stages.Turn.{Turn}
 use Rattle.lane_model.specs.declared.stages.Turn.TheVariants as turn
-use Rattle.lane_model.specs.Lanes.{holder}
 use Rattle.lane_model.specs.Links.{LinkState, end_of}
 use Rattle.channel_bus.specs.Sides.{EndState}
 use Rattle.link_bench.specs.Benches.{BenchState, link_in}
-use Rattle.link_bench.specs.BenchCrashes.{after_close}
-use Rattle.link_bench.specs.BenchEnds.{is_remote, without_one, without_others}
-use Rattle.crash_recover.specs.Cores.{CoreState}
 
 -- a turn that is free or a caller's, and not the manager's
 abbrev pub IsUnmanagedTurn : {C : Type 0} → Turn C → Type 0
@@ -44,27 +39,6 @@ pub record IsKeptLink (life : CoreLife) (link : LinkState EndState) : Type 0 whe
   pub inc : link.era.inc ≡ life.incarnation
   pub live : link.era.is_live ≡ is_up life.state
 
+-- the same of a bench
 abbrev pub IsKeptBench : CoreLife → BenchState → Type 0
 IsKeptBench life bench = IsKeptLink life (link_in bench)
-
--- the same of a core, which may have no link
-abbrev pub IsKeptCore : CoreState → Type 0
-IsKeptCore core = IfSome core.bench (IsKeptBench core.life)
-
--- the next incarnation of a life, which runs
-abbrev pub next_life : CoreLife → CoreLife
-next_life life = record life { state = Running; incarnation = life.incarnation + 1 }
-
--- the core in the next incarnation of its life
-abbrev pub with_next_life : CoreState → CoreState
-with_next_life core = record core { life = next_life core.life }
-
--- on which end a number of a core's link is in use behind a crash, by where it was: a host caller stays, and of the remote callers 1 alone
-abbrev pub end_after_crash : ℕ → Option End → Option End
-end_after_crash caller found = if is_remote found then (if caller == 1 then Some side.Remote else None) else found
-
--- the link of a core in a crash, as the remote callers from this number on are yet to be ended: it is closed, who had the receiver's turn of the remote end was ended first, and then the others of lower numbers
-abbrev pub crash_reaches : BenchState → ℕ → BenchState
-crash_reaches bench caller =
-    let first = holder (link_in (after_close bench)).to_remote.receiver in
-    without_others first (without_one (after_close bench) first) 0 caller

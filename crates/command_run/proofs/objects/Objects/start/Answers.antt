@@ -1,0 +1,73 @@
+use Rattle.std.proofs.Common.{◌≡◌, ◌<◌, List, Some, None, Err, length, slice_get, slice_set, refl, sym, ap, subst, ◌∙◌}
+use Rattle.std.proofs.lemmas.Option.{slice_get_read}
+use Rattle.rp_io.specs.declared.faults.FetchFault.TheVariants as fetch_fault
+use Rattle.command_run.specs.declared.acts.CoreAct.{CoreAct}
+use Rattle.command_run.specs.declared.acts.NamedAct.TheVariants as under
+use Rattle.command_run.specs.Fetches.{RunsTold}
+use Rattle.command_run.specs.Logs.{HasRunEffect}
+use Rattle.command_run.specs.NamedImages.{ImageState}
+use Rattle.command_run.specs.Runs.{ObjectsState, RunState, asked_name, core_named, core_place, name_effect, place_of}
+use Rattle.command_run.specs.Starts.{StartsOver, start_command, start_image}
+use Rattle.command_run.proofs.Started.{nobody_told, start_told, start_unasked}
+use Rattle.command_run.proofs.objects.Objects.start.Goals as goal
+
+pub returns-in-Some-clause-told : goal.returns-in-Some-clause-told
+returns-in-Some-clause-told g c = λ written faults.
+    let store = g.F.FirmwareStore in
+    let items = c.self.inside.cores.items in
+    let links = c.self.inside.links.items in
+    let images = c.self.inside.images.items in
+    let is_quiet = c.self.inside.is_quiet in
+    let place = c.in-Some.place in
+    let named = c.index_mut.result.now in
+    let now = c.start.new.self in
+    let log = c.args.log.now in
+    let held = store.images c.args.store.now in
+    let was = store.faults c.args.store.now in
+    let then = store.faults c.start.new.store in
+    let run : RunState = record { objects = record { links = links; cores = items; images = images; is_quiet = is_quiet }; steps = log.steps } in
+    let placed : Some place ≡ core_place items c.args.name =
+    c.in-Some.ensures.core ∙ ap (λ (o : ObjectsState). core_place o.cores c.bytes.result.now) (sym c.self.view_is) ∙ ap (core_place items) c.bytes.ensures.bytes in
+    let bare : None ≡ place_of links c.args.name =
+    c.in-Some.ensures.link ∙ ap (λ (o : ObjectsState). place_of o.links c.bytes.result.now) (sym c.self.view_is) ∙ ap (place_of links) c.bytes.ensures.bytes in
+    let found : slice_get items place ≡ Some named =
+    slice_get_read items (length items) place named refl (subst (λ (o : ObjectsState). place < length o.cores) (sym c.self.view_is) c.in-Some.ensures.within) c.index_mut.ensures.value in
+    let left : ObjectsState = record { links = links; cores = slice_set items place now; images = images; is_quiet = is_quiet } in
+    subst (λ (objects : ObjectsState). RunsTold c.start.result held (record { objects = objects; steps = log.steps }) (start_command c.args.name c.args.start) left log c.start.new.log
+    written written faults faults was then) c.self.view_is
+    (start_told held run c.args.name c.args.start log c.start.new.log written faults was then place named now bare placed found c.start.ensures.name refl c.start.result
+    (subst (λ (made : List ImageState). StartsOver c.start.result held c.args.start made named now.core log c.start.new.log was then) c.as_slice-images.ensures.value c.start.ensures.started))
+
+pub returns-in-Some-clause-unasked : goal.returns-in-Some-clause-unasked
+returns-in-Some-clause-unasked g c = λ unasked.
+    let store = g.F.FirmwareStore in
+    let items = c.self.inside.cores.items in
+    let links = c.self.inside.links.items in
+    let images = c.self.inside.images.items in
+    let is_quiet = c.self.inside.is_quiet in
+    let place = c.in-Some.place in
+    let named = c.index_mut.result.now in
+    let log = c.args.log.now in
+    let run : RunState = record { objects = record { links = links; cores = items; images = images; is_quiet = is_quiet }; steps = log.steps } in
+    let placed : Some place ≡ core_place items c.args.name =
+    c.in-Some.ensures.core ∙ ap (λ (o : ObjectsState). core_place o.cores c.bytes.result.now) (sym c.self.view_is) ∙ ap (core_place items) c.bytes.ensures.bytes in
+    let bare : None ≡ place_of links c.args.name =
+    c.in-Some.ensures.link ∙ ap (λ (o : ObjectsState). place_of o.links c.bytes.result.now) (sym c.self.view_is) ∙ ap (place_of links) c.bytes.ensures.bytes in
+    let found : slice_get items place ≡ Some named =
+    slice_get_read items (length items) place named refl (subst (λ (o : ObjectsState). place < length o.cores) (sym c.self.view_is) c.in-Some.ensures.within) c.index_mut.ensures.value in
+    c.start.ensures.unasked (subst (λ (made : List ImageState). start_image c.args.start made (Some named) ≡ None) (sym c.as_slice-images.ensures.value)
+    (start_unasked (store.images c.args.store.now) run c.args.name c.args.start log c.start.new.log None 0 0 0 place named c.start.new.self bare placed found c.start.ensures.name refl
+    (subst (λ (objects : ObjectsState). asked_name objects (start_command c.args.name c.args.start) ≡ None) (sym c.self.view_is) unasked)))
+
+pub returns-in_ok-run_on_links-in-None-clause-told : goal.returns-in_ok-run_on_links-in-None-clause-told
+returns-in_ok-run_on_links-in-None-clause-told g c = λ written faults.
+    let store = g.F.FirmwareStore in
+    let log = c.args.log.now in
+    let objects = c.args.self.now in
+    let run : RunState = record { objects = objects; steps = log.steps } in
+    let was = store.faults c.args.store.now in
+    let told = c.in_ok-run_on_links-in-None in
+    let after = c.run_on_links.new in
+    nobody_told (store.images c.args.store.now) run c.args.name c.args.start log after.log written faults was was after.self told.field-0
+    (sym (ap (core_named objects) c.bytes.ensures.bytes) ∙ c.in-None.ensures.none) refl
+    (subst (λ (act : CoreAct). HasRunEffect (name_effect (Err fetch_fault.Missing) run c.args.name (under.Core act)) after.self log after.log told.field-0) c.act.ensures told.ensures)

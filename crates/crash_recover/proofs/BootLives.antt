@@ -1,0 +1,59 @@
+-- Which boots need no image, and what they do.
+use Rattle.std.proofs.Common.{◌≡◌, ◌==◌, ◌&&◌, ℕ, Bool, false, cond, not, Ok, Err, Result, refl, sym, ap, ◌∙◌}
+use Rattle.std.proofs.lemmas.Bool.{cond_both}
+use Rattle.rp_base.specs.declared.kinds.LifeState.{LifeState}
+use Rattle.rp_base.specs.declared.kinds.LifeState.TheVariants.{Offline, Running, Crashed, Attached, Detached}
+use Rattle.proc_state.specs.Lives.{CoreLife, Outcome, boot_to, is_offline, life_after_boot, line_of, most, refusal_of}
+use Rattle.proc_state.specs.declared.answers.LifeFault.{LifeFault}
+use Rattle.proc_state.specs.declared.answers.LifeFault.TheVariants as life_fault
+use Rattle.proc_state.specs.declared.answers.Power.{Power}
+use Rattle.proc_state.specs.declared.answers.Power.TheVariants as power
+use Rattle.crash_recover.specs.declared.core_answers.Boot.TheVariants as boot
+use Rattle.crash_recover.specs.declared.core_answers.Start.{Start}
+use Rattle.crash_recover.specs.declared.core_answers.Start.TheVariants as start
+use Rattle.crash_recover.specs.declared.core_faults.CoreFault.{CoreFault}
+use Rattle.crash_recover.specs.declared.core_faults.CoreFault.TheVariants as fault
+use Rattle.crash_recover.specs.Cores.{CoreOutcome, CoreState, refuse_or}
+use Rattle.crash_recover.specs.CoreBoots.{BeginsBoot, boot_as, boot_of, image_fault, load_in, started_core, with_load}
+
+unneeded_at : (state : LifeState) (life : CoreLife) → ((boot_to (line_of state).boot life).answer ≡ Ok power.First → ⊥) → (is_offline state && not (life.incarnation == most)) ≡ false
+unneeded_at Offline life apart =
+    cond_both (life.incarnation == most) (refusal_of life_fault.IncarnationsSpent life) _ (λ (out : Outcome Power). (out.answer ≡ Ok power.First → ⊥) → not (life.incarnation == most) ≡ false)
+    (λ spent _. ap not spent) (λ _ none. absurd (none refl)) apart
+unneeded_at Running life apart = refl
+unneeded_at Crashed life apart = refl
+unneeded_at Attached life apart = refl
+unneeded_at Detached life apart = refl
+
+-- a boot that starts no core needs none
+pub unneeded : (life : CoreLife) → ((life_after_boot life).answer ≡ Ok power.First → ⊥) → (is_offline life.state && not (life.incarnation == most)) ≡ false
+unneeded life apart = unneeded_at life.state life apart
+
+-- ---- what a boot does without an image
+
+-- the life of the core refuses it
+pub begins_refused : (core : CoreState) (why : LifeFault) → (life_after_boot core.life).answer ≡ Err why → BeginsBoot core core (Err (fault.Life why))
+unfolding boot_of
+begins_refused core why is =
+    (unneeded core.life (λ first. absurd (cc)), λ name found. ap (λ (answer : Result Power LifeFault). boot_as (life_after_boot core.life).life answer core name found) is)
+
+-- it counts a user
+pub begins_counted : (core : CoreState) (users : ℕ) → (life_after_boot core.life).answer ≡ Ok (power.Counted users)
+    → BeginsBoot core (record core { life = (life_after_boot core.life).life }) (Ok (boot.Done (start.Users users)))
+unfolding boot_of
+begins_counted core users is =
+    (unneeded core.life (λ first. absurd (cc)), λ name found. ap (λ (answer : Result Power LifeFault). boot_as (life_after_boot core.life).life answer core name found) is)
+
+-- it attaches to a core that is loaded
+pub begins_attached : (core left : CoreState) (did : Start) → (life_after_boot core.life).answer ≡ Ok power.First → is_offline core.life.state ≡ false
+    → did ≡ start.Attached (life_after_boot core.life).life.incarnation → left ≡ started_core (life_after_boot core.life).life core → BeginsBoot core left (Ok (boot.Done did))
+unfolding boot_of
+begins_attached core left did is loaded told starts =
+    let life = (life_after_boot core.life).life in
+    let End : CoreState → Start → CoreOutcome Start CoreFault = λ after did. record { core = after; answer = Ok did } in (
+      ap (λ (off : Bool). off && not (core.life.incarnation == most)) loaded,
+      λ name found. ap (λ (answer : Result Power LifeFault). boot_as life answer core name found) is
+          ∙ ap (λ (off : Bool). cond off (refuse_or core (image_fault core found) (End (started_core life (with_load core name (load_in core found))) (start.Running life.incarnation)))
+          (End (started_core life core) (start.Attached life.incarnation))) loaded
+          ∙ ap (λ (after : CoreState). End after (start.Attached life.incarnation)) (sym starts) ∙ ap (End left) (sym told),
+    )

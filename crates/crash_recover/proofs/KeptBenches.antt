@@ -1,0 +1,174 @@
+-- What is done on the link of a core keeps what it keeps, and so does a life that goes on.
+use Rattle.std.proofs.Common.{◌≡◌, ◌==◌, ◌<◌, ℕ, ◌+◌, cond, Bool, true, false, List, Option, Some, None, IfSome, is_some, option_map, refl, sym, ap, ◌∙◌, arith}
+use Rattle.std.proofs.lemmas.Bool.{cond_both, true≢false}
+use Rattle.rp_base.specs.declared.kinds.End.{End}
+use Rattle.rp_base.specs.declared.kinds.End.TheVariants as side
+use Rattle.rp_base.specs.declared.kinds.LifeState.{LifeState}
+use Rattle.rp_base.specs.declared.kinds.LifeState.TheVariants.{Offline, Running, Crashed, Attached, Detached}
+use Rattle.proc_state.specs.declared.answers.LifeFault.TheVariants as life_fault
+use Rattle.proc_state.specs.Lives.{CoreLife, Outcome, first_start as started_life, is_up, life_after_recovery, line_of, most, recovery_to, refusal_of}
+use Rattle.fw_load.specs.declared.rings.RingPair.{RingPair}
+use Rattle.lane_model.specs.declared.calls.Wish.{Wish}
+use Rattle.lane_model.specs.declared.recoveries.ReclaimRefusal.{ReclaimRefusal}
+use Rattle.lane_model.specs.Links.{end_of, free_number}
+use Rattle.lane_model.specs.Recoveries.{link_reclaim_refusal}
+use Rattle.lane_model.proofs.Others.{stays_in_use}
+use Rattle.link_bench.specs.declared.benches.Reach.TheVariants as reach
+use Rattle.link_bench.specs.BenchCrashes.{after_reopen, reclaim_leaves, reclaim_leaves_at}
+use Rattle.link_bench.specs.Benches.{BenchState, BenchWalk, advance_walk, begin_fault, is_in_call, link_in, start_walk, with_new_caller}
+use Rattle.crash_recover.specs.CoreBoots.{core_bench}
+use Rattle.link_bench.specs.BenchEnds.{bench_to_reopen, with_new_host_unless}
+use Rattle.crash_recover.specs.CoreRecoveries.{after_recovery, core_to_reopen, recovery_fault, recovery_fault_to, reopen_fault, reopened_core, next_life, with_next_life}
+use Rattle.crash_recover.specs.Cores.{CoreState, IsKeptCore, LoadState}
+use Rattle.core_actors.specs.ActorSteps.{link_step}
+use Rattle.link_bench.specs.declared.acts.LinkAct.{LinkAct}
+use Rattle.link_bench.specs.declared.acts.LinkAct.TheVariants as act
+use Rattle.link_bench.specs.Acts.{link_act}
+use Rattle.core_actors.specs.Actors.{ActorsState}
+use Rattle.core_actors.specs.ActorEnds.{actors_after_end}
+use Rattle.crash_recover.specs.KeptCores.{IsKeptBench}
+use Rattle.crash_recover.proofs.KeptActs.{AreKeptSteps, FitCalls, act_kept}
+use Rattle.crash_recover.proofs.KeptCrashes.{gone_kept, host_renewed}
+use Rattle.crash_recover.proofs.KeptLinks.{advance_kept, start_kept, whole_kept}
+use Rattle.crash_recover.proofs.Restarts.{unspent}
+use Rattle.crash_recover.proofs.SameLives.{IsSame}
+
+-- ---- other callers
+
+-- a new caller
+pub caller_kept : (life : CoreLife) (bench : BenchState) (end : End) → IsKeptBench life bench → IsKeptBench life (with_new_caller bench end (free_number (link_in bench).callers))
+caller_kept life bench end is = record {
+  unmanaged = record { to_host = is.unmanaged.to_host; to_remote = is.unmanaged.to_remote };
+  own = record { host = stays_in_use (link_in bench).callers end 0 side.Host is.own.host; remote = stays_in_use (link_in bench).callers end 1 side.Remote is.own.remote };
+  inc = is.inc;
+  live = is.live;
+}
+
+reclaim_at : (life : CoreLife) (bench : BenchState) (caller : ℕ) (end : Option End) (why : Option ReclaimRefusal) → 1 < caller → IsKeptBench life bench
+    → IsKeptBench life (reclaim_leaves_at bench caller end why)
+reclaim_at life bench caller (Some end) None other is = gone_kept life bench caller (λ same. omega (arith, other, same)) (λ same. omega (arith, other, same)) is
+reclaim_at life bench caller (Some end) (Some why) other is = is
+reclaim_at life bench caller None why other is = is
+
+-- a reclaim of another caller than the core's own
+pub reclaim_kept : (life : CoreLife) (bench : BenchState) (caller : ℕ) → 1 < caller → IsKeptBench life bench
+    → IsKeptBench life (reclaim_leaves bench caller (link_reclaim_refusal (link_in bench) caller))
+reclaim_kept life bench caller other is = reclaim_at life bench caller (end_of (link_in bench).callers caller) (link_reclaim_refusal (link_in bench) caller) other is
+
+-- ---- lives
+
+made_kept : (life : CoreLife) (names : List (List ℕ)) (book : ℕ) (rings : RingPair) → is_up life.state ≡ true → IsKeptBench life (core_bench names book life.incarnation rings)
+unfolding core_bench
+made_kept life names book rings up = record {
+  unmanaged = record { to_host = record { sender = tt; receiver = tt }; to_remote = record { sender = tt; receiver = tt } };
+  own = record { host = refl; remote = refl };
+  inc = refl;
+  live = sym up;
+}
+
+-- the link of a core that is started, where there are rings
+pub rings_kept : (life : CoreLife) (names : List (List ℕ)) (book : ℕ) (rings : Option RingPair) → is_up life.state ≡ true
+    → IfSome (option_map (core_bench names book life.incarnation) rings) (IsKeptBench life)
+rings_kept life names book None up = tt
+rings_kept life names book (Some rings) up = made_kept life names book rings up
+
+-- a link is kept in each life of the same incarnation that is up where the one before is
+same_life : (before after : CoreLife) (bench : BenchState) → IsSame before after → IsKeptBench before bench → IsKeptBench after bench
+same_life before after bench same is = record { unmanaged = is.unmanaged; own = is.own; inc = is.inc ∙ sym same.inc; live = is.live ∙ sym same.up }
+
+pub found_same : (before after : CoreLife) (found : Option BenchState) → IsSame before after → IfSome found (IsKeptBench before) → IfSome found (IsKeptBench after)
+found_same before after None same is = tt
+found_same before after (Some bench) same is = same_life before after bench same is
+
+-- ---- a crash and a recovery
+
+-- what is done on a link, where there is one
+pub map_kept : (before after : CoreLife) (found : Option BenchState) (f : BenchState → BenchState) → ((bench : BenchState) → IsKeptBench before bench → IsKeptBench after (f bench))
+    → IfSome found (IsKeptBench before) → IfSome (option_map f found) (IsKeptBench after)
+map_kept before after None f each is = tt
+map_kept before after (Some bench) f each is = each bench is
+
+ready_at : (life : CoreLife) (bench : BenchState) (why : Option ReclaimRefusal) → IsKeptBench life bench → IsKeptBench life (with_new_host_unless bench why)
+ready_at life bench None is = host_renewed life bench is
+ready_at life bench (Some why) is = is
+
+-- the link that a reopening finds
+pub readied : (life : CoreLife) (bench : BenchState) → IsKeptBench life bench → IsKeptBench life (bench_to_reopen bench)
+readied life bench is = ready_at life bench (link_reclaim_refusal (link_in bench) 0) is
+
+-- the same of the link of a core
+pub core_readied : (core : CoreState) → IsKeptCore core → IsKeptCore (core_to_reopen core)
+core_readied core is = map_kept core.life core.life core.bench bench_to_reopen (readied core.life) is
+
+-- a link that is reopened
+opened : (life : CoreLife) (bench : BenchState) → IsKeptBench life bench → IsKeptBench (next_life life) (after_reopen bench)
+opened life bench is = record {
+  unmanaged = record { to_host = record { sender = tt; receiver = tt }; to_remote = record { sender = tt; receiver = tt } };
+  own = is.own;
+  inc = ap (λ inc. inc + 1) is.inc;
+  live = refl;
+}
+
+pub core_reopened : (core : CoreState) → IsKeptCore core → IsKeptCore (with_next_life (reopened_core core))
+core_reopened core is =
+    map_kept core.life (next_life core.life) core.bench (λ bench. after_reopen (bench_to_reopen bench)) (λ bench one. opened core.life (bench_to_reopen bench) (readied core.life bench one)) is
+
+-- a life that is recovered is the next one, which runs
+recovered_life : (life : CoreLife) → recovery_fault_to (Some Running) life ≡ None → (life.incarnation == most) ≡ false → IsSame (next_life life) (recovery_to (Some Running) life).life
+recovered_life life may more =
+    cond_both life.recovery (started_life Running life.users tt life) (refusal_of life_fault.RecoveryOff life) (λ (left : Outcome (Unit {0})). IsSame (next_life life) left.life)
+    (λ _. cond_both (life.incarnation == most) (refusal_of life_fault.IncarnationsSpent life) _ (λ (left : Outcome (Unit {0})). IsSame (next_life life) left.life)
+    (λ spent. absurd (true≢false (sym spent ∙ more))) (λ _. record { inc = refl; up = refl }))
+    (λ off. absurd (true≢false (ap is_some (sym (ap (λ (on : Bool). cond on None (Some life_fault.RecoveryOff)) off) ∙ may))))
+
+runs_again : (state : LifeState) (life : CoreLife) → recovery_fault_to (line_of state).recovery life ≡ None → (life.incarnation == most) ≡ false → IsSame (next_life life) (recovery_to (line_of state).recovery life).life
+runs_again Offline life may more = absurd (true≢false (ap is_some may))
+runs_again Running life may more = absurd (true≢false (ap is_some may))
+runs_again Crashed life may more = recovered_life life may more
+runs_again Attached life may more = absurd (true≢false (ap is_some may))
+runs_again Detached life may more = absurd (true≢false (ap is_some may))
+
+-- the link of a core that is recovered
+pub core_recovered : (core : CoreState) (given : LoadState) → IsKeptCore core → recovery_fault core.life ≡ None → reopen_fault core ≡ None → IsKeptCore (after_recovery core given)
+core_recovered core given is may opens =
+    let same = runs_again core.life.state core.life may (unspent core opens) in
+    found_same (next_life core.life) (life_after_recovery core.life).life (reopened_core core).bench same (core_reopened core is)
+
+-- ---- steps and acts
+
+-- a step of an actor
+pub step_kept : (life : CoreLife) (bench : BenchState) (caller : ℕ) (wanted : Wish) → IsKeptBench life bench → IsKeptBench life (link_step bench caller wanted).bench
+step_kept life bench caller wanted is =
+    let none : BenchWalk = record { bench = bench; steps = 0; reach = reach.Limit } in
+    cond_both (is_in_call bench caller) (advance_walk bench 0 0 caller)
+    (cond (is_some (begin_fault bench caller wanted)) none (start_walk bench 0 caller wanted)) (λ (walk : BenchWalk). IsKeptBench life walk.bench)
+    (λ _. advance_kept life bench 0 0 caller is)
+    (λ _. cond_both (is_some (begin_fault bench caller wanted)) none (start_walk bench 0 caller wanted) (λ (walk : BenchWalk). IsKeptBench life walk.bench)
+    (λ _. is) (λ _. start_kept life bench 0 caller wanted is))
+
+-- nothing is asked of what a call wishes
+abbrev AnyWish : Wish → Type 0
+AnyWish wanted = Unit {0}
+
+any_calls : (asked : LinkAct (List ℕ)) → FitCalls AnyWish asked
+any_calls (act.Caller end) = tt
+any_calls (act.Call caller made wanted) = λ bench none. tt
+any_calls (act.Step caller more) = tt
+any_calls (act.Pump sender receiver count) = λ number. (tt, tt, tt)
+any_calls (act.Reclaim caller) = tt
+
+kept_steps : (life : CoreLife) → AreKeptSteps actors_after_end 2 AnyWish (λ bench actors. IsKeptBench life bench)
+kept_steps life = record {
+  joined = λ bench actors end is. caller_kept life bench end is;
+  begun = λ bench actors caller wanted other ready fit is. is;
+  called = λ bench actors steps caller wanted other ready fit is. whole_kept life bench steps caller wanted is;
+  advanced = λ bench actors more steps caller other in_call is. advance_kept life bench more steps caller is;
+  reclaimed = λ bench actors caller other is. reclaim_kept life bench caller (omega (arith, other)) is;
+  seen = λ bench actors caller end is. is;
+}
+
+-- an act for others than the core's own callers
+pub act_keeps : (life : CoreLife) (bench : BenchState) (actors : ActorsState) (steps : ℕ) (asked : LinkAct (List ℕ)) → IsKeptBench life bench
+    → IsKeptBench life (link_act actors_after_end 2 bench actors steps asked).bench
+act_keeps life bench actors steps asked is =
+    act_kept actors_after_end 2 AnyWish (λ after watcher. IsKeptBench life after) (kept_steps life) bench actors steps asked (any_calls asked) is

@@ -1,0 +1,44 @@
+-- What a core keeps stays where its link or its life goes on.
+use Rattle.std.proofs.Common.{◌≡◌, ℕ, List, Option, Some, None, IfSome, Result, Ok, Err, OnOk, OnErr, is_some, option_map, not, sym, ap, subst, ◌∙◌}
+use Rattle.std.proofs.lemmas.Bool.{true≢false}
+use Rattle.memory_pool.specs.declared.regions.Region.{Region}
+use Rattle.fw_load.specs.declared.loading.Loaded.{Loaded}
+use Rattle.proc_state.specs.Lives.{CoreLife, is_offline}
+use Rattle.link_bench.specs.Benches.{BenchState}
+use Rattle.crash_recover.specs.Cores.{SoundCore}
+use Rattle.crash_recover.specs.KeptCores.{IsKeptBench}
+
+-- the link alone has gone on
+pub sound_linked : (regions : List Region) (book : ℕ) (life : CoreLife) (name : Option (List ℕ)) (given : Option Loaded) (before after : BenchState) (found : Option BenchState) → found ≡ Some before
+    → SoundCore regions book life name given found → (IsKeptBench life before → IsKeptBench life after) → SoundCore regions book life name given (Some after)
+sound_linked regions book life name given before after found there is keeps = record {
+  book = is.book;
+  loaded = is.loaded;
+  has_image = is.has_image;
+  has_load = is.has_load;
+  unlinked = λ none. absurd (true≢false (sym (ap is_some there) ∙ ap is_some (is.unlinked none)));
+  kept = keeps (subst (λ (found : Option BenchState). IfSome found (IsKeptBench life)) there is.kept);
+}
+
+-- the link and the life have gone on, and as much is loaded
+pub sound_lives : (regions : List Region) (book : ℕ) (before after : CoreLife) (name : Option (List ℕ)) (given : Option Loaded) (found left : Option BenchState)
+    → is_offline after.state ≡ is_offline before.state → (after.users ≡ 0 → left ≡ None) → IfSome left (IsKeptBench after) → SoundCore regions book before name given found
+    → SoundCore regions book after name given left
+sound_lives regions book before after name given found left same unlinked kept is = record {
+  book = is.book;
+  loaded = is.loaded;
+  has_image = is.has_image ∙ ap not (sym same);
+  has_load = is.has_load ∙ ap not (sym same);
+  unlinked = unlinked;
+  kept = kept;
+}
+
+-- what is done on a link, where there is one, makes none
+pub still_none : {A : Type 0} (f : A → A) (found : Option A) → found ≡ None → option_map f found ≡ None
+still_none f None none = none
+still_none f (Some it) none = absurd (true≢false (ap is_some none))
+
+-- a call that did this, or nothing where it failed
+pub did_or_not : {A E : Type 0} (P : BenchState → Type 0) (before done after : BenchState) (answer : Result A E) → OnOk answer (after ≡ done) → OnErr answer (after ≡ before) → P done → P before → P after
+did_or_not P before done after (Ok told) is same left was = subst P (sym is) left
+did_or_not P before done after (Err why) is same left was = subst P (sym same) was

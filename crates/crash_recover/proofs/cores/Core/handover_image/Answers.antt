@@ -1,0 +1,21 @@
+use Rattle.std.proofs.Common.{not, sym, ap, subst, ◌∙◌}
+use Rattle.proc_state.specs.Lives.{CoreLife}
+use Rattle.crash_recover.specs.Cores.{CoreState, IsSoundLoad}
+use Rattle.crash_recover.proofs.KeptBenches.{found_same}
+use Rattle.crash_recover.proofs.SameLives.{IsHanded, hands_over}
+use Rattle.crash_recover.proofs.cores.Core.handover_image.Goals as goal
+
+pub invariant_of-self : goal.invariant_of-self
+invariant_of-self c =
+    let inside = c.self.inside in
+    let handed : IsHanded inside.life c.args.life =
+    subst (λ (core : CoreState). IsHanded core.life c.args.life) (sym c.self.view_is)
+    (subst (λ (life : CoreLife). IsHanded c.args.self.now.life life) (sym c.requires.life) (hands_over c.args.self.now.life c.requires.may)) in
+    record {
+      book = c.self.invariant.book;
+      loaded = subst (λ (core : CoreState). IsSoundLoad core.regions c.in_ok-loaded.loaded) (sym c.self.view_is) c.in_ok-loaded.ensures.sound;
+      has_image = sym (ap not handed.loaded);
+      has_load = sym (ap not handed.loaded);
+      unlinked = λ none. c.self.invariant.unlinked (sym handed.users ∙ none);
+      kept = found_same inside.life c.args.life inside.bench handed.same c.self.invariant.kept;
+    }
