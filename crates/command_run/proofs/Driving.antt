@@ -7,15 +7,16 @@ use Rattle.journal.specs.declared.events.Event.TheVariants as event
 use Rattle.crash_recover.specs.Cores.{CoreState}
 use Rattle.core_actors.specs.declared.progress.Driven.TheVariants as driven
 use Rattle.crash_recover.specs.Drives.{DriveStep, actor_step, actor_to_step, drive_step, is_idle, with_turn_after}
-use Rattle.command_run.specs.declared.stops.Stop.{Stop}
+use Rattle.link_commands.specs.declared.stops.Stop.{Stop}
 use Rattle.rp_io.specs.Contents.{AppendsFront}
-use Rattle.command_run.specs.Logs.{CutsCore, DrivesHanding, DrivesOn, Hands, HandsCoreEffect, HasCoreEffect, Keeps, LogState}
+use Rattle.link_commands.specs.Logs.{Hands, Keeps, LogState}
+use Rattle.command_run.specs.Outcomes.{CutsCore, DrivesHanding, DrivesOn, HandsCoreEffect, HasCoreEffect}
 use Rattle.command_run.specs.CoreEffects.{CoreEffect, core_tells}
 use Rattle.command_run.specs.CoreLives.{core_stops}
 use Rattle.proc_state.specs.Lives.{is_up}
 use Rattle.command_run.specs.CoreDrives.{drive_effect, drive_end, drive_steps, is_crashed, is_over, rest_event, rests_or, step_events, step_then, told_before}
 use Rattle.command_run.proofs.Handed.{front_of_more, hands_front, hands_kept, hands_more}
-use Rattle.command_run.proofs.RunSteps.{transcript-append}
+use Rattle.link_commands.proofs.Transcripts.{transcript-append}
 
 module _ (name : List ℕ) (is_quiet : Bool) where
   -- one step more

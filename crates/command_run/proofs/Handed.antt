@@ -7,7 +7,7 @@ use Rattle.rp_io.specs.Contents.{AppendsFront}
 use Rattle.command_run.specs.declared.fetches.CommandFault.{CommandFault}
 use Rattle.command_run.specs.declared.fetches.CommandFault.TheVariants as command_fault
 use Rattle.command_run.specs.Fetches.{IfWrite}
-use Rattle.command_run.specs.Logs.{Hands}
+use Rattle.link_commands.specs.Logs.{Hands}
 
 -- nothing was appended
 pub appends_nothing : (written : Option (List ℕ)) → Appends written written []

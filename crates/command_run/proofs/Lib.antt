@@ -5,6 +5,5 @@ pub mod FoundDumps
 pub mod AskedNames
 pub mod Shelves
 pub mod Placing
-pub mod RingRows
-pub mod FoundChannels
+pub mod CoreChannels
 pub mod Started

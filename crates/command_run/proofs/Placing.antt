@@ -4,21 +4,22 @@ use Rattle.journal.specs.Lines.{line, transcript}
 use Rattle.journal.specs.declared.events.Event.{Event}
 use Rattle.journal.specs.declared.events.Event.TheVariants as event
 use Rattle.crash_recover.specs.Cores.{CoreState}
-use Rattle.command_run.specs.NamedLinks.{NamedLink}
+use Rattle.link_commands.specs.NamedLinks.{NamedLink}
 use Rattle.command_run.specs.Stores.{Answer}
-use Rattle.command_run.specs.LinkCommands.{link_effect}
+use Rattle.link_commands.specs.LinkCommands.{link_effect}
 use Rattle.command_run.specs.NamedCores.{NamedCoreState}
 use Rattle.command_run.specs.CoreCommands.{core_act_effect, core_effect}
 use Rattle.command_run.specs.CoreDrives.{drive_effect}
 use Rattle.command_run.specs.CoreEffects.{CoreEffect}
 use Rattle.command_run.specs.NamedImages.{ImageState}
-use Rattle.command_run.specs.declared.stops.Stop.{Stop}
+use Rattle.link_commands.specs.declared.stops.Stop.{Stop}
 use Rattle.lane_model.specs.declared.calls.LinkConfig.{LinkConfig}
 use Rattle.link_bench.specs.Benches.{BenchState, new_bench_of}
-use Rattle.command_run.specs.Logs.{CutsCore, CutsRun, LogState, HandsCoreEffect, HandsRunEffect, HasCoreEffect, HasEffect, HasRunEffect}
-use Rattle.command_run.specs.declared.acts.CoreAct.TheVariants as core
-use Rattle.command_run.specs.declared.acts.NamedAct.{NamedAct}
-use Rattle.command_run.specs.declared.acts.NamedAct.TheVariants as under
+use Rattle.link_commands.specs.Logs.{LogState, HasEffect}
+use Rattle.command_run.specs.Outcomes.{CutsCore, CutsRun, HandsCoreEffect, HandsRunEffect, HasCoreEffect, HasRunEffect}
+use Rattle.link_commands.specs.declared.acts.CoreAct.TheVariants as core
+use Rattle.link_commands.specs.declared.acts.NamedAct.{NamedAct}
+use Rattle.link_commands.specs.declared.acts.NamedAct.TheVariants as under
 use Rattle.command_run.proofs.Handed.{hands_kept}
 use Rattle.command_run.specs.Runs.{ObjectsState, RunState, RunEffect, core_located_effect, core_place, found_core_effect, found_effect, is_full, located_effect, made_effect, name_effect, new_end, place_of, placed_core_effect, placed_effect, run_tells, unnamed_effect, with_links, without_link_effect}
 

@@ -1,24 +1,18 @@
 -- A run, command by command.
-use Rattle.std.proofs.Common.{◌≡◌, ℕ, true, false, zero, suc, ◌+◌, ◌<◌, List, [], ◌∷◌, ◌++◌, length, Option, Some, None, Err, refl, sym, ap, subst, ◌∙◌, append-nil, append_assoc, drop, get_or, add-one, drop-cons}
+use Rattle.std.proofs.Common.{◌≡◌, ℕ, true, false, zero, suc, ◌+◌, ◌<◌, List, [], ◌∷◌, ◌++◌, length, Option, Some, None, Err, refl, sym, ap, subst, ◌∙◌, append-nil, drop, get_or, add-one, drop-cons}
 use Rattle.script_lang.specs.declared.commands.Command.{Command}
 use Rattle.script_lang.specs.Runnable.{AreRunnable, IsRunnable}
 use Rattle.journal.specs.declared.events.Event.{Event}
-use Rattle.journal.specs.Lines.{line, transcript}
-use Rattle.command_run.specs.declared.stops.Stop.{Stop}
+use Rattle.link_commands.specs.declared.stops.Stop.{Stop}
 use Rattle.command_run.specs.Stores.{Shelf, Told, answer_for, later_told, told_answer}
 use Rattle.rp_io.specs.declared.faults.FetchFault.TheVariants as fetch_fault
-use Rattle.command_run.specs.Logs.{HandsRunEffect, LogState}
+use Rattle.link_commands.specs.Logs.{LogState}
+use Rattle.command_run.specs.Outcomes.{HandsRunEffect}
 use Rattle.command_run.specs.Runs.{AsksNone, IfGoesOn, ObjectsState, RunEffect, RunState, Run, asked_name, run_on, run_from, run_told, effect_of}
 
 -- a run behind these events
 abbrev pub behind : List Event → Run → Run
 behind events run = record run { events = events ++ run.events }
-
--- the lines of two lists of events
-pub transcript-append : (first second : List Event) → transcript (first ++ second) ≡ transcript first ++ transcript second
-transcript-append [] second = refl
-transcript-append (event ∷ more) second =
-    ap (λ rest. line event ++ rest) (transcript-append more second) ∙ sym (append_assoc (line event) (transcript more) (transcript second))
 
 -- what is told at a command, and behind it
 abbrev pub first_told : Option Shelf → Told → Told

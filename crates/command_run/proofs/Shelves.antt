@@ -3,8 +3,8 @@ use Rattle.std.proofs.Common.{◌≡◌, ℕ, zero, suc, false, List, [], ◌∷
 use Rattle.rp_io.specs.declared.faults.FetchFault.TheVariants as fetch_fault
 use Rattle.rp_io.specs.Images.{fetch_answer}
 use Rattle.script_lang.specs.declared.commands.Command.{Command}
-use Rattle.command_run.specs.declared.stops.Stop.{Stop}
-use Rattle.command_run.specs.Stores.{Answer, IsHeld, IsHeldAt, IsShelf, IsTold, IsToldAt, Shelf, Told, answer_for, held, later_told, told_answer}
+use Rattle.link_commands.specs.declared.stops.Stop.{Stop}
+use Rattle.command_run.specs.Stores.{Answer, IsHeld, IsHeldAt, IsShelf, IsTold, IsToldAt, Shelf, Told, answer_for, later_told, store_of, told_answer}
 use Rattle.command_run.specs.Fetches.{IsToldFor}
 use Rattle.command_run.specs.Runs.{Run, RunEffect, RunState, asked_name, effect_of, run_from, run_on, run_told}
 use Rattle.command_run.proofs.RunSteps.{first_told, run_first, run_none}
@@ -77,14 +77,14 @@ held_at images (Some shelf) is = ap (λ (s : Shelf). Some s) is
 
 module _ (images : List (List ℕ × List ℕ)) where
   -- so the run over it is one over the images alone
-  pub held_run : (told : Told) (state : RunState) (commands : List Command) → IsHeld (Some images) told → run_from told state commands ≡ run_from (held images) state commands
-  held_run told state [] is = run_none told state ∙ sym (run_none (held images) state)
+  pub held_run : (told : Told) (state : RunState) (commands : List Command) → IsHeld (Some images) told → run_from told state commands ≡ run_from (store_of images) state commands
+  held_run told state [] is = run_none told state ∙ sym (run_none (store_of images) state)
   held_run told state (first ∷ more) is =
       let effect = effect_of (answer_for (fetch_answer images) (asked_name state.objects first)) state first in
       run_first told state first more
       ∙ ap (λ shelf. run_told state first (told_answer shelf (asked_name state.objects first)) (λ next. run_from (later_told told) next more)) (held_at images (told 0) (is 0))
       ∙ ap (run_on effect effect.ending) (held_run (later_told told) effect.run more (λ number. is (suc number)))
-      ∙ sym (run_first (held images) state first more)
+      ∙ sym (run_first (store_of images) state first more)
 
 -- a run that goes on fails where the rest of it does
 on_failed : (effect : RunEffect) (ending : Option Stop) (later : Run) → later.failed ≡ false → (run_on effect ending later).failed ≡ false

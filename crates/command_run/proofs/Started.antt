@@ -15,20 +15,21 @@ use Rattle.crash_recover.specs.CoreBoots.{boot_of, handover_of, needs_image}
 use Rattle.crash_recover.specs.CoreRecoveries.{recovery_fault, recovery_fault_to, recovery_of}
 use Rattle.command_run.specs.declared.fetches.CommandFault.{CommandFault}
 use Rattle.command_run.specs.declared.fetches.CommandFault.TheVariants as command_fault
-use Rattle.command_run.specs.declared.starts.Starting.{Starting}
-use Rattle.command_run.specs.declared.starts.Starting.TheVariants as starting
-use Rattle.command_run.specs.declared.stops.Stop.{Stop}
+use Rattle.command_run.specs.declared.starts.StartAct.{StartAct}
+use Rattle.command_run.specs.declared.starts.StartAct.TheVariants as starts
+use Rattle.link_commands.specs.declared.stops.Stop.{Stop}
 use Rattle.command_run.specs.CoreCommands.{core_act_effect, core_effect}
 use Rattle.command_run.specs.CoreEffects.{CoreEffect, core_tells_all}
 use Rattle.command_run.specs.CoreLives.{boot_effect, booted_image, found_image, handover_effect, recover_effect, start_effect, start_events}
 use Rattle.command_run.specs.Fetches.{DidTold, IsFetchFault, IsToldFor, RunsTold}
-use Rattle.command_run.specs.Logs.{HandsRunEffect, HasCoreEffect, HasRunEffect, LogState}
+use Rattle.link_commands.specs.Logs.{LogState}
+use Rattle.command_run.specs.Outcomes.{HandsRunEffect, HasCoreEffect, HasRunEffect}
 use Rattle.command_run.specs.NamedCores.{NamedCoreState}
 use Rattle.command_run.specs.NamedImages.{ImageState}
 use Rattle.command_run.specs.Runs.{ObjectsState, RunEffect, RunState, asked_name, core_named, core_place, effect_of, name_effect, outside_image, place_of, placed_core_effect, takes_over}
-use Rattle.command_run.specs.Starts.{DidStart, StartsOver, start_act, start_command, start_image, started_effect}
+use Rattle.command_run.specs.Starts.{DidStart, StartsOver, act_of_start, start_command, start_image, started_effect}
 use Rattle.command_run.specs.Stores.{Answer}
-use Rattle.command_run.specs.declared.acts.NamedAct.TheVariants as under
+use Rattle.link_commands.specs.declared.acts.NamedAct.TheVariants as under
 use Rattle.command_run.proofs.AskedNames.{core_at_place}
 use Rattle.command_run.proofs.Handed.{front_of_none}
 use Rattle.command_run.proofs.Placing.{effect_on_bare_core, kept_run, with_core}
@@ -41,28 +42,28 @@ missing_alone None answer is = is
 missing_alone (Some name) answer is = is
 
 -- what a core answers to a start, and the name of the image
-abbrev pub start_outcome : Starting → List ImageState → Answer → NamedCoreState → CoreOutcome Start CoreFault
-start_outcome (starting.Boot image) made answer named = boot_of named.core image (found_image made answer image)
-start_outcome (starting.Handover image) made answer named = handover_of named.core image (found_image made answer image)
-start_outcome starting.Recover made answer named = recovery_of named.core (found_image made answer (booted_image named.name named.core))
+abbrev pub start_outcome : StartAct → List ImageState → Answer → NamedCoreState → CoreOutcome Start CoreFault
+start_outcome (starts.Boot image) made answer named = boot_of named.core image (found_image made answer image)
+start_outcome (starts.Handover image) made answer named = handover_of named.core image (found_image made answer image)
+start_outcome starts.Recover made answer named = recovery_of named.core (found_image made answer (booted_image named.name named.core))
 
-abbrev pub start_name : Starting → NamedCoreState → List ℕ
-start_name (starting.Boot image) named = image
-start_name (starting.Handover image) named = image
-start_name starting.Recover named = booted_image named.name named.core
+abbrev pub start_name : StartAct → NamedCoreState → List ℕ
+start_name (starts.Boot image) named = image
+start_name (starts.Handover image) named = image
+start_name starts.Recover named = booted_image named.name named.core
 
-started_is : (start : Starting) (made : List ImageState) (answer : Answer) (named : NamedCoreState) (steps : ℕ)
+started_is : (start : StartAct) (made : List ImageState) (answer : Answer) (named : NamedCoreState) (steps : ℕ)
     → started_effect start made answer named steps ≡ start_effect named.name (start_name start named) steps (start_outcome start made answer named)
 unfolding boot_effect handover_effect recover_effect
-started_is (starting.Boot image) made answer named steps = refl
-started_is (starting.Handover image) made answer named steps = refl
-started_is starting.Recover made answer named steps = refl
+started_is (starts.Boot image) made answer named steps = refl
+started_is (starts.Handover image) made answer named steps = refl
+started_is starts.Recover made answer named steps = refl
 
 -- an outcome by its parts
 pub outcome_is : (out : CoreOutcome Start CoreFault) (core : CoreState) (answer : Result Start CoreFault) → core ≡ out.core → answer ≡ out.answer → out ≡ record { core = core; answer = answer }
 outcome_is out core answer left is = λ i. record { core = sym left i; answer = sym is i }
 
-module _ (images : Option (List (List ℕ × List ℕ))) (start : Starting) (made : List ImageState) (named : NamedCoreState) where
+module _ (images : Option (List (List ℕ × List ℕ))) (start : StartAct) (made : List ImageState) (named : NamedCoreState) where
   -- the core answered so, and that was told
   pub did_start : (answer : Answer) (core left : CoreState) (started : Result Start CoreFault) (before after : LogState) (ending : Option Stop)
       → IsToldFor images (start_image start made (Some named)) answer → start_outcome start made answer named ≡ record { core = core; answer = started }
@@ -89,24 +90,24 @@ module _ (images : Option (List (List ℕ × List ℕ))) (start : Starting) (mad
 
 module _ (made : List ImageState) (named : NamedCoreState) where
   -- whether a boot asks the store
-  pub boot_asks_none : (image : List ℕ) → needs_image named.core ≡ false → start_image (starting.Boot image) made (Some named) ≡ None
+  pub boot_asks_none : (image : List ℕ) → needs_image named.core ≡ false → start_image (starts.Boot image) made (Some named) ≡ None
   boot_asks_none image unneeded = ap (λ (b : Bool). cond b (outside_image made image) None) unneeded
 
-  pub boot_asks : (image : List ℕ) → needs_image named.core ≡ true → start_image (starting.Boot image) made (Some named) ≡ outside_image made image
+  pub boot_asks : (image : List ℕ) → needs_image named.core ≡ true → start_image (starts.Boot image) made (Some named) ≡ outside_image made image
   boot_asks image needed = ap (λ (b : Bool). cond b (outside_image made image) None) needed
 
   -- and a handover
-  pub handover_asks_none : (image : List ℕ) → takes_over named.core ≡ false → start_image (starting.Handover image) made (Some named) ≡ None
+  pub handover_asks_none : (image : List ℕ) → takes_over named.core ≡ false → start_image (starts.Handover image) made (Some named) ≡ None
   handover_asks_none image unneeded = ap (λ (b : Bool). cond b (outside_image made image) None) unneeded
 
-  pub handover_asks : (image : List ℕ) → takes_over named.core ≡ true → start_image (starting.Handover image) made (Some named) ≡ outside_image made image
+  pub handover_asks : (image : List ℕ) → takes_over named.core ≡ true → start_image (starts.Handover image) made (Some named) ≡ outside_image made image
   handover_asks image needed = ap (λ (b : Bool). cond b (outside_image made image) None) needed
 
   -- and a recovery
-  pub recovery_asks_none : (why : LifeFault) → recovery_fault named.core.life ≡ Some why → start_image starting.Recover made (Some named) ≡ None
+  pub recovery_asks_none : (why : LifeFault) → recovery_fault named.core.life ≡ Some why → start_image starts.Recover made (Some named) ≡ None
   recovery_asks_none why is = ap (λ (found : Option LifeFault). cond (is_some found) None (option_and_then (outside_image made) named.core.image)) is
 
-  pub recovery_asks_for : (image : List ℕ) → recovery_fault named.core.life ≡ None → Some image ≡ named.core.image → start_image starting.Recover made (Some named) ≡ outside_image made image
+  pub recovery_asks_for : (image : List ℕ) → recovery_fault named.core.life ≡ None → Some image ≡ named.core.image → start_image starts.Recover made (Some named) ≡ outside_image made image
   recovery_asks_for image may is =
       ap (λ (found : Option LifeFault). cond (is_some found) None (option_and_then (outside_image made) named.core.image)) may
       ∙ ap (λ (found : Option (List ℕ)). option_and_then (outside_image made) found) (sym is)
@@ -143,29 +144,29 @@ recovers_loaded life may = crashed_at life.state life may
 -- ---- a start of the core of a name is what the run does
 
 -- the command of a start
-start_line : (answer : Answer) (run : RunState) (called : List ℕ) (start : Starting) → effect_of answer run (start_command called start) ≡ name_effect answer run called (under.Core (start_act start))
+start_line : (answer : Answer) (run : RunState) (called : List ℕ) (start : StartAct) → effect_of answer run (start_command called start) ≡ name_effect answer run called (under.Core (act_of_start start))
 unfolding effect_of
-start_line answer run called (starting.Boot image) = refl
-start_line answer run called (starting.Handover image) = refl
-start_line answer run called starting.Recover = refl
+start_line answer run called (starts.Boot image) = refl
+start_line answer run called (starts.Handover image) = refl
+start_line answer run called starts.Recover = refl
 
-start_asked : (objects : ObjectsState) (called : List ℕ) (start : Starting) → asked_name objects (start_command called start) ≡ start_image start objects.images (core_named objects called)
-start_asked objects called (starting.Boot image) = refl
-start_asked objects called (starting.Handover image) = refl
-start_asked objects called starting.Recover = refl
+start_asked : (objects : ObjectsState) (called : List ℕ) (start : StartAct) → asked_name objects (start_command called start) ≡ start_image start objects.images (core_named objects called)
+start_asked objects called (starts.Boot image) = refl
+start_asked objects called (starts.Handover image) = refl
+start_asked objects called starts.Recover = refl
 
-nobody_asks : (start : Starting) (made : List ImageState) → start_image start made None ≡ None
-nobody_asks (starting.Boot image) made = refl
-nobody_asks (starting.Handover image) made = refl
-nobody_asks starting.Recover made = refl
+nobody_asks : (start : StartAct) (made : List ImageState) → start_image start made None ≡ None
+nobody_asks (starts.Boot image) made = refl
+nobody_asks (starts.Handover image) made = refl
+nobody_asks starts.Recover made = refl
 
 -- an act that is a start, on a core
-start_on_core : (made : List ImageState) (answer : Answer) (is_quiet : Bool) (named : NamedCoreState) (steps : ℕ) (start : Starting)
-    → core_effect made answer is_quiet named steps (under.Core (start_act start)) ≡ started_effect start made answer named steps
+start_on_core : (made : List ImageState) (answer : Answer) (is_quiet : Bool) (named : NamedCoreState) (steps : ℕ) (start : StartAct)
+    → core_effect made answer is_quiet named steps (under.Core (act_of_start start)) ≡ started_effect start made answer named steps
 unfolding core_effect core_act_effect
-start_on_core made answer is_quiet named steps (starting.Boot image) = refl
-start_on_core made answer is_quiet named steps (starting.Handover image) = refl
-start_on_core made answer is_quiet named steps starting.Recover = refl
+start_on_core made answer is_quiet named steps (starts.Boot image) = refl
+start_on_core made answer is_quiet named steps (starts.Handover image) = refl
+start_on_core made answer is_quiet named steps starts.Recover = refl
 
 -- what a command did over what was told, and handed on nothing
 pub told_run : (images : Option (List (List ℕ × List ℕ))) (run : RunState) (asking : Command) (left : ObjectsState) (before after : LogState) (written : Option (List ℕ)) (ending : Option Stop) (answer : Answer)
@@ -184,7 +185,7 @@ set_same [] place x is = refl
 set_same (y ∷ ys) zero x is = ap (λ h. h ∷ ys) (same_Some x y (sym is))
 set_same (y ∷ ys) (suc place) x is = ap (λ more. y ∷ more) (set_same ys place x is)
 
-module _ (images : Option (List (List ℕ × List ℕ))) (run : RunState) (called : List ℕ) (start : Starting) (before after : LogState) (written : Option (List ℕ)) (faults was then : ℕ) where
+module _ (images : Option (List (List ℕ × List ℕ))) (run : RunState) (called : List ℕ) (start : StartAct) (before after : LogState) (written : Option (List ℕ)) (faults was then : ℕ) where
   -- on the core at a place
   module _ (place : ℕ) (named now : NamedCoreState) (none : None ≡ place_of run.objects.links called) (placed : Some place ≡ core_place run.objects.cores called)
       (there : slice_get run.objects.cores place ≡ Some named) (name : now.name ≡ named.name) (steps : before.steps ≡ run.steps) where
@@ -196,7 +197,7 @@ module _ (images : Option (List (List ℕ × List ℕ))) (run : RunState) (calle
 
     placed_so : (answer : Answer) → effect_of answer run (start_command called start) ≡ placed_core_effect run place named (started_effect start run.objects.images answer named run.steps)
     placed_so answer =
-        start_line answer run called start ∙ effect_on_bare_core answer run called (under.Core (start_act start)) place named none placed there
+        start_line answer run called start ∙ effect_on_bare_core answer run called (under.Core (act_of_start start)) place named none placed there
         ∙ ap (placed_core_effect run place named) (start_on_core run.objects.images answer run.objects.is_quiet named run.steps start)
 
     did_so : (answer : Answer) (ending : Option Stop) → HasCoreEffect (started_effect start run.objects.images answer named before.steps) now.core before after ending
@@ -235,7 +236,7 @@ module _ (images : Option (List (List ℕ × List ℕ))) (run : RunState) (calle
 
   -- on no core
   pub nobody_told : (left : ObjectsState) (ending : Option Stop) → core_named run.objects called ≡ None → then ≡ was
-      → HasRunEffect (name_effect (Err fetch_fault.Missing) run called (under.Core (start_act start))) left before after ending
+      → HasRunEffect (name_effect (Err fetch_fault.Missing) run called (under.Core (act_of_start start))) left before after ending
       → RunsTold (Ok ending) images run (start_command called start) left before after written written faults faults was then
   nobody_told left ending nobody same did =
       let none : asked_name run.objects (start_command called start) ≡ None =

@@ -14,7 +14,7 @@ use Rattle.crash_recover.specs.Cores.{CoreState}
 use Rattle.core_actors.specs.declared.progress.Driven.{Driven}
 use Rattle.core_actors.specs.declared.progress.Driven.TheVariants as driven
 use Rattle.crash_recover.specs.Drives.{DriveStep, drive_step, is_idle}
-use Rattle.command_run.specs.CallEvents.{end_event}
+use Rattle.link_commands.specs.CallEvents.{end_event}
 use Rattle.command_run.specs.CoreEffects.{CoreEffect, core_tells}
 use Rattle.command_run.specs.CoreLives.{core_stops, crash_events}
 

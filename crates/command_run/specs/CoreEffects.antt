@@ -10,7 +10,7 @@ use Rattle.journal.specs.declared.events.Event.TheVariants as event
 use Rattle.crash_recover.specs.declared.core_faults.AddFault.{AddFault}
 use Rattle.crash_recover.specs.declared.core_faults.AddFault.TheVariants as add
 use Rattle.crash_recover.specs.Cores.{CoreState, add_fault, driver_add_fault, with_driver}
-use Rattle.command_run.specs.declared.stops.Stop.{Stop}
+use Rattle.link_commands.specs.declared.stops.Stop.{Stop}
 
 -- what a command leaves of its core, the steps of the run until then, what it tells, and why the run stops in its midst, if it does
 pub record CoreEffect : Type 0 where

@@ -7,12 +7,12 @@ use Rattle.crash_recover.specs.CoreActs.{act_on_core, core_after_act}
 use Rattle.crash_recover.specs.CoreCallers.{core_turn_holder}
 use Rattle.crash_recover.specs.CoreRings.{core_ring}
 use Rattle.crash_recover.specs.Cores.{CoreState}
-use Rattle.command_run.specs.declared.acts.LinkView.{LinkView}
-use Rattle.command_run.specs.declared.acts.LinkView.TheVariants as view
+use Rattle.link_commands.specs.declared.acts.LinkView.{LinkView}
+use Rattle.link_commands.specs.declared.acts.LinkView.TheVariants as view
 use Rattle.command_run.specs.CoreEffects.{CoreEffect, core_tells, core_tells_all}
-use Rattle.command_run.specs.Effects.{answer_ending, answer_events}
-use Rattle.command_run.specs.LinkCommands.{view_events}
-use Rattle.command_run.specs.RingDumps.{ring_events}
+use Rattle.link_commands.specs.Effects.{answer_ending, answer_events}
+use Rattle.link_commands.specs.LinkCommands.{view_events}
+use Rattle.link_commands.specs.RingDumps.{ring_events}
 
 -- an act for callers on the link that a core has or not
 unfoldable pub core_link_effect : List ℕ → CoreState → ℕ → LinkAct (List ℕ) → Option BenchState → CoreEffect

@@ -24,11 +24,11 @@ use Rattle.crash_recover.specs.CoreBoots.{boot_of, handover_of}
 use Rattle.crash_recover.specs.CoreCrashes.{report_of}
 use Rattle.crash_recover.specs.CoreLeaves.{detach_of, shutdown_of}
 use Rattle.crash_recover.specs.CoreRecoveries.{recovery_of}
-use Rattle.command_run.specs.declared.stops.Stop.{Stop}
-use Rattle.command_run.specs.declared.stops.Stop.TheVariants as stop
+use Rattle.link_commands.specs.declared.stops.Stop.{Stop}
+use Rattle.link_commands.specs.declared.stops.Stop.TheVariants as stop
 use Rattle.command_run.specs.NamedImages.{ImageState}
 use Rattle.command_run.specs.Stores.{Answer}
-use Rattle.command_run.specs.Recoveries.{reopen_events}
+use Rattle.link_commands.specs.Recoveries.{reopen_events}
 use Rattle.command_run.specs.CoreEffects.{CoreEffect, core_tells_all}
 
 -- a fault by its number, and the number of what it is about, if it is about something
@@ -77,9 +77,13 @@ start_effect name image steps outcome = core_tells_all outcome.core steps (start
 abbrev pub image_bytes : List ImageState → List ℕ → Option (List ℕ)
 image_bytes images name = option_map (λ (image : ImageState). image.bytes) (find (λ image. bytes_eq image.name name) images)
 
--- an image that the script made, unless it is longer than an image may be; or what the store tells
+-- an image that the script made, unless it is longer than an image may be
+abbrev pub made_image : List ℕ → Answer
+made_image bytes = if nat_le (length bytes) IMAGE_MOST then Ok bytes else Err (fetch.TooLarge (length bytes))
+
+-- the same, or what the store tells
 abbrev pub found_or_told : Answer → Option (List ℕ) → Answer
-found_or_told answer (Some bytes) = if nat_le (length bytes) IMAGE_MOST then Ok bytes else Err (fetch.TooLarge (length bytes))
+found_or_told answer (Some bytes) = made_image bytes
 found_or_told answer None = answer
 
 -- the image of this name: the script's, or else what the store tells

@@ -11,10 +11,11 @@ use Rattle.command_run.specs.declared.fetches.CommandFault.{CommandFault}
 use Rattle.command_run.specs.declared.fetches.CommandFault.TheVariants as command_fault
 use Rattle.command_run.specs.declared.fetches.Fetched.{Fetched}
 use Rattle.command_run.specs.declared.fetches.Fetched.TheVariants as fetched
-use Rattle.command_run.specs.declared.stops.Stop.{Stop}
+use Rattle.link_commands.specs.declared.stops.Stop.{Stop}
 use Rattle.command_run.specs.Stores.{Answer, IsAnswer, IsShelf, Shelf, answer_for}
 use Rattle.command_run.specs.Runs.{ObjectsState, RunState, asked_name, effect_of}
-use Rattle.command_run.specs.Logs.{CutsRun, HandsRunEffect, LogState}
+use Rattle.link_commands.specs.Logs.{LogState}
+use Rattle.command_run.specs.Outcomes.{CutsRun, HandsRunEffect}
 
 -- what was told
 abbrev pub answer_of : Fetched → Answer

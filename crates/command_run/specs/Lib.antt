@@ -1,14 +1,6 @@
-pub mod NamedLinks
 pub mod NamedCores
 pub mod NamedImages
 pub mod Stores
-pub mod Acts
-pub mod CallEvents
-pub mod Effects
-pub mod RingDumps
-pub mod Recoveries
-pub mod ChannelLists
-pub mod LinkCommands
 pub mod CoreEffects
 pub mod CoreLives
 pub mod CoreDrives
@@ -18,6 +10,6 @@ pub mod CoreCommands
 pub mod Dumps
 pub mod Runs
 pub mod Lookups
-pub mod Logs
+pub mod Outcomes
 pub mod Fetches
 pub mod Starts

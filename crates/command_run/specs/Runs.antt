@@ -11,8 +11,8 @@ use Rattle.script_lang.specs.declared.recipes.RecipeLine.{RecipeLine}
 use Rattle.image_maker.specs.Images.{image_of}
 use Rattle.journal.specs.declared.events.Event.{Event}
 use Rattle.journal.specs.declared.events.Event.TheVariants as event
-use Rattle.command_run.specs.declared.stops.Stop.{Stop}
-use Rattle.command_run.specs.NamedLinks.{NamedLink}
+use Rattle.link_commands.specs.declared.stops.Stop.{Stop}
+use Rattle.link_commands.specs.NamedLinks.{NamedLink}
 use Rattle.command_run.specs.NamedCores.{NamedCoreState}
 use Rattle.command_run.specs.NamedImages.{ImageState}
 use Rattle.rp_io.specs.declared.faults.FetchFault.TheVariants as fetch
@@ -31,15 +31,15 @@ use Rattle.crash_recover.specs.CoreRecoveries.{recovery_fault}
 use Rattle.endpoint_map.specs.Bindings.{no_bindings}
 use Rattle.channel_bus.specs.Sides.{EndState}
 use Rattle.link_bench.specs.Benches.{new_bench_of}
-use Rattle.command_run.specs.declared.acts.Line.{Line}
-use Rattle.command_run.specs.declared.acts.Line.TheVariants as line
-use Rattle.command_run.specs.declared.acts.Making.{Making}
-use Rattle.command_run.specs.declared.acts.Making.TheVariants as making
-use Rattle.command_run.specs.declared.acts.NamedAct.{NamedAct}
-use Rattle.command_run.specs.declared.acts.NamedAct.TheVariants as under
-use Rattle.command_run.specs.Acts.{line_of}
-use Rattle.command_run.specs.Effects.{Effect}
-use Rattle.command_run.specs.LinkCommands.{link_effect}
+use Rattle.link_commands.specs.declared.acts.Line.{Line}
+use Rattle.link_commands.specs.declared.acts.Line.TheVariants as line
+use Rattle.link_commands.specs.declared.acts.Making.{Making}
+use Rattle.link_commands.specs.declared.acts.Making.TheVariants as making
+use Rattle.link_commands.specs.declared.acts.NamedAct.{NamedAct}
+use Rattle.link_commands.specs.declared.acts.NamedAct.TheVariants as under
+use Rattle.link_commands.specs.Acts.{line_of}
+use Rattle.link_commands.specs.Effects.{Effect}
+use Rattle.link_commands.specs.LinkCommands.{link_effect}
 
 -- what a script made: its links, its cores and its images, each in the order in which they were made; and whether its drives are quiet
 pub record ObjectsState : Type 0 where

@@ -1,55 +1,56 @@
 -- The starts of a core that may need an image, over what a store tells of it (own).
-use Rattle.std.specs.Prelude.{◌≡◌, ℕ, List, [], Option, Some, is_some, IsTrue, Result, Ok, Err}
+use Rattle.std.specs.Prelude.{◌≡◌, ℕ, List, Option, Some, is_some, IsTrue, Result, Ok, Err}
 use Rattle.rp_io.specs.Causes.{Rose}
 use Rattle.script_lang.specs.declared.commands.Command.{Command}
 use Rattle.script_lang.specs.declared.commands.Command.TheVariants as command
 use Rattle.crash_recover.specs.Cores.{CoreState}
 use Rattle.crash_recover.specs.CoreBoots.{needs_image}
-use Rattle.command_run.specs.declared.acts.CoreAct.{CoreAct}
-use Rattle.command_run.specs.declared.acts.CoreAct.TheVariants as core
+use Rattle.link_commands.specs.declared.acts.CoreAct.{CoreAct}
+use Rattle.link_commands.specs.declared.acts.CoreAct.TheVariants as core
 use Rattle.command_run.specs.declared.fetches.CommandFault.{CommandFault}
 use Rattle.command_run.specs.declared.fetches.CommandFault.TheVariants as command_fault
 use Rattle.command_run.specs.declared.fetches.FoundImage.{FoundImage}
 use Rattle.command_run.specs.declared.fetches.FoundImage.TheVariants as found_image
-use Rattle.command_run.specs.declared.starts.Starting.{Starting}
-use Rattle.command_run.specs.declared.starts.Starting.TheVariants as starting
-use Rattle.command_run.specs.declared.stops.Stop.{Stop}
+use Rattle.command_run.specs.declared.starts.StartAct.{StartAct}
+use Rattle.command_run.specs.declared.starts.StartAct.TheVariants as starts
+use Rattle.link_commands.specs.declared.stops.Stop.{Stop}
 use Rattle.command_run.specs.CoreEffects.{CoreEffect}
-use Rattle.command_run.specs.CoreLives.{boot_effect, found_image as image_of_name, found_or_told, handover_effect, recover_effect}
+use Rattle.command_run.specs.CoreLives.{boot_effect, found_image as image_of_name, handover_effect, made_image, recover_effect}
 use Rattle.command_run.specs.Fetches.{IsToldFor, answer_of}
-use Rattle.command_run.specs.Logs.{HasCoreEffect, LogState}
+use Rattle.link_commands.specs.Logs.{LogState}
+use Rattle.command_run.specs.Outcomes.{HasCoreEffect}
 use Rattle.command_run.specs.NamedCores.{NamedCoreState}
 use Rattle.command_run.specs.NamedImages.{ImageState}
 use Rattle.command_run.specs.Runs.{outside_image, recovery_asks, start_asks, takes_over}
 use Rattle.command_run.specs.Stores.{Answer}
 
 -- the act on a core that a start is
-abbrev pub start_act : Starting → CoreAct
-start_act (starting.Boot image) = core.Boot image
-start_act (starting.Handover image) = core.Handover image
-start_act starting.Recover = core.Recover
+abbrev pub act_of_start : StartAct → CoreAct
+act_of_start (starts.Boot image) = core.Boot image
+act_of_start (starts.Handover image) = core.Handover image
+act_of_start starts.Recover = core.Recover
 
 -- the command that it is under a name
-abbrev pub start_command : List ℕ → Starting → Command
-start_command name (starting.Boot image) = command.Boot name image
-start_command name (starting.Handover image) = command.Handover name image
-start_command name starting.Recover = command.Recover name
+abbrev pub start_command : List ℕ → StartAct → Command
+start_command name (starts.Boot image) = command.Boot name image
+start_command name (starts.Handover image) = command.Handover name image
+start_command name starts.Recover = command.Recover name
 
 -- the image for which it asks the store, over those that the script made
-abbrev pub start_image : Starting → List ImageState → Option NamedCoreState → Option (List ℕ)
-start_image (starting.Boot image) images named = start_asks needs_image images image named
-start_image (starting.Handover image) images named = start_asks takes_over images image named
-start_image starting.Recover images named = recovery_asks images named
+abbrev pub start_image : StartAct → List ImageState → Option NamedCoreState → Option (List ℕ)
+start_image (starts.Boot image) images named = start_asks needs_image images image named
+start_image (starts.Handover image) images named = start_asks takes_over images image named
+start_image starts.Recover images named = recovery_asks images named
 
 -- what it does to a core, over what was told of that image
-abbrev pub started_effect : Starting → List ImageState → Answer → NamedCoreState → ℕ → CoreEffect
-started_effect (starting.Boot image) images answer named steps = boot_effect images answer named.name named.core steps image
-started_effect (starting.Handover image) images answer named steps = handover_effect images answer named.name named.core steps image
-started_effect starting.Recover images answer named steps = recover_effect images answer named.name named.core steps
+abbrev pub started_effect : StartAct → List ImageState → Answer → NamedCoreState → ℕ → CoreEffect
+started_effect (starts.Boot image) images answer named steps = boot_effect images answer named.name named.core steps image
+started_effect (starts.Handover image) images answer named steps = handover_effect images answer named.name named.core steps image
+started_effect starts.Recover images answer named steps = recover_effect images answer named.name named.core steps
 
 -- what is known of an image that was looked for
 abbrev pub image_answer : FoundImage → Answer
-image_answer (found_image.Made bytes) = found_or_told (Ok []) (Some bytes.now)
+image_answer (found_image.Made bytes) = made_image bytes.now
 image_answer (found_image.Told fetched) = answer_of fetched
 
 -- it is the image of this name: the script's, or else what was told of the one that the store was asked for
@@ -59,13 +60,13 @@ pub record IsImageOf (images : Option (List (List ℕ × List ℕ))) (made : Lis
   pub image : image_answer found ≡ image_of_name made answer name
 
 -- a start did what it does over what was told of the image that it asked for
-pub record DidStart (images : Option (List (List ℕ × List ℕ))) (start : Starting) (made : List ImageState) (named : NamedCoreState) (left : CoreState) (before after : LogState) (ending : Option Stop) : Type 0 where
+pub record DidStart (images : Option (List (List ℕ × List ℕ))) (start : StartAct) (made : List ImageState) (named : NamedCoreState) (left : CoreState) (before after : LogState) (ending : Option Stop) : Type 0 where
   pub answer : Answer
   pub is : IsToldFor images (start_image start made (Some named)) answer
   pub did : HasCoreEffect (started_effect start made answer named before.steps) left before after ending
 
 -- a start was made, or it asked a store that failed, told nothing and left all as it was, or memory ran out; with the store's faults before and then
-abbrev pub StartsOver : Result (Option Stop) CommandFault → Option (List (List ℕ × List ℕ)) → Starting → List ImageState → NamedCoreState → CoreState → LogState → LogState → ℕ → ℕ → Type 0
+abbrev pub StartsOver : Result (Option Stop) CommandFault → Option (List (List ℕ × List ℕ)) → StartAct → List ImageState → NamedCoreState → CoreState → LogState → LogState → ℕ → ℕ → Type 0
 StartsOver (Ok ending) images start made named left before after was then = DidStart images start made named left before after ending × (then ≡ was)
 StartsOver (Err command_fault.Store) images start made named left before after was then =
     IsTrue (is_some (start_image start made (Some named))) × (left ≡ named.core) × (after ≡ before) × Rose was then

@@ -25,8 +25,8 @@ abbrev pub Told : Type 0
 Told = ℕ → Option Shelf
 
 -- what a store of these images has, at every command
-abbrev pub held : List (List ℕ × List ℕ) → Told
-held images number = Some (fetch_answer images)
+abbrev pub store_of : List (List ℕ × List ℕ) → Told
+store_of images number = Some (fetch_answer images)
 
 -- what is told at the commands behind the first
 abbrev pub later_told : Told → Told

@@ -1,7 +1,8 @@
 ghost use Rattle.std.specs.Prelude.{◌≡◌, ◌==◌, ◌≤◌, ◌+◌, ◌||◌, ◌⊎◌, ◌∷◌, ◌++◌, not, true, IfOk, IfErr, IfSome, OnOk};
 ghost use Rattle.journal.specs.declared.events.Event.TheVariants as event;
 ghost use Rattle.journal.specs.Lines.{transcript};
-ghost use Rattle.command_run.specs.Logs.{CutsCore, DrivesHanding, DrivesOn, HandsCoreEffect, HasCoreEffect, Keeps};
+ghost use Rattle.link_commands.specs.Logs.{Keeps};
+ghost use Rattle.command_run.specs.Outcomes.{CutsCore, DrivesHanding, DrivesOn, HandsCoreEffect, HasCoreEffect};
 ghost use Rattle.command_run.specs.Fetches.{EndsCut, IfWrite};
 ghost use Rattle.rp_base.specs.declared.limits.TheConstants.{STEPS_MOST};
 ghost use Rattle.core_actors.specs.ActorSteps.{HoldsDrivenTaken};
@@ -12,12 +13,11 @@ ghost use Rattle.rp_base.specs.declared.kinds.CrashKind.TheVariants as kind;
 ghost use Rattle.command_run.specs.CoreLives.{crash_events};
 ghost use Rattle.command_run.specs.CoreDrives.{actor_end_events, drive_effect, drive_end, drive_steps, driven_events, is_crashed, is_over, rest_event, step_events};
 
-use crate::act_events::tell_reach;
-use crate::logs::event;
-use crate::{CommandFault, NamedCore, RunLog, Stop};
+use crate::{CommandFault, NamedCore};
 use crash_recover::{Driven, Reach};
 use journal::Event;
 use lane_model::CallEnd;
+use link_commands::{RunLog, Stop, event, tell_reach};
 use remote_code::WorkerFault;
 use rp_base::{CallerNo, CrashKind, Inc, LifeState, NoMemory, STEPS_MOST};
 use rp_io::Sink;

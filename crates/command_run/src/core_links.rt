@@ -1,19 +1,17 @@
 ghost use Rattle.std.specs.Prelude.{◌≡◌, ◌≤◌, IfOk};
 ghost use Rattle.link_bench.specs.Acts.{IsFitAct, bare_act};
-ghost use Rattle.command_run.specs.Acts.{IsFitView};
-ghost use Rattle.command_run.specs.declared.acts.LinkView.TheVariants as view;
-ghost use Rattle.command_run.specs.Logs.{HasCoreEffect};
+ghost use Rattle.link_commands.specs.Acts.{IsFitView};
+ghost use Rattle.link_commands.specs.declared.acts.LinkView.TheVariants as view;
+ghost use Rattle.command_run.specs.Outcomes.{HasCoreEffect};
 ghost use Rattle.crash_recover.specs.CoreCallers.{core_turn_holder};
 ghost use Rattle.command_run.specs.CoreLinks.{core_link_effect, core_ring_effect, core_view_effect, found_view_effect};
 
-use crate::act_events::tell_answer;
-use crate::channel_lists::tell_channels;
-use crate::links::tell_books;
-use crate::logs::event;
-use crate::rings::tell_bytes;
-use crate::{LinkView, NamedCore, RunLog, Stop};
+use crate::NamedCore;
 use crash_recover::{Core, LinkAct};
 use journal::Event;
+use link_commands::{
+    LinkView, RunLog, Stop, event, tell_answer, tell_books, tell_bytes, tell_channels,
+};
 use rp_base::{CallerNo, NoMemory};
 
 impl NamedCore {
@@ -71,7 +69,6 @@ impl NamedCore {
     }
 
     /// Tells the channels that the host end of the core's link knows.
-    #[tactic(auto, unfolding(crate::specs::LinkCommands::view_events))]
     fn tell_channels(&mut self, log: &mut RunLog) -> Result<Option<Stop>, NoMemory>
         ensures same { self.new ≡ self.old }
         ensures effect { IfOk result (λ ending. HasCoreEffect (found_view_effect self.old.name self.old.core log.old.steps view.Channels self.old.core.bench) self.new.core log.old log.new ending) }

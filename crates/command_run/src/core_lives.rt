@@ -6,16 +6,15 @@ ghost use Rattle.crash_recover.specs.declared.core_answers.Leave.TheVariants as 
 ghost use Rattle.crash_recover.specs.declared.core_faults.CoreFault.TheVariants as core_fault;
 ghost use Rattle.journal.specs.Lines.{line};
 ghost use Rattle.journal.specs.declared.events.Event.TheVariants as event;
-ghost use Rattle.command_run.specs.Logs.{HasCoreEffect};
+ghost use Rattle.command_run.specs.Outcomes.{HasCoreEffect};
 ghost use Rattle.command_run.specs.CoreEffects.{core_tells_all};
-ghost use Rattle.command_run.specs.CoreLives.{booted_image, core_fault_events, crash_effect, detach_effect, fault_at, leave_effect, life_fault_event, load_fault_event, may_step, report_effect, shutdown_effect, start_event, start_events};
+ghost use Rattle.command_run.specs.CoreLives.{booted_image, core_fault_events, crash_effect, detach_effect, fault_at, leave_effect, life_fault_event, may_step, report_effect, shutdown_effect, start_events};
 
-use crate::logs::event;
-use crate::{NamedCore, RunLog, Stop};
+use crate::NamedCore;
 use crash_recover::{CALLER_OUT, CoreFault, Crash, Leave, RINGS_CHANGED, Start};
-use fw_load::LoadFault;
 use journal::Event;
 use lane_model::ReopenFault;
+use link_commands::{RunLog, Stop, event};
 use proc_state::LifeFault;
 use rp_base::{CrashKind, Era, Inc, Name, NoMemory, STEPS_MOST};
 use rp_io::FetchFault;
@@ -45,7 +44,13 @@ impl NamedCore {
     {
         match started {
             Ok(start) => {
-                let event = start_event(self.name, start);
+                let name = self.name;
+                let event = match start {
+                    Start::Running(inc) => event!(Running, name, [inc]),
+                    Start::Attached(inc) => event!(Attached, name, [inc]),
+                    Start::Users(users) => event!(Users, name, [users]),
+                    Start::Detached => Event::Detached { name },
+                };
                 self.tell(&event, log)
             }
             Err(fault) => self.refuse(image, &fault, log),
@@ -67,7 +72,7 @@ impl NamedCore {
         let event = match *fault {
             CoreFault::Fetch(FetchFault::Missing) => Event::Missing { name, image },
             CoreFault::Fetch(FetchFault::TooLarge(_)) => Event::TooLarge { name, image },
-            CoreFault::Load(fault) => load_fault_event(name, fault),
+            CoreFault::Load(fault) => fault_at(name, fault.number().unwrap_or(0), fault.index()),
             CoreFault::Life(fault) => life_fault_event(name, fault),
             CoreFault::RingsChanged => fault_at(name, RINGS_CHANGED, None),
             CoreFault::CallerOut(caller) => fault_at(name, CALLER_OUT, Some(u16::from(caller))),
@@ -180,18 +185,6 @@ impl NamedCore {
     }
 }
 
-/// What a start of a core was.
-fn start_event(name: Name, start: Start) -> Event
-    ensures { result ≡ start_event name start }
-{
-    match start {
-        Start::Running(inc) => event!(Running, name, [inc]),
-        Start::Attached(inc) => event!(Attached, name, [inc]),
-        Start::Users(users) => event!(Users, name, [users]),
-        Start::Detached => Event::Detached { name },
-    }
-}
-
 /// Why the life of a core refuses something.
 fn life_fault_event(name: Name, fault: LifeFault) -> Event
     ensures { result ≡ life_fault_event name fault }
@@ -200,13 +193,6 @@ fn life_fault_event(name: Name, fault: LifeFault) -> Event
         LifeFault::IncarnationsSpent => Event::IncarnationsSpent { name },
         _ => fault_at(name, fault.number(), None),
     }
-}
-
-/// Why a core doesn't load an image.
-fn load_fault_event(name: Name, fault: LoadFault) -> Event
-    ensures { result ≡ load_fault_event name fault }
-{
-    fault_at(name, fault.number().unwrap_or(0), fault.index())
 }
 
 /// A fault by its number, and the number of what it is about, if it is about something.

@@ -2,14 +2,14 @@ ghost use Rattle.std.specs.Prelude.{◌≡◌, ◌≤◌, ◌++◌, IfOk, OnOk, 
 ghost use Rattle.std.specs.Option.{option_copied};
 ghost use Rattle.rp_base.specs.Texts.{text_before_zero};
 ghost use Rattle.journal.specs.Lines.{transcript};
-ghost use Rattle.command_run.specs.Logs.{HasCoreEffect};
+ghost use Rattle.command_run.specs.Outcomes.{HasCoreEffect};
 ghost use Rattle.command_run.specs.CoreViews.{mem_effect, table_effect, table_event, trace_bytes, trace_effect};
 
-use crate::logs::event;
-use crate::{NamedCore, RunLog, Stop};
+use crate::NamedCore;
 use crash_recover::Core;
 use image_report::table_rows;
 use journal::{Event, TableLine};
+use link_commands::{RunLog, Stop, event};
 use rp_base::{Da, Data, Name, NoMemory};
 
 impl NamedCore {

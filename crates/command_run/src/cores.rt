@@ -1,16 +1,16 @@
 ghost use Rattle.std.specs.Prelude.{◌≡◌, ◌≢◌, Err, IfOk, OnOk};
 ghost use Rattle.rp_io.specs.declared.faults.FetchFault.TheVariants as fetch_fault;
 ghost use Rattle.crash_recover.specs.declared.core_faults.AddFault.TheVariants as add_fault;
-ghost use Rattle.command_run.specs.Acts.{IsFitCore, IsFitNamed, bare_named_act};
-ghost use Rattle.command_run.specs.Logs.{HasCoreEffect};
+ghost use Rattle.link_commands.specs.Acts.{IsFitCore, IsFitNamed, bare_named_act};
+ghost use Rattle.command_run.specs.Outcomes.{HasCoreEffect};
 ghost use Rattle.command_run.specs.CoreEffects.{add_fault_events, core_tells, core_tells_all, driver_effect, is_on, recovery_effect, region_effect, state_effect};
 ghost use Rattle.command_run.specs.CoreCommands.{core_act_effect, core_effect};
 
 use crate::core_lives::fault_at;
-use crate::logs::event;
-use crate::{CoreAct, NamedAct, RunLog, ScriptImage, Starting, Stop};
+use crate::{ScriptImage, StartAct};
 use crash_recover::{AddFault, Core};
 use journal::Event;
+use link_commands::{CoreAct, NamedAct, RunLog, Stop, event};
 use memory_pool::Region;
 use rp_base::{DriverKind, Name, NoMemory, Switch};
 use std::marker::Model;
@@ -71,9 +71,13 @@ impl NamedCore {
         match act {
             CoreAct::Region(region) => self.add_region(region, log),
             CoreAct::Driver { channel, kind } => self.add_driver(channel, kind, log),
-            CoreAct::Boot { image } => self.start_alone(Starting::Boot { image }, images, log),
+            CoreAct::Boot { image } => self.start_without_store(
+                StartAct::Boot { image },
+                images,
+                log,
+            ),
             CoreAct::Handover { image } => {
-                self.start_alone(Starting::Handover { image }, images, log)
+                self.start_without_store(StartAct::Handover { image }, images, log)
             }
             CoreAct::Shutdown => self.shutdown(log),
             CoreAct::Detach => self.detach(log),
@@ -82,7 +86,7 @@ impl NamedCore {
             CoreAct::Trace { trace } => self.tell_trace(trace, log),
             CoreAct::Mem { da, len } => self.tell_memory(da, len, log),
             CoreAct::Crash { kind } => self.crash(kind, log),
-            CoreAct::Recover => self.start_alone(Starting::Recover, images, log),
+            CoreAct::Recover => self.start_without_store(StartAct::Recover, images, log),
             CoreAct::Recovery { switch } => self.set_recovery(switch, log),
             CoreAct::Drive { count } => self.drive(count, is_quiet, log),
         }

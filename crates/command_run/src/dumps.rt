@@ -4,15 +4,16 @@ ghost use Rattle.core_dump.specs.Dumps.{dump_of};
 ghost use Rattle.core_dump.specs.Parts.{AreParts};
 ghost use Rattle.crash_recover.specs.Cores.{load_view};
 ghost use Rattle.command_run.specs.Dumps.{bytes_answer, crashed_load, kept_dumps, load_answer};
-ghost use Rattle.command_run.specs.Logs.{HasRunEffect};
+ghost use Rattle.command_run.specs.Outcomes.{HasRunEffect};
 ghost use Rattle.command_run.specs.Runs.{dump_answer, dump_effect, dumped_effect};
 
 use crate::objects::has_image;
-use crate::{Objects, RunLog, ScriptImage, Stop};
+use crate::{Objects, ScriptImage};
 use core_dump::{Part, dump_len, write_dump};
 use crash_recover::Core;
 use fw_load::Loaded;
 use journal::Event;
+use link_commands::{RunLog, Stop};
 use rp_base::{Da, IMAGE_MOST, LifeState, Name, NoMemory};
 use std::alloc::Global;
 
@@ -43,7 +44,7 @@ impl Objects {
     ) -> Result<Option<Stop>, NoMemory>
         ensures { IfOk result (λ ending. HasRunEffect (dump_effect (record { objects = self.old; steps = log.old.steps }) name image) self.new log.old log.new ending) }
     {
-        match self.dumped(name, image)? {
+        match self.dump_bytes(name, image)? {
             Ok(bytes) => self.keep_dump(image, bytes, log),
             Err(event) => {
                 log.tell(&event)?;
@@ -72,7 +73,7 @@ impl Objects {
     }
 
     /// The dump of the core of a name that is to become an image, or what is told in its place.
-    fn dumped(&self, name: Name, image: Name) -> Result<Result<Vec<u8>, Event>, NoMemory>
+    fn dump_bytes(&self, name: Name, image: Name) -> Result<Result<Vec<u8>, Event>, NoMemory>
         ensures { IfOk result (λ answer. MatchResult answer (λ bytes. dump_answer self.now name image ≡ Ok bytes.items) (λ told. dump_answer self.now name image ≡ Err told)) }
     {
         let wish = DumpWish {

@@ -8,7 +8,8 @@ ghost use Rattle.command_run.specs.Runs.{ObjectsState, asked_name, outside_image
 ghost use Rattle.command_run.specs.Fetches.{IsFetchFault, IsToldUnder, RunsTold, answer_of};
 ghost use Rattle.command_run.specs.Starts.{IsImageOf, image_answer, start_command};
 
-use crate::{Objects, RunLog, ScriptImage, Starting, Stop};
+use crate::{Objects, ScriptImage, StartAct};
+use link_commands::{RunLog, Stop};
 use rp_base::{IMAGE_MOST, Name, NoMemory};
 use rp_io::{Failed, FetchFault, FirmwareStore, Sink};
 use script_lang::Command;
@@ -51,7 +52,7 @@ impl FoundImage<'_> {
     }
 }
 
-/// Why a command was not run to its end.
+/// Why a command was not run to its end, or something else was not read or written.
 #[derive(Clone, Copy)]
 pub enum CommandFault {
     /// The store of images failed. Its count of faults rose.
@@ -103,14 +104,14 @@ pub fn run_command<F: FirmwareStore, K: Sink>(
 }
 
 /// The start of a core that a command is, with the core's name. No other command asks the store.
-fn start_of(command: &Command) -> Option<(Name, Starting)>
+fn start_of(command: &Command) -> Option<(Name, StartAct)>
     ensures start { IfSome result (λ found. start_command found.0 found.1 ≡ command.now) }
     ensures none { IfNone result ((objects : ObjectsState) → asked_name objects command.now ≡ None) }
 {
     match command {
-        Command::Boot { name, image } => Some((*name, Starting::Boot { image: *image })),
-        Command::Handover { name, image } => Some((*name, Starting::Handover { image: *image })),
-        Command::Recover { name } => Some((*name, Starting::Recover)),
+        Command::Boot { name, image } => Some((*name, StartAct::Boot { image: *image })),
+        Command::Handover { name, image } => Some((*name, StartAct::Handover { image: *image })),
+        Command::Recover { name } => Some((*name, StartAct::Recover)),
         _ => None,
     }
 }
@@ -143,8 +144,8 @@ pub(crate) fn find_image<'a, F: FirmwareStore>(
 fn image_bytes<'a>(images: &'a [ScriptImage], name: &[u8]) -> Option<&'a [u8]>
     ensures { option_copied result ≡ image_bytes images.now name.now }
 {
-    let image = images.iter().find(|image| image.name() == name)?;
-    Some(image.bytes())
+    let image = images.iter().find(|image| image.name.bytes() == name)?;
+    Some(image.bytes.as_slice())
 }
 
 /// Fetches the image of a name.

@@ -2,28 +2,25 @@ ghost use Rattle.std.specs.Prelude.{◌≡◌, ◌<◌, ◌++◌, ℕ, List, Opt
 ghost use Rattle.std.specs.Option.{option_copied};
 ghost use Rattle.lane_model.specs.Conditions.{IsConfig};
 ghost use Rattle.script_lang.specs.Runnable.{IsBook, IsRunnable};
-ghost use Rattle.command_run.specs.Acts.{IsFitNamed, bare_named_act};
+ghost use Rattle.link_commands.specs.Acts.{IsFitNamed, bare_named_act};
 ghost use Rattle.rp_io.specs.declared.faults.FetchFault.TheVariants as fetch_fault;
 ghost use Rattle.journal.specs.Lines.{transcript};
-ghost use Rattle.command_run.specs.declared.acts.CoreAct.TheVariants as core;
-ghost use Rattle.command_run.specs.declared.acts.NamedAct.TheVariants as under;
-ghost use Rattle.command_run.specs.Logs.{CutsRun, HandsRunEffect, HasRunEffect};
-ghost use Rattle.command_run.specs.Runs.{core_made_effect, core_place, without_link_effect, is_full, regions_of, asked_name, core_named, find_core, effect_of, has_image, image_effect, image_place, made_effect, name_effect, new_run, place_of, quiet_effect, unnamed_effect};
+ghost use Rattle.link_commands.specs.declared.acts.CoreAct.TheVariants as core;
+ghost use Rattle.link_commands.specs.declared.acts.NamedAct.TheVariants as under;
+ghost use Rattle.command_run.specs.Outcomes.{CutsRun, HandsRunEffect, HasRunEffect};
+ghost use Rattle.command_run.specs.Runs.{core_made_effect, core_place, is_full, regions_of, asked_name, core_named, find_core, effect_of, has_image, image_effect, image_place, made_effect, name_effect, new_run, place_of, quiet_effect, unnamed_effect};
 ghost use Rattle.command_run.specs.Lookups.{bench_named, core_taken, find_link, is_bare, link_taken, without_core, without_link};
 ghost use Rattle.command_run.specs.Fetches.{EndsCut, IfWrite, RunsTold};
 ghost use Rattle.command_run.specs.Starts.{start_command};
 
-use crate::acts::{CoreAct, Line, Making, NamedAct, line_of};
 use crate::cores::{NamedCore, is_on};
 use crate::fetches::CommandFault;
-use crate::links::NamedBench;
-use crate::logs::RunLog;
-use crate::starts::Starting;
-use crate::stops::Stop;
+use crate::starts::StartAct;
 use channel_bus::Side;
 use crash_recover::{Bench, Core};
 use journal::Event;
 use lane_model::LinkConfig;
+use link_commands::{CoreAct, Line, Making, NamedAct, NamedBench, RunLog, Stop, line_of};
 use memory_pool::Regions;
 use rp_base::{Name, NoMemory, OBJECTS_MOST, Switch};
 use rp_io::{FirmwareStore, Sink};
@@ -133,7 +130,7 @@ impl Objects {
             Line::Image { name, recipe } => self.make_image(name, recipe, log),
             Line::Quiet { switch } => self.set_quiet(switch, log),
             Line::Dump { name, image } => self.dump(name, image, log),
-            Line::On { name, act } => self.run_on_links(name, &act, log),
+            Line::On { name, act } => self.run_on_name(name, &act, log),
         }
     }
 
@@ -156,8 +153,8 @@ impl Objects {
         }
     }
 
-    /// Does what is asked under a name.
-    fn run_on_links(
+    /// Does what is asked under a name: on its link, or else on its core.
+    fn run_on_name(
         &mut self,
         name: Name,
         act: &NamedAct<&[u8]>,
@@ -168,7 +165,13 @@ impl Objects {
     {
         match place_of(self.links.as_slice(), name.bytes()) {
             Some(place) => self.links[place].run(act, log),
-            None => self.run_on_cores(name, act, log),
+            None => match core_place(self.cores.as_slice(), name.bytes()) {
+                Some(place) => {
+                    let images = self.images.as_slice();
+                    self.cores[place].run(act, images, self.is_quiet, log)
+                }
+                None => self.run_on_new_name(name, act, log),
+            },
         }
     }
 
@@ -196,7 +199,7 @@ impl Objects {
             }
             None => {
                 let act = NamedAct::Core(CoreAct::Drive { count });
-                Ok(self.run_on_links(name, &act, log)?)
+                Ok(self.run_on_name(name, &act, log)?)
             }
         }
     }
@@ -206,7 +209,7 @@ impl Objects {
     pub(crate) fn start<F: FirmwareStore>(
         &mut self,
         name: Name,
-        start: Starting,
+        start: StartAct,
         store: &mut F,
         log: &mut RunLog,
     ) -> Result<Option<Stop>, CommandFault>
@@ -222,7 +225,7 @@ impl Objects {
             }
             None => {
                 let act = NamedAct::Core(start.act());
-                Ok(self.run_on_links(name, &act, log)?)
+                Ok(self.run_on_name(name, &act, log)?)
             }
         }
     }
@@ -237,25 +240,6 @@ impl Objects {
         match place_of(self.links.as_slice(), name) {
             Some(_) => None,
             None => core_place(self.cores.as_slice(), name),
-        }
-    }
-
-    /// Does what is asked under a name that no link has.
-    fn run_on_cores(
-        &mut self,
-        name: Name,
-        act: &NamedAct<&[u8]>,
-        log: &mut RunLog,
-    ) -> Result<Option<Stop>, NoMemory>
-        requires fit { IsFitNamed (bare_named_act (λ bytes. bytes.now) act.now) }
-        ensures { IfOk result (λ ending. HasRunEffect (without_link_effect (Err fetch_fault.Missing) (record { objects = self.old; steps = log.old.steps }) name (bare_named_act (λ bytes. bytes.now) act.now)) self.new log.old log.new ending) }
-    {
-        match core_place(self.cores.as_slice(), name.bytes()) {
-            Some(place) => {
-                let images = self.images.as_slice();
-                self.cores[place].run(act, images, self.is_quiet, log)
-            }
-            None => self.run_on_new_name(name, act, log),
         }
     }
 
@@ -384,22 +368,6 @@ impl Model for ScriptImage {
     ghost view = { λ i. record { name = i.name; bytes = i.bytes.items; is_dump = i.is_dump } };
 }
 
-impl ScriptImage {
-    /// The bytes of its name.
-    pub(crate) fn name(&self) -> &[u8]
-        ensures { result.now ≡ self.now.name }
-    {
-        self.name.bytes()
-    }
-
-    /// Its bytes.
-    pub(crate) fn bytes(&self) -> &[u8]
-        ensures { result.now ≡ self.now.bytes }
-    {
-        &self.bytes
-    }
-}
-
 /// The regions that a core begins with.
 fn regions_of(alloc: Global, set: RegionSet) -> Result<Regions, NoMemory>
     ensures { IfOk result (λ regions. regions ≡ regions_of set) }
@@ -421,7 +389,7 @@ pub(crate) fn has_image(images: &[ScriptImage], name: &[u8]) -> bool
 fn image_place(images: &[ScriptImage], name: &[u8]) -> Option<usize>
     ensures { result ≡ image_place images.now name.now }
 {
-    images.iter().position(|image| image.name() == name)
+    images.iter().position(|image| image.name.bytes() == name)
 }
 
 /// The place of the link of this name.

@@ -1,18 +1,19 @@
 ghost use Rattle.std.specs.Prelude.{◌≡◌, None, Some, Err, Ok, IfOk};
 ghost use Rattle.rp_io.specs.declared.faults.FetchFault.TheVariants as fetch_fault;
-ghost use Rattle.command_run.specs.declared.starts.Starting.TheVariants as starting;
-ghost use Rattle.command_run.specs.Logs.{HasCoreEffect};
-ghost use Rattle.command_run.specs.Starts.{StartsOver, start_act, start_image, started_effect};
+ghost use Rattle.command_run.specs.declared.starts.StartAct.TheVariants as starts;
+ghost use Rattle.command_run.specs.Outcomes.{HasCoreEffect};
+ghost use Rattle.command_run.specs.Starts.{StartsOver, act_of_start, start_image, started_effect};
 
 use crate::fetches::{CommandFault, find_image};
-use crate::{CoreAct, NamedCore, RunLog, ScriptImage, Stop};
+use crate::{NamedCore, ScriptImage};
 use crash_recover::{Boot, CoreFault};
+use link_commands::{CoreAct, RunLog, Stop};
 use rp_base::{Name, NoMemory};
 use rp_io::{FirmwareStore, PlainStore};
 
 /// A start of a core that may need an image.
 #[derive(Clone, Copy)]
-pub enum Starting {
+pub enum StartAct {
     /// A boot with the image of a name.
     Boot { image: Name },
     /// A handover with the image of a name.
@@ -21,15 +22,15 @@ pub enum Starting {
     Recover,
 }
 
-impl Starting {
+impl StartAct {
     /// The act on the core that it is.
     pub(crate) fn act(self) -> CoreAct
-        ensures { result ≡ start_act self }
+        ensures { result ≡ act_of_start self }
     {
         match self {
-            Starting::Boot { image } => CoreAct::Boot { image },
-            Starting::Handover { image } => CoreAct::Handover { image },
-            Starting::Recover => CoreAct::Recover,
+            StartAct::Boot { image } => CoreAct::Boot { image },
+            StartAct::Handover { image } => CoreAct::Handover { image },
+            StartAct::Recover => CoreAct::Recover,
         }
     }
 }
@@ -38,9 +39,9 @@ impl Starting {
 /// asked only where the core needs an image that the script didn't make.
 impl NamedCore {
     /// Starts the core over no store.
-    pub(crate) fn start_alone(
+    pub(crate) fn start_without_store(
         &mut self,
-        start: Starting,
+        start: StartAct,
         images: &[ScriptImage],
         log: &mut RunLog,
     ) -> Result<Option<Stop>, NoMemory>
@@ -57,7 +58,7 @@ impl NamedCore {
     /// Starts the core, and tells what came of it.
     pub(crate) fn start<F: FirmwareStore>(
         &mut self,
-        start: Starting,
+        start: StartAct,
         images: &[ScriptImage],
         store: &mut F,
         log: &mut RunLog,
@@ -68,9 +69,9 @@ impl NamedCore {
         ensures unasked { start_image start images.now (Some self.old) ≡ None → store.new ≡ store.old }
     {
         match start {
-            Starting::Boot { image } => self.boot(image, images, store, log),
-            Starting::Handover { image } => self.handover(image, images, store, log),
-            Starting::Recover => self.recover(images, store, log),
+            StartAct::Boot { image } => self.boot(image, images, store, log),
+            StartAct::Handover { image } => self.handover(image, images, store, log),
+            StartAct::Recover => self.recover(images, store, log),
         }
     }
 
@@ -83,9 +84,9 @@ impl NamedCore {
         log: &mut RunLog,
     ) -> Result<Option<Stop>, CommandFault>
         ensures name { self.new.name ≡ self.old.name }
-        ensures started { StartsOver result (F.images store.old) (starting.Boot image) images.now self.old self.new.core log.old log.new (F.faults store.old) (F.faults store.new) }
+        ensures started { StartsOver result (F.images store.old) (starts.Boot image) images.now self.old self.new.core log.old log.new (F.faults store.old) (F.faults store.new) }
         ensures kept { F.images store.new ≡ F.images store.old }
-        ensures unasked { start_image (starting.Boot image) images.now (Some self.old) ≡ None → store.new ≡ store.old }
+        ensures unasked { start_image (starts.Boot image) images.now (Some self.old) ≡ None → store.new ≡ store.old }
     {
         match self.core.begin_boot(log.alloc()) {
             Ok(Boot::Done(start)) => Ok(self.tell_start(image, Ok(start), log)?),
@@ -109,9 +110,9 @@ impl NamedCore {
         log: &mut RunLog,
     ) -> Result<Option<Stop>, CommandFault>
         ensures name { self.new.name ≡ self.old.name }
-        ensures started { StartsOver result (F.images store.old) (starting.Handover image) images.now self.old self.new.core log.old log.new (F.faults store.old) (F.faults store.new) }
+        ensures started { StartsOver result (F.images store.old) (starts.Handover image) images.now self.old self.new.core log.old log.new (F.faults store.old) (F.faults store.new) }
         ensures kept { F.images store.new ≡ F.images store.old }
-        ensures unasked { start_image (starting.Handover image) images.now (Some self.old) ≡ None → store.new ≡ store.old }
+        ensures unasked { start_image (starts.Handover image) images.now (Some self.old) ≡ None → store.new ≡ store.old }
     {
         match self.core.handover_life() {
             Ok(life) => {
@@ -133,9 +134,9 @@ impl NamedCore {
         log: &mut RunLog,
     ) -> Result<Option<Stop>, CommandFault>
         ensures name { self.new.name ≡ self.old.name }
-        ensures started { StartsOver result (F.images store.old) starting.Recover images.now self.old self.new.core log.old log.new (F.faults store.old) (F.faults store.new) }
+        ensures started { StartsOver result (F.images store.old) starts.Recover images.now self.old self.new.core log.old log.new (F.faults store.old) (F.faults store.new) }
         ensures kept { F.images store.new ≡ F.images store.old }
-        ensures unasked { start_image starting.Recover images.now (Some self.old) ≡ None → store.new ≡ store.old }
+        ensures unasked { start_image starts.Recover images.now (Some self.old) ≡ None → store.new ≡ store.old }
     {
         let image = self.booted_image();
         match self.core.recovery_fault() {

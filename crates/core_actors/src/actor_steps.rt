@@ -10,7 +10,7 @@ ghost use Rattle.link_bench.specs.Watchers.{watcher_after};
 ghost use Rattle.core_actors.specs.ActorEnds.{actors_after_end};
 ghost use Rattle.core_actors.specs.ActorSteps.{HoldsDrivenTaken, actors_after_record, begun_step, drive_of_reach, drive_of_work, first_or_take, host_after_step, host_at_step, is_rest, link_step, with_next_after, worker_after_step};
 
-use crate::actors::{Actor, Actors};
+use crate::actors::{Actor, Actors, make_room};
 use crate::progress::Driven;
 use fw_load::Loaded;
 use lane_model::Wish;
@@ -111,7 +111,7 @@ impl Actors {
         ensures same { OnErr result (bench.new ≡ bench.old) }
         ensures unchanged { OnErr result (actors_view self.new ≡ actors_view self.old) }
     {
-        self.make_host_room(2)?;
+        make_room(&mut self.host_calls, 2)?;
         self.next = Actor::Worker;
         self.begin_host(goes_on);
         let mut reach = Reach::Limit;
@@ -142,7 +142,7 @@ impl Actors {
         ensures same { OnErr result (bench.new ≡ bench.old) }
         ensures unchanged { OnErr result (actors_view self.new ≡ actors_view self.old) }
     {
-        self.make_worker_room()?;
+        make_room(&mut self.worker_calls, 1)?;
         self.next = Actor::Host;
         let mut reach = Reach::Limit;
         link_step(
@@ -178,7 +178,7 @@ impl Actors {
         ensures same { OnErr result (load.new ≡ load.old) }
         ensures unchanged { OnErr result (actors_view self.new ≡ actors_view self.old) }
     {
-        self.make_worker_room()?;
+        make_room(&mut self.worker_calls, 1)?;
         self.next = Actor::Host;
         let mut wish = Wish::Take;
         match self
@@ -210,7 +210,7 @@ impl Actors {
         ensures same { OnErr result (bench.new ≡ bench.old) }
         ensures unchanged { OnErr result (actors_view self.new ≡ actors_view self.old) }
     {
-        self.make_host_room(1)?;
+        make_room(&mut self.host_calls, 1)?;
         let reach = bench.next_step(caller);
         if let Reach::Ended(end) = &reach {
             self.see_call(bench, caller, end);

@@ -112,29 +112,11 @@ impl Actors {
     {
         self.drivers.names(alloc)
     }
-
-    /// Makes room for so many more calls of the host actor.
-    #[inline(always)]
-    pub(crate) fn make_host_room(&mut self, more: usize) -> Result<(), NoMemory>
-        ensures same { actors_view self.new ≡ actors_view self.old }
-        ensures room { OnOk result (deque_len self.new.host_calls + more ≤ deque_capacity self.new.host_calls) }
-    {
-        make_room(&mut self.host_calls, more)
-    }
-
-    /// Makes room for one more call of the worker.
-    #[inline(always)]
-    pub(crate) fn make_worker_room(&mut self) -> Result<(), NoMemory>
-        ensures same { actors_view self.new ≡ actors_view self.old }
-        ensures room { OnOk result (deque_len self.new.worker_calls < deque_capacity self.new.worker_calls) }
-    {
-        make_room(&mut self.worker_calls, 1)
-    }
 }
 
 /// Makes room for so many more calls.
 #[inline(always)]
-fn make_room(calls: &mut VecDeque<Wish>, more: usize) -> Result<(), NoMemory>
+pub(crate) fn make_room(calls: &mut VecDeque<Wish>, more: usize) -> Result<(), NoMemory>
     ensures items { calls.new.items ≡ calls.old.items }
     ensures room { OnOk result (deque_len calls.new + more ≤ deque_capacity calls.new) }
 {

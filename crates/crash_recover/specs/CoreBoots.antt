@@ -186,6 +186,6 @@ power_of start.Detached = power.First
 abbrev pub in_short : {A B : Type 0} → (A → B) → CoreOutcome A CoreFault → CoreOutcome B CoreFault
 in_short short outcome = record { core = outcome.core; answer = result_map_both short (λ why. why) outcome.answer }
 
--- that a call was done
-abbrev pub done : {A : Type 0} → A → Unit {0}
-done answer = tt
+-- an answer of which no more is told than that there is one
+abbrev pub as_unit : {A : Type 0} → A → Unit {0}
+as_unit answer = tt

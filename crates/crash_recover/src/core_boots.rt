@@ -10,7 +10,7 @@ ghost use Rattle.proc_state.specs.Lives.{is_offline, is_up, life_after_boot, lif
 ghost use Rattle.core_actors.specs.Actors.{driver_names};
 ghost use Rattle.crash_recover.specs.Cores.{IsSoundLoad, load_view, loaded_rings};
 ghost use Rattle.fw_load.specs.Loading.{load_fault};
-ghost use Rattle.crash_recover.specs.CoreBoots.{BeginsBoot, DidWith, Found, IsFoundIn, boot_of, config_of, core_bench, done, handover_of, in_short, load_of, loaded_entry, needs_image, power_of, started_core, with_load};
+ghost use Rattle.crash_recover.specs.CoreBoots.{BeginsBoot, DidWith, Found, IsFoundIn, as_unit, boot_of, config_of, core_bench, handover_of, in_short, load_of, loaded_entry, needs_image, power_of, started_core, with_load};
 ghost use Rattle.crash_recover.specs.declared.core_answers.Start.TheVariants as start;
 ghost use Rattle.crash_recover.specs.declared.core_faults.CoreFault.TheVariants as fault;
 
@@ -219,7 +219,7 @@ impl Core {
         requires nonzero { text_before_zero name.now ≡ name.now }
         ensures done { result ≢ Err fault.NoMemory
             → DidWith (λ (found : Found). is_offline self.old.life.state ≡ true → IsFoundIn (F.images store.old) name.now found)
-            (λ (found : Found). in_short done (handover_of self.old name.now found)) self.new result }
+            (λ (found : Found). in_short as_unit (handover_of self.old name.now found)) self.new result }
         ensures unchanged { OnErr result (self.new ≡ self.old) }
         ensures unasked { is_offline self.old.life.state ≡ false → store.new ≡ store.old }
         ensures kept { F.images store.new ≡ F.images store.old }
@@ -256,9 +256,13 @@ impl Core {
         requires { IfSome rings.now (λ rings. IsConfig (config_of rings self.now.book inc)) }
         ensures { IfOk result (λ bench. bench ≡ option_map (core_bench (driver_names self.now.actors) self.now.book inc) rings.now) }
     {
-        let names = self.actors.driver_names(alloc)?;
-        let bench = bench_of(alloc, rings, names, self.book, inc)?;
-        Ok(bench)
+        match rings {
+            Some(rings) => {
+                let names = self.actors.driver_names(alloc)?;
+                Ok(Some(core_bench(alloc, rings, names, self.book, inc)?))
+            }
+            None => Ok(None),
+        }
     }
 
     /// The link over the rings of what is loaded, in an incarnation.
@@ -293,23 +297,6 @@ fn name_of(text: &str) -> Name
         unreachable!()
     };
     name
-}
-
-/// The link of a core in an incarnation, with drivers of these names, where its device has rings.
-fn bench_of(
-    alloc: Global,
-    rings: &Option<RingPair>,
-    names: Vec<Name>,
-    book: u32,
-    first: Inc,
-) -> Result<Option<Bench>, NoMemory>
-    requires { IfSome rings.now (λ rings. IsConfig (config_of rings book first)) }
-    ensures { IfOk result (λ bench. bench ≡ option_map (core_bench names.items book first) rings.now) }
-{
-    match rings {
-        Some(rings) => Ok(Some(core_bench(alloc, rings, names, book, first)?)),
-        None => Ok(None),
-    }
 }
 
 /// The link over a device's rings, with a caller at each end. The load has its buffers' addresses.

@@ -163,9 +163,7 @@ impl Core {
         match driven {
             Driven::Worker(_, closed) => *closed = self.report_closing(CrashKind::Fatal),
             Driven::Crashed(kind, closed) => *closed = self.report_closing(*kind),
-            Driven::Idle => {}
-            Driven::Stepped => {}
-            Driven::Ended(_, _) => {}
+            Driven::Idle | Driven::Stepped | Driven::Ended(_, _) => {}
         }
     }
 
@@ -176,9 +174,7 @@ impl Core {
     {
         match self.report_within(kind, true) {
             Ok(Crash::First(closed)) => closed,
-            Ok(Crash::Already) => None,
-            Ok(Crash::Limit) => None,
-            Err(_) => None,
+            Ok(Crash::Already | Crash::Limit) | Err(_) => None,
         }
     }
 }

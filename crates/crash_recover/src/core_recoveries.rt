@@ -8,7 +8,7 @@ ghost use Rattle.proc_state.specs.Lives.{life_after_recovery};
 ghost use Rattle.crash_recover.specs.declared.core_answers.Start.TheVariants as start;
 ghost use Rattle.crash_recover.specs.declared.core_faults.CoreFault.TheVariants as fault;
 ghost use Rattle.crash_recover.specs.Cores.{IsSoundLoad, load_view, loaded_rings};
-ghost use Rattle.crash_recover.specs.CoreBoots.{DidWith, Found, done, in_short, load_in};
+ghost use Rattle.crash_recover.specs.CoreBoots.{DidWith, Found, as_unit, in_short, load_in};
 ghost use Rattle.link_bench.specs.BenchCrashes.{after_reopen};
 ghost use Rattle.link_bench.specs.BenchEnds.{bench_to_reopen};
 ghost use Rattle.crash_recover.specs.CoreRecoveries.{IsFoundAs, after_recovery, asked_text, core_to_reopen, fault_with, link_fault, recovery_fault, recovery_of, reload_fault, reopen_fault, same_pair, same_ring, same_rings, spent_fault};
@@ -50,7 +50,7 @@ impl Core {
     ) -> Result<(), CoreFault>
         ensures recovered { result ≢ Err fault.NoMemory
             → DidWith (λ (found : Found). recovery_fault self.old.life ≡ None → IsFoundAs (F.images store.old) (asked_text self.old.image) found)
-            (λ (found : Found). in_short done (recovery_of self.old found)) self.new result }
+            (λ (found : Found). in_short as_unit (recovery_of self.old found)) self.new result }
         ensures memory { IsErrOf result fault.NoMemory → (self.new ≡ self.old) ⊎ (self.new ≡ core_to_reopen self.old) }
         ensures unasked { recovery_fault self.old.life ≢ None → store.new ≡ store.old }
         ensures kept { F.images store.new ≡ F.images store.old }

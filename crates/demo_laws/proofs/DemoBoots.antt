@@ -21,7 +21,7 @@ use Rattle.demo_laws.proofs.BootBounds.{AreRoomy}
 use Rattle.demo_laws.proofs.DriveBounds.{IsProgram}
 use Rattle.script_run.specs.Demos.{accepted_from, counted_output, demo_output}
 use Rattle.command_run.specs.Runs.{new_run, run_of}
-use Rattle.command_run.specs.Stores.{held}
+use Rattle.command_run.specs.Stores.{store_of}
 use Rattle.image_maker.proofs.DemoSizes.{demo_is_said}
 use Rattle.script_run.proofs.DemoSums.{demo_is}
 use Rattle.demo_laws.proofs.DemoEnds.{AreBootable, demo_ends}
@@ -59,7 +59,7 @@ bootable = record {
 }
 
 -- the run of a demo goes to its end
-pub demo_goes_on : (sessions : ℕ) → sessions ≤ 500 → (run_of (held []) (demo_commands sessions)).ending ≡ None
+pub demo_goes_on : (sessions : ℕ) → sessions ≤ 500 → (run_of (store_of []) (demo_commands sessions)).ending ≡ None
 demo_goes_on sessions few = demo_ends IsAtRecord records_left credit_of bootable sessions few
 
 -- so it writes how much was accepted

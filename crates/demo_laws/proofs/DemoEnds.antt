@@ -50,15 +50,15 @@ use Rattle.proc_state.specs.declared.answers.Power.{Power}
 use Rattle.proc_state.specs.declared.answers.Power.TheVariants as power
 use Rattle.crash_recover.specs.declared.core_faults.AddFault.TheVariants as add
 use Rattle.image_maker.specs.Demo.{session_image}
-use Rattle.command_run.specs.declared.acts.CoreAct.TheVariants as act
-use Rattle.command_run.specs.declared.acts.Making.TheVariants as making
-use Rattle.command_run.specs.declared.acts.NamedAct.{NamedAct}
-use Rattle.command_run.specs.declared.acts.NamedAct.TheVariants as under
+use Rattle.link_commands.specs.declared.acts.CoreAct.TheVariants as act
+use Rattle.link_commands.specs.declared.acts.Making.TheVariants as making
+use Rattle.link_commands.specs.declared.acts.NamedAct.{NamedAct}
+use Rattle.link_commands.specs.declared.acts.NamedAct.TheVariants as under
 use Rattle.command_run.specs.CoreCommands.{core_act_effect, core_effect}
 use Rattle.command_run.specs.CoreDrives.{step_events, told_before}
-use Rattle.command_run.specs.LinkCommands.{link_effect}
-use Rattle.command_run.specs.NamedLinks.{NamedLink}
-use Rattle.command_run.specs.Stores.{held}
+use Rattle.link_commands.specs.LinkCommands.{link_effect}
+use Rattle.link_commands.specs.NamedLinks.{NamedLink}
+use Rattle.command_run.specs.Stores.{store_of}
 use Rattle.script_run.specs.Demos.{bare_effect}
 use Rattle.command_run.specs.Runs.{ObjectsState, Run, RunEffect, RunState, core_located_effect, core_made_effect, core_place, effect_of, found_core_effect, found_effect, has_image, image_effect, is_full, located_effect, name_effect, new_run, place_of, quiet_effect, run_from, run_of, run_tells, unnamed_effect, with_image, without_link_effect}
 use Rattle.script_run.proofs.DemoSums.{bare_is, goes_on as goes_on_run, script_runnable}
@@ -500,10 +500,10 @@ module _ (Fits : WorkerState → Type 0) (records credit : WorkerState → ℕ) 
 
   -- these commands do at most so many steps, and go to their end
   abbrev EndsWithin : List Command → ℕ → Type 0
-  EndsWithin commands within = (run : RunState) → AreRunnable commands → AreCalm run.objects → AreSound run.objects → run.steps + within ≤ STEPS_MOST → (run_from (held []) run commands).ending ≡ None
+  EndsWithin commands within = (run : RunState) → AreRunnable commands → AreCalm run.objects → AreSound run.objects → run.steps + within ≤ STEPS_MOST → (run_from (store_of []) run commands).ending ≡ None
 
   ends_none : EndsWithin [] 0
-  ends_none run runs are sound few = ap (λ (left : Run). left.ending) (run_none (held []) run)
+  ends_none run runs are sound few = ap (λ (left : Run). left.ending) (run_none (store_of []) run)
 
   ends_first : (first : Command) (more : List Command) (within later : ℕ) → Leaves first within → EndsWithin more later → EndsWithin (first ∷ more) (within + later)
   ends_first first more within later leaves rest run runs are sound few =
@@ -563,7 +563,7 @@ module _ (Fits : WorkerState → Type 0) (records credit : WorkerState → ℕ) 
   }
 
   -- the run of a demo goes to its end
-  pub demo_ends : (sessions : ℕ) → sessions ≤ 500 → (run_of (held []) (demo_commands sessions)).ending ≡ None
+  pub demo_ends : (sessions : ℕ) → sessions ≤ 500 → (run_of (store_of []) (demo_commands sessions)).ending ≡ None
   unfolding demo_commands
   demo_ends sessions few =
       let all : (first_sessions sessions sessions ++ []) ≡ first_sessions sessions sessions = append-nil (first_sessions sessions sessions) in

@@ -9,17 +9,17 @@ use Rattle.script_lang.specs.Runnable.{IsBook, AreRunnable, IsRunnable}
 use Rattle.script_lang.proofs.Runnable.{are_runnable}
 use Rattle.image_maker.specs.Images.{image_of}
 use Rattle.link_bench.specs.Acts.{IsFitAct}
-use Rattle.command_run.specs.declared.acts.CoreAct.{CoreAct}
-use Rattle.command_run.specs.declared.acts.CoreAct.TheVariants as core
-use Rattle.command_run.specs.declared.acts.Line.{Line}
-use Rattle.command_run.specs.declared.acts.Line.TheVariants as line
-use Rattle.command_run.specs.declared.acts.LinkView.{LinkView}
-use Rattle.command_run.specs.declared.acts.LinkView.TheVariants as view
-use Rattle.command_run.specs.declared.acts.Making.{Making}
-use Rattle.command_run.specs.declared.acts.Making.TheVariants as making
-use Rattle.command_run.specs.declared.acts.NamedAct.{NamedAct}
-use Rattle.command_run.specs.declared.acts.NamedAct.TheVariants as under
-use Rattle.command_run.specs.Acts.{line_of}
+use Rattle.link_commands.specs.declared.acts.CoreAct.{CoreAct}
+use Rattle.link_commands.specs.declared.acts.CoreAct.TheVariants as core
+use Rattle.link_commands.specs.declared.acts.Line.{Line}
+use Rattle.link_commands.specs.declared.acts.Line.TheVariants as line
+use Rattle.link_commands.specs.declared.acts.LinkView.{LinkView}
+use Rattle.link_commands.specs.declared.acts.LinkView.TheVariants as view
+use Rattle.link_commands.specs.declared.acts.Making.{Making}
+use Rattle.link_commands.specs.declared.acts.Making.TheVariants as making
+use Rattle.link_commands.specs.declared.acts.NamedAct.{NamedAct}
+use Rattle.link_commands.specs.declared.acts.NamedAct.TheVariants as under
+use Rattle.link_commands.specs.Acts.{line_of}
 use Rattle.run_laws.proofs.RunsReached.{line_fits}
 use Rattle.way_laws.proofs.RunTales.{FitsMaking}
 use Rattle.field_laws.specs.FieldBenches.{IsFieldAct}

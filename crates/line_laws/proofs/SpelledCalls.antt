@@ -46,19 +46,19 @@ use Rattle.link_bench.specs.BenchRings.{first_holder, lane_base, lane_bytes, lan
 use Rattle.link_bench.specs.Watchers.{nobody_sees}
 use Rattle.core_laws.specs.BenchMoves.{IsShortLink}
 use Rattle.core_laws.proofs.CrashReclaims.{reached_sound}
-use Rattle.command_run.specs.declared.acts.LinkView.{LinkView}
-use Rattle.command_run.specs.declared.acts.LinkView.TheVariants as view
-use Rattle.command_run.specs.declared.acts.ManagerAct.{ManagerAct}
-use Rattle.command_run.specs.declared.acts.ManagerAct.TheVariants as manager
-use Rattle.command_run.specs.declared.acts.NamedAct.{NamedAct}
-use Rattle.command_run.specs.declared.acts.NamedAct.TheVariants as under
-use Rattle.command_run.specs.CallEvents.{end_event, fault_event, reach_events, refused_event, took_event}
-use Rattle.command_run.specs.ChannelLists.{channel_event, channels_events, listed_channels}
-use Rattle.command_run.specs.Effects.{Effect, answer_events, reclaim_event, tells, turn_events}
-use Rattle.command_run.specs.LinkCommands.{lane_event, link_effect, manager_effect, view_events}
-use Rattle.command_run.specs.NamedLinks.{NamedLink}
-use Rattle.command_run.specs.Recoveries.{close_effect, close_event, opened_effect, reopen_effect, reopen_events}
-use Rattle.command_run.specs.RingDumps.{bench_ring_events, dump_rows, ring_events, row_count, row_events, shown_ring}
+use Rattle.link_commands.specs.declared.acts.LinkView.{LinkView}
+use Rattle.link_commands.specs.declared.acts.LinkView.TheVariants as view
+use Rattle.link_commands.specs.declared.acts.ManagerAct.{ManagerAct}
+use Rattle.link_commands.specs.declared.acts.ManagerAct.TheVariants as manager
+use Rattle.link_commands.specs.declared.acts.NamedAct.{NamedAct}
+use Rattle.link_commands.specs.declared.acts.NamedAct.TheVariants as under
+use Rattle.link_commands.specs.CallEvents.{end_event, fault_event, reach_events, refused_event, took_event}
+use Rattle.link_commands.specs.ChannelLists.{channel_event, channels_events, listed_channels}
+use Rattle.link_commands.specs.Effects.{Effect, answer_events, reclaim_event, tells, turn_events}
+use Rattle.link_commands.specs.LinkCommands.{lane_event, link_effect, manager_effect, view_events}
+use Rattle.link_commands.specs.NamedLinks.{NamedLink}
+use Rattle.link_commands.specs.Recoveries.{close_effect, close_event, opened_effect, reopen_effect, reopen_events}
+use Rattle.link_commands.specs.RingDumps.{bench_ring_events, dump_rows, ring_events, row_count, row_events, shown_ring}
 use Rattle.field_laws.specs.Fields.{AreBytes, IsFieldChannel, IsFieldEnd, IsFieldFault, IsFieldLane, IsFieldLink, IsFieldVerdict}
 use Rattle.field_laws.specs.FieldBenches.{IsFieldActed, IsFieldBench, IsFieldBenchFault, IsFieldReach, IsFieldReclaim, IsFieldTurnEnd}
 use Rattle.field_laws.specs.FieldCores.{IsFieldReopen}

@@ -25,19 +25,19 @@ use Rattle.link_bench.specs.Benches.{BenchState, new_bench_of}
 use Rattle.crash_recover.specs.CoreParts.{core_parts}
 use Rattle.crash_recover.specs.Cores.{CoreState, LoadState}
 use Rattle.core_laws.specs.BenchMoves.{IsReachedBench, IsReachedCore}
-use Rattle.command_run.specs.declared.acts.Line.{Line}
-use Rattle.command_run.specs.declared.acts.Line.TheVariants as line
-use Rattle.command_run.specs.declared.acts.Making.{Making}
-use Rattle.command_run.specs.declared.acts.Making.TheVariants as making
-use Rattle.command_run.specs.declared.acts.NamedAct.{NamedAct}
-use Rattle.command_run.specs.declared.acts.NamedAct.TheVariants as under
+use Rattle.link_commands.specs.declared.acts.Line.{Line}
+use Rattle.link_commands.specs.declared.acts.Line.TheVariants as line
+use Rattle.link_commands.specs.declared.acts.Making.{Making}
+use Rattle.link_commands.specs.declared.acts.Making.TheVariants as making
+use Rattle.link_commands.specs.declared.acts.NamedAct.{NamedAct}
+use Rattle.link_commands.specs.declared.acts.NamedAct.TheVariants as under
 use Rattle.command_run.specs.declared.dumps.TheConstants.{DUMPS_MOST}
-use Rattle.command_run.specs.declared.stops.Stop.{Stop}
-use Rattle.command_run.specs.Acts.{line_of}
+use Rattle.link_commands.specs.declared.stops.Stop.{Stop}
+use Rattle.link_commands.specs.Acts.{line_of}
 use Rattle.command_run.specs.Dumps.{bytes_answer, core_answer, crashed_load, kept_dumps, load_answer}
 use Rattle.command_run.specs.NamedCores.{NamedCoreState}
 use Rattle.command_run.specs.NamedImages.{ImageState}
-use Rattle.command_run.specs.NamedLinks.{NamedLink}
+use Rattle.link_commands.specs.NamedLinks.{NamedLink}
 use Rattle.command_run.specs.Runs.{ObjectsState, Run, RunEffect, RunState, asked_name, core_located_effect, core_made_effect, core_named, core_place, dump_answer, dump_effect, dumped_effect, effect_of, find_core, found_core_effect, found_effect, has_image, image_effect, is_full, line_effect, located_effect, made_effect, making_effect, name_effect, new_end, new_run, place_of, quiet_effect, regions_of, run_from, run_of, run_on, run_tells, run_told, unnamed_effect, with_image, without_link_effect}
 use Rattle.command_run.specs.Stores.{Answer, Shelf, Told, later_told, told_answer}
 use Rattle.run_laws.specs.Reached.{AreReached}

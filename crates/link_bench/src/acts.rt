@@ -4,7 +4,7 @@ ghost use Rattle.lane_model.specs.Links.{LinkState};
 ghost use Rattle.channel_bus.specs.Sides.{EndState};
 ghost use Rattle.link_bench.specs.Benches.{HoldsReachTaken, IsSendable, link_in, ready_fault};
 ghost use Rattle.link_bench.specs.Turns.{IsCutPump};
-ghost use Rattle.link_bench.specs.Acts.{HasActed, HoldsAnswerTaken, IsCutAct, IsFitAct, IsFitWish, bare_act, bare_wish, call_act, free_act, link_act, made_call, misfit, own_caller, own_in, pump_act, pump_refusal, side_refusal, step_act, walk_act, wish_of};
+ghost use Rattle.link_bench.specs.Acts.{HasActed, HoldsAnswerTaken, IsCutAct, IsFitAct, IsFitWish, bare_act, bare_wish, call_act, free_act, link_act, misfit, own_caller, own_in, pump_act, pump_refusal, side_refusal, step_act, walk_act, wish_of};
 
 use crate::bench_crashes::Reclaim;
 use crate::benches::{Bench, BenchFault, Reach};
@@ -208,7 +208,18 @@ impl Bench {
         if let Some(answer) = self.misfit(caller, wish) {
             return Ok(answer);
         }
-        self.make_call(watcher, caller, how, wish, steps)
+        let wished = wish_of(wish);
+        match how {
+            How::Whole => {
+                let mut reach = Reach::Limit;
+                self.call(caller, &wished, steps, &mut reach);
+                self.reach(watcher, caller, reach, steps)
+            }
+            How::Begun => {
+                self.put_call(caller, wished);
+                Ok(ActAnswer::Begun(caller))
+            }
+        }
     }
 
     /// Why a caller that is in use and in no call can't make a call.
@@ -223,39 +234,6 @@ impl Bench {
                 Some(ActAnswer::Refused(caller, BenchFault::NotHeld(*number)))
             }
             _ => None,
-        }
-    }
-
-    /// A call of a caller that may make it.
-    ///
-    /// Errors: only for want of memory, where the watcher needs it. The call is made all the same.
-    fn make_call<W: Watcher>(
-        &mut self,
-        watcher: &mut W,
-        caller: CallerNo,
-        how: How,
-        wish: &CallWish<&[u8]>,
-        steps: &mut StepCount,
-    ) -> Result<ActAnswer, NoMemory>
-        requires caller { caller < CALLERS_MOST }
-        requires ready { ready_fault self.old caller ≡ None }
-        requires fits { misfit self.old caller (bare_wish (λ bytes. bytes.now) wish.now) ≡ None }
-        requires fit { IsFitWish (bare_wish (λ bytes. bytes.now) wish.now) }
-        ensures acted { IfOk result (HasActed (made_call W.sees self.old (W.state watcher.old) steps.old caller how (wish_of (bare_wish (λ bytes. bytes.now) wish.now))) self.new (W.state watcher.new) steps.new) }
-        ensures taken { IfOk result (HoldsAnswerTaken (link_in self.new)) }
-        ensures bench { self.new ≡ (made_call W.sees self.old (W.state watcher.old) steps.old caller how (wish_of (bare_wish (λ bytes. bytes.now) wish.now))).bench }
-    {
-        let wished = wish_of(wish);
-        match how {
-            How::Whole => {
-                let mut reach = Reach::Limit;
-                self.call(caller, &wished, steps, &mut reach);
-                self.reach(watcher, caller, reach, steps)
-            }
-            How::Begun => {
-                self.put_call(caller, wished);
-                Ok(ActAnswer::Begun(caller))
-            }
         }
     }
 

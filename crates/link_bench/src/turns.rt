@@ -92,7 +92,8 @@ impl Bench {
         ensures ended { ended.new ≡ (one_turn W.sees sender receiver number self.old (W.state watcher.old) steps.old).ended }
         ensures taken { HoldsEndTaken (link_in self.new) ended.new }
     {
-        match self.turn_send(sender, &turn_payload(number), steps, ended) {
+        let wished = Wish::Send(turn_message(number));
+        match self.turn_call(sender, &wished, steps, &mut Reach::Limit, ended) {
             Some(_) => self.take_turn(watcher, receiver, steps, ended),
             None => Ok(()),
         }
@@ -164,26 +165,6 @@ impl Bench {
         }
     }
 
-    /// The send of a turn, from address 0 to 1024, with the tests that each call has.
-    fn turn_send(
-        &mut self,
-        sender: CallerNo,
-        payload: &[u8],
-        steps: &mut StepCount,
-        ended: &mut TurnEnd,
-    ) -> Option<u64>
-        requires sender { sender < CALLERS_MOST }
-        requires fits { length payload.now ≤ PAYLOAD_MOST }
-        ensures bench { self.new ≡ (turn_call self.old steps.old sender (wish.Send (header_bytes 0 1024 payload.now))).bench }
-        ensures steps { steps.new ≡ (turn_call self.old steps.old sender (wish.Send (header_bytes 0 1024 payload.now))).steps }
-        ensures number { number_of result ended.new ≡ (turn_call self.old steps.old sender (wish.Send (header_bytes 0 1024 payload.now))).number }
-        ensures taken { IfNone result (HoldsEndTaken (link_in self.new) ended.new) }
-    {
-        let head = rpmsg_header::head(0, 1024, payload.len() as u16);
-        let wished = Wish::Send(message_of(&head, payload));
-        self.turn_call(sender, &wished, steps, &mut Reach::Limit, ended)
-    }
-
     /// A call of a turn, with the tests that each call has: the number of its message; `reach` is its
     /// end then. Where it doesn't end well, `ended` says how.
     #[inline(always)]
@@ -212,12 +193,13 @@ impl Bench {
     }
 }
 
-/// The payload of the message of a turn: its number in four bytes.
-fn turn_payload(number: u64) -> [u8; 4]
+/// The message of a turn, from address 0 to 1024: its payload is the turn's number in four bytes.
+fn turn_message(number: u64) -> Message
     requires { number ≤ STEPS_MOST }
-    ensures { result ≡ little_bytes 4 number }
+    ensures { result ≡ header_bytes 0 1024 (little_bytes 4 number) }
 {
-    (number as u32).to_le_bytes()
+    let head = rpmsg_header::head(0, 1024, 4);
+    message_of(&head, &(number as u32).to_le_bytes())
 }
 
 /// The number of the message of a call that ended well. Of any other, `ended` says how far it came.

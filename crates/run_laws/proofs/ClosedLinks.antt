@@ -25,20 +25,20 @@ use Rattle.core_laws.specs.ClosedLinks.{StaysClosed}
 use Rattle.core_laws.proofs.ActMoves.{act_closed, closed_by}
 use Rattle.core_laws.proofs.BenchMoves.{comes_close}
 use Rattle.core_laws.proofs.LinkMoves.{comes_none}
-use Rattle.command_run.specs.declared.acts.Line.{Line}
-use Rattle.command_run.specs.declared.acts.Line.TheVariants as line
-use Rattle.command_run.specs.declared.acts.Making.{Making}
-use Rattle.command_run.specs.declared.acts.Making.TheVariants as making
-use Rattle.command_run.specs.declared.acts.ManagerAct.TheVariants as manager
-use Rattle.command_run.specs.declared.acts.NamedAct.{NamedAct}
-use Rattle.command_run.specs.declared.acts.NamedAct.TheVariants as under
-use Rattle.command_run.specs.declared.stops.Stop.TheVariants as stop
-use Rattle.command_run.specs.Acts.{line_of}
-use Rattle.command_run.specs.Effects.{Effect, tells}
-use Rattle.command_run.specs.LinkCommands.{link_effect}
+use Rattle.link_commands.specs.declared.acts.Line.{Line}
+use Rattle.link_commands.specs.declared.acts.Line.TheVariants as line
+use Rattle.link_commands.specs.declared.acts.Making.{Making}
+use Rattle.link_commands.specs.declared.acts.Making.TheVariants as making
+use Rattle.link_commands.specs.declared.acts.ManagerAct.TheVariants as manager
+use Rattle.link_commands.specs.declared.acts.NamedAct.{NamedAct}
+use Rattle.link_commands.specs.declared.acts.NamedAct.TheVariants as under
+use Rattle.link_commands.specs.declared.stops.Stop.TheVariants as stop
+use Rattle.link_commands.specs.Acts.{line_of}
+use Rattle.link_commands.specs.Effects.{Effect, tells}
+use Rattle.link_commands.specs.LinkCommands.{link_effect}
 use Rattle.command_run.specs.NamedCores.{NamedCoreState}
-use Rattle.command_run.specs.NamedLinks.{NamedLink}
-use Rattle.command_run.specs.Recoveries.{close_effect, close_event}
+use Rattle.link_commands.specs.NamedLinks.{NamedLink}
+use Rattle.link_commands.specs.Recoveries.{close_effect, close_event}
 use Rattle.command_run.specs.Runs.{RunEffect, RunState, core_located_effect, core_made_effect, core_place, dump_answer, dump_effect, dumped_effect, effect_of, found_core_effect, found_effect, has_image, image_effect, is_full, line_effect, located_effect, made_effect, making_effect, name_effect, place_of, quiet_effect, run_tells, unnamed_effect, with_image, without_link_effect}
 use Rattle.command_run.specs.Stores.{Answer}
 use Rattle.run_laws.specs.ClosedLinks.{LeavesClosed, ReopensOther, bench_at}

@@ -17,12 +17,12 @@ use Rattle.crash_recover.specs.CoreRings.{core_ring}
 use Rattle.crash_recover.specs.Cores.{CoreState, LoadState, add_fault, driver_add_fault, with_driver}
 use Rattle.crash_recover.specs.Drives.{drive_step}
 use Rattle.core_laws.proofs.Outcomes.{Stays, boot_stays, detach_stays, handover_stays, recovery_stays, report_stays, shutdown_stays}
-use Rattle.command_run.specs.declared.acts.CoreAct.{CoreAct}
-use Rattle.command_run.specs.declared.acts.CoreAct.TheVariants as act
-use Rattle.command_run.specs.declared.acts.LinkView.{LinkView}
-use Rattle.command_run.specs.declared.acts.LinkView.TheVariants as view
-use Rattle.command_run.specs.declared.acts.NamedAct.{NamedAct}
-use Rattle.command_run.specs.declared.acts.NamedAct.TheVariants as under
+use Rattle.link_commands.specs.declared.acts.CoreAct.{CoreAct}
+use Rattle.link_commands.specs.declared.acts.CoreAct.TheVariants as act
+use Rattle.link_commands.specs.declared.acts.LinkView.{LinkView}
+use Rattle.link_commands.specs.declared.acts.LinkView.TheVariants as view
+use Rattle.link_commands.specs.declared.acts.NamedAct.{NamedAct}
+use Rattle.link_commands.specs.declared.acts.NamedAct.TheVariants as under
 use Rattle.command_run.specs.CoreCommands.{core_act_effect, core_effect}
 use Rattle.command_run.specs.CoreDrives.{drive_effect, drive_steps, rest_event, rests_or, step_then}
 use Rattle.command_run.specs.CoreEffects.{CoreEffect, added_effect, core_tells, declared_effect, driver_effect, is_on, recovery_effect, region_effect}

@@ -6,12 +6,12 @@ use Rattle.link_bench.specs.Benches.{BenchState}
 use Rattle.crash_recover.specs.Cores.{IsKeptCore}
 use Rattle.core_laws.proofs.CoreActs.{core_act_kept}
 use Rattle.core_laws.proofs.KeptCores.{core_driven, kept_stays}
-use Rattle.command_run.specs.declared.acts.Line.{Line}
-use Rattle.command_run.specs.declared.acts.Line.TheVariants as line
-use Rattle.command_run.specs.declared.acts.NamedAct.{NamedAct}
-use Rattle.command_run.specs.declared.acts.NamedAct.TheVariants as under
+use Rattle.link_commands.specs.declared.acts.Line.{Line}
+use Rattle.link_commands.specs.declared.acts.Line.TheVariants as line
+use Rattle.link_commands.specs.declared.acts.NamedAct.{NamedAct}
+use Rattle.link_commands.specs.declared.acts.NamedAct.TheVariants as under
 use Rattle.script_lang.specs.declared.recipes.RecipeLine.{RecipeLine}
-use Rattle.command_run.specs.Acts.{line_of}
+use Rattle.link_commands.specs.Acts.{line_of}
 use Rattle.command_run.specs.Runs.{RunState, effect_of, run_of}
 use Rattle.command_run.specs.Stores.{Answer, Told}
 use Rattle.run_laws.specs.Kept.{AreKept}

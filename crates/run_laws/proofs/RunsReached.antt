@@ -23,16 +23,16 @@ use Rattle.core_laws.proofs.CoreActs.{acted_reached, core_act_reached}
 use Rattle.core_laws.proofs.CoreMoves.{core_driven, new_core_reached, reached_stays}
 use Rattle.core_laws.proofs.Handed.{got_front, got_whole, handed_once}
 use Rattle.core_laws.proofs.CrashReclaims.{reached_sound}
-use Rattle.command_run.specs.declared.acts.ManagerAct.{ManagerAct}
-use Rattle.command_run.specs.declared.acts.ManagerAct.TheVariants as manager
-use Rattle.command_run.specs.declared.acts.NamedAct.{NamedAct}
-use Rattle.command_run.specs.declared.acts.NamedAct.TheVariants as under
-use Rattle.command_run.specs.Acts.{line_of}
-use Rattle.command_run.specs.Effects.{Effect, tells}
-use Rattle.command_run.specs.LinkCommands.{link_effect, manager_effect}
+use Rattle.link_commands.specs.declared.acts.ManagerAct.{ManagerAct}
+use Rattle.link_commands.specs.declared.acts.ManagerAct.TheVariants as manager
+use Rattle.link_commands.specs.declared.acts.NamedAct.{NamedAct}
+use Rattle.link_commands.specs.declared.acts.NamedAct.TheVariants as under
+use Rattle.link_commands.specs.Acts.{line_of}
+use Rattle.link_commands.specs.Effects.{Effect, tells}
+use Rattle.link_commands.specs.LinkCommands.{link_effect, manager_effect}
 use Rattle.command_run.specs.NamedCores.{NamedCoreState}
-use Rattle.command_run.specs.NamedLinks.{NamedLink}
-use Rattle.command_run.specs.Recoveries.{close_effect, close_event, opened_effect, reopen_effect}
+use Rattle.link_commands.specs.NamedLinks.{NamedLink}
+use Rattle.link_commands.specs.Recoveries.{close_effect, close_event, opened_effect, reopen_effect}
 use Rattle.command_run.specs.Runs.{RunState, effect_of, new_end, regions_of, run_of}
 use Rattle.command_run.specs.Stores.{Answer, Told}
 use Rattle.run_laws.specs.Reached.{AreReached, HandsInOrder}

@@ -3,11 +3,11 @@ use Rattle.std.specs.Prelude.{◌≡◌, ◌≢◌, ℕ, List, Option, Some, IsS
 use Rattle.script_lang.specs.declared.commands.Command.{Command}
 use Rattle.link_bench.specs.Benches.{BenchState, link_in}
 use Rattle.core_laws.specs.ClosedLinks.{StaysClosed}
-use Rattle.command_run.specs.declared.acts.Line.TheVariants as line
-use Rattle.command_run.specs.declared.acts.ManagerAct.TheVariants as manager
-use Rattle.command_run.specs.declared.acts.NamedAct.TheVariants as under
-use Rattle.command_run.specs.Acts.{line_of}
-use Rattle.command_run.specs.NamedLinks.{NamedLink}
+use Rattle.link_commands.specs.declared.acts.Line.TheVariants as line
+use Rattle.link_commands.specs.declared.acts.ManagerAct.TheVariants as manager
+use Rattle.link_commands.specs.declared.acts.NamedAct.TheVariants as under
+use Rattle.link_commands.specs.Acts.{line_of}
+use Rattle.link_commands.specs.NamedLinks.{NamedLink}
 use Rattle.command_run.specs.Runs.{RunState, place_of}
 
 -- the link at a place of a run

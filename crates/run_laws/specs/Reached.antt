@@ -9,7 +9,7 @@ use Rattle.lane_laws.specs.Moves.{handings_to, lane_to}
 use Rattle.channel_bus.specs.Sides.{EndState, side_meaning}
 use Rattle.core_laws.specs.BenchMoves.{IsReached, IsReachedBench, IsReachedCore, WasBoundOnTheWay, history_of}
 use Rattle.command_run.specs.NamedCores.{NamedCoreState}
-use Rattle.command_run.specs.NamedLinks.{NamedLink}
+use Rattle.link_commands.specs.NamedLinks.{NamedLink}
 use Rattle.command_run.specs.Runs.{ObjectsState}
 
 -- each link of a script comes by moves from the start of its incarnation, and so does the link of each core

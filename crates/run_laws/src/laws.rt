@@ -14,10 +14,10 @@ ghost use Rattle.crash_recover.specs.CoreRecoveries.{recovery_of};
 ghost use Rattle.command_run.specs.CoreLives.{booted_image, found_image, may_step};
 ghost use Rattle.core_laws.specs.BenchMoves.{IsReachedBench};
 ghost use Rattle.core_laws.specs.BenchMoves.{IsReachedCore};
-ghost use Rattle.command_run.specs.declared.acts.CoreAct.TheVariants as core;
-ghost use Rattle.command_run.specs.declared.acts.NamedAct.{NamedAct};
-ghost use Rattle.command_run.specs.declared.acts.NamedAct.TheVariants as under;
-ghost use Rattle.command_run.specs.Acts.{IsFitNamed};
+ghost use Rattle.link_commands.specs.declared.acts.CoreAct.TheVariants as core;
+ghost use Rattle.link_commands.specs.declared.acts.NamedAct.{NamedAct};
+ghost use Rattle.link_commands.specs.declared.acts.NamedAct.TheVariants as under;
+ghost use Rattle.link_commands.specs.Acts.{IsFitNamed};
 ghost use Rattle.command_run.specs.Runs.{name_effect};
 ghost use Rattle.run_laws.specs.CrashedCores.{StaysCrashed};
 ghost use Rattle.run_laws.specs.ClosedLinks.{LeavesClosed, ReopensOther};
@@ -27,15 +27,15 @@ ghost use Rattle.lane_model.specs.Soundness.{SoundLink};
 ghost use Rattle.link_bench.specs.Benches.{BenchState, link_in};
 ghost use Rattle.run_laws.specs.Kept.{AreKept, AreReady};
 ghost use Rattle.command_run.specs.NamedCores.{NamedCoreState};
-ghost use Rattle.command_run.specs.NamedLinks.{NamedLink};
+ghost use Rattle.link_commands.specs.NamedLinks.{NamedLink};
 ghost use Rattle.run_laws.specs.Reached.{AreReached, HandsInOrder};
-ghost use Rattle.command_run.specs.Stores.{Answer, IsHeld, Told, held};
+ghost use Rattle.command_run.specs.Stores.{Answer, IsHeld, Told, store_of};
 ghost use Rattle.command_run.specs.Runs.{RunState, effect_of, new_run, run_of};
 
 /// Over a store that tells its images and doesn't fail, a run is a function of the images and the commands.
 pub fn images_and_commands()
     ensures { (images : List (List ℕ × List ℕ)) (told : Told) (commands : List Command) → IsHeld (Some images) told
-        → run_of told commands ≡ run_of (held images) commands }
+        → run_of told commands ≡ run_of (store_of images) commands }
 {}
 
 /// No run ends with a fault of the store but where the store fails.

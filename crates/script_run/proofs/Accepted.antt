@@ -129,6 +129,26 @@ module _ {X : Type 0} (text : X → List ℕ) (word : List ℕ) where
   many_form (first ∷ second ∷ third ∷ fourth ∷ []) many = absurd (omega (arith, many))
   many_form (first ∷ second ∷ third ∷ fourth ∷ fifth ∷ more) many = refl
 
+  -- a word alone that is none of these
+  pub alone_form : (arguments : List X) → length arguments < 1 → bytes_eq word (codes "run") ≡ false → bytes_eq word (codes "audit") ≡ false → other ≡ form_of (word ∷ map text arguments)
+  alone_form [] none run audit = rw (run, audit) refl
+  alone_form (first ∷ more) none run audit = absurd (omega (arith, none))
+
+  -- a word with one behind it that is none of these
+  pub pair_form : (arguments : List X) → length arguments ≡ 1 → bytes_eq word (codes "check") ≡ false → bytes_eq word (codes "demo") ≡ false → other ≡ form_of (word ∷ map text arguments)
+  pair_form [] one check demo = absurd (omega (arith, one))
+  pair_form (first ∷ []) one check demo = rw (check, demo) refl
+  pair_form (first ∷ second ∷ more) one check demo = absurd (omega (arith, one))
+
+  -- a word with four behind it that isn't this one
+  pub four_form : (arguments : List X) → length arguments ≡ 4 → bytes_eq word (codes "storm") ≡ false → other ≡ form_of (word ∷ map text arguments)
+  four_form [] four storm = absurd (omega (arith, four))
+  four_form (first ∷ []) four storm = absurd (omega (arith, four))
+  four_form (first ∷ second ∷ []) four storm = absurd (omega (arith, four))
+  four_form (first ∷ second ∷ third ∷ []) four storm = absurd (omega (arith, four))
+  four_form (first ∷ second ∷ third ∷ fourth ∷ []) four storm = rw storm refl
+  four_form (first ∷ second ∷ third ∷ fourth ∷ fifth ∷ more) four storm = absurd (omega (arith, four))
+
 -- a list of words is not accepted where one of them begins with a dash
 pub dashed_form : (words : List (List ℕ)) → list_any begins_with_dash words ≡ true → other ≡ form_of words
 dashed_form [] dashed = refl

@@ -17,9 +17,10 @@ use Rattle.image_maker.proofs.DemoSizes.{demo_is_said}
 use Rattle.script_run.specs.declared.demos.Accepted.{Accepted}
 use Rattle.script_run.specs.declared.demos.DemoFault.{DemoFault}
 use Rattle.script_run.specs.declared.demos.DemoFault.TheVariants as fault
-use Rattle.command_run.specs.declared.stops.Stop.{Stop}
-use Rattle.command_run.specs.Stores.{answer_for, held, later_told}
-use Rattle.command_run.specs.Logs.{HasRunEffect, LogState}
+use Rattle.link_commands.specs.declared.stops.Stop.{Stop}
+use Rattle.command_run.specs.Stores.{answer_for, later_told, store_of}
+use Rattle.link_commands.specs.Logs.{LogState}
+use Rattle.command_run.specs.Outcomes.{HasRunEffect}
 use Rattle.command_run.specs.Runs.{ObjectsState, Run, RunState, asked_name, effect_of, new_run, run_from, run_of, run_on}
 use Rattle.script_run.specs.Demos.{accepted_from, accepted_sum, bare_effect, commands_output, counted_output, demo_output, drive_accepted, none_accepted}
 use Rattle.script_run.specs.DemoRuns.{IsCounted, IsDemoCount}
@@ -36,17 +37,17 @@ bare_is state command = ap (λ answer. effect_of answer state command) (sym (non
 
 -- a run that stops with its first command, and one that goes on
 module _ (state : RunState) (first : Command) (more : List Command) where
-  stops : (why : Stop) → (bare_effect state first).ending ≡ Some why → (run_from (held []) state (first ∷ more)).ending ≡ Some why
+  stops : (why : Stop) → (bare_effect state first).ending ≡ Some why → (run_from (store_of []) state (first ∷ more)).ending ≡ Some why
   stops why is =
-      ap (λ (run : Run). run.ending) (run_first (held []) state first more
-      ∙ ap (λ ending. run_on (bare_effect state first) ending (run_from (later_told (held [])) (bare_effect state first).run more)) is)
+      ap (λ (run : Run). run.ending) (run_first (store_of []) state first more
+      ∙ ap (λ ending. run_on (bare_effect state first) ending (run_from (later_told (store_of [])) (bare_effect state first).run more)) is)
 
   pub goes_on : (bare_effect state first).ending ≡ None
-      → (run_from (held []) state (first ∷ more)).ending ≡ (run_from (held []) (bare_effect state first).run more).ending
+      → (run_from (store_of []) state (first ∷ more)).ending ≡ (run_from (store_of []) (bare_effect state first).run more).ending
   goes_on is =
-      ap (λ (run : Run). run.ending) (run_first (held []) state first more
-      ∙ ap (λ ending. run_on (bare_effect state first) ending (run_from (later_told (held [])) (bare_effect state first).run more)) is)
-      ∙ ap (λ (run : Run). run.ending) (held_run [] (later_told (held [])) (bare_effect state first).run more (λ number. refl))
+      ap (λ (run : Run). run.ending) (run_first (store_of []) state first more
+      ∙ ap (λ ending. run_on (bare_effect state first) ending (run_from (later_told (store_of [])) (bare_effect state first).run more)) is)
+      ∙ ap (λ (run : Run). run.ending) (held_run [] (later_told (store_of [])) (bare_effect state first).run more (λ number. refl))
 
 accepted_first : (state : RunState) (first : Command) (more : List Command) → accepted_from state (first ∷ more)
     ≡ accepted_sum (drive_accepted (bare_effect state first).run.objects first) (accepted_from (bare_effect state first).run more)
@@ -83,7 +84,7 @@ pub record IsOfBooks (accepted : Accepted) : Type 0 where
 
 -- so much was accepted before this state of a run, in which these commands are left
 pub record CountsSoFar (commands : List Command) (state : RunState) (accepted : Accepted) (left : List Command) : Type 0 where
-  pub ending : (run_of (held []) commands).ending ≡ (run_from (held []) state left).ending
+  pub ending : (run_of (store_of []) commands).ending ≡ (run_from (store_of []) state left).ending
   pub counted : accepted_from new_run commands ≡ accepted_sum accepted (accepted_from state left)
   pub to_host : accepted.to_host + BOOK_MOST * length left ≤ BOOK_MOST * SCRIPT_LINES_MOST
   pub to_remote : accepted.to_remote + BOOK_MOST * length left ≤ BOOK_MOST * SCRIPT_LINES_MOST
@@ -94,15 +95,15 @@ counts_none commands few = record { ending = refl; counted = none_first (accepte
 
 module _ (commands : List Command) (state : RunState) (accepted : Accepted) where
   -- nothing is left
-  pub counts_all : CountsSoFar commands state accepted [] → ((run_of (held []) commands).ending ≡ None) × (accepted ≡ accepted_from new_run commands)
+  pub counts_all : CountsSoFar commands state accepted [] → ((run_of (store_of []) commands).ending ≡ None) × (accepted ≡ accepted_from new_run commands)
   counts_all so_far = (
-    so_far.ending ∙ ap (λ (run : Run). run.ending) (run_none (held []) state),
+    so_far.ending ∙ ap (λ (run : Run). run.ending) (run_none (store_of []) state),
     sym (so_far.counted ∙ ap (accepted_sum accepted) (accepted_none state) ∙ none_last accepted),
   )
 
   module _ (first : Command) (more : List Command) (so_far : CountsSoFar commands state accepted (first ∷ more)) where
     -- the run stops with the first command that is left
-    stops_first : (why : Stop) → (bare_effect state first).ending ≡ Some why → (run_of (held []) commands).ending ≡ Some why
+    stops_first : (why : Stop) → (bare_effect state first).ending ≡ Some why → (run_of (store_of []) commands).ending ≡ Some why
     stops_first why is = so_far.ending ∙ stops state first more why is
 
     -- the run goes on after it
@@ -127,7 +128,7 @@ module _ (commands : List Command) (objects after_objects : ObjectsState) (befor
   first_so_far : CountsSoFar commands (record { objects = objects; steps = before.steps }) accepted (first ∷ more)
   first_so_far = subst (CountsSoFar commands (record { objects = objects; steps = before.steps }) accepted) is so_far
 
-  pub counts_until : (why : Stop) → answer ≡ Some why → (run_of (held []) commands).ending ≡ Some why
+  pub counts_until : (why : Stop) → answer ≡ Some why → (run_of (store_of []) commands).ending ≡ Some why
   counts_until why stopped =
       stops_first commands (record { objects = objects; steps = before.steps }) accepted first more first_so_far why (sym first_did.ending ∙ stopped)
 
@@ -149,7 +150,7 @@ module _ (commands : List Command) (objects after_objects : ObjectsState) (befor
 
 -- the output of a demo, by the commands that its script says
 pub demo_is : (sessions : ℕ) (commands : List Command) → script_of (demo_text sessions) ≡ Ok commands
-    → demo_output sessions ≡ counted_output sessions (accepted_from new_run commands) (run_of (held []) commands).ending
+    → demo_output sessions ≡ counted_output sessions (accepted_from new_run commands) (run_of (store_of []) commands).ending
 unfolding demo_output
 demo_is sessions commands says = ap (commands_output sessions) says
 

@@ -24,10 +24,10 @@ use Rattle.script_run.specs.declared.demos.Accepted.{Accepted}
 use Rattle.script_run.specs.declared.statuses.Status.{Status}
 use Rattle.script_run.specs.declared.statuses.Status.TheVariants as status
 use Rattle.script_run.specs.Statuses.{status_number, status_of}
-use Rattle.command_run.specs.declared.stops.Stop.{Stop}
-use Rattle.command_run.specs.declared.stops.Stop.TheVariants as stop
-use Rattle.script_run.specs.declared.runs.RunFault.TheVariants as run_fault
-use Rattle.command_run.specs.Stores.{IsHeld, IsTold, Told, held}
+use Rattle.link_commands.specs.declared.stops.Stop.{Stop}
+use Rattle.link_commands.specs.declared.stops.Stop.TheVariants as stop
+use Rattle.command_run.specs.declared.fetches.CommandFault.TheVariants as command_fault
+use Rattle.command_run.specs.Stores.{IsHeld, IsTold, Told, store_of}
 use Rattle.command_run.specs.Runs.{ObjectsState, new_run, run_of}
 use Rattle.script_run.specs.Outputs.{Form, other, run, check, demo, storm, audit, Output, audit_output, storm_output, fails_in, too_long_output, usage_output, run_output, script_output, stop_output, transcript_output, report_output, store_fault_output}
 use Rattle.script_run.specs.Reports.{check_report, fetched_report}
@@ -104,7 +104,7 @@ ends_fault ended form before now output found fault written =
 -- some output of a script, and of an image
 some_script : (images : Option (List (List ℕ × List ℕ))) (bytes : List ℕ) → (output : Output) × IsScriptOutput images bytes output
 some_script None bytes = (run_output (any_told None) bytes, (any_told None, any_held None, refl))
-some_script (Some images) bytes = (run_output (held images) bytes, refl)
+some_script (Some images) bytes = (run_output (store_of images) bytes, refl)
 
 some_run : (left : Option (List ℕ)) (images : Option (List (List ℕ × List ℕ))) → (output : Output) × IsRunOutput left images output
 some_run None images =
@@ -170,13 +170,13 @@ unfolding run_output
 output_is told bytes = refl
 
 -- over a store that didn't fail, the output is that over its images alone
-said_same : (images : List (List ℕ × List ℕ)) (told : Told) (said : Result (List Command) Refusal) → IsHeld (Some images) told → script_output told said ≡ script_output (held images) said
+said_same : (images : List (List ℕ × List ℕ)) (told : Told) (said : Result (List Command) Refusal) → IsHeld (Some images) told → script_output told said ≡ script_output (store_of images) said
 said_same images told (Ok commands) is = ap transcript_output (held_run images told new_run commands is)
 said_same images told (Err refusal) is = refl
 
 script_held : (images : Option (List (List ℕ × List ℕ))) (told : Told) (bytes : List ℕ) → IsHeld images told → IsScriptOutput images bytes (script_output told (script_of bytes))
 script_held None told bytes is = (told, is, output_is told bytes)
-script_held (Some images) told bytes is = said_same images told (script_of bytes) is ∙ output_is (held images) bytes
+script_held (Some images) told bytes is = said_same images told (script_of bytes) is ∙ output_is (store_of images) bytes
 
 -- over a store that failed
 script_cut : (images : Option (List (List ℕ × List ℕ))) (told : Told) (bytes : List ℕ) → IsTold images told → fails_in told (script_of bytes) ≡ true
@@ -343,10 +343,10 @@ module _ (images : Option (List (List ℕ × List ℕ))) (commands : List Comman
       }
 
   -- or in part
-  pub run_in_part : RunWrites images commands yard (Err run_fault.Write) old new before now was then → RunLeaves status.WriteFault images commands yard old new before now was then
+  pub run_in_part : RunWrites images commands yard (Err command_fault.Write) old new before now was then → RunLeaves status.WriteFault images commands yard old new before now was then
   run_in_part writes = record { ends = record { told = writes.told; course = writes.course; written = writes.text }; stands = writes.stands }
 
-  pub run_no_memory : RunWrites images commands yard (Err run_fault.NoMemory) old new before now was then → RunLeaves status.NoMemory images commands yard old new before now was then
+  pub run_no_memory : RunWrites images commands yard (Err command_fault.NoMemory) old new before now was then → RunLeaves status.NoMemory images commands yard old new before now was then
   run_no_memory writes = record { ends = record { told = writes.told; course = writes.course; written = writes.text }; stands = tt }
 
 module _ (images : Option (List (List ℕ × List ℕ))) (said : Result (List Command) Refusal) (old : Option (List ℕ)) (before was : ℕ) where
@@ -417,7 +417,7 @@ over_well images told bytes output held is =
 
 script_well : (images : Option (List (List ℕ × List ℕ))) (bytes : List ℕ) (output : Output) → IsScriptOutput images bytes output → is_store_fault output.status ≡ false
 script_well None bytes output is = over_well None is.0 bytes output is.1 is.2
-script_well (Some images) bytes output is = over_well (Some images) (held images) bytes output (λ number. refl) is
+script_well (Some images) bytes output is = over_well (Some images) (store_of images) bytes output (λ number. refl) is
 
 run_script_well : (left : Option (List ℕ)) (images : Option (List (List ℕ × List ℕ))) (output : Output) → IsRunOutput left images output → is_store_fault output.status ≡ false
 run_script_well None images output is = script_well images is.0 output is.1
@@ -438,7 +438,7 @@ counted_well sessions accepted None = refl
 counted_well sessions accepted (Some why) = stop_well (Some why)
 
 said_demo_well : (sessions : ℕ) (said : Result (List Command) Refusal) → is_store_fault (commands_output sessions said).status ≡ false
-said_demo_well sessions (Ok commands) = counted_well sessions (accepted_from new_run commands) (run_of (held []) commands).ending
+said_demo_well sessions (Ok commands) = counted_well sessions (accepted_from new_run commands) (run_of (store_of []) commands).ending
 said_demo_well sessions (Err refusal) = refl
 
 demo_well : (sessions : ℕ) → is_store_fault (demo_output sessions).status ≡ false

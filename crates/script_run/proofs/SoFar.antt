@@ -10,21 +10,22 @@ use Rattle.script_lang.specs.declared.commands.Command.TheVariants as command
 use Rattle.journal.specs.declared.events.Event.{Event}
 use Rattle.journal.specs.Lines.{transcript}
 use Rattle.script_run.specs.declared.statuses.Status.{Status}
-use Rattle.command_run.specs.declared.stops.Stop.{Stop}
-use Rattle.script_run.specs.declared.runs.RunFault.{RunFault}
-use Rattle.script_run.specs.declared.runs.RunFault.TheVariants as run_fault
+use Rattle.link_commands.specs.declared.stops.Stop.{Stop}
+use Rattle.command_run.specs.declared.fetches.CommandFault.{CommandFault}
+use Rattle.command_run.specs.declared.fetches.CommandFault.TheVariants as command_fault
 use Rattle.rp_io.specs.declared.faults.FetchFault.TheVariants as fetch_fault
 use Rattle.command_run.specs.Stores.{IsHeld, IsShelf, Shelf, Told, answer_for}
-use Rattle.command_run.specs.declared.fetches.CommandFault.TheVariants as command_fault
 use Rattle.command_run.specs.Runs.{ObjectsState, RunEffect, RunState, Run, asked_name, effect_of, run_from, run_of, new_run}
 use Rattle.script_run.specs.Outputs.{Output, end_output, stop_output, store_fault_output, transcript_output}
 use Rattle.script_run.specs.Endings.{IsFailedRun, IsWellRun}
-use Rattle.command_run.specs.Logs.{LogState, Hands, HandsRunEffect}
+use Rattle.link_commands.specs.Logs.{LogState, Hands}
+use Rattle.command_run.specs.Outcomes.{HandsRunEffect}
 use Rattle.command_run.specs.Fetches.{DidTold, IsCutCommand, IsToldCut}
 use Rattle.script_run.specs.Told.{AnswersStatus, EndsRun, IsResultCourse, RunWrites, StandsFor, Tells}
 use Rattle.script_run.specs.Yards.{StandsInDrive, run_to_drive}
 use Rattle.command_run.proofs.Handed.{appends_more, appends_same, hands_nothing, hands_kept, hands_more, hands_front, hands_front_kept, front_of_all}
-use Rattle.command_run.proofs.RunSteps.{behind, effect_over, first_told, transcript-append, left_at, run_behind, run_fails, run_none, run_rest}
+use Rattle.link_commands.proofs.Transcripts.{transcript-append}
+use Rattle.command_run.proofs.RunSteps.{behind, effect_over, first_told, left_at, run_behind, run_fails, run_none, run_rest}
 use Rattle.command_run.proofs.Shelves.{AreShelves, any_held, any_told, fault_next, fault_told, shelf_of, shelves_more, then_held, then_told, told_more, told_then}
 
 -- the text of a run behind these events begins with their lines
@@ -126,21 +127,23 @@ module _ (images : Option (List (List ℕ × List ℕ))) (commands left : List C
       (appends_more from now new hands.handed (lines ++ text) hands.appended whole)
 
   -- and so the whole of it is told
-  tells_whole : (result : Result Status RunFault) (new : Option (List ℕ)) (bytes text all : List ℕ) (faults before after : ℕ) → Hands from [] now lines bytes
+  tells_whole : (result : Result Status CommandFault) (new : Option (List ℕ)) (bytes text all : List ℕ) (faults before after : ℕ) → Hands from [] now lines bytes
       → bytes ++ text ≡ all → before ≡ faults → Tells result (lines ++ text) now new before after → Tells result all from new faults after
   tells_whole (Ok ended) new bytes text all faults before after hands whole same tells =
       (subst (λ b. Appends from new b) whole (handed_whole new bytes text hands tells.0), tells.1 ∙ same)
-  tells_whole (Err run_fault.Write) new bytes text all faults before after hands whole same tells =
+  tells_whole (Err command_fault.Store) new bytes text all faults before after hands whole same tells = absurd tells
+  tells_whole (Err command_fault.Write) new bytes text all faults before after hands whole same tells =
       (subst (λ b. AppendsFront from new b) whole (hands_front from now new [] lines bytes text hands tells.0), subst (λ (n : ℕ). Rose n after) same tells.1)
-  tells_whole (Err run_fault.NoMemory) new bytes text all faults before after hands whole same tells =
+  tells_whole (Err command_fault.NoMemory) new bytes text all faults before after hands whole same tells =
       (subst (λ b. AppendsFront from new b) whole (hands_front from now new [] lines bytes text hands tells.0), tells.1 ∙ same)
 
   -- what is left where the run has ended, or where its last lines were cut off
-  stands_end : (result : Result Status RunFault) (told : Told) (yard : ObjectsState) (new : Option (List ℕ)) (before after : ℕ) → yard ≡ (run_of told commands).last.objects
+  stands_end : (result : Result Status CommandFault) (told : Told) (yard : ObjectsState) (new : Option (List ℕ)) (before after : ℕ) → yard ≡ (run_of told commands).last.objects
       → Tells result (transcript_output (run_of told commands)).text from new before after → StandsFor result told commands yard from new
   stands_end (Ok ended) told yard new before after is tells = is
-  stands_end (Err run_fault.Write) told yard new before after is tells = inl (record { done = commands; more = []; are = sym (append-nil commands); is = is; front = tells.0 })
-  stands_end (Err run_fault.NoMemory) told yard new before after is tells = tt
+  stands_end (Err command_fault.Store) told yard new before after is tells = tt
+  stands_end (Err command_fault.Write) told yard new before after is tells = inl (record { done = commands; more = []; are = sym (append-nil commands); is = is; front = tells.0 })
+  stands_end (Err command_fault.NoMemory) told yard new before after is tells = tt
 
   module _ (rest : Told → List Command → Run) (so_far : SoFar images commands left from now lines rest) (later : Told) where
     -- the run of the whole, by the events so far
@@ -156,7 +159,7 @@ module _ (images : Option (List (List ℕ × List ℕ))) (commands left : List C
     run_done = ap (run_of (told_then so_far.shelves later)) (sym (append-nil so_far.done)) ∙ so_far.run later []
 
     -- the run has ended, and what is kept is handed on with its last line
-    ends_by : (result : Result Status RunFault) (yard : ObjectsState) (new : Option (List ℕ)) (faults before after was then : ℕ) → (rest later left).events ≡ [] → yard ≡ (rest later left).last.objects → before ≡ faults
+    ends_by : (result : Result Status CommandFault) (yard : ObjectsState) (new : Option (List ℕ)) (faults before after was then : ℕ) → (rest later left).events ≡ [] → yard ≡ (rest later left).last.objects → before ≡ faults
         → EndsRun result (end_output (rest later left)) lines now new before after → IsResultCourse result images (told_then so_far.shelves later) commands was then
         → RunWrites images commands yard result from new faults after was then
     ends_by result yard new faults before after was then none is same ends course =
@@ -172,24 +175,26 @@ module _ (images : Option (List (List ℕ × List ℕ))) (commands left : List C
         }
 
   -- a store that didn't fail
-  well : (result : Result Status RunFault) (told : Told) (was then : ℕ) → IsWellRun images told was then → IsResultCourse result images told commands was then
+  well : (result : Result Status CommandFault) (told : Told) (was then : ℕ) → IsWellRun images told was then → IsResultCourse result images told commands was then
   well (Ok ended) told was then is = inl is
-  well (Err run_fault.Write) told was then is = inl is
-  well (Err run_fault.NoMemory) told was then is = is
+  well (Err command_fault.Store) told was then is = tt
+  well (Err command_fault.Write) told was then is = inl is
+  well (Err command_fault.NoMemory) told was then is = is
 
   -- a store that failed
-  cut : (result : Result Status RunFault) (told : Told) (was then : ℕ) → result ≢ Err run_fault.NoMemory → IsFailedRun images told (run_of told commands).failed was then
+  cut : (result : Result Status CommandFault) (told : Told) (was then : ℕ) → result ≢ Err command_fault.NoMemory → IsFailedRun images told (run_of told commands).failed was then
       → IsResultCourse result images told commands was then
   cut (Ok ended) told was then found is = inr is
-  cut (Err run_fault.Write) told was then found is = inr is
-  cut (Err run_fault.NoMemory) told was then found is = absurd (found refl)
+  cut (Err command_fault.Store) told was then found is = tt
+  cut (Err command_fault.Write) told was then found is = inr is
+  cut (Err command_fault.NoMemory) told was then found is = absurd (found refl)
 
   -- a store that didn't fail so far, and of which nothing more is asked
   pub so_far_held : (rest : Told → List Command → Run) (so_far : SoFar images commands left from now lines rest) → IsHeld images (told_then so_far.shelves (any_told images))
   so_far_held rest so_far = then_held images (any_told images) so_far.shelves so_far.are (any_held images)
 
   -- the run has ended without a fault of the store
-  pub so_far_ends : (rest : Told → List Command → Run) (result : Result Status RunFault) (stop : Option Stop) (yard : ObjectsState) (new : Option (List ℕ)) (faults before after was then : ℕ)
+  pub so_far_ends : (rest : Told → List Command → Run) (result : Result Status CommandFault) (stop : Option Stop) (yard : ObjectsState) (new : Option (List ℕ)) (faults before after was then : ℕ)
       → SoFar images commands left from now lines rest → ((later : Told) → (rest later left).events ≡ []) → ((later : Told) → end_output (rest later left) ≡ stop_output stop)
       → ((later : Told) → yard ≡ (rest later left).last.objects) → before ≡ faults → then ≡ was
       → EndsRun result (stop_output stop) lines now new before after → RunWrites images commands yard result from new faults after was then
@@ -199,9 +204,9 @@ module _ (images : Option (List (List ℕ × List ℕ))) (commands left : List C
       (well result (told_then so_far.shelves (any_told images)) was then (so_far_held rest so_far, still))
 
   -- the store failed at the command that is next
-  pub so_far_fails : (state : RunState) (first : Command) (more : List Command) (name : List ℕ) (result : Result Status RunFault) (yard : ObjectsState) (new : Option (List ℕ)) (faults before after was then : ℕ)
+  pub so_far_fails : (state : RunState) (first : Command) (more : List Command) (name : List ℕ) (result : Result Status CommandFault) (yard : ObjectsState) (new : Option (List ℕ)) (faults before after was then : ℕ)
       → SoFar images commands left from now lines (λ later rest. run_from later state rest) → left ≡ first ∷ more → asked_name state.objects first ≡ Some name → yard ≡ state.objects
-      → before ≡ faults → result ≢ Err run_fault.NoMemory → Rose was then
+      → before ≡ faults → result ≢ Err command_fault.NoMemory → Rose was then
       → EndsRun result store_fault_output lines now new before after → RunWrites images commands yard result from new faults after was then
   so_far_fails state first more name result yard new faults before after was then so_far is asks stays same found rose ends =
       let rest : Told → List Command → Run = λ later commands. run_from later state commands in
@@ -218,7 +223,7 @@ module _ (images : Option (List (List ℕ × List ℕ))) (commands left : List C
 
   -- memory ran out, and no device failed
   pub so_far_no_memory : (rest : Told → List Command → Run) (yard : ObjectsState) (new : Option (List ℕ)) (before after was then : ℕ) → SoFar images commands left from now lines rest → AppendsFront now new lines
-      → after ≡ before → then ≡ was → RunWrites images commands yard (Err run_fault.NoMemory) from new before after was then
+      → after ≡ before → then ≡ was → RunWrites images commands yard (Err command_fault.NoMemory) from new before after was then
   so_far_no_memory rest yard new before after was then so_far front same still = record {
     told = told_then so_far.shelves (any_told images);
     course = (so_far_held rest so_far, still);
@@ -234,7 +239,7 @@ module _ (images : Option (List (List ℕ × List ℕ))) (commands left : List C
 
   -- the sink failed behind a command
   pub so_far_write_fault : (state : RunState) (new : Option (List ℕ)) (before after was then : ℕ) → SoFar images commands left from now lines (λ later rest. run_from later state rest)
-      → AppendsFront now new lines → Rose before after → then ≡ was → RunWrites images commands state.objects (Err run_fault.Write) from new before after was then
+      → AppendsFront now new lines → Rose before after → then ≡ was → RunWrites images commands state.objects (Err command_fault.Write) from new before after was then
   so_far_write_fault state new before after was then so_far front rose still =
       let rest : Told → List Command → Run = λ later commands. run_from later state commands in
       let later = any_told images in
@@ -380,7 +385,7 @@ module _ (images : Option (List (List ℕ × List ℕ))) (commands : List Comman
 
     -- the command at a place was cut off by the sink
     pub so_far_write_cut : (start faults after was then : ℕ) → IsToldCut command_fault.Write state_at first before now new faults after
-        → faults ≡ start → then ≡ was → RunWrites images commands yard (Err run_fault.Write) from new start after was then
+        → faults ≡ start → then ≡ was → RunWrites images commands yard (Err command_fault.Write) from new start after was then
     so_far_write_cut start faults after was then told same still = record {
       told = told_here;
       course = inl (then_held images later_here so_far.shelves so_far.are held_here, still);
@@ -391,6 +396,6 @@ module _ (images : Option (List (List ℕ × List ℕ))) (commands : List Comman
 
   -- or for want of memory
   pub so_far_memory_cut : (yard : ObjectsState) (new : Option (List ℕ)) (start faults after was then : ℕ) → IsToldCut command_fault.NoMemory state_at first before now new faults after
-      → faults ≡ start → then ≡ was → RunWrites images commands yard (Err run_fault.NoMemory) from new start after was then
+      → faults ≡ start → then ≡ was → RunWrites images commands yard (Err command_fault.NoMemory) from new start after was then
   so_far_memory_cut yard new start faults after was then cut same still =
       so_far_no_memory images commands more_at from now lines_at rest_at yard new start after was then so_far_kept (cut any_shelf.0).0 ((cut any_shelf.0).1 ∙ same) still

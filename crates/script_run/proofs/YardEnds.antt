@@ -7,8 +7,8 @@ use Rattle.rp_io.specs.Causes.{Rose}
 use Rattle.rp_io.specs.Contents.{IsFrontOf}
 use Rattle.script_lang.specs.declared.commands.Command.{Command}
 use Rattle.script_lang.specs.Grammar.{Refusal, script_of}
-use Rattle.command_run.specs.declared.stops.Stop.{Stop}
-use Rattle.command_run.specs.declared.stops.Stop.TheVariants as stop
+use Rattle.link_commands.specs.declared.stops.Stop.{Stop}
+use Rattle.link_commands.specs.declared.stops.Stop.TheVariants as stop
 use Rattle.command_run.specs.Runs.{ObjectsState, run_of}
 use Rattle.script_run.specs.declared.statuses.Status.{Status}
 use Rattle.script_run.specs.declared.statuses.Status.TheVariants as status

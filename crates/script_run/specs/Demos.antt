@@ -10,8 +10,8 @@ use Rattle.journal.specs.Notices.{report_text}
 use Rattle.link_bench.specs.Benches.{BenchState, link_in}
 use Rattle.script_run.specs.declared.demos.Accepted.{Accepted}
 use Rattle.script_run.specs.declared.statuses.Status.TheVariants as status
-use Rattle.command_run.specs.declared.stops.Stop.{Stop}
-use Rattle.command_run.specs.Stores.{answer_for, held}
+use Rattle.link_commands.specs.declared.stops.Stop.{Stop}
+use Rattle.command_run.specs.Stores.{answer_for, store_of}
 use Rattle.command_run.specs.NamedCores.{NamedCoreState}
 use Rattle.command_run.specs.Runs.{ObjectsState, RunEffect, RunState, asked_name, core_named, effect_of, new_run, run_of}
 use Rattle.script_run.specs.Outputs.{Output, script_output, stop_output}
@@ -57,8 +57,8 @@ counted_output sessions accepted (Some why) = stop_output (Some why)
 
 -- the output of a demo by what its script says
 abbrev pub commands_output : ℕ → Result (List Command) Refusal → Output
-commands_output sessions (Ok commands) = counted_output sessions (accepted_from new_run commands) (run_of (held []) commands).ending
-commands_output sessions (Err refusal) = script_output (held []) (Err refusal)
+commands_output sessions (Ok commands) = counted_output sessions (accepted_from new_run commands) (run_of (store_of []) commands).ending
+commands_output sessions (Err refusal) = script_output (store_of []) (Err refusal)
 
 -- the output of a demo of so many sessions
 unfoldable pub demo_output : ℕ → Output

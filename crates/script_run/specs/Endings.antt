@@ -14,7 +14,7 @@ use Rattle.script_run.specs.declared.statuses.Status.TheVariants as status
 use Rattle.script_lang.specs.declared.commands.Command.{Command}
 use Rattle.script_lang.specs.Grammar.{Refusal, script_of}
 use Rattle.command_run.specs.Runs.{AsksNone, new_run}
-use Rattle.command_run.specs.Stores.{IsAnswer, IsHeld, IsTold, Told, held}
+use Rattle.command_run.specs.Stores.{IsAnswer, IsHeld, IsTold, Told, store_of}
 use Rattle.storm_run.specs.declared.plans.Plan.{Plan}
 use Rattle.script_run.specs.Outputs.{Form, other, run, check, demo, storm, audit, Output, usage_output, run_output, script_output, fails_in, report_output, storm_output, audit_output, too_long_output, read_fault_output, store_fault_output}
 use Rattle.script_run.specs.Reports.{fetched_report, check_report}
@@ -63,7 +63,7 @@ IsRunCourse images told failed before now = IsWellRun images told before now ⊎
 -- the output of a script over a store that didn't fail; of one that doesn't tell its images, that over some answers
 abbrev pub IsScriptOutput : Option (List (List ℕ × List ℕ)) → List ℕ → Output → Type 0
 IsScriptOutput None bytes output = (told : Told) × IsHeld None told × (output ≡ run_output told bytes)
-IsScriptOutput (Some images) bytes output = output ≡ run_output (held images) bytes
+IsScriptOutput (Some images) bytes output = output ≡ run_output (store_of images) bytes
 
 -- the output of a script whose run ends where the store fails
 pub record IsCutOutput (images : Option (List (List ℕ × List ℕ))) (bytes : List ℕ) (output : Output) : Type 0 where

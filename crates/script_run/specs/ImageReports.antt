@@ -1,10 +1,7 @@
 -- What becomes of a report (own). No public clause speaks of this: it serves the contracts of the crate's own functions.
-use Rattle.std.specs.Prelude.{◌≡◌, ℕ, List, Option, if◌then◌else◌}
-use Rattle.rp_io.specs.Causes.{Rose}
+use Rattle.std.specs.Prelude.{ℕ, List, Option, if◌then◌else◌}
 use Rattle.journal.specs.Notices.{report_text}
 use Rattle.image_report.specs.declared.reports.ImageReport.{ImageReport}
-use Rattle.script_run.specs.declared.reports.ReportFault.{ReportFault}
-use Rattle.script_run.specs.declared.reports.ReportFault.TheVariants as report_fault
 use Rattle.script_run.specs.declared.statuses.Status.{Status}
 use Rattle.script_run.specs.declared.statuses.Status.TheVariants as status
 use Rattle.script_run.specs.Outputs.{Output, check}
@@ -13,11 +10,6 @@ use Rattle.script_run.specs.Endings.{Ends}
 -- the output of a report
 abbrev pub made_output : ImageReport → Output
 made_output made = record { status = if made.loads then status.Done else status.Unsound; text = report_text made.notices.items }
-
--- why there is no report, by the count of the store's faults
-abbrev pub IsReportFault : ReportFault → ℕ → ℕ → Type 0
-IsReportFault report_fault.Store before now = Rose before now
-IsReportFault report_fault.NoMemory before now = now ≡ before
 
 -- the program ends so with `check` and this name, whatever the source of the script has
 abbrev pub IsChecked : Status → List ℕ → Option (List (List ℕ × List ℕ)) → ℕ → ℕ → Option (List ℕ) → Option (List ℕ) → ℕ → ℕ → Type 0

@@ -6,7 +6,7 @@ use Rattle.script_lang.specs.declared.commands.Command.{Command}
 use Rattle.script_lang.specs.declared.commands.Command.TheVariants as command
 use Rattle.script_lang.specs.Grammar.{Refusal, script_of}
 use Rattle.command_run.specs.Stores.{Told}
-use Rattle.command_run.specs.Logs.{IsCutDrive}
+use Rattle.command_run.specs.Outcomes.{IsCutDrive}
 use Rattle.command_run.specs.Runs.{ObjectsState, Run, run_of}
 use Rattle.script_run.specs.declared.statuses.Status.{Status}
 use Rattle.script_run.specs.declared.statuses.Status.TheVariants as status

@@ -2,16 +2,16 @@ ghost use Rattle.std.specs.Prelude.{◌≡◌, ◌+◌, ◌-◌, ◌^◌, ◌≤
 ghost use Rattle.rp_base.specs.declared.limits.TheConstants.{BOOK_MOST, SCRIPT_LINES_MOST};
 ghost use Rattle.script_lang.specs.Runnable.{AreRunnable};
 ghost use Rattle.script_run.specs.declared.demos.DemoFault.TheVariants as fault;
-ghost use Rattle.script_run.specs.Demos.{accepted_sum, demo_output, drive_accepted, link_accepted, none_accepted};
+ghost use Rattle.script_run.specs.Demos.{accepted_sum, demo_output, drive_accepted, none_accepted};
 ghost use Rattle.script_run.specs.DemoRuns.{IsCounted, IsDemoCount};
 ghost use Rattle.script_run.specs.Endings.{Writes};
 
 use crate::endings::end_with;
 use crate::statuses::Status;
-use command_run::{Objects, RunLog, Stop};
-use crash_recover::Core;
+use command_run::Objects;
 use image_maker::{SESSIONS_MOST, demo_script};
 use journal::Notice;
+use link_commands::{RunLog, Stop};
 use rp_base::NoMemory;
 use rp_io::Sink;
 use script_lang::{Command, ParseFault, parse};
@@ -127,23 +127,14 @@ fn drive_accepted(objects: &Objects, command: &Command) -> Accepted
     let Command::Drive { name, .. } = command else {
         return Accepted::none();
     };
-    match objects.core_named(name.bytes()) {
-        Some(named) => link_accepted(&named.core),
-        None => Accepted::none(),
-    }
-}
-
-/// How many messages the link of a core accepted.
-fn link_accepted(core: &Core) -> Accepted
-    ensures accepted { result ≡ link_accepted core.now.bench }
-    ensures to_host { result.to_host ≤ BOOK_MOST }
-    ensures to_remote { result.to_remote ≤ BOOK_MOST }
-{
-    match core.link() {
-        Some(bench) => Accepted {
-            to_host: bench.counts(0).0,
-            to_remote: bench.counts(1).0,
-        },
-        None => Accepted::none(),
+    let Some(named) = objects.core_named(name.bytes()) else {
+        return Accepted::none();
+    };
+    let Some(bench) = named.core.link() else {
+        return Accepted::none();
+    };
+    Accepted {
+        to_host: bench.counts(0).0,
+        to_remote: bench.counts(1).0,
     }
 }

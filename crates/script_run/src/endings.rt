@@ -4,10 +4,10 @@ ghost use Rattle.script_run.specs.declared.statuses.Status.TheVariants as ended;
 ghost use Rattle.script_run.specs.Endings.{IsFinal, Writes};
 ghost use Rattle.script_run.specs.Told.{Tells};
 
-use crate::runs::RunFault;
 use crate::statuses::Status;
-use command_run::RunLog;
+use command_run::CommandFault;
 use journal::Notice;
+use link_commands::RunLog;
 use rp_io::{Sink, write_whole};
 use std::alloc::Global;
 
@@ -23,8 +23,9 @@ pub(crate) fn end_with<K: Sink>(
 {
     match write_notices(alloc, notices, out) {
         Ok(()) => status,
-        Err(RunFault::Write) => Status::WriteFault,
-        Err(RunFault::NoMemory) => Status::NoMemory,
+        Err(CommandFault::Write) => Status::WriteFault,
+        Err(CommandFault::NoMemory) => Status::NoMemory,
+        Err(CommandFault::Store) => unreachable!(),
     }
 }
 
@@ -41,7 +42,11 @@ pub(crate) fn end_with_text<K: Sink>(text: &[u8], status: Status, out: &mut K) -
 }
 
 /// Writes these lines.
-fn write_notices<K: Sink>(alloc: Global, notices: &[Notice], out: &mut K) -> Result<(), RunFault>
+fn write_notices<K: Sink>(
+    alloc: Global,
+    notices: &[Notice],
+    out: &mut K,
+) -> Result<(), CommandFault>
     ensures { Tells result (report_text notices.now) (K.written out.old) (K.written out.new) (K.faults out.old) (K.faults out.new) }
 {
     let mut log = RunLog::new(alloc);

@@ -1,33 +1,16 @@
 ghost use Rattle.std.specs.Prelude.{◌≡◌, IfOk, IfErr};
 ghost use Rattle.script_run.specs.Endings.{IsFinal, IsReportOutput};
-ghost use Rattle.script_run.specs.ImageReports.{IsChecked, IsReportFault, made_output};
+ghost use Rattle.command_run.specs.Fetches.{IsFetchFault};
+ghost use Rattle.script_run.specs.ImageReports.{IsChecked, made_output};
 
 use crate::endings::{end_with, end_with_text};
 use crate::statuses::Status;
+use command_run::CommandFault;
 use image_report::{ImageReport, refuse, report_image};
 use journal::Notice;
 use rp_base::{Name, NoMemory};
 use rp_io::{FetchFault, FirmwareStore, Sink};
 use std::alloc::Global;
-
-/// Why there is no report of an image.
-#[derive(Clone, Copy)]
-pub enum ReportFault {
-    /// The store of images failed. Its count of faults rose.
-    Store,
-    /// Memory ran out.
-    NoMemory,
-}
-
-impl From<NoMemory> for ReportFault {
-    ghost use Rattle.script_run.specs.declared.reports.ReportFault.TheVariants as fault;
-
-    ghost from_gives = { λ _ e. e ≡ fault.NoMemory };
-
-    fn from(_error: NoMemory) -> ReportFault {
-        ReportFault::NoMemory
-    }
-}
 
 /// Fetches the image of a name, and writes whether it loads.
 pub(crate) fn check<F: FirmwareStore, K: Sink>(
@@ -46,8 +29,9 @@ pub(crate) fn check<F: FirmwareStore, K: Sink>(
             let status = report_status(&report);
             end_with(alloc, report.notices.as_slice(), status, out)
         }
-        Err(ReportFault::Store) => end_with_text(b"* store fault\n", Status::StoreFault, out),
-        Err(ReportFault::NoMemory) => Status::NoMemory,
+        Err(CommandFault::Store) => end_with_text(b"* store fault\n", Status::StoreFault, out),
+        Err(CommandFault::NoMemory) => Status::NoMemory,
+        Err(CommandFault::Write) => unreachable!(),
     }
 }
 
@@ -57,18 +41,18 @@ fn fetch_report<F: FirmwareStore>(
     word: &str,
     name: Name,
     store: &mut F,
-) -> Result<ImageReport, ReportFault>
+) -> Result<ImageReport, CommandFault>
     requires { name ≡ word.now }
     ensures report { IfOk result (λ report. IsReportOutput (F.images store.old) name (made_output report)) }
     ensures same { IfOk result (λ _. F.faults store.new ≡ F.faults store.old) }
-    ensures fault { IfErr result (λ why. IsReportFault why (F.faults store.old) (F.faults store.new)) }
+    ensures fault { IfErr result (λ why. IsFetchFault why (F.faults store.old) (F.faults store.new)) }
 {
     match store.fetch(alloc, word) {
         Ok(image) => Ok(report_image(alloc, &image)?),
         Err(FetchFault::Missing) => Ok(refuse(alloc, Notice::Missing(name))?),
         Err(FetchFault::TooLarge(_)) => Ok(refuse(alloc, Notice::TooLarge(name))?),
-        Err(FetchFault::Failed) => Err(ReportFault::Store),
-        Err(FetchFault::NoMemory) => Err(ReportFault::NoMemory),
+        Err(FetchFault::Failed) => Err(CommandFault::Store),
+        Err(FetchFault::NoMemory) => Err(CommandFault::NoMemory),
     }
 }
 

@@ -1,47 +1,18 @@
 ghost use Rattle.std.specs.Prelude.{◌≡◌, ◌≢◌, Err};
 ghost use Rattle.script_lang.specs.Runnable.{AreRunnable};
 ghost use Rattle.command_run.specs.Runs.{AsksNone, new_run};
-ghost use Rattle.script_run.specs.declared.runs.RunFault.TheVariants as fault;
+ghost use Rattle.command_run.specs.declared.fetches.CommandFault.TheVariants as fault;
 ghost use Rattle.script_run.specs.Outputs.{stop_output, store_fault_output};
 ghost use Rattle.script_run.specs.Yards.{RunLeaves};
 ghost use Rattle.script_run.specs.Told.{EndsRun, RunWrites};
 
 use crate::statuses::Status;
-use command_run::{CommandFault, Objects, RunLog, Stop, run_command};
+use command_run::{CommandFault, Objects, run_command};
 use journal::Notice;
-use rp_base::NoMemory;
-use rp_io::{Failed, FirmwareStore, Sink, write_whole};
+use link_commands::{RunLog, Stop};
+use rp_io::{FirmwareStore, Sink, write_whole};
 use script_lang::Command;
 use std::alloc::Global;
-
-/// Why what a run tells was not written whole.
-#[derive(Clone, Copy)]
-pub enum RunFault {
-    /// The sink failed. Its count of faults rose.
-    Write,
-    /// Memory ran out.
-    NoMemory,
-}
-
-impl From<Failed> for RunFault {
-    ghost use Rattle.script_run.specs.declared.runs.RunFault.TheVariants as fault;
-
-    ghost from_gives = { λ _ e. e ≡ fault.Write };
-
-    fn from(_failed: Failed) -> RunFault {
-        RunFault::Write
-    }
-}
-
-impl From<NoMemory> for RunFault {
-    ghost use Rattle.script_run.specs.declared.runs.RunFault.TheVariants as fault;
-
-    ghost from_gives = { λ _ e. e ≡ fault.NoMemory };
-
-    fn from(_error: NoMemory) -> RunFault {
-        RunFault::NoMemory
-    }
-}
 
 /// Runs commands in order from nothing over what the store tells, writes their events and the last
 /// line of the run, and answers how the program ends.
@@ -59,8 +30,9 @@ pub(crate) fn run_commands<F: FirmwareStore, K: Sink>(
 {
     match tell_commands(alloc, objects, commands, store, out) {
         Ok(status) => status,
-        Err(RunFault::Write) => Status::WriteFault,
-        Err(RunFault::NoMemory) => Status::NoMemory,
+        Err(CommandFault::Write) => Status::WriteFault,
+        Err(CommandFault::NoMemory) => Status::NoMemory,
+        Err(CommandFault::Store) => unreachable!(),
     }
 }
 
@@ -71,7 +43,7 @@ fn tell_commands<F: FirmwareStore, K: Sink>(
     commands: &[Command],
     store: &mut F,
     out: &mut K,
-) -> Result<Status, RunFault>
+) -> Result<Status, CommandFault>
     requires runnable { AreRunnable commands.now }
     requires new { objects.old ≡ new_run.objects }
     ensures written { RunWrites (F.images store.old) commands.now objects.new result (K.written out.old) (K.written out.new) (K.faults out.old) (K.faults out.new) (F.faults store.old) (F.faults store.new) }
@@ -83,15 +55,19 @@ fn tell_commands<F: FirmwareStore, K: Sink>(
             Ok(None) => log.hand_on(out)?,
             Ok(Some(stop)) => return end_run(Some(stop), &mut log, out),
             Err(CommandFault::Store) => return end_failed(&mut log, out),
-            Err(CommandFault::Write) => return Err(RunFault::Write),
-            Err(CommandFault::NoMemory) => return Err(RunFault::NoMemory),
+            Err(CommandFault::Write) => return Err(CommandFault::Write),
+            Err(CommandFault::NoMemory) => return Err(CommandFault::NoMemory),
         }
     }
     end_run(None, &mut log, out)
 }
 
 /// Hands on what a run told, with the line of why it stopped, if it did.
-fn end_run<K: Sink>(stop: Option<Stop>, log: &mut RunLog, out: &mut K) -> Result<Status, RunFault>
+fn end_run<K: Sink>(
+    stop: Option<Stop>,
+    log: &mut RunLog,
+    out: &mut K,
+) -> Result<Status, CommandFault>
     ensures { EndsRun result (stop_output stop) log.old.lines (K.written out.old) (K.written out.new) (K.faults out.old) (K.faults out.new) }
 {
     let status = match stop {
@@ -106,7 +82,7 @@ fn end_run<K: Sink>(stop: Option<Stop>, log: &mut RunLog, out: &mut K) -> Result
 }
 
 /// Hands on what a run told whose store failed, with the line that says so. That needs no memory.
-fn end_failed<K: Sink>(log: &mut RunLog, out: &mut K) -> Result<Status, RunFault>
+fn end_failed<K: Sink>(log: &mut RunLog, out: &mut K) -> Result<Status, CommandFault>
     ensures written { EndsRun result store_fault_output log.old.lines (K.written out.old) (K.written out.new) (K.faults out.old) (K.faults out.new) }
     ensures found { result ≢ Err fault.NoMemory }
 {

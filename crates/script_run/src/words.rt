@@ -84,50 +84,14 @@ fn ask_by<'a>(job: &'a str, args: &[&'a str]) -> Asked<'a>
     ensures in_form { IsInForm result }
 {
     match args {
-        [] => ask_alone(job),
-        [argument] => ask_with(job, argument),
-        [hosts, remotes, count, num] => ask_with_four(job, hosts, remotes, count, num),
+        [] if job == "run" => Asked::Run,
+        [] if job == "audit" => Asked::Audit,
+        [argument] if job == "check" => name_in_word(argument),
+        [argument] if job == "demo" => sessions_in_word(argument),
+        [hosts, remotes, count, num] if job == "storm" => {
+            plan_in_words(hosts, remotes, count, num)
+        }
         _ => Asked::Other,
-    }
-}
-
-/// What a job without an argument asks for.
-fn ask_alone<'a>(job: &str) -> Asked<'a>
-    ensures form { asked_form result ≡ word_form job.now }
-    ensures in_form { IsInForm result }
-{
-    if job == "run" {
-        Asked::Run
-    } else if job == "audit" {
-        Asked::Audit
-    } else {
-        Asked::Other
-    }
-}
-
-/// What a job with one argument asks for.
-fn ask_with<'a>(job: &str, argument: &'a str) -> Asked<'a>
-    ensures form { asked_form result ≡ argument_form job.now argument.now }
-    ensures in_form { IsInForm result }
-{
-    if job == "check" {
-        name_in_word(argument)
-    } else if job == "demo" {
-        sessions_in_word(argument)
-    } else {
-        Asked::Other
-    }
-}
-
-/// What a job with four arguments asks for.
-fn ask_with_four<'a>(job: &str, hosts: &str, remotes: &str, count: &str, num: &str) -> Asked<'a>
-    ensures form { asked_form result ≡ numbers_form job.now hosts.now remotes.now count.now num.now }
-    ensures in_form { IsInForm result }
-{
-    if job == "storm" {
-        plan_in_words(hosts, remotes, count, num)
-    } else {
-        Asked::Other
     }
 }
 

@@ -46,12 +46,12 @@ use Rattle.core_actors.specs.ActorEnds.{actors_after_end}
 use Rattle.crash_recover.specs.Drives.{drive_step}
 use Rattle.core_laws.specs.BenchMoves.{IsReachedBench, IsReachedCore}
 use Rattle.core_laws.proofs.CoreMoves.{core_driven}
-use Rattle.command_run.specs.declared.acts.CoreAct.{CoreAct}
-use Rattle.command_run.specs.declared.acts.CoreAct.TheVariants as act
-use Rattle.command_run.specs.declared.acts.LinkView.{LinkView}
-use Rattle.command_run.specs.declared.acts.LinkView.TheVariants as view
-use Rattle.command_run.specs.declared.acts.NamedAct.{NamedAct}
-use Rattle.command_run.specs.declared.acts.NamedAct.TheVariants as under
+use Rattle.link_commands.specs.declared.acts.CoreAct.{CoreAct}
+use Rattle.link_commands.specs.declared.acts.CoreAct.TheVariants as act
+use Rattle.link_commands.specs.declared.acts.LinkView.{LinkView}
+use Rattle.link_commands.specs.declared.acts.LinkView.TheVariants as view
+use Rattle.link_commands.specs.declared.acts.NamedAct.{NamedAct}
+use Rattle.link_commands.specs.declared.acts.NamedAct.TheVariants as under
 use Rattle.command_run.specs.CoreCommands.{core_act_effect, core_effect}
 use Rattle.command_run.specs.CoreDrives.{drive_effect, drive_steps, rest_event, rests_or, step_then}
 use Rattle.command_run.specs.CoreEffects.{CoreEffect, added_effect, core_tells, declared_effect, driver_effect, region_effect}

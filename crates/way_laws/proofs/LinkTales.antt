@@ -17,13 +17,13 @@ use Rattle.link_bench.specs.BenchCrashes.{after_close, after_reopen}
 use Rattle.link_bench.specs.Benches.{BenchState, link_in, new_bench_of}
 use Rattle.link_bench.specs.Watchers.{nobody_sees}
 use Rattle.core_laws.specs.BenchMoves.{IsReachedBench}
-use Rattle.command_run.specs.declared.acts.ManagerAct.TheVariants as manager
-use Rattle.command_run.specs.declared.acts.NamedAct.{NamedAct}
-use Rattle.command_run.specs.declared.acts.NamedAct.TheVariants as under
-use Rattle.command_run.specs.Effects.{Effect, tells}
-use Rattle.command_run.specs.LinkCommands.{link_effect}
-use Rattle.command_run.specs.NamedLinks.{NamedLink}
-use Rattle.command_run.specs.Recoveries.{close_effect, close_event, opened_effect, reopen_effect}
+use Rattle.link_commands.specs.declared.acts.ManagerAct.TheVariants as manager
+use Rattle.link_commands.specs.declared.acts.NamedAct.{NamedAct}
+use Rattle.link_commands.specs.declared.acts.NamedAct.TheVariants as under
+use Rattle.link_commands.specs.Effects.{Effect, tells}
+use Rattle.link_commands.specs.LinkCommands.{link_effect}
+use Rattle.link_commands.specs.NamedLinks.{NamedLink}
+use Rattle.link_commands.specs.Recoveries.{close_effect, close_event, opened_effect, reopen_effect}
 use Rattle.command_run.specs.Runs.{new_end}
 use Rattle.run_laws.proofs.CoreWalks.{FitsNamed}
 use Rattle.act_laws.specs.Accounts.{Account, new_account, with_deeds}

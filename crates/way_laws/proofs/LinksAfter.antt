@@ -11,16 +11,16 @@ use Rattle.image_maker.specs.Images.{image_of}
 use Rattle.journal.specs.declared.events.Event.{Event}
 use Rattle.journal.specs.declared.events.Event.TheVariants as event
 use Rattle.link_bench.specs.Benches.{new_bench_of}
-use Rattle.command_run.specs.declared.acts.Line.{Line}
-use Rattle.command_run.specs.declared.acts.Line.TheVariants as line
-use Rattle.command_run.specs.declared.acts.Making.{Making}
-use Rattle.command_run.specs.declared.acts.Making.TheVariants as making
-use Rattle.command_run.specs.declared.acts.NamedAct.{NamedAct}
-use Rattle.command_run.specs.declared.acts.NamedAct.TheVariants as under
-use Rattle.command_run.specs.Acts.{line_of}
-use Rattle.command_run.specs.LinkCommands.{link_effect}
+use Rattle.link_commands.specs.declared.acts.Line.{Line}
+use Rattle.link_commands.specs.declared.acts.Line.TheVariants as line
+use Rattle.link_commands.specs.declared.acts.Making.{Making}
+use Rattle.link_commands.specs.declared.acts.Making.TheVariants as making
+use Rattle.link_commands.specs.declared.acts.NamedAct.{NamedAct}
+use Rattle.link_commands.specs.declared.acts.NamedAct.TheVariants as under
+use Rattle.link_commands.specs.Acts.{line_of}
+use Rattle.link_commands.specs.LinkCommands.{link_effect}
 use Rattle.command_run.specs.NamedCores.{NamedCoreState}
-use Rattle.command_run.specs.NamedLinks.{NamedLink}
+use Rattle.link_commands.specs.NamedLinks.{NamedLink}
 use Rattle.command_run.specs.Runs.{RunEffect, RunState, core_located_effect, core_made_effect, core_place, dump_answer, dump_effect, dumped_effect, effect_of, found_core_effect, found_effect, has_image, image_effect, is_full, line_effect, located_effect, made_effect, making_effect, name_effect, new_end, place_of, quiet_effect, run_tells, unnamed_effect, with_image, without_link_effect}
 use Rattle.command_run.specs.Stores.{Answer}
 use Rattle.way_laws.specs.RunAccounts.{done_at, is_place}

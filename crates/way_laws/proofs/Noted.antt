@@ -2,7 +2,7 @@
 use Rattle.std.proofs.Common.{List, [], ◌∷◌, Option, Some, None}
 use Rattle.script_lang.specs.declared.commands.Command.{Command}
 use Rattle.script_lang.specs.Runnable.{AreRunnable, IsRunnable}
-use Rattle.command_run.specs.declared.stops.Stop.{Stop}
+use Rattle.link_commands.specs.declared.stops.Stop.{Stop}
 use Rattle.command_run.specs.Runs.{Run, RunEffect, RunState, asked_name, effect_of, run_from, run_on, run_told}
 use Rattle.command_run.specs.Stores.{Answer, Told, later_told, told_answer}
 use Rattle.way_laws.specs.Notes.{Noting, notes_from, notes_of_command, notes_on}

@@ -8,10 +8,10 @@ use Rattle.script_lang.specs.Runnable.{AreRunnable, IsRunnable}
 use Rattle.link_bench.specs.Acts.{IsFitAct}
 use Rattle.link_bench.specs.Benches.{BenchState}
 use Rattle.core_laws.specs.BenchMoves.{IsReachedBench, IsReachedCore}
-use Rattle.command_run.specs.declared.acts.NamedAct.{NamedAct}
-use Rattle.command_run.specs.Acts.{line_of}
+use Rattle.link_commands.specs.declared.acts.NamedAct.{NamedAct}
+use Rattle.link_commands.specs.Acts.{line_of}
 use Rattle.command_run.specs.NamedCores.{NamedCoreState}
-use Rattle.command_run.specs.NamedLinks.{NamedLink}
+use Rattle.link_commands.specs.NamedLinks.{NamedLink}
 use Rattle.command_run.specs.Runs.{RunState, effect_of, new_run, run_of}
 use Rattle.command_run.specs.Stores.{Answer, Told}
 use Rattle.run_laws.specs.Reached.{AreReached}

@@ -19,16 +19,16 @@ use Rattle.link_bench.specs.Benches.{BenchState, link_in}
 use Rattle.link_bench.proofs.Begun.{get-set_other}
 use Rattle.crash_recover.specs.Cores.{new_core}
 use Rattle.core_laws.specs.BenchMoves.{IsReachedBench, IsReachedCore}
-use Rattle.command_run.specs.declared.acts.Line.{Line}
-use Rattle.command_run.specs.declared.acts.Line.TheVariants as line
-use Rattle.command_run.specs.declared.acts.Making.{Making}
-use Rattle.command_run.specs.declared.acts.Making.TheVariants as making
-use Rattle.command_run.specs.declared.acts.NamedAct.{NamedAct}
-use Rattle.command_run.specs.declared.acts.NamedAct.TheVariants as under
-use Rattle.command_run.specs.Acts.{line_of}
+use Rattle.link_commands.specs.declared.acts.Line.{Line}
+use Rattle.link_commands.specs.declared.acts.Line.TheVariants as line
+use Rattle.link_commands.specs.declared.acts.Making.{Making}
+use Rattle.link_commands.specs.declared.acts.Making.TheVariants as making
+use Rattle.link_commands.specs.declared.acts.NamedAct.{NamedAct}
+use Rattle.link_commands.specs.declared.acts.NamedAct.TheVariants as under
+use Rattle.link_commands.specs.Acts.{line_of}
 use Rattle.command_run.specs.CoreCommands.{core_effect}
 use Rattle.command_run.specs.NamedCores.{NamedCoreState}
-use Rattle.command_run.specs.NamedLinks.{NamedLink}
+use Rattle.link_commands.specs.NamedLinks.{NamedLink}
 use Rattle.command_run.specs.Runs.{RunEffect, RunState, core_located_effect, core_made_effect, core_place, dump_answer, dump_effect, dumped_effect, effect_of, found_core_effect, found_effect, has_image, image_effect, is_full, line_effect, located_effect, made_effect, making_effect, name_effect, new_run, place_of, quiet_effect, regions_of, run_of, run_tells, unnamed_effect, with_image, without_link_effect}
 use Rattle.command_run.specs.Stores.{Answer, Told}
 use Rattle.run_laws.specs.Reached.{AreReached}

@@ -16,15 +16,15 @@ use Rattle.link_bench.specs.Acts.{IsFitAct}
 use Rattle.link_bench.specs.Benches.{BenchState, link_in}
 use Rattle.link_bench.proofs.Begun.{get-set_other}
 use Rattle.core_laws.specs.BenchMoves.{IsReachedBench, IsReachedCore}
-use Rattle.command_run.specs.declared.acts.Line.{Line}
-use Rattle.command_run.specs.declared.acts.Line.TheVariants as line
-use Rattle.command_run.specs.declared.acts.Making.{Making}
-use Rattle.command_run.specs.declared.acts.Making.TheVariants as making
-use Rattle.command_run.specs.declared.acts.NamedAct.{NamedAct}
-use Rattle.command_run.specs.declared.acts.NamedAct.TheVariants as under
-use Rattle.command_run.specs.Acts.{line_of}
+use Rattle.link_commands.specs.declared.acts.Line.{Line}
+use Rattle.link_commands.specs.declared.acts.Line.TheVariants as line
+use Rattle.link_commands.specs.declared.acts.Making.{Making}
+use Rattle.link_commands.specs.declared.acts.Making.TheVariants as making
+use Rattle.link_commands.specs.declared.acts.NamedAct.{NamedAct}
+use Rattle.link_commands.specs.declared.acts.NamedAct.TheVariants as under
+use Rattle.link_commands.specs.Acts.{line_of}
 use Rattle.command_run.specs.NamedCores.{NamedCoreState}
-use Rattle.command_run.specs.NamedLinks.{NamedLink}
+use Rattle.link_commands.specs.NamedLinks.{NamedLink}
 use Rattle.command_run.specs.Runs.{RunState, effect_of, new_run, place_of, run_of}
 use Rattle.command_run.specs.Stores.{Answer, Told}
 use Rattle.run_laws.specs.Reached.{AreReached}

@@ -36,7 +36,7 @@ use Rattle.link_bench.specs.BenchCrashes.{reclaim_answer}
 use Rattle.link_bench.specs.Benches.{BenchState, BenchWalk, advance_steps, advance_walk, begun_call_of, call_walk, calling_fault, is_in_call, link_in, message_for, ready_fault, step_fault, used_fault}
 use Rattle.link_bench.specs.Turns.{pump_turns}
 use Rattle.link_bench.specs.Watchers.{Seeing}
-use Rattle.command_run.specs.CallEvents.{end_event, took_event}
+use Rattle.link_commands.specs.CallEvents.{end_event, took_event}
 use Rattle.act_laws.specs.Deeds.{Deeds, act_deeds, advance_deeds, call_moves, caller_deeds, free_deeds, later_moves, made_deeds, no_deeds, pump_deeds, reach_takes, reclaim_deeds, unless_told, walk_deeds}
 
 -- ---- the line of a take

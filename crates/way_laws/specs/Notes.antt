@@ -1,7 +1,7 @@
 -- What is noted beside a run, command by command (own).
 use Rattle.std.specs.Prelude.{List, [], ◌∷◌, Option, Some, None}
 use Rattle.script_lang.specs.declared.commands.Command.{Command}
-use Rattle.command_run.specs.declared.stops.Stop.{Stop}
+use Rattle.link_commands.specs.declared.stops.Stop.{Stop}
 use Rattle.command_run.specs.Runs.{RunState, asked_name, effect_of}
 use Rattle.command_run.specs.Stores.{Answer, Told, later_told, told_answer}
 

@@ -4,12 +4,13 @@ use Rattle.journal.specs.Lines.{transcript}
 use Rattle.rp_io.specs.declared.faults.FetchFault.TheVariants as fetch_fault
 use Rattle.script_lang.specs.declared.commands.Command.{Command}
 use Rattle.script_lang.specs.declared.commands.Command.TheVariants as command
-use Rattle.command_run.specs.declared.acts.CoreAct.TheVariants as core
-use Rattle.command_run.specs.declared.acts.NamedAct.TheVariants as under
+use Rattle.link_commands.specs.declared.acts.CoreAct.TheVariants as core
+use Rattle.link_commands.specs.declared.acts.NamedAct.TheVariants as under
 use Rattle.command_run.specs.declared.fetches.CommandFault.{CommandFault}
 use Rattle.command_run.specs.declared.fetches.CommandFault.TheVariants as command_fault
-use Rattle.command_run.specs.declared.stops.Stop.{Stop}
-use Rattle.command_run.specs.Logs.{CutsRun, HandsRunEffect, LogState}
+use Rattle.link_commands.specs.declared.stops.Stop.{Stop}
+use Rattle.link_commands.specs.Logs.{LogState}
+use Rattle.command_run.specs.Outcomes.{CutsRun, HandsRunEffect}
 use Rattle.command_run.specs.Fetches.{EndsCut, IfWrite, IsToldFor, RunsTold}
 use Rattle.command_run.specs.Runs.{ObjectsState, RunState, asked_name, effect_of, name_effect}
 use Rattle.command_run.proofs.Shelves.{shelf_of}

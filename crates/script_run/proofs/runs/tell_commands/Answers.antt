@@ -2,11 +2,10 @@ use Rattle.std.proofs.Common.{◌≡◌, ◌+◌, ℕ, [], List, Option, Some, N
 use Rattle.std.proofs.Math.ListN.{drop_of_length-le}
 use Rattle.std.proofs.lemmas.Result.{err_from_is_err_and}
 use Rattle.rp_io.specs.Causes.{Rose}
-use Rattle.script_run.specs.declared.runs.RunFault.{RunFault}
-use Rattle.script_run.specs.declared.statuses.Status.{Status}
 use Rattle.command_run.specs.declared.fetches.CommandFault.{CommandFault}
+use Rattle.script_run.specs.declared.statuses.Status.{Status}
 use Rattle.command_run.specs.Stores.{Told}
-use Rattle.command_run.specs.Logs.{LogState}
+use Rattle.link_commands.specs.Logs.{LogState}
 use Rattle.command_run.specs.Fetches.{DidTold, RunsTold}
 use Rattle.script_run.specs.Outputs.{end_output, store_fault_output}
 use Rattle.script_run.specs.Told.{EndsRun, RunWrites}
@@ -58,9 +57,9 @@ returns-in_err-hand_on-in-Ok-None g c =
     let did = subst (λ (held : Option (List (List ℕ × List ℕ))). DidTold held state first c.run_command.new.objects c.loop-command.log c.run_command.new.log
     (sink.written c.loop-command.out) (sink.written c.run_command.new.out) c.in-Ok-None.field-0) c.loop-command.invariant.images told.0 in
     record {
-      written = subst (λ (result : Result Status RunFault). RunWrites images commands c.run_command.new.objects result (sink.written c.args.out.now) (sink.written c.hand_on.new.out)
+      written = subst (λ (result : Result Status CommandFault). RunWrites images commands c.run_command.new.objects result (sink.written c.args.out.now) (sink.written c.hand_on.new.out)
           (sink.faults c.args.out.now) (sink.faults c.hand_on.new.out) (store.faults c.args.store.now) (store.faults c.run_command.new.store))
-          (sym (found.1 ∙ ap (λ (fault : RunFault). Err fault) found.2))
+          (sym (found.1 ∙ ap (λ (fault : CommandFault). Err fault) found.2))
           (so_far_write_fault images commands (drop (i + 1) commands) (sink.written c.args.out.now) (sink.written c.run_command.new.out) c.run_command.new.log.lines
           next (sink.written c.hand_on.new.out) (sink.faults c.args.out.now) (sink.faults c.hand_on.new.out)
           (store.faults c.args.store.now) (store.faults c.run_command.new.store)

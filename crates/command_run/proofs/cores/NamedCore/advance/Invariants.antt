@@ -1,5 +1,5 @@
 use Rattle.std.proofs.Common.{◌≡◌, ◌-◌}
-use Rattle.command_run.specs.Logs.{DrivesOn}
+use Rattle.command_run.specs.Outcomes.{DrivesOn}
 use Rattle.command_run.proofs.cores.NamedCore.advance.Given as goal
 
 -- what is left of the drive does the rest

@@ -4,7 +4,7 @@ use Rattle.rp_io.specs.Causes.{Rose}
 use Rattle.journal.specs.Lines.{transcript}
 use Rattle.command_run.specs.declared.fetches.CommandFault.{CommandFault}
 use Rattle.command_run.specs.Fetches.{EndsCut}
-use Rattle.command_run.specs.Logs.{DrivesOn}
+use Rattle.command_run.specs.Outcomes.{DrivesOn}
 use Rattle.command_run.specs.CoreDrives.{drive_steps}
 use Rattle.command_run.proofs.Handed.{front_of_none, no_write, on_write}
 use Rattle.command_run.proofs.Driving.{handing_cut, handing_first, handing_handed, handing_on, handing_paused}

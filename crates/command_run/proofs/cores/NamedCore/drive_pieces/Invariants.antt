@@ -1,5 +1,5 @@
 use Rattle.std.proofs.Common.{◌≡◌}
-use Rattle.command_run.specs.Logs.{DrivesHanding}
+use Rattle.command_run.specs.Outcomes.{DrivesHanding}
 use Rattle.command_run.proofs.cores.NamedCore.drive_pieces.Given as goal
 
 -- what is left of the drive does the rest, behind what was kept or handed on

@@ -1,6 +1,6 @@
 use Rattle.std.proofs.Common.{◌≡◌, ◌⊎◌, inl, inr, ◌+◌, ℕ, List, true, IfOk, subst, arith}
 use Rattle.std.proofs.lemmas.Result.{IfOk-weaker}
-use Rattle.command_run.specs.Logs.{HasCoreEffect}
+use Rattle.command_run.specs.Outcomes.{HasCoreEffect}
 use Rattle.command_run.specs.CoreDrives.{drive_end, drive_steps, is_over}
 use Rattle.command_run.proofs.Driving.{drive_ends, steps_end}
 use Rattle.command_run.proofs.cores.NamedCore.drive_running.Goals as goal

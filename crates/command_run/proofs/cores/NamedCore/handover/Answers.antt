@@ -5,7 +5,7 @@ use Rattle.proc_state.specs.Lives.{life_after_handover}
 use Rattle.crash_recover.specs.CoreBoots.{Found, handover_of}
 use Rattle.crash_recover.specs.declared.core_faults.CoreFault.TheVariants as fault
 use Rattle.crash_recover.proofs.Unfound.{refused_handover}
-use Rattle.command_run.specs.declared.starts.Starting.TheVariants as starting
+use Rattle.command_run.specs.declared.starts.StartAct.TheVariants as starts
 use Rattle.command_run.specs.CoreLives.{found_image}
 use Rattle.command_run.specs.Fetches.{IsToldFor}
 use Rattle.command_run.specs.NamedCores.{NamedCoreState}
@@ -25,8 +25,8 @@ returns-in_ok-tell_start-in-Ok-clause-started g c =
     let found = subst (λ (name : List ℕ). IsImageOf images made name c.in_ok-found-in-Ok.found) c.bytes.ensures.bytes c.in_ok-found-in-Ok.ensures.told in
     let given = c.handover_image-started in
     let out = handover_of named.core image (result_map_both (λ image. image.now) (λ why. why) c.image.result) in (
-      subst (λ (n : NamedCoreState). DidStart images (starting.Handover image) made n after.self.core log after.log told.field-0) c.self.view_is
-          (did_start images (starting.Handover image) made named found.answer given.new.self after.self.core given.result log after.log told.field-0
+      subst (λ (n : NamedCoreState). DidStart images (starts.Handover image) made n after.self.core log after.log told.field-0) c.self.view_is
+          (did_start images (starts.Handover image) made named found.answer given.new.self after.self.core given.result log after.log told.field-0
           (subst (λ (asked : Option (List ℕ)). IsToldFor images asked found.answer) (sym (handover_asks made named image (was_offline named.core.life (sym c.in-Ok.ensures.answer)))) found.is)
           (ap (λ (f : Found). handover_of named.core image f) (sym (c.image.ensures ∙ found.image))
           ∙ outcome_is out given.new.self given.result (given.ensures.left told.ensures.known) (given.ensures.answer told.ensures.known))
@@ -45,8 +45,8 @@ returns-in_ok-tell_start-in-Err-clause-started g c =
     let named = c.args.self.now in
     let why = c.in-Err.fault in
     let refused = sym (c.in-Err.ensures.answer ∙ ap (λ (n : NamedCoreState). (life_after_handover n.core.life).answer) c.self.view_is) in (
-      did_start images (starting.Handover image) made named (Err fetch_fault.Missing) named.core after.self.core (Err (fault.Life why)) log after.log told.field-0
-          (untold images (starting.Handover image) made named (handover_asks_none made named image (stays_taken named.core.life why refused)))
+      did_start images (starts.Handover image) made named (Err fetch_fault.Missing) named.core after.self.core (Err (fault.Life why)) log after.log told.field-0
+          (untold images (starts.Handover image) made named (handover_asks_none made named image (stays_taken named.core.life why refused)))
           (refused_handover named.core image (found_image made (Err fetch_fault.Missing) image) why refused) told.ensures.effect,
       refl,
     )

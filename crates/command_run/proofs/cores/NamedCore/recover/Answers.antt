@@ -6,11 +6,11 @@ use Rattle.crash_recover.specs.CoreBoots.{Found}
 use Rattle.crash_recover.specs.CoreRecoveries.{recovery_fault, recovery_of}
 use Rattle.crash_recover.specs.declared.core_faults.CoreFault.TheVariants as fault
 use Rattle.crash_recover.proofs.Unfound.{refused_recovery}
-use Rattle.command_run.specs.declared.starts.Starting.TheVariants as starting
+use Rattle.command_run.specs.declared.starts.StartAct.TheVariants as starts
 use Rattle.command_run.specs.CoreEffects.{core_tells_all}
 use Rattle.command_run.specs.CoreLives.{booted_image, found_image, start_events}
 use Rattle.command_run.specs.Fetches.{IsToldFor}
-use Rattle.command_run.specs.Logs.{HasCoreEffect}
+use Rattle.command_run.specs.Outcomes.{HasCoreEffect}
 use Rattle.command_run.specs.NamedCores.{NamedCoreState}
 use Rattle.command_run.specs.Starts.{DidStart, IsImageOf}
 use Rattle.command_run.proofs.Started.{did_start, outcome_is, recovers_loaded, recovery_asks_for, recovery_asks_none, untold}
@@ -33,8 +33,8 @@ returns-in_ok-tell_start-in-None-clause-started g c =
     let found = subst (λ (name : List ℕ). IsImageOf images made name c.in_ok-found-in-None.found) (c.bytes.ensures.bytes ∙ same) c.in_ok-found-in-None.ensures.told in
     let given = c.recover_image-started in
     let out = recovery_of named.core (result_map_both (λ image. image.now) (λ why. why) c.image.result) in (
-      subst (λ (n : NamedCoreState). DidStart images starting.Recover made n after.self.core log after.log told.field-0) c.self.view_is
-          (did_start images starting.Recover made named found.answer given.new.self after.self.core given.result log after.log told.field-0
+      subst (λ (n : NamedCoreState). DidStart images starts.Recover made n after.self.core log after.log told.field-0) c.self.view_is
+          (did_start images starts.Recover made named found.answer given.new.self after.self.core given.result log after.log told.field-0
           (subst (λ (asked : Option (List ℕ)). IsToldFor images asked found.answer) (sym (recovery_asks_for made named image may there)) found.is)
           (ap (λ (f : Found). recovery_of named.core f) (sym (c.image.ensures ∙ found.image))
           ∙ outcome_is out given.new.self given.result (given.ensures.left told.ensures.known) (given.ensures.answer told.ensures.known))
@@ -54,8 +54,8 @@ returns-in_ok-tell_start-in-Some-clause-started g c =
     let why = c.in-Some.fault in
     let refused : recovery_fault named.core.life ≡ Some why =
     ap (λ (n : NamedCoreState). recovery_fault n.core.life) (sym c.self.view_is) ∙ sym c.recovery_fault.ensures ∙ c.in-Some.is in (
-      did_start images starting.Recover made named (Err fetch_fault.Missing) named.core after.self.core (Err (fault.Life why)) log after.log told.field-0
-          (untold images starting.Recover made named (recovery_asks_none made named why refused))
+      did_start images starts.Recover made named (Err fetch_fault.Missing) named.core after.self.core (Err (fault.Life why)) log after.log told.field-0
+          (untold images starts.Recover made named (recovery_asks_none made named why refused))
           (refused_recovery named.core (found_image made (Err fetch_fault.Missing) image) why refused)
           (subst (λ (name : List ℕ). HasCoreEffect (core_tells_all named.core log.steps (start_events named.name name (Err (fault.Life why)))) after.self.core log after.log told.field-0) c.booted_image-image.ensures.image told.ensures.effect),
       refl,

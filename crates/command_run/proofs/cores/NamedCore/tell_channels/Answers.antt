@@ -1,11 +1,11 @@
 -- What is told of the channels of a core's link is what its state says.
 use Rattle.std.proofs.Common.{None, rules, subst, sym}
 use Rattle.crash_recover.specs.Cores.{CoreState}
-use Rattle.command_run.specs.declared.acts.LinkView.TheVariants as view
+use Rattle.link_commands.specs.declared.acts.LinkView.TheVariants as view
 use Rattle.command_run.specs.CoreLinks.{found_view_effect}
-use Rattle.command_run.specs.Logs.{HasCoreEffect}
+use Rattle.command_run.specs.Outcomes.{HasCoreEffect}
 use Rattle.command_run.specs.NamedCores.{NamedCoreState}
-use Rattle.command_run.proofs.FoundChannels.{core_told}
+use Rattle.command_run.proofs.CoreChannels.{core_told}
 use Rattle.command_run.proofs.cores.NamedCore.tell_channels.Goals as goal
 
 pub returns-clause-effect : goal.returns-clause-effect

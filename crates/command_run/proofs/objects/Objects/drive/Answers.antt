@@ -4,14 +4,14 @@ use Rattle.std.proofs.lemmas.Result.{IfOk-weaker, err_from_is_err_and}
 use Rattle.rp_io.specs.declared.faults.FetchFault.TheVariants as fetch_fault
 use Rattle.journal.specs.declared.events.Event.{Event}
 use Rattle.journal.specs.Lines.{transcript}
-use Rattle.command_run.specs.declared.acts.CoreAct.TheVariants as core
-use Rattle.command_run.specs.declared.acts.NamedAct.TheVariants as under
-use Rattle.command_run.specs.declared.stops.Stop.{Stop}
+use Rattle.link_commands.specs.declared.acts.CoreAct.TheVariants as core
+use Rattle.link_commands.specs.declared.acts.NamedAct.TheVariants as under
+use Rattle.link_commands.specs.declared.stops.Stop.{Stop}
 use Rattle.command_run.specs.declared.fetches.CommandFault.{CommandFault}
 use Rattle.command_run.specs.declared.fetches.CommandFault.TheVariants as command_fault
 use Rattle.command_run.specs.CoreDrives.{drive_effect}
 use Rattle.command_run.specs.Fetches.{EndsCut, IfWrite}
-use Rattle.command_run.specs.Logs.{CutsCore, CutsRun, HandsCoreEffect, HandsRunEffect}
+use Rattle.command_run.specs.Outcomes.{CutsCore, CutsRun, HandsCoreEffect, HandsRunEffect}
 use Rattle.command_run.specs.Runs.{ObjectsState, RunEffect, RunState, core_place, name_effect, place_of}
 use Rattle.command_run.proofs.Handed.{front_of_none, no_write}
 use Rattle.command_run.proofs.Placing.{drive_cut, drive_placed, drive_run, kept_run}
@@ -72,8 +72,8 @@ returns-in-Some g c =
           c.drive_handing.ensures.paused);
     }
 
-pub returns-in_err-run_on_links-in-None-clause-cut : goal.returns-in_err-run_on_links-in-None-clause-cut
-returns-in_err-run_on_links-in-None-clause-cut g c =
+pub returns-in_err-run_on_name-in-None-clause-cut : goal.returns-in_err-run_on_name-in-None-clause-cut
+returns-in_err-run_on_name-in-None-clause-cut g c =
     let sink = g.K.Sink in
     let now = sink.written c.args.out.now in
     let found = err_from_is_err_and c.from_residual.result c.from_residual.ensures.1 in
@@ -81,12 +81,12 @@ returns-in_err-run_on_links-in-None-clause-cut g c =
     subst (λ (r : Result (Option Stop) CommandFault). IfErr r (λ why. EndsCut why text now now (sink.faults c.args.out.now) (sink.faults c.args.out.now)))
     (sym (found.1 ∙ ap (λ (why : CommandFault). Err why) found.2)) (front_of_none now text, refl)
 
-pub returns-in_ok-run_on_links-in-None-clause-effect : goal.returns-in_ok-run_on_links-in-None-clause-effect
-returns-in_ok-run_on_links-in-None-clause-effect g c =
+pub returns-in_ok-run_on_name-in-None-clause-effect : goal.returns-in_ok-run_on_name-in-None-clause-effect
+returns-in_ok-run_on_name-in-None-clause-effect g c =
     let effect = name_effect (Err fetch_fault.Missing) (record { objects = c.args.self.now; steps = c.args.log.now.steps }) c.args.name (under.Core (core.Drive c.args.count)) in
-    kept_run effect c.run_on_links.new.self c.args.log.now c.run_on_links.new.log (g.K.Sink.written c.args.out.now) c.in_ok-run_on_links-in-None.field-0 c.in_ok-run_on_links-in-None.ensures
+    kept_run effect c.run_on_name.new.self c.args.log.now c.run_on_name.new.log (g.K.Sink.written c.args.out.now) c.in_ok-run_on_name-in-None.field-0 c.in_ok-run_on_name-in-None.ensures
 
-pub returns-in_err-run_on_links-in-None-clause-paused : goal.returns-in_err-run_on_links-in-None-clause-paused
-returns-in_err-run_on_links-in-None-clause-paused g c =
+pub returns-in_err-run_on_name-in-None-clause-paused : goal.returns-in_err-run_on_name-in-None-clause-paused
+returns-in_err-run_on_name-in-None-clause-paused g c =
     let found = err_from_is_err_and c.from_residual.result c.from_residual.ensures.1 in
     no_write (Option Stop) _ c.from_residual.result (found.1 ∙ ap (λ (why : CommandFault). Err why) found.2)

@@ -1,5 +1,5 @@
 use Rattle.std.proofs.Common.{◌≡◌, ℕ, List, [], ◌∷◌, ◌++◌, false, refl, sym, ap, ◌∙◌}
-use Rattle.command_run.specs.NamedLinks.{NamedLink}
+use Rattle.link_commands.specs.NamedLinks.{NamedLink}
 use Rattle.link_bench.specs.Benches.{BenchState, new_bench_of}
 use Rattle.channel_bus.specs.Sides.{EndState}
 use Rattle.command_run.specs.Runs.{ObjectsState, new_end}

@@ -1,6 +1,6 @@
 use Rattle.std.proofs.Common.{◌≡◌, ℕ, List, Option, Some, None, IfNone, sym, ap, ◌∙◌}
 use Rattle.command_run.specs.NamedCores.{NamedCoreState}
-use Rattle.command_run.specs.NamedLinks.{NamedLink}
+use Rattle.link_commands.specs.NamedLinks.{NamedLink}
 use Rattle.command_run.specs.Runs.{ObjectsState, core_named, core_place, place_of}
 use Rattle.command_run.proofs.AskedNames.{core_nowhere}
 use Rattle.command_run.proofs.objects.Objects.place_without_link.Goals as goal

@@ -1,10 +1,10 @@
 use Rattle.std.proofs.Common.{◌≡◌, ◌<◌, List, Some, None, Err, length, slice_get, slice_set, refl, sym, ap, subst, ◌∙◌}
 use Rattle.std.proofs.lemmas.Option.{slice_get_read}
 use Rattle.rp_io.specs.declared.faults.FetchFault.TheVariants as fetch_fault
-use Rattle.command_run.specs.declared.acts.CoreAct.{CoreAct}
-use Rattle.command_run.specs.declared.acts.NamedAct.TheVariants as under
+use Rattle.link_commands.specs.declared.acts.CoreAct.{CoreAct}
+use Rattle.link_commands.specs.declared.acts.NamedAct.TheVariants as under
 use Rattle.command_run.specs.Fetches.{RunsTold}
-use Rattle.command_run.specs.Logs.{HasRunEffect}
+use Rattle.command_run.specs.Outcomes.{HasRunEffect}
 use Rattle.command_run.specs.NamedImages.{ImageState}
 use Rattle.command_run.specs.Runs.{ObjectsState, RunState, asked_name, core_named, core_place, name_effect, place_of}
 use Rattle.command_run.specs.Starts.{StartsOver, start_command, start_image}
@@ -59,15 +59,15 @@ returns-in-Some-clause-unasked g c = λ unasked.
     (start_unasked (store.images c.args.store.now) run c.args.name c.args.start log c.start.new.log None 0 0 0 place named c.start.new.self bare placed found c.start.ensures.name refl
     (subst (λ (objects : ObjectsState). asked_name objects (start_command c.args.name c.args.start) ≡ None) (sym c.self.view_is) unasked)))
 
-pub returns-in_ok-run_on_links-in-None-clause-told : goal.returns-in_ok-run_on_links-in-None-clause-told
-returns-in_ok-run_on_links-in-None-clause-told g c = λ written faults.
+pub returns-in_ok-run_on_name-in-None-clause-told : goal.returns-in_ok-run_on_name-in-None-clause-told
+returns-in_ok-run_on_name-in-None-clause-told g c = λ written faults.
     let store = g.F.FirmwareStore in
     let log = c.args.log.now in
     let objects = c.args.self.now in
     let run : RunState = record { objects = objects; steps = log.steps } in
     let was = store.faults c.args.store.now in
-    let told = c.in_ok-run_on_links-in-None in
-    let after = c.run_on_links.new in
+    let told = c.in_ok-run_on_name-in-None in
+    let after = c.run_on_name.new in
     nobody_told (store.images c.args.store.now) run c.args.name c.args.start log after.log written faults was was after.self told.field-0
     (sym (ap (core_named objects) c.bytes.ensures.bytes) ∙ c.in-None.ensures.none) refl
     (subst (λ (act : CoreAct). HasRunEffect (name_effect (Err fetch_fault.Missing) run c.args.name (under.Core act)) after.self log after.log told.field-0) c.act.ensures told.ensures)

@@ -1,0 +1,73 @@
+-- What a command of a core, or of a run, left, told and answered (own).
+use Rattle.std.specs.Prelude.{◌≡◌, ◌≤◌, ◌+◌, ℕ, Bool, List, [], ◌∷◌, ◌++◌, Option}
+use Rattle.rp_io.specs.Contents.{AppendsFront}
+use Rattle.journal.specs.declared.events.Event.{Event}
+use Rattle.journal.specs.Lines.{transcript}
+use Rattle.crash_recover.specs.Cores.{CoreState}
+use Rattle.link_commands.specs.declared.stops.Stop.{Stop}
+use Rattle.link_commands.specs.Logs.{Hands, LogState}
+use Rattle.command_run.specs.CoreEffects.{CoreEffect}
+use Rattle.command_run.specs.CoreDrives.{drive_steps, told_before}
+use Rattle.command_run.specs.Runs.{ObjectsState, RunEffect}
+
+-- a command left of its core, told and answered what this effect says
+pub record HasCoreEffect (effect : CoreEffect) (left : CoreState) (before after : LogState) (answer : Option Stop) : Type 0 where
+  pub core : left ≡ effect.core
+  pub steps : after.steps ≡ effect.steps
+  pub lines : after.lines ≡ before.lines ++ transcript effect.events
+  pub ending : answer ≡ effect.ending
+
+-- what is left of a drive: it told these events, and the steps that are left do the rest, as would any number of them
+pub record DrivesOn (name : List ℕ) (is_quiet : Bool) (count : ℕ) (first : CoreState) (before : LogState) (left : ℕ) (core : CoreState) (log : LogState) : Type 0 where
+  pub done : ℕ
+  pub all : done + left ≡ count
+  pub told : List Event
+  pub lines : log.lines ≡ before.lines ++ transcript told
+  pub rest : (more : ℕ) → drive_steps (done + more) name is_quiet first before.steps ≡ told_before told (drive_steps more name is_quiet core log.steps)
+
+-- the same of one of which some lines were handed on
+pub record DrivesHanding (name : List ℕ) (is_quiet : Bool) (count : ℕ) (first : CoreState) (before : LogState) (written : Option (List ℕ)) (left : ℕ) (core : CoreState) (log : LogState) (now : Option (List ℕ)) : Type 0 where
+  pub done : ℕ
+  pub all : done + left ≡ count
+  pub told : List Event
+  pub hands : Hands written before.lines now log.lines (transcript told)
+  pub rest : (more : ℕ) → drive_steps (done + more) name is_quiet first before.steps ≡ told_before told (drive_steps more name is_quiet core log.steps)
+
+-- a drive of so many steps was cut off behind some of them: a drive of just these leaves the same, and tells one event more, with which it ends; of the lines before that one a front is written
+pub record IsCutDrive (State : Type 0) (state : ℕ → State) (events : ℕ → List Event) (count : ℕ) (left : State) (lines : List ℕ) (written now : Option (List ℕ)) : Type 0 where
+  pub done : ℕ
+  pub within : done ≤ count
+  pub is : left ≡ state done
+  pub told : List Event
+  pub last : Event
+  pub tells : events done ≡ told ++ last ∷ []
+  pub front : AppendsFront written now (lines ++ transcript told)
+
+-- the same of a core, by what a drive of each number of steps does
+abbrev pub CutsCore : (ℕ → CoreEffect) → ℕ → CoreState → List ℕ → Option (List ℕ) → Option (List ℕ) → Type 0
+CutsCore drive count left lines written now = IsCutDrive CoreState (λ done. (drive done).core) (λ done. (drive done).events) count left lines written now
+
+-- and of a run
+abbrev pub CutsRun : (ℕ → RunEffect) → ℕ → ObjectsState → List ℕ → Option (List ℕ) → Option (List ℕ) → Type 0
+CutsRun drive count left lines written now = IsCutDrive ObjectsState (λ done. (drive done).run.objects) (λ done. (drive done).events) count left lines written now
+
+-- a command left of its core, told and answered what this effect says, and some lines were handed on meanwhile
+pub record HandsCoreEffect (effect : CoreEffect) (left : CoreState) (before after : LogState) (written now : Option (List ℕ)) (answer : Option Stop) : Type 0 where
+  pub core : left ≡ effect.core
+  pub steps : after.steps ≡ effect.steps
+  pub hands : Hands written before.lines now after.lines (transcript effect.events)
+  pub ending : answer ≡ effect.ending
+
+-- a command left of its run, told and answered what this effect says
+pub record HasRunEffect (effect : RunEffect) (left : ObjectsState) (before after : LogState) (answer : Option Stop) : Type 0 where
+  pub objects : left ≡ effect.run.objects
+  pub steps : after.steps ≡ effect.run.steps
+  pub lines : after.lines ≡ before.lines ++ transcript effect.events
+  pub ending : answer ≡ effect.ending
+
+-- the same, and some lines were handed on meanwhile
+pub record HandsRunEffect (effect : RunEffect) (left : ObjectsState) (before after : LogState) (written now : Option (List ℕ)) (answer : Option Stop) : Type 0 where
+  pub objects : left ≡ effect.run.objects
+  pub steps : after.steps ≡ effect.run.steps
+  pub hands : Hands written before.lines now after.lines (transcript effect.events)
+  pub ending : answer ≡ effect.ending

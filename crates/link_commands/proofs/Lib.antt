@@ -1,0 +1,3 @@
+pub mod Transcripts
+pub mod RingRows
+pub mod FoundChannels

@@ -1,0 +1,9 @@
+pub mod NamedLinks
+pub mod Acts
+pub mod CallEvents
+pub mod Effects
+pub mod RingDumps
+pub mod Recoveries
+pub mod ChannelLists
+pub mod LinkCommands
+pub mod Logs

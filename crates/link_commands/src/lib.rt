@@ -1,0 +1,20 @@
+// The commands of a script as acts, what those on a link do to it, and the lines that they write.
+#![tactic(auto)]
+
+mod act_events;
+mod acts;
+mod call_events;
+mod channel_lists;
+mod links;
+mod logs;
+mod recoveries;
+mod rings;
+mod stops;
+
+pub use act_events::{tell_answer, tell_reach};
+pub use acts::{CoreAct, Line, LinkView, Making, ManagerAct, NamedAct, line_of};
+pub use channel_lists::tell_channels;
+pub use links::{NamedBench, tell_books};
+pub use logs::RunLog;
+pub use rings::tell_bytes;
+pub use stops::Stop;
