@@ -16,7 +16,8 @@ use Rattle.link_commands.specs.Logs.{LogState}
 use Rattle.link_commands.specs.LinkCommands.{view_events}
 use Rattle.link_commands.specs.ChannelLists.{channels_events, found_channels}
 use Rattle.link_commands.proofs.FoundChannels.{found_is}
-use Rattle.command_run.specs.CoreLinks.{found_view_effect}
+use Rattle.command_run.specs.CoreEffects.{core_tells_all}
+use Rattle.command_run.specs.CoreLinks.{found_view_events}
 use Rattle.command_run.specs.Outcomes.{HasCoreEffect}
 
 -- on the link that a core has or not
@@ -24,7 +25,7 @@ module _ (name : List ℕ) (core : CoreState) (log after : LogState) (answer : R
   core_at : (found : Option BenchState) → is_some found ≡ true → OnOk answer (option_and_then (λ (bench : BenchState). holder (link_in bench).to_host.receiver) found ≡ None)
       → IfOk answer (λ channels. option_map (λ (bench : BenchState). (link_in bench).to_host.desk.channels) found ≡ Some channels.items)
       → IfErr answer (IsSnapshotFault (option_and_then (λ (bench : BenchState). holder (link_in bench).to_host.receiver) found))
-      → IsSomeAnd (found_channels name answer) (λ events. after ≡ record log { lines = log.lines ++ transcript events }) → HasCoreEffect (found_view_effect name core log.steps view.Channels found) core log after None
+      → IsSomeAnd (found_channels name answer) (λ events. after ≡ record log { lines = log.lines ++ transcript events }) → HasCoreEffect (core_tells_all core log.steps (found_view_events name view.Channels found)) core log after None
   unfolding view_events channels_events
   core_at None some free same refused told = absurd (cc)
   core_at (Some bench) some free same refused told =
@@ -36,5 +37,5 @@ module _ (name : List ℕ) (core : CoreState) (log after : LogState) (answer : R
       listed (Err why) same = tt
 
   pub core_told : is_some core.bench ≡ true → OnOk answer (core_receiver core ≡ None) → IfOk answer (λ channels. core_channels core ≡ Some channels.items) → IfErr answer (IsSnapshotFault (core_receiver core))
-      → IsSomeAnd (found_channels name answer) (λ events. after ≡ record log { lines = log.lines ++ transcript events }) → HasCoreEffect (found_view_effect name core log.steps view.Channels core.bench) core log after None
+      → IsSomeAnd (found_channels name answer) (λ events. after ≡ record log { lines = log.lines ++ transcript events }) → HasCoreEffect (core_tells_all core log.steps (found_view_events name view.Channels core.bench)) core log after None
   core_told = core_at core.bench

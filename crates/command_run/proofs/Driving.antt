@@ -1,5 +1,5 @@
 -- A drive, step by step.
-use Rattle.std.proofs.Common.{◌≡◌, ◌⊎◌, inl, inr, ℕ, zero, suc, ◌+◌, ◌==◌, Bool, true, false, cond, not, ◌||◌, List, [], ◌++◌, arith, Option, Some, None, is_some, unwrap_or, refl, sym, ap, subst, ◌∙◌, true≢false, suc-ne-zero, ne_eqb, append-nil, append_assoc}
+use Rattle.std.proofs.Common.{◌≡◌, ◌⊎◌, inl, inr, ◌≤◌, length, ℕ, zero, suc, ◌+◌, ◌==◌, Bool, true, false, cond, not, ◌||◌, List, [], ◌∷◌, ◌++◌, arith, Option, Some, None, is_some, unwrap_or, refl, sym, ap, subst, ◌∙◌, true≢false, suc-ne-zero, ne_eqb, append-nil, append_assoc}
 use Rattle.rp_base.specs.declared.limits.TheConstants.{STEPS_MOST}
 use Rattle.journal.specs.Lines.{transcript}
 use Rattle.journal.specs.declared.events.Event.{Event}
@@ -9,8 +9,9 @@ use Rattle.core_actors.specs.declared.progress.Driven.TheVariants as driven
 use Rattle.crash_recover.specs.Drives.{DriveStep, actor_step, actor_to_step, drive_step, is_idle, with_turn_after}
 use Rattle.link_commands.specs.declared.stops.Stop.{Stop}
 use Rattle.rp_io.specs.Contents.{AppendsFront}
-use Rattle.link_commands.specs.Logs.{Hands, Keeps, LogState}
-use Rattle.command_run.specs.Outcomes.{CutsCore, DrivesHanding, DrivesOn, HandsCoreEffect, HasCoreEffect}
+use Rattle.link_commands.specs.Logs.{Hands, Keeps, KeepsLess, LogState}
+use Rattle.command_run.specs.declared.core_drives.TheConstants.{STRETCH}
+use Rattle.command_run.specs.Outcomes.{CutsCore, DrivesHanding, DrivesOn, HandsCoreEffect, HasCoreEffect, KeepsLast}
 use Rattle.command_run.specs.CoreEffects.{CoreEffect, core_tells}
 use Rattle.command_run.specs.CoreLives.{core_stops}
 use Rattle.proc_state.specs.Lives.{is_up}
@@ -53,6 +54,16 @@ module _ (name : List ℕ) (is_quiet : Bool) where
   steps_end (suc more) core steps (inr over) =
       ends_over (rest_event name core) (steps == STEPS_MOST) core steps (step_then name is_quiet (drive_step core) (λ next. drive_steps more name is_quiet next (steps + 1))) over
       ∙ ap (λ (b : Bool). rests_or core steps (rest_event name core) (cond b (core_tells core steps (event.Paused name)) (core_stops core steps))) (sym (ne_eqb (suc more) 0 (suc-ne-zero more)))
+
+  -- and that tells one event at most
+  rests_few : (rests : Option Event) (none : Bool) (core : CoreState) (steps : ℕ) → length (rests_or core steps rests (cond none (core_tells core steps (event.Paused name)) (core_stops core steps))).events ≤ 1
+  rests_few (Some told) none core steps = omega arith
+  rests_few None true core steps = omega arith
+  rests_few None false core steps = omega arith
+
+  pub end_few : (left : ℕ) (core : CoreState) (steps : ℕ) → is_over name core steps ≡ true → length (drive_steps left name is_quiet core steps).events ≤ 1
+  end_few left core steps over =
+      subst (λ (e : CoreEffect). length e.events ≤ 1) (sym (steps_end left core steps (inr over))) (rests_few (rest_event name core) (left == 0) core steps)
 
   -- a crash, or a run that has no step left, ends a drive
   over_by : (crashed idle most : Bool) → (crashed || most) ≡ true → (is_some (cond crashed (Some (event.Stopped name)) (cond idle (Some (event.Idle name)) None)) || most) ≡ true
@@ -120,6 +131,46 @@ cut_up name is_quiet core left steps count lines written now up cut =
       last = cut.last;
       tells = ap (λ (e : CoreEffect). e.events) same ∙ cut.tells;
       front = cut.front;
+    }
+
+-- what is kept behind a drive, by what tells the same
+pub keeps_same : (first second : ℕ → List Event) (count : ℕ) (lines : List ℕ) → ((n : ℕ) → first n ≡ second n) → KeepsLast second count lines → KeepsLast first count lines
+keeps_same first second count lines same keeps = record {
+  done = keeps.done;
+  within = keeps.within;
+  told = keeps.told;
+  last = keeps.last;
+  here = same keeps.done ∙ keeps.here;
+  later = keeps.later;
+  all = same count ∙ keeps.all;
+  near = keeps.near;
+  rest = keeps.rest;
+  less = keeps.less;
+  kept = keeps.kept;
+}
+
+-- a drive of a core that isn't up
+drive_down : (name : List ℕ) (is_quiet : Bool) (core : CoreState) (steps count : ℕ) → is_up core.life.state ≡ false → drive_effect name is_quiet core steps count ≡ core_tells core steps (event.NotRunning name)
+unfolding drive_effect
+drive_down name is_quiet core steps count down = ap (λ (b : Bool). cond b (drive_steps count name is_quiet core steps) (core_tells core steps (event.NotRunning name))) down
+
+pub keeps_down : (name : List ℕ) (is_quiet : Bool) (core left : CoreState) (count : ℕ) (before after : LogState) (answer : Option Stop) → is_up core.life.state ≡ false
+    → HasCoreEffect (drive_effect name is_quiet core before.steps count) left before after answer → KeepsLess before
+    → KeepsLast (λ done. (drive_effect name is_quiet core before.steps done).events) count after.lines
+keeps_down name is_quiet core left count before after answer down did less =
+    let tells = ap (λ (e : CoreEffect). e.events) (drive_down name is_quiet core before.steps count down) in
+    record {
+      done = count;
+      within = omega arith;
+      told = [];
+      last = event.NotRunning name;
+      here = tells;
+      later = event.NotRunning name ∷ [];
+      all = tells;
+      near = inr (omega arith);
+      rest = before.lines;
+      less = less;
+      kept = did.lines ∙ ap (λ (events : List Event). before.lines ++ transcript events) tells;
     }
 
 -- what a command on a core did that handed on nothing
@@ -207,6 +258,12 @@ module _ (name : List ℕ) (is_quiet : Bool) (count : ℕ) (first : CoreState) (
     handing_rest : drive_steps count name is_quiet first before.steps ≡ told_before h.told (drive_steps left name is_quiet core log.steps)
     handing_rest = ap (λ (n : ℕ). drive_steps n name is_quiet first before.steps) (sym h.all) ∙ h.rest left
 
+    -- a drive of its steps so far
+    handing_done : drive_steps h.done name is_quiet first before.steps ≡ told_before h.told (core_tells core log.steps (unwrap_or (rest_event name core) (event.Paused name)))
+    handing_done =
+        let none : h.done + 0 ≡ h.done = omega arith in
+        ap (λ (n : ℕ). drive_steps n name is_quiet first before.steps) (sym none) ∙ h.rest 0 ∙ ap (told_before h.told) (steps_none name is_quiet core log.steps)
+
     -- some steps more
     pub handing_on : (next_left : ℕ) (next : CoreState) (after : LogState) → DrivesOn name is_quiet left core log next_left next after
         → DrivesHanding name is_quiet count first before written next_left next after now
@@ -248,6 +305,27 @@ module _ (name : List ℕ) (is_quiet : Bool) (count : ℕ) (first : CoreState) (
           ending = did.ending;
         })
 
+    -- what is kept then, beside what was kept where its last steps began
+    pub handing_keeps : (next : CoreState) (after : LogState) (answer : Option Stop) → HasCoreEffect (drive_steps left name is_quiet core log.steps) next log after answer
+        → KeepsLess log → (left ≤ STRETCH) ⊎ (is_over name core log.steps ≡ true) → KeepsLast (λ done. (drive_steps done name is_quiet first before.steps).events) count after.lines
+    handing_keeps next after answer did less near = record {
+      done = h.done;
+      within = omega (arith, h.all);
+      told = h.told;
+      last = unwrap_or (rest_event name core) (event.Paused name);
+      here = ap (λ (e : CoreEffect). e.events) handing_done;
+      later = (drive_steps left name is_quiet core log.steps).events;
+      all = ap (λ (e : CoreEffect). e.events) handing_rest;
+      near = near_to near;
+      rest = log.lines;
+      less = less;
+      kept = did.lines;
+    }
+      where
+        near_to : (left ≤ STRETCH) ⊎ (is_over name core log.steps ≡ true) → (count ≤ h.done + STRETCH) ⊎ (length (drive_steps left name is_quiet core log.steps).events ≤ 1)
+        near_to (inl few) = inl (omega (arith, few, h.all))
+        near_to (inr over) = inr (end_few name is_quiet left core log.steps over)
+
     -- a front of what is kept is handed on, and no more
     pub handing_cut : (new : Option (List ℕ)) → AppendsFront now new log.lines → AppendsFront written new (before.lines ++ transcript (drive_steps count name is_quiet first before.steps).events)
     handing_cut new front =
@@ -260,16 +338,13 @@ module _ (name : List ℕ) (is_quiet : Bool) (count : ℕ) (first : CoreState) (
     -- it was cut off behind its steps so far
     pub handing_paused : (new : Option (List ℕ)) → AppendsFront now new log.lines → CutsCore (λ done. drive_steps done name is_quiet first before.steps) count core before.lines written new
     handing_paused new front =
-        let none : h.done + 0 ≡ h.done = omega arith in
-        let did : drive_steps h.done name is_quiet first before.steps ≡ told_before h.told (core_tells core log.steps (unwrap_or (rest_event name core) (event.Paused name))) =
-        ap (λ (n : ℕ). drive_steps n name is_quiet first before.steps) (sym none) ∙ h.rest 0 ∙ ap (told_before h.told) (steps_none name is_quiet core log.steps) in
         record {
           done = h.done;
           within = omega (arith, h.all);
-          is = sym (ap (λ (e : CoreEffect). e.core) did);
+          is = sym (ap (λ (e : CoreEffect). e.core) handing_done);
           told = h.told;
           last = unwrap_or (rest_event name core) (event.Paused name);
-          tells = ap (λ (e : CoreEffect). e.events) did;
+          tells = ap (λ (e : CoreEffect). e.events) handing_done;
           front = subst (λ (bytes : List ℕ). AppendsFront written new bytes) (append-nil (before.lines ++ transcript h.told))
               (hands_front written now new before.lines log.lines (transcript h.told) [] h.hands (subst (λ (bytes : List ℕ). AppendsFront now new bytes) (sym (append-nil log.lines)) front));
         }

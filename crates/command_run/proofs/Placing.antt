@@ -1,5 +1,5 @@
 -- What is done under a name: on its link, on its core, or on none.
-use Rattle.std.proofs.Common.{◌≡◌, ℕ, Bool, false, cond, List, [], ◌∷◌, ◌++◌, Option, Some, None, slice_get, slice_set, refl, sym, ap, subst, ◌∙◌, append-nil}
+use Rattle.std.proofs.Common.{◌≡◌, ℕ, Bool, false, cond, List, [], ◌∷◌, ◌++◌, Option, Some, None, IfSome, Err, slice_get, slice_set, refl, sym, ap, subst, ◌∙◌, append-nil}
 use Rattle.journal.specs.Lines.{line, transcript}
 use Rattle.journal.specs.declared.events.Event.{Event}
 use Rattle.journal.specs.declared.events.Event.TheVariants as event
@@ -15,13 +15,17 @@ use Rattle.command_run.specs.NamedImages.{ImageState}
 use Rattle.link_commands.specs.declared.stops.Stop.{Stop}
 use Rattle.lane_model.specs.declared.calls.LinkConfig.{LinkConfig}
 use Rattle.link_bench.specs.Benches.{BenchState, new_bench_of}
-use Rattle.link_commands.specs.Logs.{LogState, HasEffect}
-use Rattle.command_run.specs.Outcomes.{CutsCore, CutsRun, HandsCoreEffect, HandsRunEffect, HasCoreEffect, HasRunEffect}
+use Rattle.link_commands.specs.Logs.{KeepsLess, LogState, HasEffect}
+use Rattle.command_run.specs.Outcomes.{CutsCore, CutsRun, HandsCoreEffect, HandsRunEffect, HasCoreEffect, HasRunEffect, KeepsLast}
+use Rattle.command_run.specs.Fetches.{KeepsDriven}
+use Rattle.rp_io.specs.declared.faults.FetchFault.TheVariants as fetch_fault
+use Rattle.script_lang.specs.declared.commands.Command.TheVariants as command
 use Rattle.link_commands.specs.declared.acts.CoreAct.TheVariants as core
 use Rattle.link_commands.specs.declared.acts.NamedAct.{NamedAct}
 use Rattle.link_commands.specs.declared.acts.NamedAct.TheVariants as under
+use Rattle.command_run.proofs.Driving.{keeps_same}
 use Rattle.command_run.proofs.Handed.{hands_kept}
-use Rattle.command_run.specs.Runs.{ObjectsState, RunState, RunEffect, core_located_effect, core_place, found_core_effect, found_effect, is_full, located_effect, made_effect, name_effect, new_end, place_of, placed_core_effect, placed_effect, run_tells, unnamed_effect, with_links, without_link_effect}
+use Rattle.command_run.specs.Runs.{ObjectsState, RunState, RunEffect, core_located_effect, core_named, core_place, effect_of, found_core_effect, found_effect, is_full, located_effect, made_effect, name_effect, new_end, place_of, placed_core_effect, placed_effect, run_tells, unnamed_effect, with_links, without_link_effect}
 
 -- a link of the same name with another bench
 with_bench : (now named : NamedLink) (bench : BenchState) → now.name ≡ named.name → now.bench ≡ bench → record named { bench = bench } ≡ now
@@ -175,6 +179,24 @@ drive_cut fetched run called count place named now lines written new bare placed
       tells = ap (λ (e : RunEffect). e.events) at ∙ cut.tells;
       front = cut.front;
     }
+
+-- a drive as a command
+drive_line : (fetched : Answer) (run : RunState) (called : List ℕ) (count : ℕ) → effect_of fetched run (command.Drive called count) ≡ name_effect fetched run called (under.Core (core.Drive count))
+unfolding effect_of
+drive_line fetched run called count = refl
+
+if_driven : (found : Option NamedCoreState) (Keeps : Type 0) → Keeps → IfSome found (λ _. Keeps)
+if_driven None Keeps keeps = tt
+if_driven (Some named) Keeps keeps = keeps
+
+-- what is kept behind a drive of the core at a place
+pub drive_keeps : (run : RunState) (called : List ℕ) (count place : ℕ) (named : NamedCoreState) (before : LogState) (lines : List ℕ) → None ≡ place_of run.objects.links called
+    → Some place ≡ core_place run.objects.cores called → slice_get run.objects.cores place ≡ Some named
+    → (KeepsLess before → KeepsLast (λ done. (drive_effect named.name run.objects.is_quiet named.core run.steps done).events) count lines) → KeepsDriven run called count before lines
+drive_keeps run called count place named before lines bare placed found keeps =
+    if_driven (core_named run.objects called) (KeepsLess before → KeepsLast (λ done. (effect_of (Err fetch_fault.Missing) run (command.Drive called done)).events) count lines)
+    (λ less. keeps_same _ _ count lines
+    (λ done. ap (λ (e : RunEffect). e.events) (drive_line (Err fetch_fault.Missing) run called done ∙ drive_placed (Err fetch_fault.Missing) run called done place named bare placed found)) (keeps less))
 
 -- what a command did that handed on nothing
 pub kept_run : (effect : RunEffect) (objects : ObjectsState) (before after : LogState) (written : Option (List ℕ)) (answer : Option Stop)

@@ -11,24 +11,25 @@ use Rattle.proc_state.specs.declared.answers.LifeFault.{LifeFault}
 use Rattle.crash_recover.specs.declared.core_answers.Start.{Start}
 use Rattle.crash_recover.specs.declared.core_faults.CoreFault.{CoreFault}
 use Rattle.crash_recover.specs.Cores.{CoreOutcome, CoreState}
-use Rattle.crash_recover.specs.CoreBoots.{boot_of, handover_of, needs_image}
-use Rattle.crash_recover.specs.CoreRecoveries.{recovery_fault, recovery_fault_to, recovery_of}
+use Rattle.crash_recover.specs.CoreBoots.{needs_image}
+use Rattle.crash_recover.specs.CoreRecoveries.{recovery_fault, recovery_fault_to}
 use Rattle.command_run.specs.declared.fetches.CommandFault.{CommandFault}
 use Rattle.command_run.specs.declared.fetches.CommandFault.TheVariants as command_fault
-use Rattle.command_run.specs.declared.starts.StartAct.{StartAct}
-use Rattle.command_run.specs.declared.starts.StartAct.TheVariants as starts
+use Rattle.link_commands.specs.declared.acts.StartAct.{StartAct}
+use Rattle.link_commands.specs.declared.acts.StartAct.TheVariants as starts
 use Rattle.link_commands.specs.declared.stops.Stop.{Stop}
 use Rattle.command_run.specs.CoreCommands.{core_act_effect, core_effect}
 use Rattle.command_run.specs.CoreEffects.{CoreEffect, core_tells_all}
-use Rattle.command_run.specs.CoreLives.{boot_effect, booted_image, found_image, handover_effect, recover_effect, start_effect, start_events}
+use Rattle.command_run.specs.CoreLives.{found_image, start_effect, start_events, start_name, start_with, started_effect}
 use Rattle.command_run.specs.Fetches.{DidTold, IsFetchFault, IsToldFor, RunsTold}
 use Rattle.link_commands.specs.Logs.{LogState}
 use Rattle.command_run.specs.Outcomes.{HandsRunEffect, HasCoreEffect, HasRunEffect}
 use Rattle.command_run.specs.NamedCores.{NamedCoreState}
 use Rattle.command_run.specs.NamedImages.{ImageState}
 use Rattle.command_run.specs.Runs.{ObjectsState, RunEffect, RunState, asked_name, core_named, core_place, effect_of, name_effect, outside_image, place_of, placed_core_effect, takes_over}
-use Rattle.command_run.specs.Starts.{DidStart, StartsOver, act_of_start, start_command, start_image, started_effect}
+use Rattle.command_run.specs.Starts.{DidStart, StartsOver, start_command, start_image}
 use Rattle.command_run.specs.Stores.{Answer}
+use Rattle.link_commands.specs.declared.acts.CoreAct.TheVariants as core
 use Rattle.link_commands.specs.declared.acts.NamedAct.TheVariants as under
 use Rattle.command_run.proofs.AskedNames.{core_at_place}
 use Rattle.command_run.proofs.Handed.{front_of_none}
@@ -41,23 +42,14 @@ pub missing_alone : (asked : Option (List ℕ)) (answer : Answer) → IsToldFor 
 missing_alone None answer is = is
 missing_alone (Some name) answer is = is
 
--- what a core answers to a start, and the name of the image
+-- what a core answers to a start
 abbrev pub start_outcome : StartAct → List ImageState → Answer → NamedCoreState → CoreOutcome Start CoreFault
-start_outcome (starts.Boot image) made answer named = boot_of named.core image (found_image made answer image)
-start_outcome (starts.Handover image) made answer named = handover_of named.core image (found_image made answer image)
-start_outcome starts.Recover made answer named = recovery_of named.core (found_image made answer (booted_image named.name named.core))
-
-abbrev pub start_name : StartAct → NamedCoreState → List ℕ
-start_name (starts.Boot image) named = image
-start_name (starts.Handover image) named = image
-start_name starts.Recover named = booted_image named.name named.core
+start_outcome start made answer named = start_with start named.core (found_image made answer (start_name start named))
 
 started_is : (start : StartAct) (made : List ImageState) (answer : Answer) (named : NamedCoreState) (steps : ℕ)
     → started_effect start made answer named steps ≡ start_effect named.name (start_name start named) steps (start_outcome start made answer named)
-unfolding boot_effect handover_effect recover_effect
-started_is (starts.Boot image) made answer named steps = refl
-started_is (starts.Handover image) made answer named steps = refl
-started_is starts.Recover made answer named steps = refl
+unfolding started_effect
+started_is start made answer named steps = refl
 
 -- an outcome by its parts
 pub outcome_is : (out : CoreOutcome Start CoreFault) (core : CoreState) (answer : Result Start CoreFault) → core ≡ out.core → answer ≡ out.answer → out ≡ record { core = core; answer = answer }
@@ -144,7 +136,7 @@ recovers_loaded life may = crashed_at life.state life may
 -- ---- a start of the core of a name is what the run does
 
 -- the command of a start
-start_line : (answer : Answer) (run : RunState) (called : List ℕ) (start : StartAct) → effect_of answer run (start_command called start) ≡ name_effect answer run called (under.Core (act_of_start start))
+start_line : (answer : Answer) (run : RunState) (called : List ℕ) (start : StartAct) → effect_of answer run (start_command called start) ≡ name_effect answer run called (under.Core (core.Start start))
 unfolding effect_of
 start_line answer run called (starts.Boot image) = refl
 start_line answer run called (starts.Handover image) = refl
@@ -162,11 +154,9 @@ nobody_asks starts.Recover made = refl
 
 -- an act that is a start, on a core
 start_on_core : (made : List ImageState) (answer : Answer) (is_quiet : Bool) (named : NamedCoreState) (steps : ℕ) (start : StartAct)
-    → core_effect made answer is_quiet named steps (under.Core (act_of_start start)) ≡ started_effect start made answer named steps
+    → core_effect made answer is_quiet named steps (under.Core (core.Start start)) ≡ started_effect start made answer named steps
 unfolding core_effect core_act_effect
-start_on_core made answer is_quiet named steps (starts.Boot image) = refl
-start_on_core made answer is_quiet named steps (starts.Handover image) = refl
-start_on_core made answer is_quiet named steps starts.Recover = refl
+start_on_core made answer is_quiet named steps start = refl
 
 -- what a command did over what was told, and handed on nothing
 pub told_run : (images : Option (List (List ℕ × List ℕ))) (run : RunState) (asking : Command) (left : ObjectsState) (before after : LogState) (written : Option (List ℕ)) (ending : Option Stop) (answer : Answer)
@@ -197,7 +187,7 @@ module _ (images : Option (List (List ℕ × List ℕ))) (run : RunState) (calle
 
     placed_so : (answer : Answer) → effect_of answer run (start_command called start) ≡ placed_core_effect run place named (started_effect start run.objects.images answer named run.steps)
     placed_so answer =
-        start_line answer run called start ∙ effect_on_bare_core answer run called (under.Core (act_of_start start)) place named none placed there
+        start_line answer run called start ∙ effect_on_bare_core answer run called (under.Core (core.Start start)) place named none placed there
         ∙ ap (placed_core_effect run place named) (start_on_core run.objects.images answer run.objects.is_quiet named run.steps start)
 
     did_so : (answer : Answer) (ending : Option Stop) → HasCoreEffect (started_effect start run.objects.images answer named before.steps) now.core before after ending
@@ -236,7 +226,7 @@ module _ (images : Option (List (List ℕ × List ℕ))) (run : RunState) (calle
 
   -- on no core
   pub nobody_told : (left : ObjectsState) (ending : Option Stop) → core_named run.objects called ≡ None → then ≡ was
-      → HasRunEffect (name_effect (Err fetch_fault.Missing) run called (under.Core (act_of_start start))) left before after ending
+      → HasRunEffect (name_effect (Err fetch_fault.Missing) run called (under.Core (core.Start start))) left before after ending
       → RunsTold (Ok ending) images run (start_command called start) left before after written written faults faults was then
   nobody_told left ending nobody same did =
       let none : asked_name run.objects (start_command called start) ≡ None =

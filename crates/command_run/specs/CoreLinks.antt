@@ -1,5 +1,6 @@
 -- What is done on the link of a core (own).
-use Rattle.std.specs.Prelude.{ℕ, List, Option, Some, None}
+use Rattle.std.specs.Prelude.{ℕ, List, [], ◌∷◌, Option, Some, None}
+use Rattle.journal.specs.declared.events.Event.{Event}
 use Rattle.journal.specs.declared.events.Event.TheVariants as event
 use Rattle.link_bench.specs.declared.acts.LinkAct.{LinkAct}
 use Rattle.link_bench.specs.Benches.{BenchState, link_in}
@@ -9,7 +10,7 @@ use Rattle.crash_recover.specs.CoreRings.{core_ring}
 use Rattle.crash_recover.specs.Cores.{CoreState}
 use Rattle.link_commands.specs.declared.acts.LinkView.{LinkView}
 use Rattle.link_commands.specs.declared.acts.LinkView.TheVariants as view
-use Rattle.command_run.specs.CoreEffects.{CoreEffect, core_tells, core_tells_all}
+use Rattle.command_run.specs.CoreEffects.{CoreEffect, core_tells}
 use Rattle.link_commands.specs.Effects.{answer_ending, answer_events}
 use Rattle.link_commands.specs.LinkCommands.{view_events}
 use Rattle.link_commands.specs.RingDumps.{ring_events}
@@ -22,26 +23,25 @@ core_link_effect name core steps act (Some bench) =
     record { core = core_after_act core acted; steps = acted.steps; events = answer_events name (link_in acted.bench) acted.answer; ending = answer_ending acted.answer }
 
 -- the bytes of a ring that a core has or not
-abbrev pub found_ring_effect : List ℕ → CoreState → ℕ → ℕ → Option (List ℕ) → CoreEffect
-found_ring_effect name core steps lane None = core_tells core steps (event.NoLink name)
-found_ring_effect name core steps lane (Some bytes) = core_tells_all core steps (ring_events name lane bytes)
+abbrev pub found_ring_events : List ℕ → ℕ → Option (List ℕ) → List Event
+found_ring_events name lane None = event.NoLink name ∷ []
+found_ring_events name lane (Some bytes) = ring_events name lane bytes
 
--- the bytes of a ring of a core no turn of whose link is out
-abbrev pub core_shown_effect : List ℕ → CoreState → ℕ → ℕ → Option ℕ → CoreEffect
-core_shown_effect name core steps lane (Some caller) = core_tells core steps (event.StillTurn name caller)
-core_shown_effect name core steps lane None = found_ring_effect name core steps lane (core_ring core lane)
+-- the same, unless a turn of the link is out
+abbrev pub shown_ring_events : List ℕ → CoreState → ℕ → Option ℕ → List Event
+shown_ring_events name core lane (Some caller) = event.StillTurn name caller ∷ []
+shown_ring_events name core lane None = found_ring_events name lane (core_ring core lane)
 
 -- `ring X LANE` of a core
-unfoldable pub core_ring_effect : List ℕ → CoreState → ℕ → ℕ → CoreEffect
-core_ring_effect name core steps lane = core_shown_effect name core steps lane (core_turn_holder core)
+unfoldable pub core_ring_events : List ℕ → CoreState → ℕ → List Event
+core_ring_events name core lane = shown_ring_events name core lane (core_turn_holder core)
 
 -- what the link shows that a core has or not
-abbrev pub found_view_effect : List ℕ → CoreState → ℕ → LinkView → Option BenchState → CoreEffect
-found_view_effect name core steps shown None = core_tells core steps (event.NoLink name)
-found_view_effect name core steps shown (Some bench) = core_tells_all core steps (view_events name bench shown)
+abbrev pub found_view_events : List ℕ → LinkView → Option BenchState → List Event
+found_view_events name shown None = event.NoLink name ∷ []
+found_view_events name shown (Some bench) = view_events name bench shown
 
 -- what the link of a core shows, its rings over the buffers that were placed
-abbrev pub core_view_effect : List ℕ → CoreState → ℕ → LinkView → CoreEffect
-core_view_effect name core steps (view.Ring lane) = core_ring_effect name core steps lane
-core_view_effect name core steps view.Books = found_view_effect name core steps view.Books core.bench
-core_view_effect name core steps view.Channels = found_view_effect name core steps view.Channels core.bench
+abbrev pub link_view_events : List ℕ → CoreState → LinkView → List Event
+link_view_events name core (view.Ring lane) = core_ring_events name core lane
+link_view_events name core other = found_view_events name other core.bench

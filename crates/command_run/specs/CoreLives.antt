@@ -20,12 +20,15 @@ use Rattle.crash_recover.specs.declared.core_faults.CoreFault.{CoreFault}
 use Rattle.crash_recover.specs.declared.core_faults.CoreFault.TheVariants as fault
 use Rattle.crash_recover.specs.declared.core_faults.TheConstants.{CALLER_OUT, RINGS_CHANGED}
 use Rattle.crash_recover.specs.Cores.{CoreOutcome, CoreState}
-use Rattle.crash_recover.specs.CoreBoots.{boot_of, handover_of}
+use Rattle.crash_recover.specs.CoreBoots.{Found, boot_of, handover_of}
 use Rattle.crash_recover.specs.CoreCrashes.{report_of}
 use Rattle.crash_recover.specs.CoreLeaves.{detach_of, shutdown_of}
 use Rattle.crash_recover.specs.CoreRecoveries.{recovery_of}
+use Rattle.link_commands.specs.declared.acts.StartAct.{StartAct}
+use Rattle.link_commands.specs.declared.acts.StartAct.TheVariants as starts
 use Rattle.link_commands.specs.declared.stops.Stop.{Stop}
 use Rattle.link_commands.specs.declared.stops.Stop.TheVariants as stop
+use Rattle.command_run.specs.NamedCores.{NamedCoreState}
 use Rattle.command_run.specs.NamedImages.{ImageState}
 use Rattle.command_run.specs.Stores.{Answer}
 use Rattle.link_commands.specs.Recoveries.{reopen_events}
@@ -90,23 +93,27 @@ found_or_told answer None = answer
 abbrev pub found_image : List ImageState → Answer → List ℕ → Answer
 found_image images answer image = found_or_told answer (image_bytes images image)
 
--- `boot X IMAGE`
-unfoldable pub boot_effect : List ImageState → Answer → List ℕ → CoreState → ℕ → List ℕ → CoreEffect
-boot_effect images answer name core steps image = start_effect name image steps (boot_of core image (found_image images answer image))
-
--- `handover X IMAGE`
-unfoldable pub handover_effect : List ImageState → Answer → List ℕ → CoreState → ℕ → List ℕ → CoreEffect
-handover_effect images answer name core steps image = start_effect name image steps (handover_of core image (found_image images answer image))
-
 -- the name of the image that a core was booted or handed over with (one that has none is offline, and not recovered)
 abbrev pub booted_image : List ℕ → CoreState → List ℕ
 booted_image name core = unwrap_or core.image name
 
--- `recover X`
-unfoldable pub recover_effect : List ImageState → Answer → List ℕ → CoreState → ℕ → CoreEffect
-recover_effect images answer name core steps =
-    let image = booted_image name core in
-    start_effect name image steps (recovery_of core (found_image images answer image))
+-- the name of the image with which a core is started
+abbrev pub start_name : StartAct → NamedCoreState → List ℕ
+start_name (starts.Boot image) on = image
+start_name (starts.Handover image) on = image
+start_name starts.Recover on = booted_image on.name on.core
+
+-- a start with that image
+abbrev pub start_with : StartAct → CoreState → Found → CoreOutcome Start CoreFault
+start_with (starts.Boot image) core found = boot_of core image found
+start_with (starts.Handover image) core found = handover_of core image found
+start_with starts.Recover core found = recovery_of core found
+
+-- `boot X IMAGE`, `handover X IMAGE`, `recover X`
+unfoldable pub started_effect : StartAct → List ImageState → Answer → NamedCoreState → ℕ → CoreEffect
+started_effect start images answer on steps =
+    let image = start_name start on in
+    start_effect on.name image steps (start_with start on.core (found_image images answer image))
 
 -- the run ends where a step more is asked than it may take
 abbrev pub core_stops : CoreState → ℕ → CoreEffect

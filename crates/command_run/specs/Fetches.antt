@@ -1,5 +1,5 @@
 -- What code was told of the image that a command asks for (own).
-use Rattle.std.specs.Prelude.{◌≡◌, ℕ, List, ◌++◌, Option, Some, None, is_some, IsTrue, Result, Ok, Err}
+use Rattle.std.specs.Prelude.{◌≡◌, ℕ, List, ◌++◌, Option, Some, None, IfSome, is_some, IsTrue, Result, Ok, Err}
 use Rattle.rp_io.specs.declared.faults.FetchFault.TheVariants as fetch_fault
 use Rattle.rp_io.specs.Causes.{Rose}
 use Rattle.rp_io.specs.Contents.{AppendsFront}
@@ -13,9 +13,9 @@ use Rattle.command_run.specs.declared.fetches.Fetched.{Fetched}
 use Rattle.command_run.specs.declared.fetches.Fetched.TheVariants as fetched
 use Rattle.link_commands.specs.declared.stops.Stop.{Stop}
 use Rattle.command_run.specs.Stores.{Answer, IsAnswer, IsShelf, Shelf, answer_for}
-use Rattle.command_run.specs.Runs.{ObjectsState, RunState, asked_name, effect_of}
-use Rattle.link_commands.specs.Logs.{LogState}
-use Rattle.command_run.specs.Outcomes.{CutsRun, HandsRunEffect}
+use Rattle.command_run.specs.Runs.{ObjectsState, RunState, asked_name, core_named, effect_of}
+use Rattle.link_commands.specs.Logs.{KeepsLess, LogState}
+use Rattle.command_run.specs.Outcomes.{CutsRun, HandsRunEffect, KeepsLast}
 
 -- what was told
 abbrev pub answer_of : Fetched → Answer
@@ -68,6 +68,15 @@ pub record IsCutCommand (run : RunState) (asked : Command) (left : ObjectsState)
   pub count : ℕ
   pub is : asked ≡ command.Drive name count
   pub cut : CutsRun (λ done. effect_of (Err fetch_fault.Missing) run (command.Drive name done)) count left before.lines written now
+
+-- the lines that are kept behind a drive of a core: what it tells is handed on as it goes
+abbrev pub KeepsDriven : RunState → List ℕ → ℕ → LogState → List ℕ → Type 0
+KeepsDriven run name count before lines =
+    IfSome (core_named run.objects name) (λ _. KeepsLess before → KeepsLast (λ done. (effect_of (Err fetch_fault.Missing) run (command.Drive name done)).events) count lines)
+
+-- the same of a command, if it is a drive
+abbrev pub KeepsDrive : RunState → Command → LogState → List ℕ → Type 0
+KeepsDrive run asked before lines = (name : List ℕ) (count : ℕ) → asked ≡ command.Drive name count → KeepsDriven run name count before lines
 
 -- a command was run, or it asked a store that failed, told nothing and left all as it was, or what it tells was cut off
 abbrev pub RunsTold : Result (Option Stop) CommandFault → Option (List (List ℕ × List ℕ)) → RunState → Command → ObjectsState → LogState → LogState → Option (List ℕ) → Option (List ℕ) → ℕ → ℕ → ℕ → ℕ → Type 0

@@ -1,11 +1,13 @@
 -- What a command of a core, or of a run, left, told and answered (own).
-use Rattle.std.specs.Prelude.{◌≡◌, ◌≤◌, ◌+◌, ℕ, Bool, List, [], ◌∷◌, ◌++◌, Option}
+use Rattle.std.specs.Prelude.{◌≡◌, ◌<◌, ◌≤◌, ◌⊎◌, ◌+◌, ℕ, Bool, List, [], ◌∷◌, ◌++◌, length, Option}
 use Rattle.rp_io.specs.Contents.{AppendsFront}
 use Rattle.journal.specs.declared.events.Event.{Event}
 use Rattle.journal.specs.Lines.{transcript}
 use Rattle.crash_recover.specs.Cores.{CoreState}
+use Rattle.link_commands.specs.declared.logs.TheConstants.{PIECE}
 use Rattle.link_commands.specs.declared.stops.Stop.{Stop}
 use Rattle.link_commands.specs.Logs.{Hands, LogState}
+use Rattle.command_run.specs.declared.core_drives.TheConstants.{STRETCH}
 use Rattle.command_run.specs.CoreEffects.{CoreEffect}
 use Rattle.command_run.specs.CoreDrives.{drive_steps, told_before}
 use Rattle.command_run.specs.Runs.{ObjectsState, RunEffect}
@@ -50,6 +52,20 @@ CutsCore drive count left lines written now = IsCutDrive CoreState (λ done. (dr
 -- and of a run
 abbrev pub CutsRun : (ℕ → RunEffect) → ℕ → ObjectsState → List ℕ → Option (List ℕ) → Option (List ℕ) → Type 0
 CutsRun drive count left lines written now = IsCutDrive ObjectsState (λ done. (drive done).run.objects) (λ done. (drive done).events) count left lines written now
+
+-- behind a drive of so many steps less than a piece is kept beside what the drive told since one of its last steps, or since it came to rest or the run had no step left
+pub record KeepsLast (events : ℕ → List Event) (count : ℕ) (lines : List ℕ) : Type 0 where
+  pub done : ℕ
+  pub within : done ≤ count
+  pub told : List Event
+  pub last : Event
+  pub here : events done ≡ told ++ last ∷ []
+  pub later : List Event
+  pub all : events count ≡ told ++ later
+  pub near : (count ≤ done + STRETCH) ⊎ (length later ≤ 1)
+  pub rest : List ℕ
+  pub less : length rest < PIECE
+  pub kept : lines ≡ rest ++ transcript later
 
 -- a command left of its core, told and answered what this effect says, and some lines were handed on meanwhile
 pub record HandsCoreEffect (effect : CoreEffect) (left : CoreState) (before after : LogState) (written now : Option (List ℕ)) (answer : Option Stop) : Type 0 where

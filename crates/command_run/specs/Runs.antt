@@ -17,8 +17,8 @@ use Rattle.command_run.specs.NamedCores.{NamedCoreState}
 use Rattle.command_run.specs.NamedImages.{ImageState}
 use Rattle.rp_io.specs.declared.faults.FetchFault.TheVariants as fetch
 use Rattle.command_run.specs.Stores.{Answer, Told, later_told, told_answer}
-use Rattle.command_run.specs.CoreEffects.{CoreEffect, is_on}
-use Rattle.command_run.specs.CoreCommands.{core_effect}
+use Rattle.command_run.specs.CoreEffects.{CoreEffect}
+use Rattle.command_run.specs.CoreCommands.{core_effect, is_on}
 use Rattle.command_run.specs.Dumps.{core_answer, kept_dumps}
 use Rattle.script_lang.specs.declared.commands.RegionSet.{RegionSet}
 use Rattle.script_lang.specs.declared.commands.RegionSet.TheVariants as regions

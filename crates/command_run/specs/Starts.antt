@@ -5,17 +5,14 @@ use Rattle.script_lang.specs.declared.commands.Command.{Command}
 use Rattle.script_lang.specs.declared.commands.Command.TheVariants as command
 use Rattle.crash_recover.specs.Cores.{CoreState}
 use Rattle.crash_recover.specs.CoreBoots.{needs_image}
-use Rattle.link_commands.specs.declared.acts.CoreAct.{CoreAct}
-use Rattle.link_commands.specs.declared.acts.CoreAct.TheVariants as core
+use Rattle.link_commands.specs.declared.acts.StartAct.{StartAct}
+use Rattle.link_commands.specs.declared.acts.StartAct.TheVariants as starts
 use Rattle.command_run.specs.declared.fetches.CommandFault.{CommandFault}
 use Rattle.command_run.specs.declared.fetches.CommandFault.TheVariants as command_fault
 use Rattle.command_run.specs.declared.fetches.FoundImage.{FoundImage}
 use Rattle.command_run.specs.declared.fetches.FoundImage.TheVariants as found_image
-use Rattle.command_run.specs.declared.starts.StartAct.{StartAct}
-use Rattle.command_run.specs.declared.starts.StartAct.TheVariants as starts
 use Rattle.link_commands.specs.declared.stops.Stop.{Stop}
-use Rattle.command_run.specs.CoreEffects.{CoreEffect}
-use Rattle.command_run.specs.CoreLives.{boot_effect, found_image as image_of_name, handover_effect, made_image, recover_effect}
+use Rattle.command_run.specs.CoreLives.{found_image as image_of_name, made_image, started_effect}
 use Rattle.command_run.specs.Fetches.{IsToldFor, answer_of}
 use Rattle.link_commands.specs.Logs.{LogState}
 use Rattle.command_run.specs.Outcomes.{HasCoreEffect}
@@ -24,13 +21,7 @@ use Rattle.command_run.specs.NamedImages.{ImageState}
 use Rattle.command_run.specs.Runs.{outside_image, recovery_asks, start_asks, takes_over}
 use Rattle.command_run.specs.Stores.{Answer}
 
--- the act on a core that a start is
-abbrev pub act_of_start : StartAct → CoreAct
-act_of_start (starts.Boot image) = core.Boot image
-act_of_start (starts.Handover image) = core.Handover image
-act_of_start starts.Recover = core.Recover
-
--- the command that it is under a name
+-- the command that a start is under a name
 abbrev pub start_command : List ℕ → StartAct → Command
 start_command name (starts.Boot image) = command.Boot name image
 start_command name (starts.Handover image) = command.Handover name image
@@ -41,12 +32,6 @@ abbrev pub start_image : StartAct → List ImageState → Option NamedCoreState 
 start_image (starts.Boot image) images named = start_asks needs_image images image named
 start_image (starts.Handover image) images named = start_asks takes_over images image named
 start_image starts.Recover images named = recovery_asks images named
-
--- what it does to a core, over what was told of that image
-abbrev pub started_effect : StartAct → List ImageState → Answer → NamedCoreState → ℕ → CoreEffect
-started_effect (starts.Boot image) images answer named steps = boot_effect images answer named.name named.core steps image
-started_effect (starts.Handover image) images answer named steps = handover_effect images answer named.name named.core steps image
-started_effect starts.Recover images answer named steps = recover_effect images answer named.name named.core steps
 
 -- what is known of an image that was looked for
 abbrev pub image_answer : FoundImage → Answer

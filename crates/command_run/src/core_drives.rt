@@ -1,10 +1,11 @@
 ghost use Rattle.std.specs.Prelude.{◌≡◌, ◌==◌, ◌≤◌, ◌+◌, ◌||◌, ◌⊎◌, ◌∷◌, ◌++◌, not, true, IfOk, IfErr, IfSome, OnOk};
 ghost use Rattle.journal.specs.declared.events.Event.TheVariants as event;
 ghost use Rattle.journal.specs.Lines.{transcript};
-ghost use Rattle.link_commands.specs.Logs.{Keeps};
-ghost use Rattle.command_run.specs.Outcomes.{CutsCore, DrivesHanding, DrivesOn, HandsCoreEffect, HasCoreEffect};
+ghost use Rattle.link_commands.specs.Logs.{Keeps, KeepsLess};
+ghost use Rattle.command_run.specs.Outcomes.{CutsCore, DrivesHanding, DrivesOn, HandsCoreEffect, HasCoreEffect, KeepsLast};
 ghost use Rattle.command_run.specs.Fetches.{EndsCut, IfWrite};
 ghost use Rattle.rp_base.specs.declared.limits.TheConstants.{STEPS_MOST};
+ghost use Rattle.command_run.specs.declared.core_drives.TheConstants.{STRETCH};
 ghost use Rattle.core_actors.specs.ActorSteps.{HoldsDrivenTaken};
 ghost use Rattle.link_bench.specs.Benches.{HoldsTaken, link_in};
 ghost use Rattle.crash_recover.specs.Drives.{drive_step, is_idle};
@@ -23,7 +24,7 @@ use rp_base::{CallerNo, CrashKind, Inc, LifeState, NoMemory, STEPS_MOST};
 use rp_io::Sink;
 
 /// After how many steps of a drive it is looked whether what is kept is a whole piece.
-const STRETCH: u64 = 1_024;
+pub const STRETCH: u64 = 1_024;
 
 impl NamedCore {
     /// So many steps of the core's actors, fewer where it crashes or both have nothing to do before.
@@ -73,6 +74,7 @@ impl NamedCore {
             (K.written out.old) (K.written out.new) (K.faults out.old) (K.faults out.new)) }
         ensures paused { IfErr result (λ why. IfWrite why (CutsCore (λ done. drive_effect self.old.name is_quiet self.old.core log.old.steps done)
             count self.new.core log.old.lines (K.written out.old) (K.written out.new))) }
+        ensures less { IfOk result (λ _. KeepsLess log.old → KeepsLast (λ done. (drive_effect self.old.name is_quiet self.old.core log.old.steps done).events) count log.new.lines) }
     {
         if !self.core.life().is_up() {
             return Ok(self.drive(count, is_quiet, log)?);
@@ -97,6 +99,8 @@ impl NamedCore {
             (K.written out.old) (K.written out.new) (K.faults out.old) (K.faults out.new)) }
         ensures paused { IfErr result (λ why. IfWrite why (CutsCore (λ done. drive_steps done self.old.name is_quiet self.old.core log.old.steps)
             count self.new.core log.old.lines (K.written out.old) (K.written out.new))) }
+        ensures near { IfOk result (λ left. (left ≤ STRETCH) ⊎ (is_over self.old.name self.new.core log.new.steps ≡ true)) }
+        ensures less { IfOk result (λ _. KeepsLess log.old → KeepsLess log.new) }
     {
         let mut left = count;
         while left > STRETCH {

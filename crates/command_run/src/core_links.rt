@@ -4,7 +4,8 @@ ghost use Rattle.link_commands.specs.Acts.{IsFitView};
 ghost use Rattle.link_commands.specs.declared.acts.LinkView.TheVariants as view;
 ghost use Rattle.command_run.specs.Outcomes.{HasCoreEffect};
 ghost use Rattle.crash_recover.specs.CoreCallers.{core_turn_holder};
-ghost use Rattle.command_run.specs.CoreLinks.{core_link_effect, core_ring_effect, core_view_effect, found_view_effect};
+ghost use Rattle.command_run.specs.CoreEffects.{core_tells_all};
+ghost use Rattle.command_run.specs.CoreLinks.{core_link_effect, core_ring_events, found_view_events, link_view_events};
 
 use crate::NamedCore;
 use crash_recover::{Core, LinkAct};
@@ -46,7 +47,7 @@ impl NamedCore {
     ) -> Result<Option<Stop>, NoMemory>
         requires { IsFitView view }
         ensures same { self.new ≡ self.old }
-        ensures effect { IfOk result (λ ending. HasCoreEffect (core_view_effect self.old.name self.old.core log.old.steps view) self.new.core log.old log.new ending) }
+        ensures effect { IfOk result (λ ending. HasCoreEffect (core_tells_all self.old.core log.old.steps (link_view_events self.old.name self.old.core view)) self.new.core log.old log.new ending) }
     {
         match view {
             LinkView::Ring { lane } => self.tell_ring(lane, log),
@@ -58,7 +59,7 @@ impl NamedCore {
     /// Tells the counts of both lanes of the core's link.
     fn tell_books(&mut self, log: &mut RunLog) -> Result<Option<Stop>, NoMemory>
         ensures same { self.new ≡ self.old }
-        ensures effect { IfOk result (λ ending. HasCoreEffect (found_view_effect self.old.name self.old.core log.old.steps view.Books self.old.core.bench) self.new.core log.old log.new ending) }
+        ensures effect { IfOk result (λ ending. HasCoreEffect (core_tells_all self.old.core log.old.steps (found_view_events self.old.name view.Books self.old.core.bench)) self.new.core log.old log.new ending) }
     {
         let name = self.name;
         let Some(bench) = self.core.link() else {
@@ -71,7 +72,7 @@ impl NamedCore {
     /// Tells the channels that the host end of the core's link knows.
     fn tell_channels(&mut self, log: &mut RunLog) -> Result<Option<Stop>, NoMemory>
         ensures same { self.new ≡ self.old }
-        ensures effect { IfOk result (λ ending. HasCoreEffect (found_view_effect self.old.name self.old.core log.old.steps view.Channels self.old.core.bench) self.new.core log.old log.new ending) }
+        ensures effect { IfOk result (λ ending. HasCoreEffect (core_tells_all self.old.core log.old.steps (found_view_events self.old.name view.Channels self.old.core.bench)) self.new.core log.old log.new ending) }
     {
         let name = self.name;
         if self.core.link().is_none() {
@@ -82,11 +83,11 @@ impl NamedCore {
     }
 
     /// Tells the bytes of a lane's ring of the core's link, unless one of its turns is out.
-    #[tactic(auto, unfolding(crate::specs::CoreLinks::core_ring_effect))]
+    #[tactic(auto, unfolding(crate::specs::CoreLinks::core_ring_events))]
     fn tell_ring(&mut self, lane: u64, log: &mut RunLog) -> Result<Option<Stop>, NoMemory>
         requires { lane ≤ 1 }
         ensures same { self.new ≡ self.old }
-        ensures effect { IfOk result (λ ending. HasCoreEffect (core_ring_effect self.old.name self.old.core log.old.steps lane) self.new.core log.old log.new ending) }
+        ensures effect { IfOk result (λ ending. HasCoreEffect (core_tells_all self.old.core log.old.steps (core_ring_events self.old.name self.old.core lane)) self.new.core log.old log.new ending) }
     {
         let name = self.name;
         if let Some(caller) = turn_holder(&self.core) {

@@ -1,75 +1,80 @@
-ghost use Rattle.std.specs.Prelude.{◌≡◌, ◌≤◌, ◌++◌, IfOk, OnOk, map};
+ghost use Rattle.std.specs.Prelude.{◌≡◌, ◌≤◌, ◌++◌, ◌∷◌, [], IfOk, OnOk, map};
 ghost use Rattle.std.specs.Option.{option_copied};
 ghost use Rattle.rp_base.specs.Texts.{text_before_zero};
 ghost use Rattle.journal.specs.Lines.{transcript};
-ghost use Rattle.command_run.specs.Outcomes.{HasCoreEffect};
-ghost use Rattle.command_run.specs.CoreViews.{mem_effect, table_effect, table_event, trace_bytes, trace_effect};
+ghost use Rattle.link_commands.specs.Acts.{IsFitCoreView};
+ghost use Rattle.link_commands.specs.Logs.{Keeps};
+ghost use Rattle.command_run.specs.CoreViews.{core_view_events, memory_event, state_event, table_event, table_events, trace_bytes, trace_event};
 
 use crate::NamedCore;
 use crash_recover::Core;
 use image_report::table_rows;
 use journal::{Event, TableLine};
-use link_commands::{RunLog, Stop, event};
+use link_commands::{CoreView, RunLog, event};
 use rp_base::{Da, Data, Name, NoMemory};
 
 impl NamedCore {
+    /// Tells what the core shows.
+    pub(crate) fn show_core(&self, view: CoreView, log: &mut RunLog) -> Result<(), NoMemory>
+        requires { IsFitCoreView view }
+        ensures { IfOk result (λ _. Keeps log.old log.new (core_view_events self.now.name self.now.core view)) }
+    {
+        match view {
+            CoreView::State => self.tell_state(log),
+            CoreView::Table => self.tell_table(log),
+            CoreView::Trace { trace } => self.tell_trace(trace, log),
+            CoreView::Mem { da, len } => self.tell_memory(da, len, log),
+        }
+    }
+
+    /// Tells the state of the core, its users and its incarnation.
+    fn tell_state(&self, log: &mut RunLog) -> Result<(), NoMemory>
+        ensures { IfOk result (λ _. Keeps log.old log.new (state_event self.now.name self.now.core ∷ [])) }
+    {
+        let name = self.name;
+        let life = self.core.life();
+        let (state, users, inc) = (life.state(), life.users(), life.incarnation());
+        log.tell(&event!(State, name, [users, inc], state))
+    }
+
     /// Tells the lines of the core's resource table, as it was loaded.
-    #[tactic(auto, unfolding(crate::specs::CoreViews::table_effect))]
-    pub(crate) fn tell_table(&mut self, log: &mut RunLog) -> Result<Option<Stop>, NoMemory>
-        ensures same { self.new ≡ self.old }
-        ensures effect { IfOk result (λ ending. HasCoreEffect (table_effect self.old.name self.old.core log.old.steps) self.new.core log.old log.new ending) }
+    #[tactic(auto, unfolding(crate::specs::CoreViews::table_events))]
+    fn tell_table(&self, log: &mut RunLog) -> Result<(), NoMemory>
+        ensures { IfOk result (λ _. Keeps log.old log.new (table_events self.now.name self.now.core)) }
     {
         let name = self.name;
         let Some(loaded) = self.core.loaded() else {
-            return self.tell(&Event::NotLoaded { name }, log);
+            return log.tell(&Event::NotLoaded { name });
         };
         let rows = table_rows(log.alloc(), &loaded.table, loaded.traces.as_slice())?;
-        tell_rows(name, rows.as_slice(), log)?;
-        Ok(None)
+        tell_rows(name, rows.as_slice(), log)
     }
 
     /// Tells the text of the trace of a number.
-    #[tactic(auto, unfolding(crate::specs::CoreViews::trace_effect))]
-    pub(crate) fn tell_trace(
-        &mut self,
-        trace: u64,
-        log: &mut RunLog,
-    ) -> Result<Option<Stop>, NoMemory>
-        ensures same { self.new ≡ self.old }
-        ensures effect { IfOk result (λ ending. HasCoreEffect (trace_effect self.old.name self.old.core log.old.steps trace) self.new.core log.old log.new ending) }
+    #[tactic(auto, unfolding(crate::specs::CoreViews::trace_event))]
+    fn tell_trace(&self, trace: u64, log: &mut RunLog) -> Result<(), NoMemory>
+        ensures { IfOk result (λ _. Keeps log.old log.new (trace_event self.now.name self.now.core trace ∷ [])) }
     {
         let name = self.name;
-        let event = match trace_bytes(&self.core, trace) {
-            Some(bytes) => {
-                let text = Data::copy_of(log.alloc(), text_before_zero(bytes))?;
-                Event::Trace { name, trace, text }
-            }
-            None => Event::NoTrace { name, trace },
+        let Some(bytes) = trace_bytes(&self.core, trace) else {
+            return log.tell(&Event::NoTrace { name, trace });
         };
-        self.tell(&event, log)
+        let text = Data::copy_of(log.alloc(), text_before_zero(bytes))?;
+        log.tell(&Event::Trace { name, trace, text })
     }
 
     /// Tells bytes of the core's memory, where one block holds them all.
-    #[tactic(auto, unfolding(crate::specs::CoreViews::mem_effect))]
-    pub(crate) fn tell_memory(
-        &mut self,
-        da: Da,
-        len: u32,
-        log: &mut RunLog,
-    ) -> Result<Option<Stop>, NoMemory>
+    #[tactic(auto, unfolding(crate::specs::CoreViews::memory_event))]
+    fn tell_memory(&self, da: Da, len: u32, log: &mut RunLog) -> Result<(), NoMemory>
         requires { 1 ≤ len }
-        ensures same { self.new ≡ self.old }
-        ensures effect { IfOk result (λ ending. HasCoreEffect (mem_effect self.old.name self.old.core log.old.steps da len) self.new.core log.old log.new ending) }
+        ensures { IfOk result (λ _. Keeps log.old log.new (memory_event self.now.name self.now.core da len ∷ [])) }
     {
         let name = self.name;
-        let event = match self.core.memory(da, len) {
-            Some(bytes) => {
-                let bytes = Data::copy_of(log.alloc(), bytes)?;
-                Event::Mem { name, da, bytes }
-            }
-            None => event!(Unmapped, name, [len], da),
+        let Some(bytes) = self.core.memory(da, len) else {
+            return log.tell(&event!(Unmapped, name, [len], da));
         };
-        self.tell(&event, log)
+        let bytes = Data::copy_of(log.alloc(), bytes)?;
+        log.tell(&Event::Mem { name, da, bytes })
     }
 }
 

@@ -3,11 +3,11 @@ ghost use Rattle.rp_io.specs.declared.faults.FetchFault.TheVariants as fetch_fau
 ghost use Rattle.crash_recover.specs.declared.core_faults.AddFault.TheVariants as add_fault;
 ghost use Rattle.link_commands.specs.Acts.{IsFitCore, IsFitNamed, bare_named_act};
 ghost use Rattle.command_run.specs.Outcomes.{HasCoreEffect};
-ghost use Rattle.command_run.specs.CoreEffects.{add_fault_events, core_tells, core_tells_all, driver_effect, is_on, recovery_effect, region_effect, state_effect};
-ghost use Rattle.command_run.specs.CoreCommands.{core_act_effect, core_effect};
+ghost use Rattle.command_run.specs.CoreEffects.{core_tells, core_tells_all};
+ghost use Rattle.command_run.specs.CoreCommands.{add_fault_events, core_act_effect, core_effect, driver_effect, is_on, recovery_effect, region_effect};
 
+use crate::ScriptImage;
 use crate::core_lives::fault_at;
-use crate::{ScriptImage, StartAct};
 use crash_recover::{AddFault, Core};
 use journal::Event;
 use link_commands::{CoreAct, NamedAct, RunLog, Stop, event};
@@ -71,22 +71,14 @@ impl NamedCore {
         match act {
             CoreAct::Region(region) => self.add_region(region, log),
             CoreAct::Driver { channel, kind } => self.add_driver(channel, kind, log),
-            CoreAct::Boot { image } => self.start_without_store(
-                StartAct::Boot { image },
-                images,
-                log,
-            ),
-            CoreAct::Handover { image } => {
-                self.start_without_store(StartAct::Handover { image }, images, log)
-            }
+            CoreAct::Start(start) => self.start_without_store(start, images, log),
             CoreAct::Shutdown => self.shutdown(log),
             CoreAct::Detach => self.detach(log),
-            CoreAct::State => self.tell_state(log),
-            CoreAct::Table => self.tell_table(log),
-            CoreAct::Trace { trace } => self.tell_trace(trace, log),
-            CoreAct::Mem { da, len } => self.tell_memory(da, len, log),
+            CoreAct::Show(view) => {
+                self.show_core(view, log)?;
+                Ok(None)
+            }
             CoreAct::Crash { kind } => self.crash(kind, log),
-            CoreAct::Recover => self.start_without_store(StartAct::Recover, images, log),
             CoreAct::Recovery { switch } => self.set_recovery(switch, log),
             CoreAct::Drive { count } => self.drive(count, is_quiet, log),
         }
@@ -102,7 +94,7 @@ impl NamedCore {
     }
 
     /// Adds a region behind the others.
-    #[tactic(auto, unfolding(crate::specs::CoreEffects::region_effect))]
+    #[tactic(auto, unfolding(crate::specs::CoreCommands::region_effect))]
     fn add_region(&mut self, region: Region, log: &mut RunLog) -> Result<Option<Stop>, NoMemory>
         ensures name { self.new.name ≡ self.old.name }
         ensures effect { IfOk result (λ ending. HasCoreEffect (region_effect self.old.name self.old.core log.old.steps region) self.new.core log.old log.new ending) }
@@ -115,7 +107,7 @@ impl NamedCore {
     }
 
     /// Declares a driver for the channels of a name.
-    #[tactic(auto, unfolding(crate::specs::CoreEffects::driver_effect))]
+    #[tactic(auto, unfolding(crate::specs::CoreCommands::driver_effect))]
     fn add_driver(
         &mut self,
         channel: Name,
@@ -159,17 +151,6 @@ impl NamedCore {
             AddFault::NoMemory => return Err(NoMemory),
         };
         self.tell(&event, log)
-    }
-
-    /// Tells the state of the core, its users and its incarnation.
-    fn tell_state(&mut self, log: &mut RunLog) -> Result<Option<Stop>, NoMemory>
-        ensures same { self.new ≡ self.old }
-        ensures effect { IfOk result (λ ending. HasCoreEffect (state_effect self.old.name self.old.core log.old.steps) self.new.core log.old log.new ending) }
-    {
-        let name = self.name;
-        let life = self.core.life();
-        let (state, users, inc) = (life.state(), life.users(), life.incarnation());
-        self.tell(&event!(State, name, [users, inc], state), log)
     }
 
     /// Sets whether the core is recovered when it has crashed.

@@ -5,11 +5,11 @@ ghost use Rattle.script_lang.specs.Runnable.{IsRunnable};
 ghost use Rattle.command_run.specs.declared.fetches.CommandFault.TheVariants as command_fault;
 ghost use Rattle.command_run.specs.CoreLives.{image_bytes};
 ghost use Rattle.command_run.specs.Runs.{ObjectsState, asked_name, outside_image};
-ghost use Rattle.command_run.specs.Fetches.{IsFetchFault, IsToldUnder, RunsTold, answer_of};
+ghost use Rattle.command_run.specs.Fetches.{IsFetchFault, IsToldUnder, KeepsDrive, RunsTold, answer_of};
 ghost use Rattle.command_run.specs.Starts.{IsImageOf, image_answer, start_command};
 
-use crate::{Objects, ScriptImage, StartAct};
-use link_commands::{RunLog, Stop};
+use crate::{Objects, ScriptImage};
+use link_commands::{RunLog, StartAct, Stop};
 use rp_base::{IMAGE_MOST, Name, NoMemory};
 use rp_io::{Failed, FetchFault, FirmwareStore, Sink};
 use script_lang::Command;
@@ -80,7 +80,8 @@ impl From<Failed> for CommandFault {
 }
 
 /// Runs one command over what the store has, tells its events, and answers why the run stops in its
-/// midst, if it does. A drive hands on what it tells as it goes.
+/// midst, if it does. A drive hands on what it tells as it goes: with less than a piece kept before it, it
+/// keeps less than a piece beside what its last 1,024 steps told.
 pub fn run_command<F: FirmwareStore, K: Sink>(
     objects: &mut Objects,
     command: &Command,
@@ -91,6 +92,7 @@ pub fn run_command<F: FirmwareStore, K: Sink>(
     requires { IsRunnable command.now }
     ensures effect { RunsTold result (F.images store.old) (record { objects = objects.old; steps = log.old.steps }) command.now objects.new log.old log.new
         (K.written out.old) (K.written out.new) (K.faults out.old) (K.faults out.new) (F.faults store.old) (F.faults store.new) }
+    ensures less { IfOk result (λ _. KeepsDrive (record { objects = objects.old; steps = log.old.steps }) command.now log.old log.new.lines) }
     ensures kept { F.images store.new ≡ F.images store.old }
     ensures unasked { asked_name objects.old command.now ≡ None → store.new ≡ store.old }
 {

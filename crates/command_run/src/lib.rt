@@ -14,4 +14,3 @@ mod starts;
 pub use cores::NamedCore;
 pub use fetches::{CommandFault, run_command};
 pub use objects::{Objects, ScriptImage};
-pub use starts::StartAct;

@@ -10,17 +10,16 @@ ghost use Rattle.link_commands.specs.declared.acts.NamedAct.TheVariants as under
 ghost use Rattle.command_run.specs.Outcomes.{CutsRun, HandsRunEffect, HasRunEffect};
 ghost use Rattle.command_run.specs.Runs.{core_made_effect, core_place, is_full, regions_of, asked_name, core_named, find_core, effect_of, has_image, image_effect, image_place, made_effect, name_effect, new_run, place_of, quiet_effect, unnamed_effect};
 ghost use Rattle.command_run.specs.Lookups.{bench_named, core_taken, find_link, is_bare, link_taken, without_core, without_link};
-ghost use Rattle.command_run.specs.Fetches.{EndsCut, IfWrite, RunsTold};
+ghost use Rattle.command_run.specs.Fetches.{EndsCut, IfWrite, KeepsDriven, RunsTold};
 ghost use Rattle.command_run.specs.Starts.{start_command};
 
 use crate::cores::{NamedCore, is_on};
 use crate::fetches::CommandFault;
-use crate::starts::StartAct;
 use channel_bus::Side;
 use crash_recover::{Bench, Core};
 use journal::Event;
 use lane_model::LinkConfig;
-use link_commands::{CoreAct, Line, Making, NamedAct, NamedBench, RunLog, Stop, line_of};
+use link_commands::{CoreAct, Line, Making, NamedAct, NamedBench, RunLog, StartAct, Stop, line_of};
 use memory_pool::Regions;
 use rp_base::{Name, NoMemory, OBJECTS_MOST, Switch};
 use rp_io::{FirmwareStore, Sink};
@@ -191,6 +190,7 @@ impl Objects {
             (K.written out.old) (K.written out.new) (K.faults out.old) (K.faults out.new)) }
         ensures paused { IfErr result (λ why. IfWrite why (CutsRun (λ done. name_effect (Err fetch_fault.Missing) (record { objects = self.old; steps = log.old.steps }) name (under.Core (core.Drive done)))
             count self.new log.old.lines (K.written out.old) (K.written out.new))) }
+        ensures less { IfOk result (λ _. KeepsDriven (record { objects = self.old; steps = log.old.steps }) name count log.old log.new.lines) }
     {
         match self.place_without_link(name.bytes()) {
             Some(place) => {
@@ -224,7 +224,7 @@ impl Objects {
                 self.cores[place].start(start, images, store, log)
             }
             None => {
-                let act = NamedAct::Core(start.act());
+                let act = NamedAct::Core(CoreAct::Start(start));
                 Ok(self.run_on_name(name, &act, log)?)
             }
         }

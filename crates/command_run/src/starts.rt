@@ -1,39 +1,16 @@
 ghost use Rattle.std.specs.Prelude.{◌≡◌, None, Some, Err, Ok, IfOk};
 ghost use Rattle.rp_io.specs.declared.faults.FetchFault.TheVariants as fetch_fault;
-ghost use Rattle.command_run.specs.declared.starts.StartAct.TheVariants as starts;
+ghost use Rattle.link_commands.specs.declared.acts.StartAct.TheVariants as starts;
+ghost use Rattle.command_run.specs.CoreLives.{started_effect};
 ghost use Rattle.command_run.specs.Outcomes.{HasCoreEffect};
-ghost use Rattle.command_run.specs.Starts.{StartsOver, act_of_start, start_image, started_effect};
+ghost use Rattle.command_run.specs.Starts.{StartsOver, start_image};
 
 use crate::fetches::{CommandFault, find_image};
 use crate::{NamedCore, ScriptImage};
 use crash_recover::{Boot, CoreFault};
-use link_commands::{CoreAct, RunLog, Stop};
+use link_commands::{RunLog, StartAct, Stop};
 use rp_base::{Name, NoMemory};
 use rp_io::{FirmwareStore, PlainStore};
-
-/// A start of a core that may need an image.
-#[derive(Clone, Copy)]
-pub enum StartAct {
-    /// A boot with the image of a name.
-    Boot { image: Name },
-    /// A handover with the image of a name.
-    Handover { image: Name },
-    /// A recovery with the image that was booted or handed over.
-    Recover,
-}
-
-impl StartAct {
-    /// The act on the core that it is.
-    pub(crate) fn act(self) -> CoreAct
-        ensures { result ≡ act_of_start self }
-    {
-        match self {
-            StartAct::Boot { image } => CoreAct::Boot { image },
-            StartAct::Handover { image } => CoreAct::Handover { image },
-            StartAct::Recover => CoreAct::Recover,
-        }
-    }
-}
 
 /// The starts of a core. An image that the script made comes before one of the store, and the store is
 /// asked only where the core needs an image that the script didn't make.

@@ -30,8 +30,8 @@ use Rattle.link_bench.specs.BenchHolds.{caller_out}
 use Rattle.crash_recover.specs.Cores.{CoreOutcome, CoreState, driver_add_fault, refuse_or, IsKeptCore}
 use Rattle.crash_recover.specs.Drives.{drive_step, is_idle, placed_map}
 use Rattle.command_run.specs.CoreDrives.{drive_effect, drive_steps, is_crashed, rest_event, rests_or, step_then}
-use Rattle.command_run.specs.CoreEffects.{CoreEffect, core_tells, core_tells_all, declared_effect, driver_effect}
-use Rattle.command_run.specs.CoreLives.{boot_effect, core_stops, found_image, found_or_told, image_bytes, leave_effect, may_step, shutdown_effect}
+use Rattle.command_run.specs.CoreEffects.{CoreEffect, core_tells, core_tells_all}
+use Rattle.command_run.specs.CoreLives.{core_stops, found_image, found_or_told, image_bytes, leave_effect, may_step, shutdown_effect, started_effect}
 use Rattle.command_run.specs.NamedCores.{NamedCoreState}
 use Rattle.command_run.specs.NamedImages.{ImageState}
 use Rattle.std.proofs.Common.{◌-◌, not, bytes_eq, option_map, option_and_then, nat_le}
@@ -51,10 +51,11 @@ use Rattle.proc_state.specs.declared.answers.Power.TheVariants as power
 use Rattle.crash_recover.specs.declared.core_faults.AddFault.TheVariants as add
 use Rattle.image_maker.specs.Demo.{session_image}
 use Rattle.link_commands.specs.declared.acts.CoreAct.TheVariants as act
+use Rattle.link_commands.specs.declared.acts.StartAct.TheVariants as start_act
 use Rattle.link_commands.specs.declared.acts.Making.TheVariants as making
 use Rattle.link_commands.specs.declared.acts.NamedAct.{NamedAct}
 use Rattle.link_commands.specs.declared.acts.NamedAct.TheVariants as under
-use Rattle.command_run.specs.CoreCommands.{core_act_effect, core_effect}
+use Rattle.command_run.specs.CoreCommands.{core_act_effect, core_effect, declared_effect, driver_effect}
 use Rattle.command_run.specs.CoreDrives.{step_events, told_before}
 use Rattle.link_commands.specs.LinkCommands.{link_effect}
 use Rattle.link_commands.specs.NamedLinks.{NamedLink}
@@ -285,8 +286,8 @@ module _ (Fits : WorkerState → Type 0) (records credit : WorkerState → ℕ) 
     unfolding boot_of
     booted found is_demo = boot_at found (life_after_boot core.life).answer refl is_demo
 
-    boot_calm : (images : List ImageState) → All (λ (made : ImageState). IsDemoImage made.bytes) images → LeavesCalm steps 0 (boot_effect images (Err fetch_fault.Missing) name core steps image)
-    unfolding boot_effect
+    boot_calm : (images : List ImageState) → All (λ (made : ImageState). IsDemoImage made.bytes) images → LeavesCalm steps 0 (started_effect (start_act.Boot image) images (Err fetch_fault.Missing) (record { name = name; core = core }) steps)
+    unfolding started_effect
     boot_calm images all = record {
       calm = booted (found_image images (Err fetch_fault.Missing) image) (told_found (image_bytes images image) (demo_found images image all));
       ending = refl;
@@ -466,7 +467,7 @@ module _ (Fits : WorkerState → Type 0) (records credit : WorkerState → ℕ) 
   boot_leaves : (name image : List ℕ) → Leaves (command.Boot name image) 0
   unfolding effect_of name_effect link_effect core_effect core_act_effect unnamed_effect
   boot_leaves name image run are sound few =
-      located run name (under.Core (act.Boot image)) 0 are (λ named. (refl, refl)) sound (λ named is reached kept ready. boot_calm named.name image named.core run.steps is run.objects.images are.images) (run_told_calm run 0 _ are)
+      located run name (under.Core (act.Start (start_act.Boot image))) 0 are (λ named. (refl, refl)) sound (λ named is reached kept ready. boot_calm named.name image named.core run.steps is run.objects.images are.images) (run_told_calm run 0 _ are)
       (place_of run.objects.links name)
 
   drive_leaves : (name : List ℕ) (count : ℕ) → Leaves (command.Drive name count) 7999

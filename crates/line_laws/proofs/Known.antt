@@ -11,6 +11,8 @@ use Rattle.image_maker.specs.Images.{image_of}
 use Rattle.link_bench.specs.Acts.{IsFitAct}
 use Rattle.link_commands.specs.declared.acts.CoreAct.{CoreAct}
 use Rattle.link_commands.specs.declared.acts.CoreAct.TheVariants as core
+use Rattle.link_commands.specs.declared.acts.CoreView.{CoreView}
+use Rattle.link_commands.specs.declared.acts.CoreView.TheVariants as shows
 use Rattle.link_commands.specs.declared.acts.Line.{Line}
 use Rattle.link_commands.specs.declared.acts.Line.TheVariants as line
 use Rattle.link_commands.specs.declared.acts.LinkView.{LinkView}
@@ -25,18 +27,21 @@ use Rattle.way_laws.proofs.RunTales.{FitsMaking}
 use Rattle.field_laws.specs.FieldBenches.{IsFieldAct}
 use Rattle.field_laws.proofs.Images.{IsBytesLine, image_small}
 use Rattle.line_laws.proofs.Spelled.{IsName}
-use Rattle.line_laws.proofs.SaidScripts.{AreSaid, IsSaidLine, are_said}
+use Rattle.line_laws.proofs.SaidScripts.{AreSaid, IsSaidLine, IsSaidStart, are_said}
 
 abbrev pub IsKnownView : LinkView → Type 0
 IsKnownView (view.Ring lane) = lane < 2
 IsKnownView other = Unit {0}
 
+abbrev pub IsKnownCoreView : CoreView → Type 0
+IsKnownCoreView (shows.Trace index) = index < 2 ^ 64
+IsKnownCoreView (shows.Mem da len) = (da < 2 ^ 32) × (1 ≤ len) × (len ≤ 256)
+IsKnownCoreView other = Unit {0}
+
 abbrev pub IsKnownCore : CoreAct → Type 0
 IsKnownCore (core.Driver channel kind) = IsName channel
-IsKnownCore (core.Boot image) = IsName image
-IsKnownCore (core.Handover image) = IsName image
-IsKnownCore (core.Trace index) = index < 2 ^ 64
-IsKnownCore (core.Mem da len) = (da < 2 ^ 32) × (1 ≤ len) × (len ≤ 256)
+IsKnownCore (core.Start start) = IsSaidStart start
+IsKnownCore (core.Show shown) = IsKnownCoreView shown
 IsKnownCore other = Unit {0}
 
 abbrev pub IsKnownMaking : Making → Type 0

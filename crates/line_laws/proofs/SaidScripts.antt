@@ -31,6 +31,8 @@ use Rattle.link_bench.specs.declared.acts.LinkAct.{LinkAct}
 use Rattle.link_bench.specs.declared.acts.LinkAct.TheVariants as link_act
 use Rattle.link_commands.specs.declared.acts.CoreAct.{CoreAct}
 use Rattle.link_commands.specs.declared.acts.CoreAct.TheVariants as core
+use Rattle.link_commands.specs.declared.acts.StartAct.{StartAct}
+use Rattle.link_commands.specs.declared.acts.StartAct.TheVariants as starts
 use Rattle.link_commands.specs.declared.acts.Line.{Line}
 use Rattle.link_commands.specs.declared.acts.Line.TheVariants as line
 use Rattle.link_commands.specs.declared.acts.NamedAct.{NamedAct}
@@ -53,10 +55,14 @@ abbrev pub IsSaidLink : LinkAct (List ℕ) → Type 0
 IsSaidLink (link_act.Call caller made wanted) = IsSaidCall wanted
 IsSaidLink other = Unit {0}
 
+abbrev pub IsSaidStart : StartAct → Type 0
+IsSaidStart (starts.Boot image) = IsName image
+IsSaidStart (starts.Handover image) = IsName image
+IsSaidStart starts.Recover = Unit {0}
+
 abbrev pub IsSaidCore : CoreAct → Type 0
 IsSaidCore (core.Driver channel kind) = IsName channel
-IsSaidCore (core.Boot image) = IsName image
-IsSaidCore (core.Handover image) = IsName image
+IsSaidCore (core.Start start) = IsSaidStart start
 IsSaidCore other = Unit {0}
 
 abbrev pub IsSaidAct : NamedAct (List ℕ) → Type 0

@@ -89,15 +89,19 @@ use Rattle.link_commands.specs.declared.acts.CoreAct.TheVariants as act
 use Rattle.link_commands.specs.declared.acts.LinkView.{LinkView}
 use Rattle.link_commands.specs.declared.acts.LinkView.TheVariants as view
 use Rattle.link_commands.specs.declared.acts.NamedAct.{NamedAct}
+use Rattle.link_commands.specs.declared.acts.CoreView.{CoreView}
+use Rattle.link_commands.specs.declared.acts.CoreView.TheVariants as shows
 use Rattle.link_commands.specs.declared.acts.NamedAct.TheVariants as under
+use Rattle.link_commands.specs.declared.acts.StartAct.{StartAct}
+use Rattle.link_commands.specs.declared.acts.StartAct.TheVariants as starts
 use Rattle.link_commands.specs.CallEvents.{end_event}
-use Rattle.command_run.specs.CoreCommands.{core_act_effect, core_effect}
+use Rattle.command_run.specs.CoreCommands.{add_fault_events, added_effect, core_act_effect, core_effect, declared_effect, driver_effect, recovery_effect, region_effect}
 use Rattle.command_run.specs.CoreDrives.{actor_end_events, drive_effect, drive_steps, driven_events, is_crashed, rest_event, rests_or, step_events, step_then}
-use Rattle.command_run.specs.CoreEffects.{CoreEffect, add_fault_events, added_effect, core_tells, declared_effect, driver_effect, region_effect, recovery_effect, state_effect}
+use Rattle.command_run.specs.CoreEffects.{CoreEffect, core_tells}
 use Rattle.crash_recover.specs.CoreCallers.{core_turn_holder}
-use Rattle.command_run.specs.CoreLinks.{core_link_effect, core_ring_effect, core_shown_effect, core_view_effect, found_ring_effect, found_view_effect}
-use Rattle.command_run.specs.CoreLives.{boot_effect, booted_image, core_fault_events, core_stops, crash_effect, crash_events, detach_effect, fault_at, found_image, handover_effect, leave_events, life_fault_event, load_fault_event, may_step, recover_effect, report_events, shutdown_effect, start_event, start_events, found_or_told, image_bytes}
-use Rattle.command_run.specs.CoreViews.{loaded_table_effect, mem_effect, shown_memory_event, shown_trace_event, table_effect, table_event, trace_bytes, trace_effect}
+use Rattle.command_run.specs.CoreLinks.{core_link_effect, core_ring_events, found_ring_events, found_view_events, link_view_events, shown_ring_events}
+use Rattle.command_run.specs.CoreLives.{booted_image, core_fault_events, core_stops, crash_effect, crash_events, detach_effect, fault_at, found_image, leave_events, life_fault_event, load_fault_event, may_step, report_events, shutdown_effect, start_event, start_events, started_effect, found_or_told, image_bytes}
+use Rattle.command_run.specs.CoreViews.{core_view_events, loaded_table_events, memory_event, shown_memory_event, shown_trace_event, state_event, table_event, table_events, trace_bytes, trace_event}
 use Rattle.command_run.specs.NamedCores.{NamedCoreState}
 use Rattle.command_run.specs.NamedImages.{ImageState}
 use Rattle.command_run.specs.Stores.{Answer}
@@ -115,7 +119,8 @@ use Rattle.field_laws.proofs.Images.{memory_bytes}
 use Rattle.field_laws.proofs.Rings.{ring_are}
 use Rattle.field_laws.proofs.Sides.{find_has}
 use Rattle.field_laws.proofs.Tables.{entries_few, entries_fields}
-use Rattle.line_laws.proofs.Known.{IsKnownAct, IsKnownCore, IsKnownView}
+use Rattle.line_laws.proofs.Known.{IsKnownAct, IsKnownCore, IsKnownCoreView, IsKnownView}
+use Rattle.line_laws.proofs.SaidScripts.{IsSaidStart}
 use Rattle.line_laws.proofs.RingLengths.{pair_few}
 use Rattle.line_laws.proofs.Spelled.{AreSpelled, IsName, IsSpelled, none, one, two}
 use Rattle.line_laws.proofs.SpelledCalls.{answer_spelled, end_spelled, reopen_told, ring_spelled, turn_small, view_spelled}
@@ -326,9 +331,9 @@ module _ (name : List ℕ) (named : IsName name) where
           events = answer_spelled name named (link_in acted.bench) acted.answer (acted_reached actors_after_end 2 bench core.actors steps asked fits reached).link.short left.bench.link left.answer;
         }
 
-    ring_at : (lane : ℕ) (found : Option (List ℕ)) → lane < 2 → IfSome found IsFewBytes → LeavesSpelled (found_ring_effect name core steps lane found)
-    ring_at lane None first are = no_link core steps is
-    ring_at lane (Some bytes) first are = record { left = is; events = ring_spelled name named lane bytes first are.0 are.1 }
+    ring_at : (lane : ℕ) (found : Option (List ℕ)) → lane < 2 → IfSome found IsFewBytes → All IsSpelled (found_ring_events name lane found)
+    ring_at lane None first are = one (event.NoLink name) (((named, tt), tt))
+    ring_at lane (Some bytes) first are = ring_spelled name named lane bytes first are.0 are.1
 
     pair_are : (bench : BenchState) (lane : ℕ) (found : Option RingPair) → HasSoundRings bench.rings → IfSome found IsSoundPair → IfSome (option_map (pair_bytes bench.rings lane) found) IsFewBytes
     pair_are bench lane None sound fit = tt
@@ -339,23 +344,23 @@ module _ (name : List ℕ) (named : IsName name) where
     ring_bytes lane None rung = tt
     ring_bytes lane (Some bench) rung = pair_are bench lane (loaded_rings core.loaded) rung rungs.load.rings
 
-    shown_at : (lane : ℕ) (found : Option ℕ) → lane < 2 → IfSome found (λ caller. caller ≤ 64) → LeavesSpelled (core_shown_effect name core steps lane found)
+    shown_at : (lane : ℕ) (found : Option ℕ) → lane < 2 → IfSome found (λ caller. caller ≤ 64) → All IsSpelled (shown_ring_events name core lane found)
     shown_at lane None first small = ring_at lane (core_ring core lane) first (ring_bytes lane core.bench rungs.bench)
-    shown_at lane (Some caller) first small = told core steps (event.StillTurn name caller) is (((named, (omega (arith, small), tt)), tt))
+    shown_at lane (Some caller) first small = one (event.StillTurn name caller) (((named, (omega (arith, small), tt)), tt))
 
     core_turn : (found : Option BenchState) → IfSome found IsReachedBench → IfSome found IsFieldBench → IfSome (option_and_then (λ (bench : BenchState). turn_holder (link_in bench)) found) (λ caller. caller ≤ 64)
     core_turn None reached here = tt
     core_turn (Some bench) reached here = turn_small name named (link_in bench) (reached_sound (link_in bench) reached.link) here.link
 
-    ring_shown : (lane : ℕ) → lane < 2 → IfSome core.bench IsReachedBench → LeavesSpelled (core_ring_effect name core steps lane)
-    unfolding core_ring_effect
+    ring_shown : (lane : ℕ) → lane < 2 → IfSome core.bench IsReachedBench → All IsSpelled (core_ring_events name core lane)
+    unfolding core_ring_events
     ring_shown lane first reached = shown_at lane (core_turn_holder core) first (core_turn core.bench reached is.bench)
 
-    viewed_at : (shown : LinkView) (found : Option BenchState) → IsKnownView shown → IfSome found IsRung → IfSome found IsReachedBench → IfSome found IsFieldBench → LeavesSpelled (found_view_effect name core steps shown found)
-    viewed_at shown None knows rung reached here = no_link core steps is
-    viewed_at shown (Some bench) knows rung reached here = record { left = is; events = view_spelled name named bench shown knows rung (reached_sound (link_in bench) reached.link) here.link }
+    viewed_at : (shown : LinkView) (found : Option BenchState) → IsKnownView shown → IfSome found IsRung → IfSome found IsReachedBench → IfSome found IsFieldBench → All IsSpelled (found_view_events name shown found)
+    viewed_at shown None knows rung reached here = one (event.NoLink name) (((named, tt), tt))
+    viewed_at shown (Some bench) knows rung reached here = view_spelled name named bench shown knows rung (reached_sound (link_in bench) reached.link) here.link
 
-    view_shown : (shown : LinkView) → IsKnownView shown → IfSome core.bench IsReachedBench → LeavesSpelled (core_view_effect name core steps shown)
+    view_shown : (shown : LinkView) → IsKnownView shown → IfSome core.bench IsReachedBench → All IsSpelled (link_view_events name core shown)
     view_shown view.Books knows reached = viewed_at view.Books core.bench tt rungs.bench reached is.bench
     view_shown (view.Ring lane) knows reached = ring_shown lane knows reached
     view_shown view.Channels knows reached = viewed_at view.Channels core.bench tt rungs.bench reached is.bench
@@ -408,12 +413,6 @@ module _ (name : List ℕ) (named : IsName name) where
       events = one (event.Recovery name set) (((named, (tt, tt)), tt));
     }
 
-    state_spelled : LeavesSpelled (state_effect name core steps)
-    state_spelled =
-        let users = is.life.users in
-        let inc = is.life.incarnation in
-        told core steps (event.State name core.life.state core.life.users core.life.incarnation) is (((named, (tt, (omega (arith, users), (omega (arith, inc), tt)))), tt))
-
   -- ---- what a core shows
 
   trace_told : (index : ℕ) (found : Option (List ℕ)) → index < 2 ^ 64 → IfSome found AreBytes → IsSpelled (shown_trace_event name index found)
@@ -424,28 +423,23 @@ module _ (name : List ℕ) (named : IsName name) where
   memory_told da len None small few some short are = ((named, (small, (omega (arith, few), tt))), tt)
   memory_told da len (Some bytes) small few some short are = ((named, (small, ((some, omega (arith, few, short), are), tt))), tt)
 
-  module _ (core : CoreState) (steps : ℕ) (is : IsFieldCore core) where
-    table_at : (found : Option LoadState) → IfSome found IsFieldLoad → LeavesSpelled (loaded_table_effect name core steps found)
-    table_at None here = told core steps (event.NotLoaded name) is (((named, tt), tt))
-    table_at (Some loaded) here = record {
-      left = is;
-      events = All-map IsSpelled (table_event name) (table_rows loaded.table loaded.traces)
-          (λ at other within. row_words name named (slice_index_or (table_rows loaded.table loaded.traces) at other) (table_rows_are loaded.table loaded.traces here.table at other within));
-    }
+  module _ (core : CoreState) (is : IsFieldCore core) where
+    table_at : (found : Option LoadState) → IfSome found IsFieldLoad → All IsSpelled (loaded_table_events name found)
+    table_at None here = one (event.NotLoaded name) (((named, tt), tt))
+    table_at (Some loaded) here =
+        All-map IsSpelled (table_event name) (table_rows loaded.table loaded.traces)
+        (λ at other within. row_words name named (slice_index_or (table_rows loaded.table loaded.traces) at other) (table_rows_are loaded.table loaded.traces here.table at other within))
 
-    table_spelled : LeavesSpelled (table_effect name core steps)
-    unfolding table_effect
-    table_spelled = table_at core.loaded is.loaded
-
-    trace_spelled : (index : ℕ) → index < 2 ^ 64 → LeavesSpelled (trace_effect name core steps index)
-    unfolding trace_effect
-    trace_spelled index small = told core steps (shown_trace_event name index (trace_bytes core index)) is (trace_told index (trace_bytes core index) small (traced core index is.loaded))
-
-    mem_spelled : (da len : ℕ) → da < 2 ^ 32 → 1 ≤ len → len ≤ 256 → LeavesSpelled (mem_effect name core steps da len)
-    unfolding mem_effect
-    mem_spelled da len small some few =
-        told core steps (shown_memory_event name da len (core_memory core da len)) is
-        (memory_told da len (core_memory core da len) small few (loaded_some core.regions da len core.loaded some is.placed) (loaded_short core.regions da len core.loaded) (memory_bytes core da len core.loaded is.loaded))
+    shown_spelled : (shown : CoreView) → IsKnownCoreView shown → All IsSpelled (core_view_events name core shown)
+    unfolding table_events trace_event memory_event
+    shown_spelled shows.State knows =
+        let users = is.life.users in
+        let inc = is.life.incarnation in
+        one (state_event name core) (((named, (tt, (omega (arith, users), (omega (arith, inc), tt)))), tt))
+    shown_spelled shows.Table knows = table_at core.loaded is.loaded
+    shown_spelled (shows.Trace index) knows = one _ (trace_told index (trace_bytes core index) knows (traced core index is.loaded))
+    shown_spelled (shows.Mem da len) knows =
+        one _ (memory_told da len (core_memory core da len) knows.0 knows.2 (loaded_some core.regions da len core.loaded knows.1 is.placed) (loaded_short core.regions da len core.loaded) (memory_bytes core da len core.loaded is.loaded))
 
   -- ---- lives
 
@@ -510,24 +504,18 @@ module _ (name : List ℕ) (named : IsName name) where
   booted_named None has = named
   booted_named (Some image) has = has
 
-  module _ (core : CoreState) (steps : ℕ) (is : IsFieldCore core) (sound : SoundRegions core.regions) (images : List ImageState) (answer : Answer) (are : AreBytesImages images) (told_are : IfOk answer AreBytes) where
-    boot_spelled : (image : List ℕ) → IsName image → LeavesSpelled (boot_effect images answer name core steps image)
-    unfolding boot_effect
-    boot_spelled image called =
+  module _ (core : CoreState) (is : IsFieldCore core) (sound : SoundRegions core.regions) (reached : IsReachedCore core) (images : List ImageState) (answer : Answer) (are : AreBytesImages images) (told_are : IfOk answer AreBytes) where
+    start_spelled : (start : StartAct) (steps : ℕ) → IsSaidStart start → LeavesSpelled (started_effect start images answer (record { name = name; core = core }) steps)
+    unfolding started_effect
+    start_spelled (starts.Boot image) steps called =
         let found = found_image images answer image in
         let out = boot_fields core image found called (found_are images answer image are told_are) sound is in
         record { left = out.core; events = starts_told image (boot_of core image found).answer called out.answer }
-
-    handover_spelled : (image : List ℕ) → IsName image → LeavesSpelled (handover_effect images answer name core steps image)
-    unfolding handover_effect
-    handover_spelled image called =
+    start_spelled (starts.Handover image) steps called =
         let found = found_image images answer image in
         let out = handover_fields core image found called (found_are images answer image are told_are) sound is in
         record { left = out.core; events = starts_told image (handover_of core image found).answer called out.answer }
-
-    recover_spelled : IsReachedCore core → LeavesSpelled (recover_effect images answer name core steps)
-    unfolding recover_effect
-    recover_spelled reached =
+    start_spelled starts.Recover steps called =
         let image = booted_image name core in
         let found = found_image images answer image in
         let out = recovery_fields core found (found_are images answer image are told_are) sound reached is in
@@ -615,16 +603,11 @@ module _ (images : List ImageState) (answer : Answer) (is_quiet : Bool) (on : Na
   unfolding core_act_effect
   asked_spelled (act.Region region) knows = region_spelled on.name named on.core steps is region
   asked_spelled (act.Driver channel kind) knows = driver_spelled on.name named on.core steps is channel kind knows
-  asked_spelled (act.Boot image) knows = boot_spelled on.name named on.core steps is rungs.load.regions images answer are told_are image knows
-  asked_spelled (act.Handover image) knows = handover_spelled on.name named on.core steps is rungs.load.regions images answer are told_are image knows
+  asked_spelled (act.Start start) knows = start_spelled on.name named on.core is rungs.load.regions reached images answer are told_are start steps knows
   asked_spelled act.Shutdown knows = shutdown_spelled on.name named on.core steps is
   asked_spelled act.Detach knows = detach_spelled on.name named on.core steps is
-  asked_spelled act.State knows = state_spelled on.name named on.core steps is
-  asked_spelled act.Table knows = table_spelled on.name named on.core steps is
-  asked_spelled (act.Trace trace) knows = trace_spelled on.name named on.core steps is trace knows
-  asked_spelled (act.Mem da len) knows = mem_spelled on.name named on.core steps is da len knows.0 knows.1 knows.2
+  asked_spelled (act.Show shown) knows = record { left = is; events = shown_spelled on.name named on.core is shown knows }
   asked_spelled (act.Crash kind) knows = crash_spelled on.name named on.core steps is kind
-  asked_spelled act.Recover knows = recover_spelled on.name named on.core steps is rungs.load.regions images answer are told_are reached
   asked_spelled (act.Recovery set) knows = switch_spelled on.name named on.core steps is set
   asked_spelled (act.Drive count) knows = drive_spelled on.name named is_quiet on.core steps count reached is
 
@@ -633,5 +616,5 @@ module _ (images : List ImageState) (answer : Answer) (is_quiet : Bool) (on : Na
   core_spelled (under.Make made) knows = told on.name named on.core steps (event.Exists on.name) is (((named, tt), tt))
   core_spelled (under.Link asked) knows = link_at on.name named on.core steps is rungs asked on.core.bench knows.0 knows.1 reached.bench is.bench
   core_spelled (under.Manage managed) knows = told on.name named on.core steps (event.Unknown on.name) is (((named, tt), tt))
-  core_spelled (under.Show shown) knows = view_shown on.name named on.core steps is rungs shown knows reached.bench
+  core_spelled (under.Show shown) knows = record { left = is; events = view_shown on.name named on.core steps is rungs shown knows reached.bench }
   core_spelled (under.Core asked) knows = asked_spelled asked knows

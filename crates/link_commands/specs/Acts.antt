@@ -23,6 +23,9 @@ use Rattle.link_commands.specs.declared.acts.LinkView.{LinkView}
 use Rattle.link_commands.specs.declared.acts.LinkView.TheVariants as view
 use Rattle.link_commands.specs.declared.acts.CoreAct.{CoreAct}
 use Rattle.link_commands.specs.declared.acts.CoreAct.TheVariants as core
+use Rattle.link_commands.specs.declared.acts.CoreView.{CoreView}
+use Rattle.link_commands.specs.declared.acts.CoreView.TheVariants as shows
+use Rattle.link_commands.specs.declared.acts.StartAct.TheVariants as start
 
 -- an act with the bytes that it names in place of what code has of them
 abbrev pub bare_named_act : {P : Type 0} → (P → List ℕ) → NamedAct P → NamedAct (List ℕ)
@@ -80,16 +83,16 @@ line_of (command.Ring name lane) = line.On name (under.Show (view.Ring lane))
 line_of (command.Channels name) = line.On name (under.Show view.Channels)
 line_of (command.Region name kind da pa len) = line.On name (under.Core (core.Region (record { kind = kind; da = da; pa = pa; len = len })))
 line_of (command.Driver name channel kind) = line.On name (under.Core (core.Driver channel kind))
-line_of (command.Boot name image) = line.On name (under.Core (core.Boot image))
-line_of (command.Handover name image) = line.On name (under.Core (core.Handover image))
+line_of (command.Boot name image) = line.On name (under.Core (core.Start (start.Boot image)))
+line_of (command.Handover name image) = line.On name (under.Core (core.Start (start.Handover image)))
 line_of (command.Shutdown name) = line.On name (under.Core core.Shutdown)
 line_of (command.Detach name) = line.On name (under.Core core.Detach)
-line_of (command.State name) = line.On name (under.Core core.State)
-line_of (command.Table name) = line.On name (under.Core core.Table)
-line_of (command.Trace name trace) = line.On name (under.Core (core.Trace trace))
-line_of (command.Mem name da len) = line.On name (under.Core (core.Mem da len))
+line_of (command.State name) = line.On name (under.Core (core.Show shows.State))
+line_of (command.Table name) = line.On name (under.Core (core.Show shows.Table))
+line_of (command.Trace name trace) = line.On name (under.Core (core.Show (shows.Trace trace)))
+line_of (command.Mem name da len) = line.On name (under.Core (core.Show (shows.Mem da len)))
 line_of (command.Crash name kind) = line.On name (under.Core (core.Crash kind))
-line_of (command.Recover name) = line.On name (under.Core core.Recover)
+line_of (command.Recover name) = line.On name (under.Core (core.Start start.Recover))
 line_of (command.Recovery name set) = line.On name (under.Core (core.Recovery set))
 line_of (command.Drive name count) = line.On name (under.Core (core.Drive count))
 
@@ -104,8 +107,13 @@ IsFitView (view.Ring lane) = IsLane lane
 IsFitView other = Unit {0}
 
 -- some bytes of memory are asked for
+abbrev pub IsFitCoreView : CoreView → Type 0
+IsFitCoreView (shows.Mem da len) = IsLength len
+IsFitCoreView other = Unit {0}
+
+-- what is asked of a core
 abbrev pub IsFitCore : CoreAct → Type 0
-IsFitCore (core.Mem da len) = IsLength len
+IsFitCore (core.Show shown) = IsFitCoreView shown
 IsFitCore other = Unit {0}
 
 -- an act whose numbers are within what the machine takes

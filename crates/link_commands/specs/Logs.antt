@@ -1,9 +1,10 @@
 -- What a run keeps beside its links (own).
-use Rattle.std.specs.Prelude.{◌≡◌, ℕ, List, ◌++◌, Option}
+use Rattle.std.specs.Prelude.{◌≡◌, ℕ, ◌<◌, List, ◌++◌, length, Option}
 use Rattle.std.specs.Io.KnownBytes.{Appends}
 use Rattle.journal.specs.declared.events.Event.{Event}
 use Rattle.journal.specs.Lines.{transcript}
 use Rattle.link_bench.specs.Benches.{BenchState}
+use Rattle.link_commands.specs.declared.logs.TheConstants.{PIECE}
 use Rattle.link_commands.specs.declared.stops.Stop.{Stop}
 use Rattle.link_commands.specs.Effects.{Effect}
 
@@ -15,6 +16,10 @@ pub record LogState : Type 0 where
 -- these events are told, and no step is counted
 abbrev pub Keeps : LogState → LogState → List Event → Type 0
 Keeps before after told = after ≡ record before { lines = before.lines ++ transcript told }
+
+-- less than a piece is kept
+abbrev pub KeepsLess : LogState → Type 0
+KeepsLess log = length log.lines < PIECE
 
 -- a command left of its bench, told and answered what this effect says
 pub record HasEffect (effect : Effect) (left : BenchState) (before after : LogState) (answer : Option Stop) : Type 0 where

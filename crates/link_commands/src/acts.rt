@@ -79,30 +79,44 @@ pub enum CoreAct {
     Region(Region),
     /// A driver is declared for the channels of a name.
     Driver { channel: Name, kind: DriverKind },
-    /// The core is booted with an image, or gets a user more.
-    Boot { image: Name },
-    /// The core is handed over with an image.
-    Handover { image: Name },
+    /// The core is started, for which it may need an image.
+    Start(StartAct),
     /// A user goes, and the core is shut down with the last.
     Shutdown,
     /// A user of an attached core goes, and it is detached with the last.
     Detach,
-    /// The state, the users and the incarnation are told.
-    State,
-    /// The resource table is told.
-    Table,
-    /// The text of a trace buffer is told.
-    Trace { trace: u64 },
-    /// Bytes of the memory are told.
-    Mem { da: Da, len: u32 },
+    /// What the core shows.
+    Show(CoreView),
     /// A crash is reported.
     Crash { kind: CrashKind },
-    /// The crashed core is recovered.
-    Recover,
     /// Whether the core may be recovered once it crashed.
     Recovery { switch: Switch },
     /// So many steps of the actors are made.
     Drive { count: u64 },
+}
+
+/// A start of a core that may need an image.
+#[derive(Clone, Copy)]
+pub enum StartAct {
+    /// The core is booted with the image of a name, or gets a user more.
+    Boot { image: Name },
+    /// The core is handed over with the image of a name.
+    Handover { image: Name },
+    /// The crashed core is recovered with the image that was booted or handed over.
+    Recover,
+}
+
+/// What a core shows.
+#[derive(Clone, Copy)]
+pub enum CoreView {
+    /// The state, the users and the incarnation.
+    State,
+    /// The resource table.
+    Table,
+    /// The text of a trace buffer.
+    Trace { trace: u64 },
+    /// Bytes of the memory.
+    Mem { da: Da, len: u32 },
 }
 
 /// An act under the name of a command.
@@ -329,17 +343,23 @@ pub fn line_of(command: &Command) -> Line<&Recipe, &[u8]>
             let (channel, kind) = (*channel, *kind);
             on_core!(name, CoreAct::Driver { channel, kind })
         }
-        Command::Boot { name, image } => on_core!(name, CoreAct::Boot { image: *image }),
-        Command::Handover { name, image } => on_core!(name, CoreAct::Handover { image: *image }),
+        Command::Boot { name, image } => {
+            on_core!(name, CoreAct::Start(StartAct::Boot { image: *image }))
+        }
+        Command::Handover { name, image } => {
+            on_core!(name, CoreAct::Start(StartAct::Handover { image: *image }))
+        }
+        Command::Recover { name } => on_core!(name, CoreAct::Start(StartAct::Recover)),
         Command::Shutdown { name } => on_core!(name, CoreAct::Shutdown),
         Command::Detach { name } => on_core!(name, CoreAct::Detach),
-        Command::State { name } => on_core!(name, CoreAct::State),
-        Command::Table { name } => on_core!(name, CoreAct::Table),
-        Command::Recover { name } => on_core!(name, CoreAct::Recover),
-        Command::Trace { name, trace } => on_core!(name, CoreAct::Trace { trace: *trace }),
+        Command::State { name } => on_core!(name, CoreAct::Show(CoreView::State)),
+        Command::Table { name } => on_core!(name, CoreAct::Show(CoreView::Table)),
+        Command::Trace { name, trace } => {
+            on_core!(name, CoreAct::Show(CoreView::Trace { trace: *trace }))
+        }
         Command::Mem { name, da, len } => {
             let (da, len) = (*da as u32, *len as u32);
-            on_core!(name, CoreAct::Mem { da, len })
+            on_core!(name, CoreAct::Show(CoreView::Mem { da, len }))
         }
         Command::Crash { name, kind } => on_core!(name, CoreAct::Crash { kind: *kind }),
         Command::Recovery { name, switch } => {

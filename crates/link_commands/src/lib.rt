@@ -12,9 +12,11 @@ mod rings;
 mod stops;
 
 pub use act_events::{tell_answer, tell_reach};
-pub use acts::{CoreAct, Line, LinkView, Making, ManagerAct, NamedAct, line_of};
+pub use acts::{
+    CoreAct, CoreView, Line, LinkView, Making, ManagerAct, NamedAct, StartAct, line_of,
+};
 pub use channel_lists::tell_channels;
 pub use links::{NamedBench, tell_books};
-pub use logs::RunLog;
+pub use logs::{PIECE, RunLog};
 pub use rings::tell_bytes;
 pub use stops::Stop;

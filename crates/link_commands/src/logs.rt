@@ -4,7 +4,7 @@ ghost use Rattle.std.specs.Io.KnownBytes.{Appends};
 ghost use Rattle.rp_io.specs.Causes.{Rose};
 ghost use Rattle.rp_io.specs.Contents.{AppendsFront};
 ghost use Rattle.journal.specs.Lines.{line};
-ghost use Rattle.link_commands.specs.Logs.{Hands};
+ghost use Rattle.link_commands.specs.Logs.{Hands, KeepsLess};
 ghost use Rattle.journal.specs.Notices.{notice_line};
 
 use journal::{Event, Notice, push_notice};
@@ -14,8 +14,8 @@ use rp_io::{Failed, Sink, write_whole};
 use std::alloc::Global;
 use std::marker::Model;
 
-/// How many bytes are kept at least before they are handed on.
-const PIECE: usize = 16_384;
+/// How many bytes are kept at least before they are handed on: a piece.
+pub const PIECE: usize = 16_384;
 
 /// An event of a name: each field is the variable that is called so, and those in brackets are widened.
 #[macro_export]
@@ -33,6 +33,7 @@ pub(crate) use event;
 pub struct RunLog {
     alloc: Global,
     kept: Vec<u8>,
+    /// The count of the steps that were done, of which acts of callers take theirs.
     pub steps: StepCount,
 }
 
@@ -100,9 +101,10 @@ impl RunLog {
         self.kept.clear();
     }
 
-    /// Hands on what is kept, once it is a whole piece.
+    /// Hands on what is kept, once it is a whole piece, so that less than a piece is kept.
     pub fn hand_on<K: Sink>(&mut self, out: &mut K) -> Result<(), Failed>
         ensures handed { OnOk result (Hands (K.written out.old) self.old.lines (K.written out.new) self.new.lines []) }
+        ensures less { OnOk result (KeepsLess self.new) }
         ensures steps { OnOk result (self.new.steps ≡ self.old.steps) }
         ensures front { OnErr result (AppendsFront (K.written out.old) (K.written out.new) self.old.lines) }
         ensures failed { OnErr result (Rose (K.faults out.old) (K.faults out.new)) }

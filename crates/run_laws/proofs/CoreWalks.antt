@@ -13,23 +13,20 @@ use Rattle.link_bench.specs.declared.acts.LinkAct.{LinkAct}
 use Rattle.link_bench.specs.Benches.{BenchState}
 use Rattle.crash_recover.specs.declared.core_faults.AddFault.{AddFault}
 use Rattle.crash_recover.specs.CoreActs.{core_act, core_act_on}
-use Rattle.crash_recover.specs.CoreRings.{core_ring}
-use Rattle.crash_recover.specs.Cores.{CoreState, LoadState, add_fault, driver_add_fault, with_driver}
+use Rattle.crash_recover.specs.Cores.{CoreState, add_fault, driver_add_fault, with_driver}
 use Rattle.crash_recover.specs.Drives.{drive_step}
 use Rattle.core_laws.proofs.Outcomes.{Stays, boot_stays, detach_stays, handover_stays, recovery_stays, report_stays, shutdown_stays}
 use Rattle.link_commands.specs.declared.acts.CoreAct.{CoreAct}
 use Rattle.link_commands.specs.declared.acts.CoreAct.TheVariants as act
-use Rattle.link_commands.specs.declared.acts.LinkView.{LinkView}
-use Rattle.link_commands.specs.declared.acts.LinkView.TheVariants as view
 use Rattle.link_commands.specs.declared.acts.NamedAct.{NamedAct}
 use Rattle.link_commands.specs.declared.acts.NamedAct.TheVariants as under
-use Rattle.command_run.specs.CoreCommands.{core_act_effect, core_effect}
+use Rattle.link_commands.specs.declared.acts.StartAct.{StartAct}
+use Rattle.link_commands.specs.declared.acts.StartAct.TheVariants as starts
+use Rattle.command_run.specs.CoreCommands.{added_effect, core_act_effect, core_effect, declared_effect, driver_effect, is_on, recovery_effect, region_effect}
 use Rattle.command_run.specs.CoreDrives.{drive_effect, drive_steps, rest_event, rests_or, step_then}
-use Rattle.command_run.specs.CoreEffects.{CoreEffect, added_effect, core_tells, declared_effect, driver_effect, is_on, recovery_effect, region_effect}
-use Rattle.crash_recover.specs.CoreCallers.{core_turn_holder}
-use Rattle.command_run.specs.CoreLinks.{core_link_effect, core_ring_effect, core_shown_effect, core_view_effect, found_ring_effect, found_view_effect}
-use Rattle.command_run.specs.CoreLives.{boot_effect, booted_image, core_stops, crash_effect, detach_effect, found_image, handover_effect, may_step, recover_effect, shutdown_effect}
-use Rattle.command_run.specs.CoreViews.{loaded_table_effect, mem_effect, table_effect, trace_effect}
+use Rattle.command_run.specs.CoreEffects.{CoreEffect, core_tells}
+use Rattle.command_run.specs.CoreLinks.{core_link_effect}
+use Rattle.command_run.specs.CoreLives.{booted_image, core_stops, crash_effect, detach_effect, found_image, may_step, shutdown_effect, started_effect}
 use Rattle.command_run.specs.NamedCores.{NamedCoreState}
 use Rattle.command_run.specs.NamedImages.{ImageState}
 use Rattle.command_run.specs.Stores.{Answer}
@@ -62,28 +59,7 @@ module _ (Fits : LinkAct (List ℕ) → Type 0) (C : CoreState → Type 0) (keep
     act_at asked None left = left
     act_at asked (Some bench) left = left
 
-    ring_at : (lane : ℕ) (found : Option (List ℕ)) → LeavesCore (found_ring_effect name core steps lane found)
-    ring_at lane None = is
-    ring_at lane (Some bytes) = is
-
-    shown_at : (lane : ℕ) (found : Option ℕ) → LeavesCore (core_shown_effect name core steps lane found)
-    shown_at lane None = ring_at lane (core_ring core lane)
-    shown_at lane (Some caller) = is
-
-    ring_kept : (lane : ℕ) → LeavesCore (core_ring_effect name core steps lane)
-    unfolding core_ring_effect
-    ring_kept lane = shown_at lane (core_turn_holder core)
-
-    viewed_at : (shown : LinkView) (found : Option BenchState) → LeavesCore (found_view_effect name core steps shown found)
-    viewed_at shown None = is
-    viewed_at shown (Some bench) = is
-
-    view_kept : (shown : LinkView) → LeavesCore (core_view_effect name core steps shown)
-    view_kept view.Books = viewed_at view.Books core.bench
-    view_kept (view.Ring lane) = ring_kept lane
-    view_kept view.Channels = viewed_at view.Channels core.bench
-
-  -- ---- what a core is made of, and what it shows
+  -- ---- what a core is made of
 
   module _ (name : List ℕ) (core : CoreState) (steps : ℕ) (is : C core) where
     added : (region : Region) (why : Option AddFault) → LeavesCore (added_effect name core steps region why)
@@ -105,37 +81,9 @@ module _ (Fits : LinkAct (List ℕ) → Type 0) (C : CoreState → Type 0) (keep
     switch_kept : (set : Switch) → LeavesCore (recovery_effect name core steps set)
     switch_kept set = keep.lives.same core (record core.life { recovery = is_on set }) core.image core.loaded (record { inc = refl; up = refl }) is
 
-    table_at : (found : Option LoadState) → LeavesCore (loaded_table_effect name core steps found)
-    table_at None = is
-    table_at (Some loaded) = is
-
-    table_kept : LeavesCore (table_effect name core steps)
-    unfolding table_effect
-    table_kept = table_at core.loaded
-
-    trace_kept : (index : ℕ) → LeavesCore (trace_effect name core steps index)
-    unfolding trace_effect
-    trace_kept index = is
-
-    mem_kept : (da len : ℕ) → LeavesCore (mem_effect name core steps da len)
-    unfolding mem_effect
-    mem_kept da len = is
-
   -- ---- lives
 
   module _ (name : List ℕ) (core : CoreState) (steps : ℕ) (is : C core) where
-    boot_kept : (images : List ImageState) (answer : Answer) (image : List ℕ) → LeavesCore (boot_effect images answer name core steps image)
-    unfolding boot_effect
-    boot_kept images answer image = boot_stays C keep.lives core image (found_image images answer image) is
-
-    handover_kept : (images : List ImageState) (answer : Answer) (image : List ℕ) → LeavesCore (handover_effect images answer name core steps image)
-    unfolding handover_effect
-    handover_kept images answer image = handover_stays C keep.lives core image (found_image images answer image) is
-
-    recover_kept : (images : List ImageState) (answer : Answer) → LeavesCore (recover_effect images answer name core steps)
-    unfolding recover_effect
-    recover_kept images answer = recovery_stays C keep.lives core (found_image images answer (booted_image name core)) is
-
     shutdown_kept : LeavesCore (shutdown_effect name core steps)
     unfolding shutdown_effect
     shutdown_kept = shutdown_stays C keep.lives (may_step steps) core is
@@ -147,6 +95,12 @@ module _ (Fits : LinkAct (List ℕ) → Type 0) (C : CoreState → Type 0) (keep
     crash_kept : (kind : CrashKind) → LeavesCore (crash_effect name core steps kind)
     unfolding crash_effect
     crash_kept kind = report_stays C keep.lives (may_step steps) core is
+
+  start_kept : (start : StartAct) (images : List ImageState) (answer : Answer) (on : NamedCoreState) (steps : ℕ) → C on.core → LeavesCore (started_effect start images answer on steps)
+  unfolding started_effect
+  start_kept (starts.Boot image) images answer on steps is = boot_stays C keep.lives on.core image (found_image images answer image) is
+  start_kept (starts.Handover image) images answer on steps is = handover_stays C keep.lives on.core image (found_image images answer image) is
+  start_kept starts.Recover images answer on steps is = recovery_stays C keep.lives on.core (found_image images answer (booted_image on.name on.core)) is
 
   -- ---- drives
 
@@ -175,16 +129,11 @@ module _ (Fits : LinkAct (List ℕ) → Type 0) (C : CoreState → Type 0) (keep
   unfolding core_act_effect
   core_act_kept images answer is_quiet on steps (act.Region region) is = region_kept on.name on.core steps is region
   core_act_kept images answer is_quiet on steps (act.Driver channel kind) is = driver_kept on.name on.core steps is channel kind
-  core_act_kept images answer is_quiet on steps (act.Boot image) is = boot_kept on.name on.core steps is images answer image
-  core_act_kept images answer is_quiet on steps (act.Handover image) is = handover_kept on.name on.core steps is images answer image
+  core_act_kept images answer is_quiet on steps (act.Start start) is = start_kept start images answer on steps is
   core_act_kept images answer is_quiet on steps act.Shutdown is = shutdown_kept on.name on.core steps is
   core_act_kept images answer is_quiet on steps act.Detach is = detach_kept on.name on.core steps is
-  core_act_kept images answer is_quiet on steps act.State is = is
-  core_act_kept images answer is_quiet on steps act.Table is = table_kept on.name on.core steps is
-  core_act_kept images answer is_quiet on steps (act.Trace trace) is = trace_kept on.name on.core steps is trace
-  core_act_kept images answer is_quiet on steps (act.Mem da len) is = mem_kept on.name on.core steps is da len
+  core_act_kept images answer is_quiet on steps (act.Show shown) is = is
   core_act_kept images answer is_quiet on steps (act.Crash kind) is = crash_kept on.name on.core steps is kind
-  core_act_kept images answer is_quiet on steps act.Recover is = recover_kept on.name on.core steps is images answer
   core_act_kept images answer is_quiet on steps (act.Recovery set) is = switch_kept on.name on.core steps is set
   core_act_kept images answer is_quiet on steps (act.Drive count) is = drive_kept on.name is_quiet on.core steps count is
 
@@ -194,5 +143,5 @@ module _ (Fits : LinkAct (List ℕ) → Type 0) (C : CoreState → Type 0) (keep
   core_kept images answer is_quiet on steps (under.Make made) fits is = is
   core_kept images answer is_quiet on steps (under.Link asked) fits is = act_at on.name on.core steps is asked on.core.bench (keep.act on.core steps asked fits is)
   core_kept images answer is_quiet on steps (under.Manage managed) fits is = is
-  core_kept images answer is_quiet on steps (under.Show shown) fits is = view_kept on.name on.core steps is shown
+  core_kept images answer is_quiet on steps (under.Show shown) fits is = is
   core_kept images answer is_quiet on steps (under.Core asked) fits is = core_act_kept images answer is_quiet on steps asked is

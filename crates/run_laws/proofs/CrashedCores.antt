@@ -15,11 +15,10 @@ use Rattle.proc_state.specs.Lives.{Outcome, boot_to, crash_as, handover_to, is_u
 use Rattle.link_bench.specs.declared.acts.LinkAct.{LinkAct}
 use Rattle.link_bench.specs.Benches.{BenchState, link_in}
 use Rattle.crash_recover.specs.declared.core_faults.AddFault.{AddFault}
-use Rattle.crash_recover.specs.Cores.{CoreState, LoadState}
+use Rattle.crash_recover.specs.Cores.{CoreState}
 use Rattle.crash_recover.specs.CoreBoots.{Found, boot_as, boot_of, handover_as, handover_of}
 use Rattle.crash_recover.specs.CoreCrashes.{report_as, report_of}
 use Rattle.crash_recover.specs.CoreLeaves.{detach_of, detached_core, leave_as, shutdown_of, unloaded_core}
-use Rattle.crash_recover.specs.CoreRings.{core_ring}
 use Rattle.core_actors.specs.ActorEnds.{actors_after_end}
 use Rattle.core_laws.specs.BenchMoves.{IsReachedBench, IsReachedCore}
 use Rattle.core_laws.proofs.ActMoves.{act_closed, closed_by}
@@ -28,18 +27,15 @@ use Rattle.channel_bus.specs.Sides.{side_meaning}
 use Rattle.journal.specs.declared.events.Event.TheVariants as event
 use Rattle.link_commands.specs.declared.acts.CoreAct.{CoreAct}
 use Rattle.link_commands.specs.declared.acts.CoreAct.TheVariants as act
-use Rattle.link_commands.specs.declared.acts.LinkView.{LinkView}
-use Rattle.link_commands.specs.declared.acts.LinkView.TheVariants as view
 use Rattle.link_commands.specs.declared.acts.NamedAct.{NamedAct}
 use Rattle.link_commands.specs.declared.acts.NamedAct.TheVariants as under
+use Rattle.link_commands.specs.declared.acts.StartAct.TheVariants as starts
 use Rattle.link_commands.specs.Acts.{IsFitNamed}
-use Rattle.command_run.specs.CoreCommands.{core_act_effect, core_effect}
+use Rattle.command_run.specs.CoreCommands.{added_effect, core_act_effect, core_effect, declared_effect, driver_effect, region_effect}
 use Rattle.command_run.specs.CoreDrives.{drive_effect, drive_steps}
-use Rattle.command_run.specs.CoreEffects.{CoreEffect, added_effect, core_tells, declared_effect, driver_effect, region_effect}
-use Rattle.crash_recover.specs.CoreCallers.{core_turn_holder}
-use Rattle.command_run.specs.CoreLinks.{core_link_effect, core_ring_effect, core_shown_effect, core_view_effect, found_ring_effect, found_view_effect}
-use Rattle.command_run.specs.CoreLives.{boot_effect, crash_effect, detach_effect, found_image, handover_effect, may_step, shutdown_effect}
-use Rattle.command_run.specs.CoreViews.{loaded_table_effect, mem_effect, table_effect, trace_effect}
+use Rattle.command_run.specs.CoreEffects.{CoreEffect, core_tells}
+use Rattle.command_run.specs.CoreLinks.{core_link_effect}
+use Rattle.command_run.specs.CoreLives.{crash_effect, detach_effect, found_image, may_step, shutdown_effect, started_effect}
 use Rattle.command_run.specs.NamedCores.{NamedCoreState}
 use Rattle.command_run.specs.NamedImages.{ImageState}
 use Rattle.command_run.specs.Runs.{RunEffect, RunState, core_located_effect, found_core_effect, located_effect, name_effect, place_of, placed_core_effect, without_link_effect}
@@ -103,7 +99,7 @@ module _ (core : CoreState) (crashed : core.life.state ≡ Crashed) (reached : I
       subst (λ (state : LifeState). StaysCrashed core (report_as may (crash_as (line_of state).crash core.life).life (crash_as (line_of state).crash core.life).answer core).core)
       (sym crashed) unchanged
 
-  -- ---- what a core is made of, and what it shows
+  -- ---- what a core is made of
 
   region_added : (name : List ℕ) (steps : ℕ) (region : Region) (why : Option AddFault) → StaysCrashed core (added_effect name core steps region why).core
   region_added name steps region None = stays _ crashed refl
@@ -112,10 +108,6 @@ module _ (core : CoreState) (crashed : core.life.state ≡ Crashed) (reached : I
   driver_added : (name : List ℕ) (steps : ℕ) (channel : List ℕ) (kind : DriverKind) (why : Option AddFault) → StaysCrashed core (declared_effect name core steps channel kind why).core
   driver_added name steps channel kind None = stays _ crashed refl
   driver_added name steps channel kind (Some why) = unchanged
-
-  table_shown : (name : List ℕ) (steps : ℕ) (found : Option LoadState) → StaysCrashed core (loaded_table_effect name core steps found).core
-  table_shown name steps None = unchanged
-  table_shown name steps (Some loaded) = unchanged
 
   undriven : (name : List ℕ) (is_quiet : Bool) (steps count : ℕ) → StaysCrashed core (drive_effect name is_quiet core steps count).core
   unfolding drive_effect
@@ -135,58 +127,34 @@ module _ (core : CoreState) (crashed : core.life.state ≡ Crashed) (reached : I
         (subst (λ (found : Option BenchState). IfSome found Shut) is shut));
   }
 
-  ring_found : (name : List ℕ) (steps lane : ℕ) (found : Option (List ℕ)) → StaysCrashed core (found_ring_effect name core steps lane found).core
-  ring_found name steps lane None = unchanged
-  ring_found name steps lane (Some bytes) = unchanged
-
-  ring_shown : (name : List ℕ) (steps lane : ℕ) (found : Option ℕ) → StaysCrashed core (core_shown_effect name core steps lane found).core
-  ring_shown name steps lane None = ring_found name steps lane (core_ring core lane)
-  ring_shown name steps lane (Some caller) = unchanged
-
-  ring_left : (name : List ℕ) (steps lane : ℕ) → StaysCrashed core (core_ring_effect name core steps lane).core
-  unfolding core_ring_effect
-  ring_left name steps lane = ring_shown name steps lane (core_turn_holder core)
-
-  found_shown : (name : List ℕ) (steps : ℕ) (shown : LinkView) (found : Option BenchState) → StaysCrashed core (found_view_effect name core steps shown found).core
-  found_shown name steps shown None = unchanged
-  found_shown name steps shown (Some bench) = unchanged
-
-  viewed : (name : List ℕ) (steps : ℕ) (shown : LinkView) → StaysCrashed core (core_view_effect name core steps shown).core
-  viewed name steps view.Books = found_shown name steps view.Books core.bench
-  viewed name steps (view.Ring lane) = ring_left name steps lane
-  viewed name steps view.Channels = found_shown name steps view.Channels core.bench
-
 -- ---- what is done under the name
 
 module _ (images : List ImageState) (answer : Answer) (is_quiet : Bool) (on : NamedCoreState) (steps : ℕ) (crashed : on.core.life.state ≡ Crashed) (reached : IsReachedCore on.core) (shut : IfSome on.core.bench Shut) where
-  on_core : (asked : CoreAct) → asked ≢ act.Recover → StaysCrashed on.core (core_act_effect images answer is_quiet on steps asked).core
-  unfolding core_act_effect region_effect driver_effect boot_effect handover_effect shutdown_effect detach_effect table_effect trace_effect mem_effect crash_effect
+  on_core : (asked : CoreAct) → asked ≢ act.Start starts.Recover → StaysCrashed on.core (core_act_effect images answer is_quiet on steps asked).core
+  unfolding core_act_effect region_effect driver_effect started_effect shutdown_effect detach_effect crash_effect
   on_core (act.Region region) other = region_added on.core crashed reached shut on.name steps region (add_fault on.core region)
   on_core (act.Driver channel kind) other = driver_added on.core crashed reached shut on.name steps channel kind (driver_add_fault on.core channel)
-  on_core (act.Boot image) other = booted on.core crashed reached shut image (found_image images answer image)
-  on_core (act.Handover image) other = handed_over on.core crashed reached shut image (found_image images answer image)
+  on_core (act.Start (starts.Boot image)) other = booted on.core crashed reached shut image (found_image images answer image)
+  on_core (act.Start (starts.Handover image)) other = handed_over on.core crashed reached shut image (found_image images answer image)
   on_core act.Shutdown other = shut_down on.core crashed reached shut (may_step steps)
   on_core act.Detach other = detached on.core crashed reached shut (may_step steps)
-  on_core act.State other = unchanged on.core crashed reached shut
-  on_core act.Table other = table_shown on.core crashed reached shut on.name steps on.core.loaded
-  on_core (act.Trace trace) other = unchanged on.core crashed reached shut
-  on_core (act.Mem da len) other = unchanged on.core crashed reached shut
+  on_core (act.Show shown) other = unchanged on.core crashed reached shut
   on_core (act.Crash kind) other = reported on.core crashed reached shut (may_step steps)
-  on_core act.Recover other = absurd (other refl)
+  on_core (act.Start starts.Recover) other = absurd (other refl)
   on_core (act.Recovery set) other = stays on.core crashed reached shut _ crashed refl
   on_core (act.Drive count) other = undriven on.core crashed reached shut on.name is_quiet steps count
 
-  under_name : (wanted : NamedAct (List ℕ)) → IsFitNamed wanted → wanted ≢ under.Core act.Recover → StaysCrashed on.core (core_effect images answer is_quiet on steps wanted).core
+  under_name : (wanted : NamedAct (List ℕ)) → IsFitNamed wanted → wanted ≢ under.Core (act.Start starts.Recover) → StaysCrashed on.core (core_effect images answer is_quiet on steps wanted).core
   unfolding core_effect
   under_name (under.Make made) fits other = unchanged on.core crashed reached shut
   under_name (under.Link asked) fits other = acted on.core crashed reached shut on.name steps asked on.core.bench refl fits
   under_name (under.Manage managed) fits other = unchanged on.core crashed reached shut
-  under_name (under.Show shown) fits other = viewed on.core crashed reached shut on.name steps shown
+  under_name (under.Show shown) fits other = unchanged on.core crashed reached shut
   under_name (under.Core asked) fits other = on_core asked (λ same. other (ap under.Core same))
 
 -- what is done under the name of a crashed core of a run
 pub stays_crashed : (answer : Answer) (run : RunState) (name : List ℕ) (place : ℕ) (on : NamedCoreState) (wanted : NamedAct (List ℕ)) → IsCoreAt run name place on → IsFitNamed wanted
-    → IsReachedCore on.core → on.core.life.state ≡ Crashed → IfSome on.core.bench (λ (bench : BenchState). (link_in bench).era.is_live ≡ false) → wanted ≢ under.Core act.Recover
+    → IsReachedCore on.core → on.core.life.state ≡ Crashed → IfSome on.core.bench (λ (bench : BenchState). (link_in bench).era.is_live ≡ false) → wanted ≢ under.Core (act.Start starts.Recover)
     → IsSomeAnd (core_at (name_effect answer run name wanted).run place) (StaysCrashed on.core)
 unfolding name_effect without_link_effect
 stays_crashed answer run name place on wanted at fits reached crashed shut other =

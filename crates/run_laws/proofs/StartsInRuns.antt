@@ -7,11 +7,12 @@ use Rattle.proc_state.specs.Lives.{most}
 use Rattle.script_lang.specs.declared.commands.Command.TheVariants as command
 use Rattle.link_commands.specs.declared.acts.CoreAct.{CoreAct}
 use Rattle.link_commands.specs.declared.acts.CoreAct.TheVariants as core
+use Rattle.link_commands.specs.declared.acts.StartAct.TheVariants as starts
 use Rattle.link_commands.specs.declared.acts.NamedAct.TheVariants as under
 use Rattle.command_run.specs.NamedCores.{NamedCoreState}
 use Rattle.command_run.specs.CoreCommands.{core_act_effect, core_effect}
 use Rattle.command_run.specs.CoreEffects.{CoreEffect}
-use Rattle.command_run.specs.CoreLives.{boot_effect, booted_image, crash_effect, detach_effect, found_image, handover_effect, may_step, recover_effect, shutdown_effect}
+use Rattle.command_run.specs.CoreLives.{booted_image, crash_effect, detach_effect, found_image, may_step, shutdown_effect, started_effect}
 use Rattle.command_run.specs.Runs.{RunEffect, RunState, core_located_effect, effect_of, found_core_effect, located_effect, name_effect, placed_core_effect, without_link_effect}
 use Rattle.command_run.specs.Stores.{Answer}
 use Rattle.rp_base.specs.declared.kinds.CrashKind.{CrashKind}
@@ -55,29 +56,29 @@ comes_to now state to is both = (λ there. both.0 (some_is state to (sym is ∙ 
 pub boots_in_run : (answer : Answer) (run : RunState) (name image : List ℕ) (place : ℕ) (on : NamedCoreState) → IsCoreAt run name place on → on.core.life.state ≡ Offline
     → on.core.life.incarnation ≢ most
     → (state_at (effect_of answer run (command.Boot name image)).run place ≡ Some Running) ↔ FindsLoadable on.core (found_image run.objects.images answer image)
-unfolding effect_of core_act_effect boot_effect
+unfolding effect_of core_act_effect started_effect
 boots_in_run answer run name image place on at offline few =
     comes_to _ _ Running
-    (ap (λ (effect : RunEffect). state_at effect.run place) (act_at answer run name place on (core.Boot image) at)
-    ∙ state_behind run name place on (core_act_effect run.objects.images answer run.objects.is_quiet on run.steps (core.Boot image)) at)
+    (ap (λ (effect : RunEffect). state_at effect.run place) (act_at answer run name place on (core.Start (starts.Boot image)) at)
+    ∙ state_behind run name place on (core_act_effect run.objects.images answer run.objects.is_quiet on run.steps (core.Start (starts.Boot image))) at)
     (boots_where on.core image (found_image run.objects.images answer image) offline few)
 
 pub attaches_in_run : (answer : Answer) (run : RunState) (name image : List ℕ) (place : ℕ) (on : NamedCoreState) → IsCoreAt run name place on → on.core.life.state ≡ Detached
     → (state_at (effect_of answer run (command.Boot name image)).run place ≡ Some Attached) ↔ (on.core.life.incarnation ≢ most)
-unfolding effect_of core_act_effect boot_effect
+unfolding effect_of core_act_effect started_effect
 attaches_in_run answer run name image place on at detached =
     comes_to _ _ Attached
-    (ap (λ (effect : RunEffect). state_at effect.run place) (act_at answer run name place on (core.Boot image) at)
-    ∙ state_behind run name place on (core_act_effect run.objects.images answer run.objects.is_quiet on run.steps (core.Boot image)) at)
+    (ap (λ (effect : RunEffect). state_at effect.run place) (act_at answer run name place on (core.Start (starts.Boot image)) at)
+    ∙ state_behind run name place on (core_act_effect run.objects.images answer run.objects.is_quiet on run.steps (core.Start (starts.Boot image))) at)
     (attaches_where on.core image (found_image run.objects.images answer image) detached)
 
 pub hands_over_in_run : (answer : Answer) (run : RunState) (name image : List ℕ) (place : ℕ) (on : NamedCoreState) → IsCoreAt run name place on → on.core.life.state ≡ Offline
     → (state_at (effect_of answer run (command.Handover name image)).run place ≡ Some Detached) ↔ FindsLoadable on.core (found_image run.objects.images answer image)
-unfolding effect_of core_act_effect handover_effect
+unfolding effect_of core_act_effect started_effect
 hands_over_in_run answer run name image place on at offline =
     comes_to _ _ Detached
-    (ap (λ (effect : RunEffect). state_at effect.run place) (act_at answer run name place on (core.Handover image) at)
-    ∙ state_behind run name place on (core_act_effect run.objects.images answer run.objects.is_quiet on run.steps (core.Handover image)) at)
+    (ap (λ (effect : RunEffect). state_at effect.run place) (act_at answer run name place on (core.Start (starts.Handover image)) at)
+    ∙ state_behind run name place on (core_act_effect run.objects.images answer run.objects.is_quiet on run.steps (core.Start (starts.Handover image))) at)
     (hands_over_where on.core image (found_image run.objects.images answer image) offline)
 
 -- ---- the core behind each call
@@ -97,16 +98,16 @@ core_left answer run name place on act at =
 
 module _ (answer : Answer) (run : RunState) (name : List ℕ) (place : ℕ) (on : NamedCoreState) (at : IsCoreAt run name place on) where
   pub boot_leaves : (image : List ℕ) → core_at (effect_of answer run (command.Boot name image)).run place ≡ Some (boot_of on.core image (found_image run.objects.images answer image)).core
-  unfolding effect_of core_act_effect boot_effect
-  boot_leaves image = core_left answer run name place on (core.Boot image) at
+  unfolding effect_of core_act_effect started_effect
+  boot_leaves image = core_left answer run name place on (core.Start (starts.Boot image)) at
 
   pub handover_leaves : (image : List ℕ) → core_at (effect_of answer run (command.Handover name image)).run place ≡ Some (handover_of on.core image (found_image run.objects.images answer image)).core
-  unfolding effect_of core_act_effect handover_effect
-  handover_leaves image = core_left answer run name place on (core.Handover image) at
+  unfolding effect_of core_act_effect started_effect
+  handover_leaves image = core_left answer run name place on (core.Start (starts.Handover image)) at
 
   pub recovery_leaves : core_at (effect_of answer run (command.Recover name)).run place ≡ Some (recovery_of on.core (found_image run.objects.images answer (booted_image on.name on.core))).core
-  unfolding effect_of core_act_effect recover_effect
-  recovery_leaves = core_left answer run name place on core.Recover at
+  unfolding effect_of core_act_effect started_effect
+  recovery_leaves = core_left answer run name place on (core.Start starts.Recover) at
 
   pub shutdown_leaves : core_at (effect_of answer run (command.Shutdown name)).run place ≡ Some (shutdown_of (may_step run.steps) on.core).core
   unfolding effect_of core_act_effect shutdown_effect

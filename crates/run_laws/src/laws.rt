@@ -15,6 +15,7 @@ ghost use Rattle.command_run.specs.CoreLives.{booted_image, found_image, may_ste
 ghost use Rattle.core_laws.specs.BenchMoves.{IsReachedBench};
 ghost use Rattle.core_laws.specs.BenchMoves.{IsReachedCore};
 ghost use Rattle.link_commands.specs.declared.acts.CoreAct.TheVariants as core;
+ghost use Rattle.link_commands.specs.declared.acts.StartAct.TheVariants as start;
 ghost use Rattle.link_commands.specs.declared.acts.NamedAct.{NamedAct};
 ghost use Rattle.link_commands.specs.declared.acts.NamedAct.TheVariants as under;
 ghost use Rattle.link_commands.specs.Acts.{IsFitNamed};
@@ -114,7 +115,7 @@ pub fn closed_hands_none()
 pub fn crashed_hands_none()
     ensures { (answer : Answer) (run : RunState) (name : List ℕ) (place : ℕ) (on : NamedCoreState) (wanted : NamedAct (List ℕ)) → IsCoreAt run name place on
         → IsFitNamed wanted → IsReachedCore on.core → on.core.life.state ≡ state.Crashed → IfSome on.core.bench (λ (bench : BenchState). (link_in bench).era.is_live ≡ false)
-        → wanted ≢ under.Core core.Recover → IsSomeAnd (core_at (name_effect answer run name wanted).run place) (StaysCrashed on.core) }
+        → wanted ≢ under.Core (core.Start start.Recover) → IsSomeAnd (core_at (name_effect answer run name wanted).run place) (StaysCrashed on.core) }
 {}
 
 /// After each list of commands the link of each core has the core's own callers in use, 0 at the host and 1 at the remote, no turn of it is the

@@ -10,7 +10,6 @@ use Rattle.crash_recover.specs.CoreBoots.{Found, boot_as, boot_of, core_bench, f
 use Rattle.crash_recover.specs.CoreCrashes.{crashed_core, report_of}
 use Rattle.crash_recover.specs.CoreLeaves.{close_or, detach_of, detached_core, leave_as, live_inc, shutdown_of, unloaded_core}
 use Rattle.crash_recover.specs.CoreRecoveries.{core_to_reopen, recovery_fault, recovery_of, reload_fault, reopen_fault}
-use Rattle.crash_recover.specs.CoreRings.{core_ring}
 use Rattle.crash_recover.specs.Cores.{CoreOutcome, CoreState, LoadState, add_fault, driver_add_fault, loaded_rings, new_core}
 use Rattle.core_actors.specs.ActorEnds.{actors_after_end}
 use Rattle.core_actors.specs.ActorSteps.{has_calls}
@@ -66,23 +65,20 @@ use Rattle.run_laws.proofs.CoreWalks.{FitsNamed}
 use Rattle.script_lang.specs.Runnable.{IsBook}
 use Rattle.script_lang.specs.declared.commands.RegionSet.{RegionSet}
 use Rattle.script_lang.specs.declared.commands.RegionSet.TheVariants as regions
-use Rattle.command_run.specs.CoreCommands.{core_act_effect, core_effect}
+use Rattle.command_run.specs.CoreCommands.{added_effect, core_act_effect, core_effect, declared_effect, driver_effect, region_effect}
 use Rattle.command_run.specs.CoreDrives.{drive_effect, drive_steps, rest_event, rests_or, step_then}
-use Rattle.command_run.specs.CoreEffects.{CoreEffect, added_effect, core_tells, declared_effect, driver_effect, region_effect}
-use Rattle.crash_recover.specs.CoreCallers.{core_turn_holder}
-use Rattle.command_run.specs.CoreLinks.{core_ring_effect, core_shown_effect, core_view_effect, found_ring_effect, found_view_effect}
-use Rattle.command_run.specs.CoreLives.{boot_effect, booted_image, core_stops, crash_effect, detach_effect, found_image, handover_effect, may_step, recover_effect, shutdown_effect}
-use Rattle.command_run.specs.CoreViews.{loaded_table_effect, mem_effect, table_effect, trace_effect}
+use Rattle.command_run.specs.CoreEffects.{CoreEffect, core_tells}
+use Rattle.command_run.specs.CoreLives.{booted_image, core_stops, crash_effect, detach_effect, found_image, may_step, shutdown_effect, started_effect}
 use Rattle.command_run.specs.NamedCores.{NamedCoreState}
 use Rattle.command_run.specs.NamedImages.{ImageState}
 use Rattle.command_run.specs.Runs.{regions_of}
 use Rattle.command_run.specs.Stores.{Answer}
 use Rattle.link_commands.specs.declared.acts.CoreAct.{CoreAct}
 use Rattle.link_commands.specs.declared.acts.CoreAct.TheVariants as act
-use Rattle.link_commands.specs.declared.acts.LinkView.{LinkView}
-use Rattle.link_commands.specs.declared.acts.LinkView.TheVariants as view
 use Rattle.link_commands.specs.declared.acts.NamedAct.{NamedAct}
 use Rattle.link_commands.specs.declared.acts.NamedAct.TheVariants as under
+use Rattle.link_commands.specs.declared.acts.StartAct.{StartAct}
+use Rattle.link_commands.specs.declared.acts.StartAct.TheVariants as starts
 use Rattle.std.proofs.Common.{Bool, Err, IfSome, List, None, Ok, Option, Result, Some, [], ap, arith, cond, false, is_some, map, option_map, refl, subst, suc, sym, true, zero, ℕ, ◌+◌, ◌<◌, ◌==◌, ◌∷◌, ◌≡◌, ◌≤◌, ◌∙◌}
 use Rattle.std.proofs.lemmas.Bool.{cond_both, eqb-true, true≢false}
 use Rattle.std.proofs.lemmas.List.Elements.{All-nil}
@@ -373,50 +369,21 @@ module _ (images : List ImageState) (answer : Answer) (on : NamedCoreState) (ste
   unfolding driver_effect
   driver_rung channel kind = declared channel kind (driver_add_fault on.core channel)
 
-  table_at : (found : Option LoadState) → Leaves (loaded_table_effect on.name on.core steps found)
-  table_at None = is
-  table_at (Some loaded) = is
-
-  ring_at : (lane : ℕ) (found : Option (List ℕ)) → Leaves (found_ring_effect on.name on.core steps lane found)
-  ring_at lane None = is
-  ring_at lane (Some bytes) = is
-
-  shown_at : (lane : ℕ) (found : Option ℕ) → Leaves (core_shown_effect on.name on.core steps lane found)
-  shown_at lane None = ring_at lane (core_ring on.core lane)
-  shown_at lane (Some caller) = is
-
-  viewed_at : (shown : LinkView) (found : Option BenchState) → Leaves (found_view_effect on.name on.core steps shown found)
-  viewed_at shown None = is
-  viewed_at shown (Some bench) = is
-
-  view_rung : (shown : LinkView) → Leaves (core_view_effect on.name on.core steps shown)
-  unfolding core_ring_effect
-  view_rung view.Books = viewed_at view.Books on.core.bench
-  view_rung (view.Ring lane) = shown_at lane (core_turn_holder on.core)
-  view_rung view.Channels = viewed_at view.Channels on.core.bench
-
-  boot_on : (image : List ℕ) → Leaves (boot_effect images answer on.name on.core steps image)
-  unfolding boot_effect
-  boot_on image = boot_rung on.core is image (found_image images answer image)
-
-  handover_on : (image : List ℕ) → Leaves (handover_effect images answer on.name on.core steps image)
-  unfolding handover_effect
-  handover_on image = handover_rung on.core is image (found_image images answer image)
+  start_on : (start : StartAct) → Leaves (started_effect start images answer on steps)
+  unfolding started_effect
+  start_on (starts.Boot image) = boot_rung on.core is image (found_image images answer image)
+  start_on (starts.Handover image) = handover_rung on.core is image (found_image images answer image)
+  start_on starts.Recover = recovery_rung on.core is (found_image images answer (booted_image on.name on.core))
 
   act_on : (is_quiet : Bool) (asked : CoreAct) → Leaves (core_act_effect images answer is_quiet on steps asked)
-  unfolding core_act_effect shutdown_effect detach_effect crash_effect recover_effect table_effect trace_effect mem_effect
+  unfolding core_act_effect shutdown_effect detach_effect crash_effect
   act_on is_quiet (act.Region region) = region_rung region
   act_on is_quiet (act.Driver channel kind) = driver_rung channel kind
-  act_on is_quiet (act.Boot image) = boot_on image
-  act_on is_quiet (act.Handover image) = handover_on image
+  act_on is_quiet (act.Start start) = start_on start
   act_on is_quiet act.Shutdown = shutdown_rung on.core is (may_step steps)
   act_on is_quiet act.Detach = detach_rung on.core is (may_step steps)
-  act_on is_quiet act.State = is
-  act_on is_quiet act.Table = table_at on.core.loaded
-  act_on is_quiet (act.Trace trace) = is
-  act_on is_quiet (act.Mem da len) = is
+  act_on is_quiet (act.Show shown) = is
   act_on is_quiet (act.Crash kind) = report_rung on.core is (may_step steps)
-  act_on is_quiet act.Recover = recovery_rung on.core is (found_image images answer (booted_image on.name on.core))
   act_on is_quiet (act.Recovery set) = record { load = record { book = is.load.book; regions = is.load.regions; rings = is.load.rings }; bench = is.bench }
   act_on is_quiet (act.Drive count) = drive_on on.name is_quiet on.core steps count reached is
 
@@ -426,7 +393,7 @@ module _ (images : List ImageState) (answer : Answer) (on : NamedCoreState) (ste
   core_rung is_quiet (under.Link asked) fits =
       subst IsRungCore (sym (link_effect_core on.name on.core steps asked on.core.bench)) (act_rung on.core steps asked on.core.bench refl fits reached.bench is)
   core_rung is_quiet (under.Manage managed) fits = is
-  core_rung is_quiet (under.Show shown) fits = view_rung shown
+  core_rung is_quiet (under.Show shown) fits = is
   core_rung is_quiet (under.Core asked) fits = act_on is_quiet asked
 
 -- no regions are sound, and so are the standard ones

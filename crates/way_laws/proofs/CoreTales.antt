@@ -34,13 +34,12 @@ use Rattle.crash_recover.specs.declared.core_answers.Start.TheVariants as start
 use Rattle.crash_recover.specs.declared.core_faults.CoreFault.{CoreFault}
 use Rattle.crash_recover.specs.declared.core_faults.CoreFault.TheVariants as fault
 use Rattle.crash_recover.specs.declared.core_faults.AddFault.{AddFault}
-use Rattle.crash_recover.specs.CoreRings.{core_ring}
 use Rattle.crash_recover.specs.CoreCrashes.{report_of}
 use Rattle.crash_recover.specs.CoreActs.{core_act_on}
 use Rattle.crash_recover.specs.CoreBoots.{Found, boot_as, boot_of, config_of, core_bench, first_boot, fresh_end, handover_as, handover_of, image_fault, load_in, started_core, with_load}
 use Rattle.crash_recover.specs.CoreLeaves.{close_or, detach_of, detached_core, leave_as, live_inc, shutdown_of, unloaded_core}
 use Rattle.crash_recover.specs.CoreRecoveries.{after_recovery, core_to_reopen, recovery_fault, recovery_of, reload_fault, reopen_fault}
-use Rattle.crash_recover.specs.Cores.{CoreOutcome, CoreState, LoadState, add_fault, driver_add_fault, loaded_rings, refuse_or}
+use Rattle.crash_recover.specs.Cores.{CoreOutcome, CoreState, add_fault, driver_add_fault, loaded_rings, refuse_or}
 use Rattle.core_actors.specs.Actors.{driver_names}
 use Rattle.core_actors.specs.ActorEnds.{actors_after_end}
 use Rattle.crash_recover.specs.Drives.{drive_step}
@@ -48,17 +47,15 @@ use Rattle.core_laws.specs.BenchMoves.{IsReachedBench, IsReachedCore}
 use Rattle.core_laws.proofs.CoreMoves.{core_driven}
 use Rattle.link_commands.specs.declared.acts.CoreAct.{CoreAct}
 use Rattle.link_commands.specs.declared.acts.CoreAct.TheVariants as act
-use Rattle.link_commands.specs.declared.acts.LinkView.{LinkView}
-use Rattle.link_commands.specs.declared.acts.LinkView.TheVariants as view
 use Rattle.link_commands.specs.declared.acts.NamedAct.{NamedAct}
 use Rattle.link_commands.specs.declared.acts.NamedAct.TheVariants as under
-use Rattle.command_run.specs.CoreCommands.{core_act_effect, core_effect}
+use Rattle.link_commands.specs.declared.acts.StartAct.{StartAct}
+use Rattle.link_commands.specs.declared.acts.StartAct.TheVariants as starts
+use Rattle.command_run.specs.CoreCommands.{added_effect, core_act_effect, core_effect, declared_effect, driver_effect, region_effect}
 use Rattle.command_run.specs.CoreDrives.{drive_effect, drive_steps, rest_event, rests_or, step_then}
-use Rattle.command_run.specs.CoreEffects.{CoreEffect, added_effect, core_tells, declared_effect, driver_effect, region_effect}
-use Rattle.crash_recover.specs.CoreCallers.{core_turn_holder}
-use Rattle.command_run.specs.CoreLinks.{core_link_effect, core_ring_effect, core_shown_effect, core_view_effect, found_ring_effect, found_view_effect}
-use Rattle.command_run.specs.CoreLives.{boot_effect, booted_image, core_stops, crash_effect, detach_effect, found_image, handover_effect, may_step, recover_effect, shutdown_effect}
-use Rattle.command_run.specs.CoreViews.{loaded_table_effect, mem_effect, table_effect, trace_effect}
+use Rattle.command_run.specs.CoreEffects.{CoreEffect, core_tells}
+use Rattle.command_run.specs.CoreLinks.{core_link_effect}
+use Rattle.command_run.specs.CoreLives.{booted_image, core_stops, crash_effect, detach_effect, found_image, may_step, shutdown_effect, started_effect}
 use Rattle.command_run.specs.NamedCores.{NamedCoreState}
 use Rattle.command_run.specs.NamedImages.{ImageState}
 use Rattle.command_run.specs.Stores.{Answer}
@@ -267,22 +264,6 @@ module _ (end : End) (images : List ImageState) (answer : Answer) (on : NamedCor
   unfolding driver_effect
   driver_same channel kind = declared channel kind (driver_add_fault on.core channel)
 
-  table_at : (found : Option LoadState) → Same (loaded_table_effect on.name on.core steps found)
-  table_at None = is
-  table_at (Some loaded) = is
-
-  table_same : Same (table_effect on.name on.core steps)
-  unfolding table_effect
-  table_same = table_at on.core.loaded
-
-  trace_same : (index : ℕ) → Same (trace_effect on.name on.core steps index)
-  unfolding trace_effect
-  trace_same index = is
-
-  mem_same : (da len : ℕ) → Same (mem_effect on.name on.core steps da len)
-  unfolding mem_effect
-  mem_same da len = is
-
   image_left : (why : Option CoreFault) (done : CoreOutcome Start CoreFault) → TaleIf end done.core.bench account → TaleIf end (refuse_or on.core why done).core.bench account
   image_left None done rest = rest
   image_left (Some why) done rest = is
@@ -291,38 +272,14 @@ module _ (end : End) (images : List ImageState) (answer : Answer) (on : NamedCor
   handover_left life (Err why) name found = is
   handover_left life (Ok done) name found = image_left (image_fault on.core found) _ is
 
-  handover_same : (name : List ℕ) → Same (handover_effect images answer on.name on.core steps name)
-  unfolding handover_effect handover_of
-  handover_same name = handover_left (life_after_handover on.core.life).life (life_after_handover on.core.life).answer name (found_image images answer name)
-
-  -- ---- views
-
-  ring_at : (lane : ℕ) (found : Option (List ℕ)) → Same (found_ring_effect on.name on.core steps lane found)
-  ring_at lane None = is
-  ring_at lane (Some bytes) = is
-
-  shown_at : (lane : ℕ) (found : Option ℕ) → Same (core_shown_effect on.name on.core steps lane found)
-  shown_at lane None = ring_at lane (core_ring on.core lane)
-  shown_at lane (Some caller) = is
-
-  ring_same : (lane : ℕ) → Same (core_ring_effect on.name on.core steps lane)
-  unfolding core_ring_effect
-  ring_same lane = shown_at lane (core_turn_holder on.core)
-
-  viewed_at : (shown : LinkView) (found : Option BenchState) → Same (found_view_effect on.name on.core steps shown found)
-  viewed_at shown None = is
-  viewed_at shown (Some bench) = is
-
-  view_same : (shown : LinkView) → Same (core_view_effect on.name on.core steps shown)
-  view_same view.Books = viewed_at view.Books on.core.bench
-  view_same (view.Ring lane) = ring_same lane
-  view_same view.Channels = viewed_at view.Channels on.core.bench
-
   -- ---- lives
 
-  boot_on : (image : List ℕ) → TaleIf end (boot_effect images answer on.name on.core steps image).core.bench (life_account end images answer on steps (act.Boot image) account)
-  unfolding boot_effect
-  boot_on image = boot_tale end on.core account is image (found_image images answer image)
+  start_on : (start : StartAct) → TaleIf end (started_effect start images answer on steps).core.bench (life_account end images answer on steps (act.Start start) account)
+  unfolding started_effect handover_of
+  start_on (starts.Boot image) = boot_tale end on.core account is image (found_image images answer image)
+  start_on (starts.Handover image) =
+      handover_left (life_after_handover on.core.life).life (life_after_handover on.core.life).answer image (found_image images answer image)
+  start_on starts.Recover = recovery_tale end on.core account is (found_image images answer (booted_image on.name on.core))
 
   shutdown_on : TaleIf end (shutdown_effect on.name on.core steps).core.bench (life_account end images answer on steps act.Shutdown account)
   unfolding shutdown_effect
@@ -336,24 +293,15 @@ module _ (end : End) (images : List ImageState) (answer : Answer) (on : NamedCor
   unfolding crash_effect
   crash_on kind = deeds_if end on.core.bench account _ (report_of (may_step steps) on.core).core.bench is (report_lands (may_step steps) on.core)
 
-  recover_on : TaleIf end (recover_effect images answer on.name on.core steps).core.bench (life_account end images answer on steps act.Recover account)
-  unfolding recover_effect
-  recover_on = recovery_tale end on.core account is (found_image images answer (booted_image on.name on.core))
-
   core_act_tale : (is_quiet : Bool) (asked : CoreAct) → IsReachedCore on.core → TaleIf end (core_act_effect images answer is_quiet on steps asked).core.bench (life_account end images answer on steps asked account)
   unfolding core_act_effect
   core_act_tale is_quiet (act.Region region) reached = region_same region
   core_act_tale is_quiet (act.Driver channel kind) reached = driver_same channel kind
-  core_act_tale is_quiet (act.Boot image) reached = boot_on image
-  core_act_tale is_quiet (act.Handover image) reached = handover_same image
+  core_act_tale is_quiet (act.Start start) reached = start_on start
   core_act_tale is_quiet act.Shutdown reached = shutdown_on
   core_act_tale is_quiet act.Detach reached = detach_on
-  core_act_tale is_quiet act.State reached = is
-  core_act_tale is_quiet act.Table reached = table_same
-  core_act_tale is_quiet (act.Trace trace) reached = trace_same trace
-  core_act_tale is_quiet (act.Mem da len) reached = mem_same da len
+  core_act_tale is_quiet (act.Show shown) reached = is
   core_act_tale is_quiet (act.Crash kind) reached = crash_on kind
-  core_act_tale is_quiet act.Recover reached = recover_on
   core_act_tale is_quiet (act.Recovery set) reached = is
   core_act_tale is_quiet (act.Drive count) reached = drive_tale end on.name is_quiet on.core steps count account reached is
 
@@ -370,5 +318,5 @@ module _ (end : End) (images : List ImageState) (answer : Answer) (on : NamedCor
   core_tale is_quiet (under.Make made) fits reached = is
   core_tale is_quiet (under.Link asked) fits reached = linked_tale asked fits reached
   core_tale is_quiet (under.Manage managed) fits reached = is
-  core_tale is_quiet (under.Show shown) fits reached = view_same shown
+  core_tale is_quiet (under.Show shown) fits reached = is
   core_tale is_quiet (under.Core asked) fits reached = core_act_tale is_quiet asked reached

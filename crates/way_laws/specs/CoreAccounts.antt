@@ -23,6 +23,7 @@ use Rattle.link_commands.specs.declared.acts.Line.{Line}
 use Rattle.link_commands.specs.declared.acts.Line.TheVariants as line
 use Rattle.link_commands.specs.declared.acts.NamedAct.{NamedAct}
 use Rattle.link_commands.specs.declared.acts.NamedAct.TheVariants as under
+use Rattle.link_commands.specs.declared.acts.StartAct.TheVariants as starts
 use Rattle.link_commands.specs.Acts.{line_of}
 use Rattle.command_run.specs.CoreDrives.{rest_event}
 use Rattle.command_run.specs.CoreLives.{booted_image, found_image, may_step}
@@ -81,14 +82,15 @@ drive_account end (suc more) name on steps account =
 
 -- behind an act on a core
 abbrev pub life_account : End → List ImageState → Answer → NamedCoreState → ℕ → CoreAct → Option Account → Option Account
-life_account end images answer on steps (core.Boot image) account =
+life_account end images answer on steps (core.Start (starts.Boot image)) account =
     let booted = boot_of on.core image (found_image images answer image) in started_account booted.core.bench booted.answer account
+life_account end images answer on steps (core.Start (starts.Handover image)) account = account
+life_account end images answer on steps (core.Start starts.Recover) account =
+    recovery_account end on.core (found_image images answer (booted_image on.name on.core)) account
 life_account end images answer on steps core.Shutdown account = left_account (shutdown_of (may_step steps) on.core).core.bench account
 life_account end images answer on steps core.Detach account = left_account (detach_of (may_step steps) on.core).core.bench account
 life_account end images answer on steps (core.Crash kind) account =
     deed_account end on.core.bench (reported_deeds (report_of (may_step steps) on.core).answer on.core.bench) account
-life_account end images answer on steps core.Recover account =
-    recovery_account end on.core (found_image images answer (booted_image on.name on.core)) account
 life_account end images answer on steps (core.Drive count) account =
     if is_up on.core.life.state then drive_account end count on.name on.core steps account else account
 life_account end images answer on steps other account = account

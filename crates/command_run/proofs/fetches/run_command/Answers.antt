@@ -1,5 +1,6 @@
-use Rattle.std.proofs.Common.{◌≡◌, ◌++◌, ℕ, List, Option, None, IfOk, IfErr, Result, Ok, Err, refl, sym, subst}
+use Rattle.std.proofs.Common.{◌≡◌, ◌++◌, ℕ, List, Option, None, IfOk, IfErr, Result, Ok, Err, refl, sym, subst, ◌∙◌}
 use Rattle.std.specs.Prelude.{OnOk}
+use Rattle.std.proofs.lemmas.Result.{IfOk-weaker}
 use Rattle.journal.specs.Lines.{transcript}
 use Rattle.rp_io.specs.declared.faults.FetchFault.TheVariants as fetch_fault
 use Rattle.script_lang.specs.declared.commands.Command.{Command}
@@ -11,7 +12,7 @@ use Rattle.command_run.specs.declared.fetches.CommandFault.TheVariants as comman
 use Rattle.link_commands.specs.declared.stops.Stop.{Stop}
 use Rattle.link_commands.specs.Logs.{LogState}
 use Rattle.command_run.specs.Outcomes.{CutsRun, HandsRunEffect}
-use Rattle.command_run.specs.Fetches.{EndsCut, IfWrite, IsToldFor, RunsTold}
+use Rattle.command_run.specs.Fetches.{EndsCut, IfWrite, IsToldFor, KeepsDrive, KeepsDriven, RunsTold}
 use Rattle.command_run.specs.Runs.{ObjectsState, RunState, asked_name, effect_of, name_effect}
 use Rattle.command_run.proofs.Shelves.{shelf_of}
 use Rattle.command_run.proofs.Started.{told_run}
@@ -31,6 +32,20 @@ module _ (images : Option (List (List ℕ × List ℕ))) (run : RunState) where
   drive_told name count left before after old new faults now was (Err command_fault.Store) did same cut paused = absurd cut
   drive_told name count left before after old new faults now was (Err command_fault.Write) did same cut paused = ((λ shelf. cut), refl, record { name = name; count = count; is = refl; cut = paused })
   drive_told name count left before after old new faults now was (Err command_fault.NoMemory) did same cut paused = ((λ shelf. cut), refl)
+
+-- what is kept behind a command, if it is a drive
+abbrev Keeping : RunState → LogState → List ℕ → Command → Type 0
+Keeping run before lines (command.Drive name count) = KeepsDriven run name count before lines
+Keeping run before lines other = Unit {0}
+
+drive_kept : (run : RunState) (before : LogState) (lines : List ℕ) (asked : Command) (name : List ℕ) (count : ℕ) → asked ≡ command.Drive name count → KeepsDriven run name count before lines → KeepsDrive run asked before lines
+drive_kept run before lines asked name count is keeps other more same = subst (Keeping run before lines) (sym is ∙ same) keeps
+
+pub returns-in-Drive-clause-less : goal.returns-in-Drive-clause-less
+returns-in-Drive-clause-less g c =
+    let run : RunState = record { objects = c.args.objects.now; steps = c.args.log.now.steps } in
+    IfOk-weaker c.drive.result (λ _. KeepsDriven run c.in-Drive.name c.in-Drive.count c.args.log.now c.drive.new.log.lines) (λ _. KeepsDrive run c.args.command.now c.args.log.now c.drive.new.log.lines)
+    (λ ending keeps. drive_kept run c.args.log.now c.drive.new.log.lines c.args.command.now c.in-Drive.name c.in-Drive.count c.in-Drive.is keeps) c.drive.ensures.less
 
 pub returns-in-Drive-clause-effect : goal.returns-in-Drive-clause-effect
 returns-in-Drive-clause-effect g c =
@@ -60,6 +75,7 @@ returns-in_ok-run-in-None g c =
         refl,
         refl,
       );
+      less = λ name count is. absurd (c.in_default.not-Drive name count is);
       kept = refl;
       unasked = λ _. refl;
     }

@@ -6,7 +6,7 @@ use Rattle.crash_recover.specs.CoreBoots.{BeginsBoot, Found, boot_of}
 use Rattle.crash_recover.specs.declared.core_answers.Boot.{Boot}
 use Rattle.crash_recover.specs.declared.core_answers.Start.TheVariants as start
 use Rattle.crash_recover.specs.declared.core_faults.CoreFault.{CoreFault}
-use Rattle.command_run.specs.declared.starts.StartAct.TheVariants as starts
+use Rattle.link_commands.specs.declared.acts.StartAct.TheVariants as starts
 use Rattle.command_run.specs.CoreLives.{found_image}
 use Rattle.command_run.specs.Fetches.{IsToldFor}
 use Rattle.command_run.specs.NamedCores.{NamedCoreState}

@@ -15,6 +15,7 @@ loop-left-init g c = record {
   name = refl;
   on = handing_first c.args.self.now.name c.args.is_quiet c.args.count c.args.self.now.core c.args.log.now (g.K.Sink.written c.args.out.now);
   same = refl;
+  less = λ less. less;
 }
 
 pub returns-in_err-left-clause-cut : goal.returns-in_err-left-clause-cut
@@ -95,4 +96,5 @@ loop-left-preserved g c =
       on = handing_handed name c.args.is_quiet c.args.count first before (sink.written c.args.out.now) c.in_ok-left.left c.advance.new.self.core c.advance.new.log (sink.written c.loop-left.out) told
           (sink.written c.hand_on.new.out) c.hand_on.new.self c.in_ok-hand_on.ensures.handed c.in_ok-hand_on.ensures.steps;
       same = c.in_ok-hand_on.ensures.same ∙ c.loop-left.invariant.same;
+      less = λ _. c.in_ok-hand_on.ensures.less;
     }

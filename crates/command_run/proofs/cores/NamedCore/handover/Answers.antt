@@ -5,7 +5,7 @@ use Rattle.proc_state.specs.Lives.{life_after_handover}
 use Rattle.crash_recover.specs.CoreBoots.{Found, handover_of}
 use Rattle.crash_recover.specs.declared.core_faults.CoreFault.TheVariants as fault
 use Rattle.crash_recover.proofs.Unfound.{refused_handover}
-use Rattle.command_run.specs.declared.starts.StartAct.TheVariants as starts
+use Rattle.link_commands.specs.declared.acts.StartAct.TheVariants as starts
 use Rattle.command_run.specs.CoreLives.{found_image}
 use Rattle.command_run.specs.Fetches.{IsToldFor}
 use Rattle.command_run.specs.NamedCores.{NamedCoreState}

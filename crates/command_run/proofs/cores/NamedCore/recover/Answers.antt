@@ -6,7 +6,7 @@ use Rattle.crash_recover.specs.CoreBoots.{Found}
 use Rattle.crash_recover.specs.CoreRecoveries.{recovery_fault, recovery_of}
 use Rattle.crash_recover.specs.declared.core_faults.CoreFault.TheVariants as fault
 use Rattle.crash_recover.proofs.Unfound.{refused_recovery}
-use Rattle.command_run.specs.declared.starts.StartAct.TheVariants as starts
+use Rattle.link_commands.specs.declared.acts.StartAct.TheVariants as starts
 use Rattle.command_run.specs.CoreEffects.{core_tells_all}
 use Rattle.command_run.specs.CoreLives.{booted_image, found_image, start_events}
 use Rattle.command_run.specs.Fetches.{IsToldFor}

@@ -1,20 +1,23 @@
-use Rattle.std.proofs.Common.{◌≡◌, ◌<◌, ◌++◌, List, Option, Some, None, Ok, Err, IfOk, IfErr, Result, length, slice_get, slice_set, refl, sym, ap, subst, ◌∙◌}
+use Rattle.std.proofs.Common.{◌≡◌, ◌<◌, ◌++◌, ℕ, List, Option, Some, None, Ok, Err, IfOk, IfErr, IfSome, Result, length, slice_get, slice_set, refl, sym, ap, subst, ◌∙◌}
 use Rattle.std.proofs.lemmas.Option.{slice_get_read}
 use Rattle.std.proofs.lemmas.Result.{IfOk-weaker, err_from_is_err_and}
 use Rattle.rp_io.specs.declared.faults.FetchFault.TheVariants as fetch_fault
 use Rattle.journal.specs.declared.events.Event.{Event}
 use Rattle.journal.specs.Lines.{transcript}
+use Rattle.script_lang.specs.declared.commands.Command.TheVariants as command
 use Rattle.link_commands.specs.declared.acts.CoreAct.TheVariants as core
 use Rattle.link_commands.specs.declared.acts.NamedAct.TheVariants as under
 use Rattle.link_commands.specs.declared.stops.Stop.{Stop}
 use Rattle.command_run.specs.declared.fetches.CommandFault.{CommandFault}
 use Rattle.command_run.specs.declared.fetches.CommandFault.TheVariants as command_fault
 use Rattle.command_run.specs.CoreDrives.{drive_effect}
-use Rattle.command_run.specs.Fetches.{EndsCut, IfWrite}
-use Rattle.command_run.specs.Outcomes.{CutsCore, CutsRun, HandsCoreEffect, HandsRunEffect}
-use Rattle.command_run.specs.Runs.{ObjectsState, RunEffect, RunState, core_place, name_effect, place_of}
+use Rattle.command_run.specs.Fetches.{EndsCut, IfWrite, KeepsDriven}
+use Rattle.link_commands.specs.Logs.{KeepsLess}
+use Rattle.command_run.specs.Outcomes.{CutsCore, CutsRun, HandsCoreEffect, HandsRunEffect, KeepsLast}
+use Rattle.command_run.specs.NamedCores.{NamedCoreState}
+use Rattle.command_run.specs.Runs.{ObjectsState, RunEffect, RunState, core_named, core_place, effect_of, name_effect, place_of}
 use Rattle.command_run.proofs.Handed.{front_of_none, no_write}
-use Rattle.command_run.proofs.Placing.{drive_cut, drive_placed, drive_run, kept_run}
+use Rattle.command_run.proofs.Placing.{drive_cut, drive_keeps, drive_placed, drive_run, kept_run}
 use Rattle.command_run.proofs.objects.Objects.drive.Goals as goal
 
 -- where a drive of a core was cut off, so is what holds of it
@@ -70,6 +73,12 @@ returns-in-Some g c =
           (cut_so c.drive_handing.result (CutsCore (λ done. drive_effect named.name is_quiet named.core log.steps done) c.args.count now.core log.lines written after) (cuts run.objects)
           (drive_cut (Err fetch_fault.Missing) run c.args.name c.args.count place named now log.lines written after bare placed found c.drive_handing.ensures.name)
           c.drive_handing.ensures.paused);
+      less =
+          subst (λ (objects : ObjectsState). IfOk c.drive_handing.result (λ _. KeepsDriven (record { objects = objects; steps = log.steps }) c.args.name c.args.count log c.drive_handing.new.log.lines)) c.self.view_is
+          (IfOk-weaker c.drive_handing.result (λ _. KeepsLess log → KeepsLast (λ done. (drive_effect named.name is_quiet named.core log.steps done).events) c.args.count c.drive_handing.new.log.lines)
+          (λ _. KeepsDriven run c.args.name c.args.count log c.drive_handing.new.log.lines)
+          (λ ending keeps. drive_keeps run c.args.name c.args.count place named log c.drive_handing.new.log.lines bare placed found keeps)
+          c.drive_handing.ensures.less);
     }
 
 pub returns-in_err-run_on_name-in-None-clause-cut : goal.returns-in_err-run_on_name-in-None-clause-cut
@@ -90,3 +99,9 @@ pub returns-in_err-run_on_name-in-None-clause-paused : goal.returns-in_err-run_o
 returns-in_err-run_on_name-in-None-clause-paused g c =
     let found = err_from_is_err_and c.from_residual.result c.from_residual.ensures.1 in
     no_write (Option Stop) _ c.from_residual.result (found.1 ∙ ap (λ (why : CommandFault). Err why) found.2)
+
+pub returns-in_ok-run_on_name-in-None-clause-less : goal.returns-in_ok-run_on_name-in-None-clause-less
+returns-in_ok-run_on_name-in-None-clause-less g c =
+    let none : core_named c.args.self.now c.args.name ≡ None = ap (core_named c.args.self.now) (sym c.bytes.ensures.bytes) ∙ c.in-None.ensures.none in
+    let events : ℕ → List Event = λ done. (effect_of (Err fetch_fault.Missing) (record { objects = c.args.self.now; steps = c.args.log.now.steps }) (command.Drive c.args.name done)).events in
+    subst (λ (found : Option NamedCoreState). IfSome found (λ _. KeepsLess c.args.log.now → KeepsLast events c.args.count c.run_on_name.new.log.lines)) (sym none) tt

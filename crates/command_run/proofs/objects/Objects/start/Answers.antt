@@ -1,12 +1,8 @@
-use Rattle.std.proofs.Common.{◌≡◌, ◌<◌, List, Some, None, Err, length, slice_get, slice_set, refl, sym, ap, subst, ◌∙◌}
+use Rattle.std.proofs.Common.{◌≡◌, ◌<◌, List, Some, None, length, slice_get, slice_set, refl, sym, ap, subst, ◌∙◌}
 use Rattle.std.proofs.lemmas.Option.{slice_get_read}
-use Rattle.rp_io.specs.declared.faults.FetchFault.TheVariants as fetch_fault
-use Rattle.link_commands.specs.declared.acts.CoreAct.{CoreAct}
-use Rattle.link_commands.specs.declared.acts.NamedAct.TheVariants as under
 use Rattle.command_run.specs.Fetches.{RunsTold}
-use Rattle.command_run.specs.Outcomes.{HasRunEffect}
 use Rattle.command_run.specs.NamedImages.{ImageState}
-use Rattle.command_run.specs.Runs.{ObjectsState, RunState, asked_name, core_named, core_place, name_effect, place_of}
+use Rattle.command_run.specs.Runs.{ObjectsState, RunState, asked_name, core_named, core_place, place_of}
 use Rattle.command_run.specs.Starts.{StartsOver, start_command, start_image}
 use Rattle.command_run.proofs.Started.{nobody_told, start_told, start_unasked}
 use Rattle.command_run.proofs.objects.Objects.start.Goals as goal
@@ -70,4 +66,4 @@ returns-in_ok-run_on_name-in-None-clause-told g c = λ written faults.
     let after = c.run_on_name.new in
     nobody_told (store.images c.args.store.now) run c.args.name c.args.start log after.log written faults was was after.self told.field-0
     (sym (ap (core_named objects) c.bytes.ensures.bytes) ∙ c.in-None.ensures.none) refl
-    (subst (λ (act : CoreAct). HasRunEffect (name_effect (Err fetch_fault.Missing) run c.args.name (under.Core act)) after.self log after.log told.field-0) c.act.ensures told.ensures)
+    told.ensures
