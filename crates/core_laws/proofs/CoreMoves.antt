@@ -29,7 +29,7 @@ use Rattle.host_driver.specs.Drivers.{Declared}
 use Rattle.core_actors.specs.Actors.{ActorsState, driver_names}
 use Rattle.link_bench.specs.Benches.{BenchState, BenchWalk, IsSendable, LinkRings, advance_walk, begin_fault, is_in_call, link_in, on_rings, start_walk}
 use Rattle.link_bench.specs.BenchCrashes.{after_close, after_reclaim, after_reopen}
-use Rattle.crash_recover.specs.CoreBoots.{config_of, core_bench, fresh_end}
+use Rattle.crash_recover.specs.CoreBoots.{config_of, core_bench, fresh_end, load_in, started_core}
 use Rattle.link_bench.specs.BenchEnds.{crashed_bench, is_first, is_remote, with_fresh_caller, without_one, without_other, without_others, without_remote, bench_to_reopen, with_new_host_unless, reopen_refusal_of, reopen_refusal_by}
 use Rattle.crash_recover.specs.CoreCrashes.{after_report}
 use Rattle.crash_recover.specs.CoreRecoveries.{after_recovery, core_to_reopen, fault_with, link_fault, reopen_fault, reopened_core, spent_fault}
@@ -38,6 +38,7 @@ use Rattle.core_actors.specs.ActorEnds.{actors_after_drivers, actors_at_end, cal
 use Rattle.core_actors.specs.ActorSteps.{first_or_take, has_calls, host_after_step, host_at_step, host_at_step_as, link_step, wishes_of_work, worker_after_step}
 use Rattle.crash_recover.specs.Drives.{DriveStep, actor_step, actor_to_step, core_with_report, drive_step, host_step, is_idle, placed_map, record_run, record_step, with_turn_after, worker_call, worker_step}
 use Rattle.core_laws.proofs.Outcomes.{Stays, report_stays}
+use Rattle.proc_state.specs.Lives.{CoreLife}
 use Rattle.core_laws.specs.BenchMoves.{AreSendable, IsReachedBench, IsReachedCore, IsShortLink}
 use Rattle.core_laws.proofs.Sendable.{end_short, gives_sendable, left_sendable, message_short, none_sendable, sends_sendable, work_sendable}
 use Rattle.crash_recover.proofs.KeptCrashes.{close_shut}
@@ -146,18 +147,21 @@ rings_reached : (names : List (List ℕ)) (book first : ℕ) (rings : Option Rin
 rings_reached names book first None = tt
 rings_reached names book first (Some rings) = made_reached names book first rings
 
+pub started_reached : (core : CoreState) (life : CoreLife) → IsReachedCore (started_core life core)
+started_reached core life = record {
+  bench = rings_reached (driver_names core.actors) core.book life.incarnation (loaded_rings core.loaded);
+  calls = record { host = none_sendable; worker = none_sendable };
+}
+
 -- what brought its link to where it is stays over each call of a core
 pub reached_stays : Stays IsReachedCore
 reached_stays = record {
-  same = λ core life image loaded same is. record { bench = is.bench; calls = is.calls };
-  started = λ core life up. record {
-    bench = rings_reached (driver_names core.actors) core.book life.incarnation (loaded_rings core.loaded);
-    calls = record { host = none_sendable; worker = none_sendable };
-  };
-  unlinked = λ core life image loaded is. record { bench = tt; calls = is.calls };
+  same = λ core life image loaded same load is. record { bench = is.bench; calls = is.calls };
+  started = λ core life image loaded up load is. started_reached (record core { image = image; loaded = loaded }) life;
+  unlinked = λ core life image loaded load is. record { bench = tt; calls = is.calls };
   crashed = λ core life stops is. record { bench = map_reached core.bench crashed_bench crashed is.bench; calls = is.calls };
   readied = λ core may is. core_readied core is;
-  recovered = λ core given may opens is. core_recovered core given is opens;
+  recovered = λ core found clear may opens is. core_recovered core (load_in core found) is opens;
 }
 
 pub core_reported : (core : CoreState) → IsReachedCore core → IsReachedCore (after_report core)

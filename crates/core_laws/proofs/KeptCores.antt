@@ -1,5 +1,5 @@
 -- What calls and steps of a core leave keeps what its link keeps.
-use Rattle.std.proofs.Common.{true, Option, Some, None, IfSome}
+use Rattle.std.proofs.Common.{◌≡◌, true, Option, Some, None, IfSome}
 use Rattle.std.proofs.lemmas.Bool.{cond_both}
 use Rattle.core_actors.specs.declared.actors.Actor.{Actor}
 use Rattle.core_actors.specs.declared.actors.Actor.TheVariants as actor
@@ -12,6 +12,8 @@ use Rattle.crash_recover.specs.CoreCrashes.{after_report}
 use Rattle.crash_recover.specs.Cores.{CoreState, IsKeptCore, LoadState, loaded_rings}
 use Rattle.core_actors.specs.ActorSteps.{first_or_take, has_calls}
 use Rattle.crash_recover.specs.Drives.{DriveStep, actor_step, actor_to_step, core_with_report, drive_step, host_step, is_idle, record_run, record_step, with_turn_after, worker_call, worker_step}
+use Rattle.crash_recover.specs.CoreBoots.{load_in, started_core}
+use Rattle.proc_state.specs.Lives.{CoreLife, is_up}
 use Rattle.crash_recover.specs.KeptCores.{IsKeptBench}
 use Rattle.crash_recover.proofs.KeptBenches.{core_readied, core_recovered, found_same, map_kept, rings_kept, step_kept}
 use Rattle.crash_recover.proofs.KeptCrashes.{crash_kept}
@@ -19,15 +21,18 @@ use Rattle.core_laws.proofs.Outcomes.{Stays, report_stays}
 
 -- ---- calls
 
+pub started_kept : (core : CoreState) (life : CoreLife) → is_up life.state ≡ true → IsKeptCore (started_core life core)
+started_kept core life up = rings_kept life (driver_names core.actors) core.book (loaded_rings core.loaded) up
+
 -- what its link keeps stays over each call of a core
 pub kept_stays : Stays IsKeptCore
 kept_stays = record {
-  same = λ core life image loaded same is. found_same core.life life core.bench same is;
-  started = λ core life up. rings_kept life (driver_names core.actors) core.book (loaded_rings core.loaded) up;
-  unlinked = λ core life image loaded is. tt;
+  same = λ core life image loaded same load is. found_same core.life life core.bench same is;
+  started = λ core life image loaded up load is. started_kept (record core { image = image; loaded = loaded }) life up;
+  unlinked = λ core life image loaded load is. tt;
   crashed = λ core life stops is. map_kept core.life life core.bench crashed_bench (λ bench one. crash_kept core.life life bench stops.inc stops.stopped one) is;
   readied = λ core may is. core_readied core is;
-  recovered = λ core given may opens is. core_recovered core given is may opens;
+  recovered = λ core found clear may opens is. core_recovered core (load_in core found) is may opens;
 }
 
 pub core_reported : (core : CoreState) → IsKeptCore core → IsKeptCore (after_report core)

@@ -33,7 +33,7 @@ use Rattle.core_actors.specs.Actors.{ActorsState, driver_names}
 use Rattle.link_bench.specs.BenchCrashes.{after_reclaim, after_reopen, reclaim_leaves, reclaim_leaves_at}
 use Rattle.core_laws.specs.BenchMoves.{IsReachedBench}
 use Rattle.link_bench.specs.Benches.{BenchState, BenchWalk, IsSendable, advance_steps, advance_walk, begin_fault, begun_call_of, bench_walk, call_steps, call_walk, is_in_call, link_in, on_rings, start_walk, with_begun, with_new_caller}
-use Rattle.crash_recover.specs.CoreBoots.{core_bench, started_core}
+use Rattle.crash_recover.specs.CoreBoots.{core_bench, load_in, started_core}
 use Rattle.link_bench.specs.BenchEnds.{bench_to_reopen, with_new_host_unless}
 use Rattle.crash_recover.specs.CoreRecoveries.{after_recovery, core_to_reopen, recovery_fault, recovery_fault_to}
 use Rattle.crash_recover.specs.Cores.{CoreState, LoadState, loaded_rings}
@@ -287,16 +287,19 @@ recovery_ready core given is = record {
   calls = λ _. reopened_calls (after_recovery core given).actors core.bench refl refl;
 }
 
+pub started_ready : (core : CoreState) (life : CoreLife) → IsReadyCore (started_core life core)
+started_ready core life = record {
+  begun = rings_begun (driver_names core.actors) core.book life.incarnation (loaded_rings core.loaded);
+  calls = λ _. rings_ready (started_core life core).actors (driver_names core.actors) core.book life.incarnation (loaded_rings core.loaded) refl refl;
+}
+
 -- what its actors hold stays over each call of a core
 pub ready_stays : Stays IsReadyCore
 ready_stays = record {
-  same = λ core life image loaded same is. record { begun = is.begun; calls = λ running. is.calls (sym same.up ∙ running) };
-  started = λ core life up. record {
-    begun = rings_begun (driver_names core.actors) core.book life.incarnation (loaded_rings core.loaded);
-    calls = λ _. rings_ready (started_core life core).actors (driver_names core.actors) core.book life.incarnation (loaded_rings core.loaded) refl refl;
-  };
-  unlinked = λ core life image loaded is. record { begun = tt; calls = λ _. tt };
+  same = λ core life image loaded same load is. record { begun = is.begun; calls = λ running. is.calls (sym same.up ∙ running) };
+  started = λ core life image loaded up load is. started_ready (record core { image = image; loaded = loaded }) life;
+  unlinked = λ core life image loaded load is. record { begun = tt; calls = λ _. tt };
   crashed = λ core life stops is. crashed_ready core life stops is;
   readied = λ core may is. readied_ready core may is;
-  recovered = λ core given may opens is. recovery_ready core given is;
+  recovered = λ core found clear may opens is. recovery_ready core (load_in core found) is;
 }

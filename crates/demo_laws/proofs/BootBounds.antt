@@ -10,10 +10,10 @@ use Rattle.crash_recover.specs.Cores.{CoreState, LoadState}
 use Rattle.crash_recover.specs.Drives.{placed_map}
 use Rattle.demo_laws.proofs.ActorBounds.{LinkWithin}
 use Rattle.demo_laws.proofs.DriveBounds.{IsProgram, IsWithin, OnLink}
-use Rattle.core_laws.proofs.CoreMoves.{reached_stays}
+use Rattle.core_laws.proofs.CoreMoves.{started_reached}
 use Rattle.crash_recover.proofs.KeptBenches.{found_same}
-use Rattle.core_laws.proofs.KeptCores.{kept_stays}
-use Rattle.core_laws.proofs.PendingOthers.{ready_stays}
+use Rattle.core_laws.proofs.KeptCores.{started_kept}
+use Rattle.core_laws.proofs.PendingOthers.{started_ready}
 use Rattle.link_bench.specs.Benches.{link_in}
 
 -- both rings have room for three messages
@@ -65,9 +65,9 @@ module _ (Fits : WorkerState → Type 0) (records credit : WorkerState → ℕ) 
         loaded = refl;
         program = program;
         fits = fits;
-        reached = reached_stays.started core life up;
-        kept = kept_stays.started core life up;
-        ready = ready_stays.started core life up;
+        reached = started_reached core life;
+        kept = started_kept core life up;
+        ready = started_ready core life;
         on = new_on core.actors load.entry within _ core.book _ load.rings roomy few one;
       }
 

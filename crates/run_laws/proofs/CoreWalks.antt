@@ -1,5 +1,5 @@
 -- What is done under the name of a core keeps what each change of a core keeps.
-use Rattle.std.proofs.Common.{ℕ, zero, suc, ◌+◌, ◌==◌, Bool, List, [], ◌∷◌, ◌++◌, Option, Some, None, refl}
+use Rattle.std.proofs.Common.{◌≡◌, inl, ℕ, zero, suc, ◌+◌, ◌==◌, Bool, List, [], ◌∷◌, ◌++◌, Option, Some, None, refl}
 use Rattle.std.proofs.lemmas.Bool.{cond_both}
 use Rattle.rp_base.specs.declared.kinds.CrashKind.{CrashKind}
 use Rattle.rp_base.specs.declared.kinds.DriverKind.{DriverKind}
@@ -33,7 +33,7 @@ use Rattle.command_run.specs.Stores.{Answer}
 
 -- each change of a core keeps this of it, an act of which this may be known too
 pub record KeepCores (Fits : LinkAct (List ℕ) → Type 0) (C : CoreState → Type 0) : Type 0 where
-  pub region : (core : CoreState) (region : Region) → C core → C (record core { regions = core.regions ++ region ∷ [] })
+  pub region : (core : CoreState) (region : Region) → add_fault core region ≡ None → C core → C (record core { regions = core.regions ++ region ∷ [] })
   pub driver : (core : CoreState) (channel : List ℕ) (kind : DriverKind) → C core → C (with_driver core (channel, kind))
   pub lives : Stays C
   pub drive : (core : CoreState) → C core → C (drive_step core).core
@@ -62,13 +62,13 @@ module _ (Fits : LinkAct (List ℕ) → Type 0) (C : CoreState → Type 0) (keep
   -- ---- what a core is made of
 
   module _ (name : List ℕ) (core : CoreState) (steps : ℕ) (is : C core) where
-    added : (region : Region) (why : Option AddFault) → LeavesCore (added_effect name core steps region why)
-    added region None = keep.region core region is
-    added region (Some why) = is
+    added : (region : Region) (why : Option AddFault) → add_fault core region ≡ why → LeavesCore (added_effect name core steps region why)
+    added region None clear = keep.region core region clear is
+    added region (Some why) refused = is
 
     region_kept : (region : Region) → LeavesCore (region_effect name core steps region)
     unfolding region_effect
-    region_kept region = added region (add_fault core region)
+    region_kept region = added region (add_fault core region) refl
 
     declared_at : (channel : List ℕ) (kind : DriverKind) (why : Option AddFault) → LeavesCore (declared_effect name core steps channel kind why)
     declared_at channel kind None = keep.driver core channel kind is
@@ -79,7 +79,7 @@ module _ (Fits : LinkAct (List ℕ) → Type 0) (C : CoreState → Type 0) (keep
     driver_kept channel kind = declared_at channel kind (driver_add_fault core channel)
 
     switch_kept : (set : Switch) → LeavesCore (recovery_effect name core steps set)
-    switch_kept set = keep.lives.same core (record core.life { recovery = is_on set }) core.image core.loaded (record { inc = refl; up = refl }) is
+    switch_kept set = keep.lives.same core (record core.life { recovery = is_on set }) core.image core.loaded (record { inc = refl; up = refl }) (inl refl) is
 
   -- ---- lives
 

@@ -44,7 +44,7 @@ any_lines (first ∷ more) = (any_line (line_of first), any_lines more)
 
 pub cores_kept : KeepCores AnyAct IsKeptCore
 cores_kept = record {
-  region = λ core region is. is;
+  region = λ core region clear is. is;
   driver = λ core channel kind is. is;
   lives = kept_stays;
   drive = λ core is. core_driven core is;

@@ -43,20 +43,20 @@ record IsSoundCore (core : CoreState) : Type 0 where
 
 sound_stays : Stays IsSoundCore
 sound_stays = record {
-  same = λ core life image loaded same is. record {
-    reached = reached_stays.same core life image loaded same is.reached;
-    kept = kept_stays.same core life image loaded same is.kept;
-    ready = ready_stays.same core life image loaded same is.ready;
+  same = λ core life image loaded same load is. record {
+    reached = reached_stays.same core life image loaded same load is.reached;
+    kept = kept_stays.same core life image loaded same load is.kept;
+    ready = ready_stays.same core life image loaded same load is.ready;
   };
-  started = λ core life up. record {
-    reached = reached_stays.started core life up;
-    kept = kept_stays.started core life up;
-    ready = ready_stays.started core life up;
+  started = λ core life image loaded up load is. record {
+    reached = reached_stays.started core life image loaded up load is.reached;
+    kept = kept_stays.started core life image loaded up load is.kept;
+    ready = ready_stays.started core life image loaded up load is.ready;
   };
-  unlinked = λ core life image loaded is. record {
-    reached = reached_stays.unlinked core life image loaded is.reached;
-    kept = kept_stays.unlinked core life image loaded is.kept;
-    ready = ready_stays.unlinked core life image loaded is.ready;
+  unlinked = λ core life image loaded load is. record {
+    reached = reached_stays.unlinked core life image loaded load is.reached;
+    kept = kept_stays.unlinked core life image loaded load is.kept;
+    ready = ready_stays.unlinked core life image loaded load is.ready;
   };
   crashed = λ core life stops is. record {
     reached = reached_stays.crashed core life stops is.reached;
@@ -68,18 +68,18 @@ sound_stays = record {
     kept = kept_stays.readied core may is.kept;
     ready = ready_stays.readied core may is.ready;
   };
-  recovered = λ core given may opens is. record {
-    reached = reached_stays.recovered core given may opens is.reached;
-    kept = kept_stays.recovered core given may opens is.kept;
-    ready = ready_stays.recovered core given may opens is.ready;
+  recovered = λ core found clear may opens is. record {
+    reached = reached_stays.recovered core found clear may opens is.reached;
+    kept = kept_stays.recovered core found clear may opens is.kept;
+    ready = ready_stays.recovered core found clear may opens is.ready;
   };
 }
 
 sound_cores : KeepCores IsFitAct IsSoundCore
 sound_cores = record {
-  region = λ core region is. record {
-    reached = cores_reached.region core region is.reached;
-    kept = cores_kept.region core region is.kept;
+  region = λ core region clear is. record {
+    reached = cores_reached.region core region clear is.reached;
+    kept = cores_kept.region core region clear is.kept;
     ready = record { begun = is.ready.begun; calls = is.ready.calls };
   };
   driver = λ core channel kind is. record {

@@ -123,7 +123,7 @@ link_reached on steps (under.Core asked) fits is = is
 
 pub cores_reached : KeepCores IsFitAct IsReachedCore
 cores_reached = record {
-  region = λ core region is. record { bench = is.bench; calls = is.calls };
+  region = λ core region clear is. record { bench = is.bench; calls = is.calls };
   driver = λ core channel kind is. record { bench = is.bench; calls = record { host = is.calls.host; worker = is.calls.worker } };
   lives = reached_stays;
   drive = λ core is. core_driven core is;

@@ -1,35 +1,28 @@
 -- The rings of the link of a core are sound: it is made over rings of a sound table, and each change keeps them.
 use Rattle.channel_bus.specs.Sides.{side_meaning}
-use Rattle.core_laws.proofs.CoreMoves.{core_driven}
-use Rattle.core_laws.proofs.Outcomes.{none_mapped, refused, report_left}
+use Rattle.core_laws.proofs.CoreMoves.{reached_stays}
+use Rattle.core_laws.proofs.Outcomes.{IsLoadOf, Stays, none_mapped, report_left}
 use Rattle.core_laws.specs.BenchMoves.{IsReachedBench, IsReachedCore}
 use Rattle.crash_recover.proofs.Loads.{pair_config}
 use Rattle.core_actors.specs.Actors.{driver_names}
 use Rattle.crash_recover.specs.CoreActs.{act_on_core, core_act_on}
-use Rattle.crash_recover.specs.CoreBoots.{Found, boot_as, boot_of, core_bench, first_boot, fresh_end, handover_as, handover_of, image_fault, load_in, load_of, started_core}
+use Rattle.crash_recover.specs.CoreBoots.{Found, core_bench, fresh_end, image_fault, load_in, load_of, started_core}
 use Rattle.crash_recover.specs.CoreCrashes.{crashed_core, report_of}
-use Rattle.crash_recover.specs.CoreLeaves.{close_or, detach_of, detached_core, leave_as, live_inc, shutdown_of, unloaded_core}
-use Rattle.crash_recover.specs.CoreRecoveries.{core_to_reopen, recovery_fault, recovery_of, reload_fault, reopen_fault}
-use Rattle.crash_recover.specs.Cores.{CoreOutcome, CoreState, LoadState, add_fault, driver_add_fault, loaded_rings, new_core}
+use Rattle.crash_recover.specs.Cores.{CoreState, LoadState, loaded_rings, new_core}
 use Rattle.core_actors.specs.ActorEnds.{actors_after_end}
 use Rattle.core_actors.specs.ActorSteps.{has_calls}
 use Rattle.crash_recover.specs.Drives.{DriveStep, actor_step, actor_to_step, core_with_report, drive_step, host_step, is_idle, record_run, record_step, with_turn_after, worker_call}
 use Rattle.core_actors.specs.declared.actors.Actor.{Actor}
 use Rattle.core_actors.specs.declared.actors.Actor.TheVariants as actor
-use Rattle.crash_recover.specs.declared.core_answers.Start.{Start}
 use Rattle.core_actors.specs.declared.progress.Driven.{Driven}
 use Rattle.core_actors.specs.declared.progress.Driven.TheVariants as driven
-use Rattle.crash_recover.specs.declared.core_faults.AddFault.{AddFault}
 use Rattle.crash_recover.specs.declared.core_faults.AddFault.TheVariants as add
-use Rattle.crash_recover.specs.declared.core_faults.CoreFault.{CoreFault}
 use Rattle.crash_recover.specs.declared.core_faults.CoreFault.TheVariants as fault
 use Rattle.fw_load.proofs.Steps.{pair_sound}
 use Rattle.fw_load.specs.Loading.{Loads, load_fault}
 use Rattle.fw_load.specs.Rings.{IsSoundPair, pair_from, pair_of}
 use Rattle.fw_load.specs.Tables.{entries_in, patched_in, table_of}
 use Rattle.fw_load.specs.declared.rings.RingPair.{RingPair}
-use Rattle.journal.specs.declared.events.Event.{Event}
-use Rattle.journal.specs.declared.events.Event.TheVariants as event
 use Rattle.lane_laws.proofs.RingLinks.{opened_lane_sound, reopen_kept}
 use Rattle.lane_laws.specs.SoundRingLinks.{HasSoundRings}
 use Rattle.link_bench.specs.Acts.{IsFitAct}
@@ -46,12 +39,7 @@ use Rattle.memory_pool.specs.declared.faults.PlaceFault.{PlaceFault}
 use Rattle.memory_pool.specs.declared.blocks.Block.{Block}
 use Rattle.memory_pool.specs.declared.regions.Region.{Region}
 use Rattle.rp_base.specs.declared.kinds.RegionKind.TheVariants.{Pool, Tcm}
-use Rattle.proc_state.specs.Lives.{CoreLife, is_offline, is_up, life_after_boot, life_after_detach, life_after_handover, life_after_shutdown}
-use Rattle.proc_state.specs.declared.answers.Left.{Left as LeftTo}
-use Rattle.proc_state.specs.declared.answers.Left.TheVariants as left_to
-use Rattle.proc_state.specs.declared.answers.LifeFault.{LifeFault}
-use Rattle.proc_state.specs.declared.answers.Power.{Power}
-use Rattle.proc_state.specs.declared.answers.Power.TheVariants as power
+use Rattle.proc_state.specs.Lives.{CoreLife, is_offline}
 use Rattle.resource_table.proofs.Devices.{sound_entry}
 use Rattle.resource_table.proofs.Sound.{length-entries_of}
 use Rattle.resource_table.specs.Entries.{entries_of, entry_at, entry_count, start_of}
@@ -59,35 +47,25 @@ use Rattle.resource_table.specs.Tables.{GoodTable, IsSoundDevice, IsSoundEntry}
 use Rattle.resource_table.specs.declared.entries.Entry.{Entry}
 use Rattle.resource_table.specs.declared.entries.Entry.TheVariants as entry
 use Rattle.resource_table.specs.declared.entries.Vdev.{Vdev}
-use Rattle.rp_base.specs.declared.kinds.DriverKind.{DriverKind}
-use Rattle.rp_base.specs.declared.limits.TheConstants.{STEPS_MOST}
-use Rattle.run_laws.proofs.CoreWalks.{FitsNamed}
+use Rattle.run_laws.proofs.CoreWalks.{FitsNamed, KeepCores, core_kept}
+use Rattle.run_laws.proofs.RunsReached.{cores_reached}
 use Rattle.script_lang.specs.Runnable.{IsBook}
 use Rattle.script_lang.specs.declared.commands.RegionSet.{RegionSet}
 use Rattle.script_lang.specs.declared.commands.RegionSet.TheVariants as regions
-use Rattle.command_run.specs.CoreCommands.{added_effect, core_act_effect, core_effect, declared_effect, driver_effect, region_effect}
-use Rattle.command_run.specs.CoreDrives.{drive_effect, drive_steps, rest_event, rests_or, step_then}
-use Rattle.command_run.specs.CoreEffects.{CoreEffect, core_tells}
-use Rattle.command_run.specs.CoreLives.{booted_image, core_stops, crash_effect, detach_effect, found_image, may_step, shutdown_effect, started_effect}
+use Rattle.command_run.specs.CoreCommands.{core_effect}
 use Rattle.command_run.specs.NamedCores.{NamedCoreState}
 use Rattle.command_run.specs.NamedImages.{ImageState}
 use Rattle.command_run.specs.Runs.{regions_of}
 use Rattle.command_run.specs.Stores.{Answer}
-use Rattle.link_commands.specs.declared.acts.CoreAct.{CoreAct}
-use Rattle.link_commands.specs.declared.acts.CoreAct.TheVariants as act
 use Rattle.link_commands.specs.declared.acts.NamedAct.{NamedAct}
-use Rattle.link_commands.specs.declared.acts.NamedAct.TheVariants as under
-use Rattle.link_commands.specs.declared.acts.StartAct.{StartAct}
-use Rattle.link_commands.specs.declared.acts.StartAct.TheVariants as starts
-use Rattle.std.proofs.Common.{Bool, Err, IfSome, List, None, Ok, Option, Result, Some, [], ap, arith, cond, false, is_some, map, option_map, refl, subst, suc, sym, true, zero, ℕ, ◌+◌, ◌<◌, ◌==◌, ◌∷◌, ◌≡◌, ◌≤◌, ◌∙◌}
+use Rattle.std.proofs.Common.{inl, inr, Bool, Err, IfSome, List, None, Ok, Option, Result, Some, [], ap, arith, cond, false, is_some, map, option_map, refl, subst, suc, sym, true, zero, ℕ, ◌+◌, ◌<◌, ◌==◌, ◌∷◌, ◌≡◌, ◌≤◌, ◌∙◌}
 use Rattle.std.proofs.lemmas.Bool.{cond_both, eqb-true, true≢false}
 use Rattle.std.proofs.lemmas.List.Elements.{All-nil}
 use Rattle.std.specs.List.{range_with_len}
-use Rattle.std.specs.Option.{option_or, unwrap_or}
+use Rattle.std.specs.Option.{unwrap_or}
 use Rattle.std.specs.Result.{result_ok}
 use Rattle.memory_pool.specs.Placements.{placement}
 use Rattle.act_laws.proofs.CoreLands.{LandsIf, crash_lands, drive_lands, ready_lands}
-use Rattle.way_laws.proofs.CoreTales.{link_effect_bench as link_effect_core}
 use Rattle.act_laws.proofs.ReachedActs.{deeds_land}
 use Rattle.act_laws.proofs.Tales.{rings_kept}
 use Rattle.act_laws.specs.CoreDeeds.{crash_deeds, drive_deeds, ready_deeds}
@@ -118,10 +96,6 @@ found_pair placed index [] sound = tt
 found_pair placed index (entry.Device device ∷ more) sound =
     pair_at (device.id == 7) placed index device (pair_from placed (index + 1) more) refl sound.0 (found_pair placed (index + 1) more sound.1)
 found_pair placed index (other ∷ more) sound = found_pair placed (index + 1) more sound.1
-
-first_none : {X : Type 0} (first later : Option X) → option_or first later ≡ None → (first ≡ None) × (later ≡ None)
-first_none None later none = (refl, none)
-first_none (Some why) later none = absurd (true≢false (ap is_some none))
 
 -- the patched table of an image that may be loaded, where it has one
 patched_sound : (image : List ℕ) (regions : List Region) (placed : List Block) → SoundRegions regions → Loads image regions → placement regions (entries_in (table_of image)) ≡ Ok placed
@@ -203,71 +177,11 @@ module _ (core : CoreState) (is : IsRungCore core) where
   crashed_core_rung : (life : CoreLife) → IsRungCore (crashed_core life core)
   crashed_core_rung life = record { load = record { book = is.load.book; regions = is.load.regions; rings = is.load.rings }; bench = crashed_rung core.bench is.bench }
 
-  report_rung : (may : Bool) → IsRungCore (report_of may core).core
-  report_rung may = report_left IsRungCore may core is (λ life stops. crashed_core_rung life)
-
   started_rung : (life : CoreLife) (image : Option (List ℕ)) (loaded : Option LoadState) → IfSome (loaded_rings loaded) IsSoundPair → IsRungCore (started_core life (record core { image = image; loaded = loaded }))
   started_rung life image loaded sound = record {
     load = record { book = is.load.book; regions = is.load.regions; rings = sound };
     bench = rings_rung (driver_names core.actors) core.book life.incarnation (loaded_rings loaded) is.load.book sound;
   }
-
-  first_rung : (life : CoreLife) (name : List ℕ) (found : Found) → IsRungCore (first_boot life core name found).core
-  first_rung life name found =
-      cond_both (is_offline core.life.state) _ _ (λ (out : CoreOutcome Start CoreFault). IsRungCore out.core)
-      (λ _. refused IsRungCore core (image_fault core found) _ is (λ none. started_rung life (Some name) (Some (load_in core found)) (loaded_sound core found is.load.regions none)))
-      (λ _. started_rung life core.image core.loaded is.load.rings)
-
-  booted_as : (life : CoreLife) (answer : Result Power LifeFault) (name : List ℕ) (found : Found) → IsRungCore (boot_as life answer core name found).core
-  booted_as life (Err why) name found = is
-  booted_as life (Ok (power.Counted users)) name found = record { load = record { book = is.load.book; regions = is.load.regions; rings = is.load.rings }; bench = is.bench }
-  booted_as life (Ok power.First) name found = first_rung life name found
-
-  boot_rung : (name : List ℕ) (found : Found) → IsRungCore (boot_of core name found).core
-  unfolding boot_of
-  boot_rung name found = booted_as (life_after_boot core.life).life (life_after_boot core.life).answer name found
-
-  handed_as : (life : CoreLife) (told : Result (Unit {0}) LifeFault) (name : List ℕ) (found : Found) → IsRungCore (handover_as life told core name found).core
-  handed_as life (Err why) name found = is
-  handed_as life (Ok done) name found =
-      refused IsRungCore core (image_fault core found) _ is (λ none. record { load = record { book = is.load.book; regions = is.load.regions; rings = loaded_sound core found is.load.regions none }; bench = is.bench })
-
-  handover_rung : (name : List ℕ) (found : Found) → IsRungCore (handover_of core name found).core
-  unfolding handover_of
-  handover_rung name found = handed_as (life_after_handover core.life).life (life_after_handover core.life).answer name found
-
-  closed_rung : (may : Bool) (gone : CoreState) (live : Option ℕ) → IsRungCore gone → IsRungCore (close_or may core gone live).core
-  closed_rung may gone None rest = rest
-  closed_rung true gone (Some inc) rest = rest
-  closed_rung false gone (Some inc) rest = is
-
-  left_as : (may : Bool) (gone : CoreState) (life : CoreLife) (answer : Result LeftTo LifeFault) → IsRungCore gone → IsRungCore (leave_as may core gone life answer).core
-  left_as may gone life (Err why) rest = is
-  left_as may gone life (Ok (left_to.Users users)) rest = record { load = record { book = is.load.book; regions = is.load.regions; rings = is.load.rings }; bench = is.bench }
-  left_as may gone life (Ok left_to.Last) rest = refused IsRungCore core _ (close_or may core gone (live_inc core.bench)) is (λ _. closed_rung may gone (live_inc core.bench) rest)
-
-  shutdown_rung : (may : Bool) → IsRungCore (shutdown_of may core).core
-  unfolding shutdown_of
-  shutdown_rung may =
-      let life = (life_after_shutdown core.life).life in
-      left_as may (unloaded_core life core) life (life_after_shutdown core.life).answer (record { load = record { book = is.load.book; regions = is.load.regions; rings = tt }; bench = tt })
-
-  detach_rung : (may : Bool) → IsRungCore (detach_of may core).core
-  unfolding detach_of
-  detach_rung may =
-      let life = (life_after_detach core.life).life in
-      left_as may (detached_core life core) life (life_after_detach core.life).answer (record { load = record { book = is.load.book; regions = is.load.regions; rings = is.load.rings }; bench = tt })
-
-  recovery_rung : (found : Found) → IsRungCore (recovery_of core found).core
-  unfolding recovery_of
-  recovery_rung found =
-      refused IsRungCore core (option_map fault.Life (recovery_fault core.life)) _ is (λ _.
-      refused IsRungCore core (reload_fault core found) _ is (λ loads.
-      refused IsRungCore (core_to_reopen core) (reopen_fault core) _ (record { load = record { book = is.load.book; regions = is.load.regions; rings = is.load.rings }; bench = ready_rung core.bench is.bench })
-      (λ _. record {
-        load = record { book = is.load.book; regions = is.load.regions; rings = loaded_sound core found is.load.regions (first_none (image_fault core found) _ loads).0 };
-        bench = again_rung core.bench is.bench;
-      })))
 
 -- ---- steps of the actors
 
@@ -306,26 +220,6 @@ drive_rung core reached is = record {
   bench = rung_if core.bench (drive_deeds core) (drive_step core).core.bench (drive_lands core reached) is.bench;
 }
 
--- ---- drives
-
-rests_rung : (core : CoreState) (steps : ℕ) (found : Option Event) (effect : CoreEffect) → IsRungCore core → IsRungCore effect.core → IsRungCore (rests_or core steps found effect).core
-rests_rung core steps None effect is rest = rest
-rests_rung core steps (Some told) effect is rest = is
-
-driven_rung : (count : ℕ) (name : List ℕ) (is_quiet : Bool) (core : CoreState) (steps : ℕ) → IsReachedCore core → IsRungCore core → IsRungCore (drive_steps count name is_quiet core steps).core
-unfolding drive_steps
-driven_rung zero name is_quiet core steps reached is = is
-driven_rung (suc more) name is_quiet core steps reached is =
-    rests_rung core steps (rest_event name core) _ is
-    (cond_both (steps == STEPS_MOST) (core_stops core steps) (step_then name is_quiet (drive_step core) (λ next. drive_steps more name is_quiet next (steps + 1))) (λ (effect : CoreEffect). IsRungCore effect.core)
-    (λ _. is) (λ _. driven_rung more name is_quiet (drive_step core).core (steps + 1) (core_driven core reached) (drive_rung core reached is)))
-
-drive_on : (name : List ℕ) (is_quiet : Bool) (core : CoreState) (steps count : ℕ) → IsReachedCore core → IsRungCore core → IsRungCore (drive_effect name is_quiet core steps count).core
-unfolding drive_effect
-drive_on name is_quiet core steps count reached is =
-    cond_both (is_up core.life.state) (drive_steps count name is_quiet core steps) (core_tells core steps (event.NotRunning name)) (λ (effect : CoreEffect). IsRungCore effect.core)
-    (λ _. driven_rung count name is_quiet core steps reached is) (λ _. is)
-
 -- ---- acts
 
 act_rung : (core : CoreState) (steps : ℕ) (asked : LinkAct (List ℕ)) (found : Option BenchState) → core.bench ≡ found → IsFitAct asked → IfSome found IsReachedBench → IsRungCore core
@@ -341,60 +235,73 @@ act_rung core steps asked (Some bench) found fit reached is =
 
 -- ---- what is done under the name of a core
 
-module _ (images : List ImageState) (answer : Answer) (on : NamedCoreState) (steps : ℕ) (reached : IsReachedCore on.core) (is : IsRungCore on.core) where
-  abbrev Leaves : CoreEffect → Type 0
-  Leaves effect = IsRungCore effect.core
+-- and that it came there by moves
+record IsReachedRung (core : CoreState) : Type 0 where
+  pub reached : IsReachedCore core
+  pub rung : IsRungCore core
 
-  -- no region is refused where the core is offline and the region fits beside the others
-  region_fits : (region : Region) (offline : Bool) → cond offline (option_map add.Region (region_fault on.core.regions region)) (Some add.NotOffline) ≡ None → region_fault on.core.regions region ≡ None
-  region_fits region true none = none_mapped add.Region (region_fault on.core.regions region) none
-  region_fits region false none = absurd (true≢false (ap is_some none))
+-- what a core has loaded behind a call has sound rings
+load_sound : (core : CoreState) (loaded : Option LoadState) → IsFitLoad core → IsLoadOf core loaded → IfSome (loaded_rings loaded) IsSoundPair
+load_sound core loaded is (inl same) = subst (λ (now : Option LoadState). IfSome (loaded_rings now) IsSoundPair) (sym same) is.rings
+load_sound core loaded is (inr (inl none)) = subst (λ (now : Option LoadState). IfSome (loaded_rings now) IsSoundPair) (sym none) tt
+load_sound core loaded is (inr (inr load)) = subst (λ (now : Option LoadState). IfSome (loaded_rings now) IsSoundPair) (sym load.1.1) (loaded_sound core load.0 is.regions load.1.0)
 
-  added : (region : Region) (why : Option AddFault) → add_fault on.core region ≡ why → Leaves (added_effect on.name on.core steps region why)
-  added region None none = record {
-    load = record { book = is.load.book; regions = added_sound on.core.regions region is.load.regions (region_fits region (is_offline on.core.life.state) none); rings = is.load.rings };
-    bench = is.bench;
-  }
-  added region (Some why) none = is
+rung_stays : Stays IsReachedRung
+rung_stays = record {
+  same = λ core life image loaded same load is. record {
+    reached = reached_stays.same core life image loaded same load is.reached;
+    rung = record { load = record { book = is.rung.load.book; regions = is.rung.load.regions; rings = load_sound core loaded is.rung.load load }; bench = is.rung.bench };
+  };
+  started = λ core life image loaded up load is. record {
+    reached = reached_stays.started core life image loaded up load is.reached;
+    rung = started_rung core is.rung life image loaded (load_sound core loaded is.rung.load load);
+  };
+  unlinked = λ core life image loaded load is. record {
+    reached = reached_stays.unlinked core life image loaded load is.reached;
+    rung = record { load = record { book = is.rung.load.book; regions = is.rung.load.regions; rings = load_sound core loaded is.rung.load load }; bench = tt };
+  };
+  crashed = λ core life stops is. record { reached = reached_stays.crashed core life stops is.reached; rung = crashed_core_rung core is.rung life };
+  readied = λ core may is. record {
+    reached = reached_stays.readied core may is.reached;
+    rung = record { load = record { book = is.rung.load.book; regions = is.rung.load.regions; rings = is.rung.load.rings }; bench = ready_rung core.bench is.rung.bench };
+  };
+  recovered = λ core found clear may opens is. record {
+    reached = reached_stays.recovered core found clear may opens is.reached;
+    rung = record { load = record { book = is.rung.load.book; regions = is.rung.load.regions; rings = loaded_sound core found is.rung.load.regions clear }; bench = again_rung core.bench is.rung.bench };
+  };
+}
 
-  region_rung : (region : Region) → Leaves (region_effect on.name on.core steps region)
-  unfolding region_effect
-  region_rung region = added region (add_fault on.core region) refl
+-- no region is refused where the core is offline and the region fits beside the others
+region_fits : (regions : List Region) (region : Region) (offline : Bool) → cond offline (option_map add.Region (region_fault regions region)) (Some add.NotOffline) ≡ None → region_fault regions region ≡ None
+region_fits regions region true none = none_mapped add.Region (region_fault regions region) none
+region_fits regions region false none = absurd (true≢false (ap is_some none))
 
-  declared : (channel : List ℕ) (kind : DriverKind) (why : Option AddFault) → Leaves (declared_effect on.name on.core steps channel kind why)
-  declared channel kind None = record { load = record { book = is.load.book; regions = is.load.regions; rings = is.load.rings }; bench = is.bench }
-  declared channel kind (Some why) = is
+rung_cores : KeepCores IsFitAct IsReachedRung
+rung_cores = record {
+  region = λ core region clear is. record {
+    reached = cores_reached.region core region clear is.reached;
+    rung = record {
+      load = record {
+        book = is.rung.load.book;
+        regions = added_sound core.regions region is.rung.load.regions (region_fits core.regions region (is_offline core.life.state) clear);
+        rings = is.rung.load.rings;
+      };
+      bench = is.rung.bench;
+    };
+  };
+  driver = λ core channel kind is. record {
+    reached = cores_reached.driver core channel kind is.reached;
+    rung = record { load = record { book = is.rung.load.book; regions = is.rung.load.regions; rings = is.rung.load.rings }; bench = is.rung.bench };
+  };
+  lives = rung_stays;
+  drive = λ core is. record { reached = cores_reached.drive core is.reached; rung = drive_rung core is.reached is.rung };
+  act = λ core steps asked fits is. record { reached = cores_reached.act core steps asked fits is.reached; rung = act_rung core steps asked core.bench refl fits is.reached.bench is.rung };
+}
 
-  driver_rung : (channel : List ℕ) (kind : DriverKind) → Leaves (driver_effect on.name on.core steps channel kind)
-  unfolding driver_effect
-  driver_rung channel kind = declared channel kind (driver_add_fault on.core channel)
-
-  start_on : (start : StartAct) → Leaves (started_effect start images answer on steps)
-  unfolding started_effect
-  start_on (starts.Boot image) = boot_rung on.core is image (found_image images answer image)
-  start_on (starts.Handover image) = handover_rung on.core is image (found_image images answer image)
-  start_on starts.Recover = recovery_rung on.core is (found_image images answer (booted_image on.name on.core))
-
-  act_on : (is_quiet : Bool) (asked : CoreAct) → Leaves (core_act_effect images answer is_quiet on steps asked)
-  unfolding core_act_effect shutdown_effect detach_effect crash_effect
-  act_on is_quiet (act.Region region) = region_rung region
-  act_on is_quiet (act.Driver channel kind) = driver_rung channel kind
-  act_on is_quiet (act.Start start) = start_on start
-  act_on is_quiet act.Shutdown = shutdown_rung on.core is (may_step steps)
-  act_on is_quiet act.Detach = detach_rung on.core is (may_step steps)
-  act_on is_quiet (act.Show shown) = is
-  act_on is_quiet (act.Crash kind) = report_rung on.core is (may_step steps)
-  act_on is_quiet (act.Recovery set) = record { load = record { book = is.load.book; regions = is.load.regions; rings = is.load.rings }; bench = is.bench }
-  act_on is_quiet (act.Drive count) = drive_on on.name is_quiet on.core steps count reached is
-
-  pub core_rung : (is_quiet : Bool) (wanted : NamedAct (List ℕ)) → FitsNamed IsFitAct wanted → Leaves (core_effect images answer is_quiet on steps wanted)
-  unfolding core_effect
-  core_rung is_quiet (under.Make made) fits = is
-  core_rung is_quiet (under.Link asked) fits =
-      subst IsRungCore (sym (link_effect_core on.name on.core steps asked on.core.bench)) (act_rung on.core steps asked on.core.bench refl fits reached.bench is)
-  core_rung is_quiet (under.Manage managed) fits = is
-  core_rung is_quiet (under.Show shown) fits = is
-  core_rung is_quiet (under.Core asked) fits = act_on is_quiet asked
+pub core_rung : (images : List ImageState) (answer : Answer) (on : NamedCoreState) (steps : ℕ) → IsReachedCore on.core → IsRungCore on.core → (is_quiet : Bool) (wanted : NamedAct (List ℕ))
+    → FitsNamed IsFitAct wanted → IsRungCore (core_effect images answer is_quiet on steps wanted).core
+core_rung images answer on steps reached is is_quiet wanted fits =
+    (core_kept IsFitAct IsReachedRung rung_cores images answer is_quiet on steps wanted fits (record { reached = reached; rung = is })).rung
 
 -- no regions are sound, and so are the standard ones
 no_regions : SoundRegions []
