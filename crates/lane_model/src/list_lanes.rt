@@ -1,5 +1,5 @@
-ghost use Rattle.std.specs.Prelude.{◌≡◌, ℕ, ◌+◌, ◌<◌, ◌≤◌, List, length, IfOk, IsTrue, Some, None, vec_capacity};
-ghost use Rattle.std.specs.Bool.{OnTrue};
+ghost use Rattle.std.specs.Prelude.{◌≡◌, ◌≢◌, ℕ, ◌+◌, ◌<◌, ◌≤◌, List, length, IfOk, IsTrue, Some, None, vec_capacity};
+ghost use Rattle.std.specs.Bool.{OnFalse, OnTrue};
 ghost use Rattle.std.specs.Option.{option_map};
 ghost use Rattle.rp_base.specs.declared.limits.TheConstants.{BOOK_MOST, CAPACITY_MOST, MESSAGE_MOST};
 ghost use Rattle.lane_model.specs.Lanes.{is_live_in, holds, without, has_call, holder};
@@ -180,7 +180,8 @@ impl<D: Desk> ListLane<D> {
     /// Whether a send is refused nowhere in a live era, by so many buffers that were given back.
     pub fn sends_at_once(&self, returned: u64) -> bool
         requires { returned ≡ self.now.lane.returned }
-        ensures { OnTrue result (SendsAtOnce self.now) }
+        ensures may { OnTrue result (SendsAtOnce self.now) }
+        ensures refused { OnFalse result (SendsAtOnce self.now → ⊥) }
     {
         let accepted = self.accepted.len();
         matches!(self.sender, Turn::Free)
@@ -191,14 +192,16 @@ impl<D: Desk> ListLane<D> {
     /// Whether a take is refused nowhere in a live era, by so many messages that were accepted.
     pub fn takes_at_once(&self, accepted: u64) -> bool
         requires { accepted ≡ length self.now.lane.accepted }
-        ensures { OnTrue result (TakesAtOnce self.now) }
+        ensures may { OnTrue result (TakesAtOnce self.now) }
+        ensures refused { OnFalse result (TakesAtOnce self.now → ⊥) }
     {
         matches!(self.receiver, Turn::Free) && self.takers.len() as u64 != accepted
     }
 
     /// Whether the receiver's turn is free.
     pub fn gives_at_once(&self) -> bool
-        ensures { OnTrue result (holder self.now.receiver ≡ None) }
+        ensures may { OnTrue result (holder self.now.receiver ≡ None) }
+        ensures refused { OnFalse result (holder self.now.receiver ≢ None) }
     {
         matches!(self.receiver, Turn::Free)
     }

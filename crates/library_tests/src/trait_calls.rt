@@ -3,7 +3,7 @@ ghost use Rattle.lane_model.specs.Conditions.{MayStep};
 ghost use Rattle.lane_model.specs.Links.{link_of};
 
 use lane_model::{Answer, Ask, Held, LaneForm, LaneLink, Wish, make_call};
-use rp_base::{CallerNo, End};
+use rp_base::{CallerNo, End, MESSAGE_MOST};
 
 /// Whether this is the next step of a call of this caller.
 pub fn may_step<L: LaneForm>(link: &LaneLink<L>, caller: CallerNo, wished: &Option<Wish>) -> bool
@@ -15,7 +15,7 @@ pub fn may_step<L: LaneForm>(link: &LaneLink<L>, caller: CallerNo, wished: &Opti
     let is_calling = link.is_calling(caller);
     match wished {
         None => is_calling,
-        Some(Wish::Send(message)) => !is_calling && message.bytes().len() <= 512,
+        Some(Wish::Send(message)) => !is_calling && message.bytes().len() <= MESSAGE_MOST,
         Some(Wish::Give(number)) => !is_calling && link.is_holding(caller, *number),
         Some(Wish::Take) | Some(Wish::Bind(_)) | Some(Wish::Unbind(_)) => !is_calling,
     }

@@ -7,7 +7,7 @@ use crate::small_links::small_config;
 use channel_bus::Side;
 use lane_model::{CallEnd, ReopenFault, Step, Wish};
 use managed_link::ManagedLink;
-use rp_base::{CallerNo, End, Message, NoMemory};
+use rp_base::{CallerNo, End, MESSAGE_MOST, Message, NoMemory};
 use std::alloc::Global;
 
 /// What goes through the link.
@@ -43,7 +43,7 @@ fn may_begin(link: &ManagedLink, caller: CallerNo, wished: &Wish) -> bool
         return false;
     }
     match wished {
-        Wish::Send(message) => message.bytes().len() <= 512,
+        Wish::Send(message) => message.bytes().len() <= MESSAGE_MOST,
         Wish::Give(number) => link.is_holding(caller, *number),
         Wish::Take | Wish::Bind(_) | Wish::Unbind(_) => true,
     }

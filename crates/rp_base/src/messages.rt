@@ -3,21 +3,22 @@ ghost use Rattle.std.specs.Prelude.{◌≡◌, ℕ, ◌+◌, ◌≤◌, ◌<◌,
 use crate::limits::MESSAGE_MOST;
 use std::marker::Model;
 
-/// The bytes of one message, at most 512. Contracts see it as the list of its bytes.
+/// The bytes of one message, at most [`MESSAGE_MOST`]. Contracts see it as the list of its bytes.
 #[derive(Debug, Drop)]
 pub struct Message {
-    bytes: [u8; 512],
+    bytes: [u8; MESSAGE_MOST],
     len: u16,
 }
 
 impl Model for Message {
     ghost use Rattle.std.specs.Prelude.{ℕ, List, take, ◌≤◌};
+    ghost use Rattle.rp_base.specs.declared.limits.TheConstants.{MESSAGE_MOST};
 
     ghost Value = { List ℕ };
 
     ghost view = { λ m. take m.len m.bytes };
 
-    ghost invariant = { λ m. m.len ≤ 512 };
+    ghost invariant = { λ m. m.len ≤ MESSAGE_MOST };
 }
 
 impl Message {
@@ -26,7 +27,7 @@ impl Message {
         ensures { result ≡ [] }
     {
         Message {
-            bytes: [0; 512],
+            bytes: [0; MESSAGE_MOST],
             len: 0,
         }
     }
@@ -41,7 +42,7 @@ impl Message {
         if bytes.len() > MESSAGE_MOST {
             return None;
         }
-        let mut filled = [0; 512];
+        let mut filled = [0; MESSAGE_MOST];
         filled[..bytes.len()].copy_from_slice(bytes);
         Some(Message {
             bytes: filled,
@@ -64,7 +65,7 @@ impl Message {
     /// The bytes of the message.
     pub fn bytes(&self) -> &[u8]
         ensures bytes { result.now ≡ self.now }
-        ensures short { length self.now ≤ 512 }
+        ensures short { length self.now ≤ MESSAGE_MOST }
     {
         &self.bytes[..self.len as usize]
     }
@@ -72,7 +73,7 @@ impl Message {
     /// A second message of the same bytes.
     pub fn copy(&self) -> Message
         ensures copied { result ≡ self.now }
-        ensures short { length self.now ≤ 512 }
+        ensures short { length self.now ≤ MESSAGE_MOST }
     {
         Message {
             bytes: self.bytes,

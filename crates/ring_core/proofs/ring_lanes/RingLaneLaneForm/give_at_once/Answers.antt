@@ -15,7 +15,7 @@ pub invariant_of-self : goal.invariant_of-self
 invariant_of-self g c =
     let old = state_of c.self.inside in
     let rings = old.rings in
-    let may : holder old.lane.receiver ≡ None = c.if-not-gives_at_once.ensures in
+    let may : holder old.lane.receiver ≡ None = c.if-not-gives_at_once.ensures.may in
     let has : IsTrue (holds old.lane.lane.held c.args.number c.args.caller) = rw (← c.self.view_is) at c.requires.held in
     let entry = c.ring_entry-entry.ensures ∙ ap entry_of (c.held_buffer.ensures ∙ ap (λ (hands : List Hand). held_buffer hands c.args.number) c.deref.ensures.value) in
     let count : c.from.result + c.returned.result ≡ return_count rings.sizes old.lane.lane.returned = ap₂ ◌+◌ c.from.ensures c.returned.ensures in

@@ -22,7 +22,7 @@ index_mut-message-requires g c =
     let counted = sound.counted in
     let lane = old.lane.lane in
     let rings = old.rings in
-    let may : SendsAtOnce old.lane = c.if-not-sends_at_once.ensures in
+    let may : SendsAtOnce old.lane = c.if-not-sends_at_once.ensures.may in
     let apart = eqb-false _ _ may.room in
     let some : length lane.accepted < lane.returned + rings.sizes.capacity = omega (arith, apart, counted.out, sized.lane) in
     let below = source-below rings.sizes (length lane.accepted) (length lane.takers) lane.returned rings.forward rings.returns rings.hands rings.aside sound.owned some in
@@ -35,7 +35,7 @@ pub invariant_of-self : goal.invariant_of-self
 invariant_of-self g c =
     let old = state_of c.self.inside in
     let rings = old.rings in
-    let may : SendsAtOnce old.lane = c.if-not-sends_at_once.ensures in
+    let may : SendsAtOnce old.lane = c.if-not-sends_at_once.ensures.may in
     let message : List ℕ = c.args.head.now ++ c.args.body.now in
     let accepted = length old.lane.lane.accepted in
     let buffer = c.source-buffer.result in

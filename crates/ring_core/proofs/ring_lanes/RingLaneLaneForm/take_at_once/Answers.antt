@@ -17,7 +17,7 @@ use Rattle.ring_core.proofs.ring_lanes.RingLaneLaneForm.take_at_once.Goals as go
 pub index-requires : goal.index-requires
 index-requires g c =
     let old = state_of c.self.inside in
-    let may : TakesAtOnce old.lane = c.if-not-takes_at_once.ensures in
+    let may : TakesAtOnce old.lane = c.if-not-takes_at_once.ensures.may in
     let next = next_is old c.self.invariant.sound may in
     let buffer : c.buffer_at-buffer.result ≡ buffer_at old.rings.sizes.entries old.rings.forward (length old.lane.lane.takers) =
     c.buffer_at-buffer.ensures ∙ ap₂ (λ (f : List UsedWord) (n : ℕ). buffer_at old.rings.sizes.entries f n) c.deref.ensures.value c.handed-number.ensures in
@@ -27,7 +27,7 @@ index-requires g c =
 pub hand_at_once-requires-clause-found : goal.hand_at_once-requires-clause-found
 hand_at_once-requires-clause-found g c =
     let old = state_of c.self.inside in
-    let may : TakesAtOnce old.lane = c.if-not-takes_at_once.ensures in
+    let may : TakesAtOnce old.lane = c.if-not-takes_at_once.ensures.may in
     let next = next_is old c.self.invariant.sound may in
     let buffer : c.buffer_at-buffer.result ≡ buffer_at old.rings.sizes.entries old.rings.forward (length old.lane.lane.takers) =
     c.buffer_at-buffer.ensures ∙ ap₂ (λ (f : List UsedWord) (n : ℕ). buffer_at old.rings.sizes.entries f n) c.deref.ensures.value c.handed-number.ensures in
@@ -39,7 +39,7 @@ invariant_of-self g c =
     let old = state_of c.self.inside in
     let rings = old.rings in
     let handed = length old.lane.lane.takers in
-    let may : TakesAtOnce old.lane = c.if-not-takes_at_once.ensures in
+    let may : TakesAtOnce old.lane = c.if-not-takes_at_once.ensures.may in
     let next = next_is old c.self.invariant.sound may in
     let buffer : c.buffer_at-buffer.result ≡ buffer_at rings.sizes.entries rings.forward handed =
     c.buffer_at-buffer.ensures ∙ ap₂ (λ (f : List UsedWord) (n : ℕ). buffer_at rings.sizes.entries f n) c.deref.ensures.value c.handed-number.ensures in
@@ -61,7 +61,7 @@ returns-clause-left g c =
     let old = state_of c.self.inside in
     let rings = old.rings in
     let handed = length old.lane.lane.takers in
-    let may : TakesAtOnce old.lane = c.if-not-takes_at_once.ensures in
+    let may : TakesAtOnce old.lane = c.if-not-takes_at_once.ensures.may in
     let next = next_is old c.self.invariant.sound may in
     let buffer : c.buffer_at-buffer.result ≡ buffer_at rings.sizes.entries rings.forward handed =
     c.buffer_at-buffer.ensures ∙ ap₂ (λ (f : List UsedWord) (n : ℕ). buffer_at rings.sizes.entries f n) c.deref.ensures.value c.handed-number.ensures in
