@@ -11,7 +11,7 @@ use Rattle.link_commands.specs.declared.stops.Stop.{Stop}
 use Rattle.rp_io.specs.Contents.{AppendsFront}
 use Rattle.link_commands.specs.Logs.{Hands, Keeps, KeepsLess, LogState}
 use Rattle.command_run.specs.declared.core_drives.TheConstants.{STRETCH}
-use Rattle.command_run.specs.Outcomes.{CutsCore, DrivesHanding, DrivesOn, HandsCoreEffect, HasCoreEffect, KeepsLast}
+use Rattle.command_run.specs.Outcomes.{CutsCore, DrivesHanding, DrivesOn, HandsCoreEffect, HasCoreEffect, KeepsLast, KeepsWhole}
 use Rattle.command_run.specs.CoreEffects.{CoreEffect, core_tells}
 use Rattle.command_run.specs.CoreLives.{core_stops}
 use Rattle.proc_state.specs.Lives.{is_up}
@@ -118,36 +118,41 @@ pub drive_up : (name : List ℕ) (is_quiet : Bool) (core : CoreState) (steps cou
 unfolding drive_effect
 drive_up name is_quiet core steps count up = ap (λ (b : Bool). cond b (drive_steps count name is_quiet core steps) (core_tells core steps (event.NotRunning name))) up
 
--- so one that was cut off is one of such a core
-pub cut_up : (name : List ℕ) (is_quiet : Bool) (core left : CoreState) (steps count : ℕ) (lines : List ℕ) (written now : Option (List ℕ)) → is_up core.life.state ≡ true
-    → CutsCore (λ done. drive_steps done name is_quiet core steps) count left lines written now → CutsCore (λ done. drive_effect name is_quiet core steps done) count left lines written now
-cut_up name is_quiet core left steps count lines written now up cut =
-    let same = drive_up name is_quiet core steps cut.done up in
-    record {
-      done = cut.done;
-      within = cut.within;
-      is = cut.is ∙ sym (ap (λ (e : CoreEffect). e.core) same);
-      told = cut.told;
-      last = cut.last;
-      tells = ap (λ (e : CoreEffect). e.events) same ∙ cut.tells;
-      front = cut.front;
-    }
-
--- what is kept behind a drive, by what tells the same
-pub keeps_same : (first second : ℕ → List Event) (count : ℕ) (lines : List ℕ) → ((n : ℕ) → first n ≡ second n) → KeepsLast second count lines → KeepsLast first count lines
-keeps_same first second count lines same keeps = record {
+-- what is kept of a drive, by what tells the same
+pub keeps_same : (first second : ℕ → List Event) (count : ℕ) (told other : List Event) (lines : List ℕ) → ((n : ℕ) → first n ≡ second n) → told ≡ other
+    → KeepsLast second count other lines → KeepsLast first count told lines
+keeps_same first second count told other lines same is keeps = record {
   done = keeps.done;
   within = keeps.within;
-  told = keeps.told;
+  earlier = keeps.earlier;
   last = keeps.last;
   here = same keeps.done ∙ keeps.here;
   later = keeps.later;
-  all = same count ∙ keeps.all;
+  all = is ∙ keeps.all;
   near = keeps.near;
   rest = keeps.rest;
   less = keeps.less;
   kept = keeps.kept;
 }
+
+-- so one that was cut off is one of such a core
+pub cut_up : (name : List ℕ) (is_quiet : Bool) (core left : CoreState) (steps count : ℕ) (lines : List ℕ) (written now : Option (List ℕ)) → is_up core.life.state ≡ true
+    → CutsCore (λ done. drive_steps done name is_quiet core steps) count left lines written now → CutsCore (λ done. drive_effect name is_quiet core steps done) count left lines written now
+cut_up name is_quiet core left steps count lines written now up cut =
+    let same : (n : ℕ) → drive_effect name is_quiet core steps n ≡ drive_steps n name is_quiet core steps = λ n. drive_up name is_quiet core steps n up in
+    record {
+      done = cut.done;
+      within = cut.within;
+      is = cut.is ∙ sym (ap (λ (e : CoreEffect). e.core) (same cut.done));
+      told = cut.told;
+      last = cut.last;
+      tells = ap (λ (e : CoreEffect). e.events) (same cut.done) ∙ cut.tells;
+      handed = cut.handed;
+      kept = cut.kept;
+      hands = cut.hands;
+      front = cut.front;
+      few = λ less. keeps_same _ _ cut.done cut.told cut.told cut.kept (λ n. ap (λ (e : CoreEffect). e.events) (same n)) refl (cut.few less);
+    }
 
 -- a drive of a core that isn't up
 drive_down : (name : List ℕ) (is_quiet : Bool) (core : CoreState) (steps count : ℕ) → is_up core.life.state ≡ false → drive_effect name is_quiet core steps count ≡ core_tells core steps (event.NotRunning name)
@@ -156,13 +161,13 @@ drive_down name is_quiet core steps count down = ap (λ (b : Bool). cond b (driv
 
 pub keeps_down : (name : List ℕ) (is_quiet : Bool) (core left : CoreState) (count : ℕ) (before after : LogState) (answer : Option Stop) → is_up core.life.state ≡ false
     → HasCoreEffect (drive_effect name is_quiet core before.steps count) left before after answer → KeepsLess before
-    → KeepsLast (λ done. (drive_effect name is_quiet core before.steps done).events) count after.lines
+    → KeepsWhole (λ done. (drive_effect name is_quiet core before.steps done).events) count after.lines
 keeps_down name is_quiet core left count before after answer down did less =
     let tells = ap (λ (e : CoreEffect). e.events) (drive_down name is_quiet core before.steps count down) in
     record {
       done = count;
       within = omega arith;
-      told = [];
+      earlier = [];
       last = event.NotRunning name;
       here = tells;
       later = event.NotRunning name ∷ [];
@@ -307,11 +312,11 @@ module _ (name : List ℕ) (is_quiet : Bool) (count : ℕ) (first : CoreState) (
 
     -- what is kept then, beside what was kept where its last steps began
     pub handing_keeps : (next : CoreState) (after : LogState) (answer : Option Stop) → HasCoreEffect (drive_steps left name is_quiet core log.steps) next log after answer
-        → KeepsLess log → (left ≤ STRETCH) ⊎ (is_over name core log.steps ≡ true) → KeepsLast (λ done. (drive_steps done name is_quiet first before.steps).events) count after.lines
+        → KeepsLess log → (left ≤ STRETCH) ⊎ (is_over name core log.steps ≡ true) → KeepsWhole (λ done. (drive_steps done name is_quiet first before.steps).events) count after.lines
     handing_keeps next after answer did less near = record {
       done = h.done;
       within = omega (arith, h.all);
-      told = h.told;
+      earlier = h.told;
       last = unwrap_or (rest_event name core) (event.Paused name);
       here = ap (λ (e : CoreEffect). e.events) handing_done;
       later = (drive_steps left name is_quiet core log.steps).events;
@@ -335,16 +340,39 @@ module _ (name : List ℕ) (is_quiet : Bool) (count : ℕ) (first : CoreState) (
         (append_assoc before.lines (transcript h.told) more ∙ ap (λ (bytes : List ℕ). before.lines ++ bytes) (sym (transcript-append h.told effect.events) ∙ ap (λ (e : CoreEffect). transcript e.events) (sym handing_rest)))
         (hands_front written now new before.lines log.lines (transcript h.told) more h.hands (front_of_more now new log.lines more front))
 
-    -- it was cut off behind its steps so far
-    pub handing_paused : (new : Option (List ℕ)) → AppendsFront now new log.lines → CutsCore (λ done. drive_steps done name is_quiet first before.steps) count core before.lines written new
-    handing_paused new front =
+  module _ (written : Option (List ℕ)) (left : ℕ) (core : CoreState) (log : LogState) (now : Option (List ℕ)) (h : DrivesHanding name is_quiet count first before written left core log now)
+      (next_left : ℕ) (next : CoreState) (after : LogState) (on : DrivesOn name is_quiet left core log next_left next after) where
+    abbrev further : DrivesHanding name is_quiet count first before written next_left next after now
+    further = handing_on written left core log now h next_left next after on
+
+    -- it was cut off behind a stretch more, of which all was kept
+    pub handing_paused : (new : Option (List ℕ)) → AppendsFront now new after.lines → left ≤ next_left + STRETCH → (KeepsLess before → KeepsLess log)
+        → CutsCore (λ done. drive_steps done name is_quiet first before.steps) count next before.lines written new
+    unfolding handing_on
+    handing_paused new front few less =
+        let done = handing_done written next_left next after now further in
         record {
-          done = h.done;
-          within = omega (arith, h.all);
-          is = sym (ap (λ (e : CoreEffect). e.core) handing_done);
-          told = h.told;
-          last = unwrap_or (rest_event name core) (event.Paused name);
-          tells = ap (λ (e : CoreEffect). e.events) handing_done;
-          front = subst (λ (bytes : List ℕ). AppendsFront written new bytes) (append-nil (before.lines ++ transcript h.told))
-              (hands_front written now new before.lines log.lines (transcript h.told) [] h.hands (subst (λ (bytes : List ℕ). AppendsFront now new bytes) (sym (append-nil log.lines)) front));
+          done = h.done + on.done;
+          within = omega (arith, h.all, on.all);
+          is = sym (ap (λ (e : CoreEffect). e.core) done);
+          told = h.told ++ on.told;
+          last = unwrap_or (rest_event name next) (event.Paused name);
+          tells = ap (λ (e : CoreEffect). e.events) done;
+          handed = now;
+          kept = after.lines;
+          hands = further.hands;
+          front = front;
+          few = λ few_before. record {
+            done = h.done;
+            within = omega arith;
+            earlier = h.told;
+            last = unwrap_or (rest_event name core) (event.Paused name);
+            here = ap (λ (e : CoreEffect). e.events) (handing_done written left core log now h);
+            later = on.told;
+            all = refl;
+            near = inl (omega (arith, on.all, few));
+            rest = log.lines;
+            less = less few_before;
+            kept = on.lines;
+          };
         }

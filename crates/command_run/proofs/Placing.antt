@@ -16,7 +16,7 @@ use Rattle.link_commands.specs.declared.stops.Stop.{Stop}
 use Rattle.lane_model.specs.declared.calls.LinkConfig.{LinkConfig}
 use Rattle.link_bench.specs.Benches.{BenchState, new_bench_of}
 use Rattle.link_commands.specs.Logs.{KeepsLess, LogState, HasEffect}
-use Rattle.command_run.specs.Outcomes.{CutsCore, CutsRun, HandsCoreEffect, HandsRunEffect, HasCoreEffect, HasRunEffect, KeepsLast}
+use Rattle.command_run.specs.Outcomes.{CutsCore, CutsRun, HandsCoreEffect, HandsRunEffect, HasCoreEffect, HasRunEffect, KeepsWhole}
 use Rattle.command_run.specs.Fetches.{KeepsDriven}
 use Rattle.rp_io.specs.declared.faults.FetchFault.TheVariants as fetch_fault
 use Rattle.script_lang.specs.declared.commands.Command.TheVariants as command
@@ -167,7 +167,8 @@ pub drive_cut : (fetched : Answer) (run : RunState) (called : List ℕ) (count p
     → CutsCore (λ done. drive_effect named.name run.objects.is_quiet named.core run.steps done) count now.core lines written new
     → CutsRun (λ done. name_effect fetched run called (under.Core (core.Drive done))) count (record run.objects { cores = slice_set run.objects.cores place now }) lines written new
 drive_cut fetched run called count place named now lines written new bare placed found name cut =
-    let at = drive_placed fetched run called cut.done place named bare placed found in
+    let same = λ (n : ℕ). drive_placed fetched run called n place named bare placed found in
+    let at = same cut.done in
     let left = (drive_effect named.name run.objects.is_quiet named.core run.steps cut.done).core in
     record {
       done = cut.done;
@@ -177,7 +178,11 @@ drive_cut fetched run called count place named now lines written new bare placed
       told = cut.told;
       last = cut.last;
       tells = ap (λ (e : RunEffect). e.events) at ∙ cut.tells;
+      handed = cut.handed;
+      kept = cut.kept;
+      hands = cut.hands;
       front = cut.front;
+      few = λ less. keeps_same _ _ cut.done cut.told cut.told cut.kept (λ n. ap (λ (e : RunEffect). e.events) (same n)) refl (cut.few less);
     }
 
 -- a drive as a command
@@ -192,11 +197,12 @@ if_driven (Some named) Keeps keeps = keeps
 -- what is kept behind a drive of the core at a place
 pub drive_keeps : (run : RunState) (called : List ℕ) (count place : ℕ) (named : NamedCoreState) (before : LogState) (lines : List ℕ) → None ≡ place_of run.objects.links called
     → Some place ≡ core_place run.objects.cores called → slice_get run.objects.cores place ≡ Some named
-    → (KeepsLess before → KeepsLast (λ done. (drive_effect named.name run.objects.is_quiet named.core run.steps done).events) count lines) → KeepsDriven run called count before lines
+    → (KeepsLess before → KeepsWhole (λ done. (drive_effect named.name run.objects.is_quiet named.core run.steps done).events) count lines) → KeepsDriven run called count before lines
 drive_keeps run called count place named before lines bare placed found keeps =
-    if_driven (core_named run.objects called) (KeepsLess before → KeepsLast (λ done. (effect_of (Err fetch_fault.Missing) run (command.Drive called done)).events) count lines)
-    (λ less. keeps_same _ _ count lines
-    (λ done. ap (λ (e : RunEffect). e.events) (drive_line (Err fetch_fault.Missing) run called done ∙ drive_placed (Err fetch_fault.Missing) run called done place named bare placed found)) (keeps less))
+    let same = λ (n : ℕ). ap (λ (e : RunEffect). e.events)
+    (drive_line (Err fetch_fault.Missing) run called n ∙ drive_placed (Err fetch_fault.Missing) run called n place named bare placed found) in
+    if_driven (core_named run.objects called) (KeepsLess before → KeepsWhole (λ done. (effect_of (Err fetch_fault.Missing) run (command.Drive called done)).events) count lines)
+    (λ less. keeps_same _ _ count _ _ lines same (same count) (keeps less))
 
 -- what a command did that handed on nothing
 pub kept_run : (effect : RunEffect) (objects : ObjectsState) (before after : LogState) (written : Option (List ℕ)) (answer : Option Stop)

@@ -1,4 +1,4 @@
--- What is done under the name of a core of a run: additions to it and its switch, and all that is said beside (own).
+-- What an act under the name of a core does: a region, a driver and the switch of recovery by definitions here, the other acts by those of the files beside this one (own).
 use Rattle.std.specs.Prelude.{ℕ, Bool, true, false, List, [], ◌∷◌, ◌++◌, length, Option, Some, None, unwrap_or}
 use Rattle.rp_base.specs.declared.kinds.DriverKind.{DriverKind}
 use Rattle.rp_base.specs.declared.kinds.Switch.{Switch}

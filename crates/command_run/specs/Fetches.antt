@@ -15,7 +15,7 @@ use Rattle.link_commands.specs.declared.stops.Stop.{Stop}
 use Rattle.command_run.specs.Stores.{Answer, IsAnswer, IsShelf, Shelf, answer_for}
 use Rattle.command_run.specs.Runs.{ObjectsState, RunState, asked_name, core_named, effect_of}
 use Rattle.link_commands.specs.Logs.{KeepsLess, LogState}
-use Rattle.command_run.specs.Outcomes.{CutsRun, HandsRunEffect, KeepsLast}
+use Rattle.command_run.specs.Outcomes.{CutsRun, HandsRunEffect, KeepsWhole}
 
 -- what was told
 abbrev pub answer_of : Fetched → Answer
@@ -69,10 +69,10 @@ pub record IsCutCommand (run : RunState) (asked : Command) (left : ObjectsState)
   pub is : asked ≡ command.Drive name count
   pub cut : CutsRun (λ done. effect_of (Err fetch_fault.Missing) run (command.Drive name done)) count left before.lines written now
 
--- the lines that are kept behind a drive of a core: what it tells is handed on as it goes
+-- the lines that are kept behind a drive of a core: with less than a piece kept before it, they are few, however long it was
 abbrev pub KeepsDriven : RunState → List ℕ → ℕ → LogState → List ℕ → Type 0
 KeepsDriven run name count before lines =
-    IfSome (core_named run.objects name) (λ _. KeepsLess before → KeepsLast (λ done. (effect_of (Err fetch_fault.Missing) run (command.Drive name done)).events) count lines)
+    IfSome (core_named run.objects name) (λ _. KeepsLess before → KeepsWhole (λ done. (effect_of (Err fetch_fault.Missing) run (command.Drive name done)).events) count lines)
 
 -- the same of a command, if it is a drive
 abbrev pub KeepsDrive : RunState → Command → LogState → List ℕ → Type 0

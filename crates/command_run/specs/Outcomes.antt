@@ -35,7 +35,25 @@ pub record DrivesHanding (name : List ℕ) (is_quiet : Bool) (count : ℕ) (firs
   pub hands : Hands written before.lines now log.lines (transcript told)
   pub rest : (more : ℕ) → drive_steps (done + more) name is_quiet first before.steps ≡ told_before told (drive_steps more name is_quiet core log.steps)
 
--- a drive of so many steps was cut off behind some of them: a drive of just these leaves the same, and tells one event more, with which it ends; of the lines before that one a front is written
+-- behind so many steps a drive has told these events, of which less than a piece is kept beside what it told since one of its last steps, or since it came to rest or the run had no step left
+pub record KeepsLast (events : ℕ → List Event) (count : ℕ) (told : List Event) (lines : List ℕ) : Type 0 where
+  pub done : ℕ
+  pub within : done ≤ count
+  pub earlier : List Event
+  pub last : Event
+  pub here : events done ≡ earlier ++ last ∷ []
+  pub later : List Event
+  pub all : told ≡ earlier ++ later
+  pub near : (count ≤ done + STRETCH) ⊎ (length later ≤ 1)
+  pub rest : List ℕ
+  pub less : length rest < PIECE
+  pub kept : lines ≡ rest ++ transcript later
+
+-- the same of a whole drive
+abbrev pub KeepsWhole : (ℕ → List Event) → ℕ → List ℕ → Type 0
+KeepsWhole events count lines = KeepsLast events count (events count) lines
+
+-- a drive of so many steps was cut off behind some of them, where the sink failed: a drive of just these leaves the same, and tells one event more, with which it ends; of what was told before that one some lines were handed on, and a front of those that were kept. With less than a piece kept before the drive, few were kept then
 pub record IsCutDrive (State : Type 0) (state : ℕ → State) (events : ℕ → List Event) (count : ℕ) (left : State) (lines : List ℕ) (written now : Option (List ℕ)) : Type 0 where
   pub done : ℕ
   pub within : done ≤ count
@@ -43,7 +61,11 @@ pub record IsCutDrive (State : Type 0) (state : ℕ → State) (events : ℕ →
   pub told : List Event
   pub last : Event
   pub tells : events done ≡ told ++ last ∷ []
-  pub front : AppendsFront written now (lines ++ transcript told)
+  pub handed : Option (List ℕ)
+  pub kept : List ℕ
+  pub hands : Hands written lines handed kept (transcript told)
+  pub front : AppendsFront handed now kept
+  pub few : length lines < PIECE → KeepsLast events done told kept
 
 -- the same of a core, by what a drive of each number of steps does
 abbrev pub CutsCore : (ℕ → CoreEffect) → ℕ → CoreState → List ℕ → Option (List ℕ) → Option (List ℕ) → Type 0
@@ -52,20 +74,6 @@ CutsCore drive count left lines written now = IsCutDrive CoreState (λ done. (dr
 -- and of a run
 abbrev pub CutsRun : (ℕ → RunEffect) → ℕ → ObjectsState → List ℕ → Option (List ℕ) → Option (List ℕ) → Type 0
 CutsRun drive count left lines written now = IsCutDrive ObjectsState (λ done. (drive done).run.objects) (λ done. (drive done).events) count left lines written now
-
--- behind a drive of so many steps less than a piece is kept beside what the drive told since one of its last steps, or since it came to rest or the run had no step left
-pub record KeepsLast (events : ℕ → List Event) (count : ℕ) (lines : List ℕ) : Type 0 where
-  pub done : ℕ
-  pub within : done ≤ count
-  pub told : List Event
-  pub last : Event
-  pub here : events done ≡ told ++ last ∷ []
-  pub later : List Event
-  pub all : events count ≡ told ++ later
-  pub near : (count ≤ done + STRETCH) ⊎ (length later ≤ 1)
-  pub rest : List ℕ
-  pub less : length rest < PIECE
-  pub kept : lines ≡ rest ++ transcript later
 
 -- a command left of its core, told and answered what this effect says, and some lines were handed on meanwhile
 pub record HandsCoreEffect (effect : CoreEffect) (left : CoreState) (before after : LogState) (written now : Option (List ℕ)) (answer : Option Stop) : Type 0 where

@@ -2,7 +2,7 @@ ghost use Rattle.std.specs.Prelude.{◌≡◌, ◌==◌, ◌≤◌, ◌+◌, ◌
 ghost use Rattle.journal.specs.declared.events.Event.TheVariants as event;
 ghost use Rattle.journal.specs.Lines.{transcript};
 ghost use Rattle.link_commands.specs.Logs.{Keeps, KeepsLess};
-ghost use Rattle.command_run.specs.Outcomes.{CutsCore, DrivesHanding, DrivesOn, HandsCoreEffect, HasCoreEffect, KeepsLast};
+ghost use Rattle.command_run.specs.Outcomes.{CutsCore, DrivesHanding, DrivesOn, HandsCoreEffect, HasCoreEffect, KeepsWhole};
 ghost use Rattle.command_run.specs.Fetches.{EndsCut, IfWrite};
 ghost use Rattle.rp_base.specs.declared.limits.TheConstants.{STEPS_MOST};
 ghost use Rattle.command_run.specs.declared.core_drives.TheConstants.{STRETCH};
@@ -74,7 +74,7 @@ impl NamedCore {
             (K.written out.old) (K.written out.new) (K.faults out.old) (K.faults out.new)) }
         ensures paused { IfErr result (λ why. IfWrite why (CutsCore (λ done. drive_effect self.old.name is_quiet self.old.core log.old.steps done)
             count self.new.core log.old.lines (K.written out.old) (K.written out.new))) }
-        ensures less { IfOk result (λ _. KeepsLess log.old → KeepsLast (λ done. (drive_effect self.old.name is_quiet self.old.core log.old.steps done).events) count log.new.lines) }
+        ensures less { IfOk result (λ _. KeepsLess log.old → KeepsWhole (λ done. (drive_effect self.old.name is_quiet self.old.core log.old.steps done).events) count log.new.lines) }
     {
         if !self.core.life().is_up() {
             return Ok(self.drive(count, is_quiet, log)?);
@@ -114,8 +114,8 @@ impl NamedCore {
         Ok(left)
     }
 
-    /// The first `most` steps of a drive of `count` steps, fewer where it is over before. The answer is
-    /// how many of its steps are left.
+    /// The first `most` steps of a drive of `count` steps, and no more of them; fewer where it is over
+    /// before. The answer is how many of its steps are left.
     #[inline(never)]
     fn advance(
         &mut self,
@@ -128,6 +128,7 @@ impl NamedCore {
         ensures name { self.new.name ≡ self.old.name }
         ensures on { IfOk result (λ left. DrivesOn self.old.name is_quiet count self.old.core log.old left self.new.core log.new) }
         ensures within { IfOk result (λ left. left ≤ count) }
+        ensures most { IfOk result (λ left. count ≤ left + most) }
         ensures over { IfOk result (λ left. (left + most ≡ count) ⊎ (is_over self.old.name self.new.core log.new.steps ≡ true)) }
     {
         let mut driven = Driven::Idle;

@@ -80,8 +80,8 @@ impl From<Failed> for CommandFault {
 }
 
 /// Runs one command over what the store has, tells its events, and answers why the run stops in its
-/// midst, if it does. A drive hands on what it tells as it goes: with less than a piece kept before it, it
-/// keeps less than a piece beside what its last 1,024 steps told.
+/// midst, if it does. A drive hands on what it tells as it goes: with less than a piece kept before it,
+/// less than a piece is kept beside what its last 1,024 steps told, behind it and wherever the sink fails.
 pub fn run_command<F: FirmwareStore, K: Sink>(
     objects: &mut Objects,
     command: &Command,

@@ -1,7 +1,7 @@
 // The limits and fixed numbers of the program, each with its value: definitions cite the constants of the code, and this says what those are.
 #![tactic(auto)]
 
-ghost use Rattle.std.specs.Prelude.{◌≡◌};
+ghost use Rattle.std.specs.Prelude.{◌≡◌, ◌≤◌, ℕ, List, length};
 ghost use Rattle.rp_base.specs.declared.limits.TheConstants.{BOOK_MOST, CALLERS_MOST, CAPACITY_MOST, CHANNELS_MOST, ENDPOINTS_MOST, IMAGE_MOST, MESSAGE_MOST, NAME_MOST, OBJECTS_MOST, PAYLOAD_MOST, RING_MOST, SCRIPT_LINES_MOST, SCRIPT_MOST, STANDARD_MEMORY, STEPS_MOST};
 ghost use Rattle.host_driver.specs.declared.drivers.TheConstants.{DRIVERS_MOST};
 ghost use Rattle.image_maker.specs.declared.demo.TheConstants.{SESSIONS_MOST};
@@ -13,6 +13,10 @@ ghost use Rattle.lane_model.specs.declared.TheConstants.{MANAGER};
 ghost use Rattle.journal_check.specs.declared.limits.TheConstants.{TRANSCRIPT_MOST};
 ghost use Rattle.crash_recover.specs.declared.core_faults.TheConstants.{CALLER_OUT, RINGS_CHANGED};
 ghost use Rattle.command_run.specs.declared.dumps.TheConstants.{DUMPS_MOST};
+ghost use Rattle.lane_model.specs.Links.{LinkState};
+ghost use Rattle.channel_bus.specs.Sides.{EndState};
+ghost use Rattle.link_bench.specs.declared.acts.ActAnswer.{ActAnswer};
+ghost use Rattle.link_commands.specs.Effects.{answer_events};
 ghost use Rattle.storm_run.specs.declared.plans.TheConstants.{COUNT_MOST, END_CALLERS_MOST};
 ghost use Rattle.chart.specs.declared.limits.TheConstants.{LIFELINES_MOST, LINES_MOST};
 ghost use Rattle.c_forms.specs.declared.TheConstants.{DONE, NOTHING, NO_MEMORY, WRONG_FIX, WRONG_LENGTH};
@@ -65,6 +69,11 @@ pub fn script_limits()
     ensures transcript { TRANSCRIPT_MOST ≡ 16777216 }
     ensures end_callers { END_CALLERS_MOST ≡ 31 }
     ensures count { COUNT_MOST ≡ 8192 }
+{}
+
+/// The lines of an act for callers on a link: whatever came of it, two at most tell it, of a pump too, however many turns it had.
+pub fn act_lines()
+    ensures { (name : List ℕ) (link : LinkState EndState) (answer : ActAnswer) → length (answer_events name link answer) ≤ 2 }
 {}
 
 /// The limits of a chart: lines of a transcript and lifelines; and the statuses of the library for C that are no fault's number, and what

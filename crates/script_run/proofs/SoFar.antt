@@ -18,8 +18,8 @@ use Rattle.command_run.specs.Stores.{IsHeld, IsShelf, Shelf, Told, answer_for}
 use Rattle.command_run.specs.Runs.{ObjectsState, RunEffect, RunState, Run, asked_name, effect_of, run_from, run_of, new_run}
 use Rattle.script_run.specs.Outputs.{Output, end_output, stop_output, store_fault_output, transcript_output}
 use Rattle.script_run.specs.Endings.{IsFailedRun, IsWellRun}
-use Rattle.link_commands.specs.Logs.{LogState, Hands}
-use Rattle.command_run.specs.Outcomes.{HandsRunEffect}
+use Rattle.link_commands.specs.Logs.{Hands, KeepsLess, LogState}
+use Rattle.command_run.specs.Outcomes.{HandsRunEffect, KeepsLast}
 use Rattle.command_run.specs.Fetches.{DidTold, IsCutCommand, IsToldCut}
 use Rattle.script_run.specs.Told.{AnswersStatus, EndsRun, IsResultCourse, RunWrites, StandsFor, Tells}
 use Rattle.script_run.specs.Yards.{StandsInDrive, run_to_drive}
@@ -43,6 +43,23 @@ pub record SoFar (images : Option (List (List ℕ × List ℕ))) (commands left 
   pub are : AreShelves images shelves
   pub hands : Hands from [] now lines (transcript events)
   pub run : (later : Told) (more : List Command) → run_of (told_then shelves later) (done ++ more) ≡ behind events (rest later more)
+
+-- what is kept of a drive, where other events were told before it
+keeps_behind : (before : List Event) (first second : ℕ → List Event) (count : ℕ) (told : List Event) (lines : List ℕ) → ((n : ℕ) → first n ≡ before ++ second n)
+    → KeepsLast second count told lines → KeepsLast first count (before ++ told) lines
+keeps_behind before first second count told lines same keeps = record {
+  done = keeps.done;
+  within = keeps.within;
+  earlier = before ++ keeps.earlier;
+  last = keeps.last;
+  here = same keeps.done ∙ ap (λ (events : List Event). before ++ events) keeps.here ∙ sym (append_assoc before keeps.earlier (keeps.last ∷ []));
+  later = keeps.later;
+  all = ap (λ (events : List Event). before ++ events) keeps.all ∙ sym (append_assoc before keeps.earlier keeps.later);
+  near = keeps.near;
+  rest = keeps.rest;
+  less = keeps.less;
+  kept = keeps.kept;
+}
 
 -- nothing is told yet
 pub so_far_none : (images : Option (List (List ℕ × List ℕ))) (commands : List Command) (written : Option (List ℕ))
@@ -355,9 +372,17 @@ module _ (images : Option (List (List ℕ × List ℕ))) (commands : List Comman
         let driving = command.Drive cut.name steps in
         so_far.run later_here (driving ∷ []) ∙ ap (behind so_far.events) (run_behind any_shelf.0 (any_told images) state_at driving [])
 
+    -- what it tells
+    events_here : (steps : ℕ) → (run_to_drive told_here so_far.done cut.name steps).events ≡ so_far.events ++ (drive_here steps).events
+    events_here steps =
+        let effect = drive_here steps in
+        ap (λ (run : Run). run.events) (run_here steps)
+        ∙ ap (λ (events : List Event). so_far.events ++ (effect.events ++ events)) (rest_last effect effect.ending (any_told images)).1
+        ∙ ap (λ (events : List Event). so_far.events ++ events) (append-nil effect.events)
+
     -- what is left is what the drive left behind its steps so far
-    stands_cut : StandsInDrive told_here commands yard from new
-    stands_cut =
+    stands_cut : KeepsLess before → StandsInDrive told_here commands yard from new
+    stands_cut less =
         let drove = cut.cut in
         let effect = drive_here drove.done in
         let last = rest_last effect effect.ending (any_told images) in
@@ -374,24 +399,25 @@ module _ (images : Option (List (List ℕ × List ℕ))) (commands : List Comman
             is = drove.is ∙ sym (ap (λ (run : Run). run.last.objects) ran ∙ ap (λ (run : RunState). run.objects) last.0);
             told = so_far.events ++ drove.told;
             last = drove.last;
-            tells = ap (λ (run : Run). run.events) ran
-                ∙ ap (λ (events : List Event). so_far.events ++ (effect.events ++ events)) last.1
-                ∙ ap (λ (events : List Event). so_far.events ++ events) (append-nil effect.events ∙ drove.tells)
-                ∙ sym (append_assoc so_far.events drove.told (drove.last ∷ []));
-            front = subst (λ (bytes : List ℕ). AppendsFront from new bytes) (sym (transcript-append so_far.events drove.told))
-                (hands_front from now new [] before.lines (transcript so_far.events) (transcript drove.told) so_far.hands drove.front);
+            tells = events_here drove.done ∙ ap (λ (events : List Event). so_far.events ++ events) drove.tells ∙ sym (append_assoc so_far.events drove.told (drove.last ∷ []));
+            handed = drove.handed;
+            kept = drove.kept;
+            hands = subst (λ (bytes : List ℕ). Hands from [] drove.handed drove.kept bytes) (sym (transcript-append so_far.events drove.told))
+                (hands_more from now drove.handed [] before.lines drove.kept (transcript so_far.events) (transcript drove.told) so_far.hands drove.hands);
+            front = drove.front;
+            few = λ _. keeps_behind so_far.events _ (λ (steps : ℕ). (drive_here steps).events) drove.done drove.told drove.kept events_here (drove.few less);
           };
         }
 
     -- the command at a place was cut off by the sink
-    pub so_far_write_cut : (start faults after was then : ℕ) → IsToldCut command_fault.Write state_at first before now new faults after
+    pub so_far_write_cut : KeepsLess before → (start faults after was then : ℕ) → IsToldCut command_fault.Write state_at first before now new faults after
         → faults ≡ start → then ≡ was → RunWrites images commands yard (Err command_fault.Write) from new start after was then
-    so_far_write_cut start faults after was then told same still = record {
+    so_far_write_cut less start faults after was then told same still = record {
       told = told_here;
       course = inl (then_held images later_here so_far.shelves so_far.are held_here, still);
       status = tt;
       text = (front_here (told any_shelf.0).0, subst (λ (n : ℕ). Rose n after) same (told any_shelf.0).1);
-      stands = inr stands_cut;
+      stands = inr (stands_cut less);
     }
 
   -- or for want of memory

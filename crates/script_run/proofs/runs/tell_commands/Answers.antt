@@ -1,11 +1,11 @@
-use Rattle.std.proofs.Common.{◌≡◌, ◌+◌, ℕ, [], List, Option, Some, None, Result, Err, drop, false, refl, sym, ap, subst, ◌∙◌}
+use Rattle.std.proofs.Common.{◌≡◌, ◌+◌, arith, ℕ, [], List, Option, Some, None, Result, Err, drop, false, refl, sym, ap, subst, ◌∙◌}
 use Rattle.std.proofs.Math.ListN.{drop_of_length-le}
 use Rattle.std.proofs.lemmas.Result.{err_from_is_err_and}
 use Rattle.rp_io.specs.Causes.{Rose}
 use Rattle.command_run.specs.declared.fetches.CommandFault.{CommandFault}
 use Rattle.script_run.specs.declared.statuses.Status.{Status}
 use Rattle.command_run.specs.Stores.{Told}
-use Rattle.link_commands.specs.Logs.{LogState}
+use Rattle.link_commands.specs.Logs.{KeepsLess, LogState}
 use Rattle.command_run.specs.Fetches.{DidTold, RunsTold}
 use Rattle.script_run.specs.Outputs.{end_output, store_fault_output}
 use Rattle.script_run.specs.Told.{EndsRun, RunWrites}
@@ -13,6 +13,10 @@ use Rattle.command_run.specs.Runs.{AsksNone, ObjectsState, Run, RunState, asked_
 use Rattle.command_run.proofs.RunSteps.{asks_first, asks_later, left_at, run_none, runnable_first}
 use Rattle.script_run.proofs.SoFar.{SoFar, asked_some, so_far_none, so_far_ends, so_far_fails, so_far_memory_cut, so_far_write_cut, so_far_write_fault, so_far_handed, so_far_after, so_far_until}
 use Rattle.script_run.proofs.runs.tell_commands.Goals as goal
+
+-- a new log keeps nothing
+none_kept : (steps : ℕ) → KeepsLess (record { lines = []; steps = steps })
+none_kept steps = omega arith
 
 pub run_command-requires : goal.run_command-requires
 run_command-requires g c =
@@ -31,6 +35,7 @@ loop-command-init g c =
       so_far = subst (λ (log : LogState). SoFar images commands commands written written log.lines (λ later rest. run_from later (record { objects = c.args.objects.now; steps = log.steps }) rest)) (sym c.new-log.ensures)
           (subst (λ (objects : ObjectsState). SoFar images commands commands written written [] (λ later rest. run_from later (record { objects = objects; steps = 0 }) rest)) (sym c.requires.new)
           (so_far_none images commands written));
+      less = subst (λ (log : LogState). KeepsLess log) (sym c.new-log.ensures) (none_kept 0);
       runnable = c.requires.runnable;
       same = refl;
       images = refl;
@@ -142,7 +147,7 @@ returns-in-Err-Write g c =
     record {
       written =
           so_far_write_cut (store.images c.args.store.now) commands (sink.written c.args.out.now) (sink.written c.loop-command.out) c.loop-command.objects c.loop-command.command-index first c.loop-command.log
-          c.loop-command.invariant.so_far c.loop-command-test.true c.command-item.is (sink.written c.run_command.new.out) c.run_command.new.objects failed.2 (sink.faults c.args.out.now) (sink.faults c.loop-command.out)
+          c.loop-command.invariant.so_far c.loop-command-test.true c.command-item.is (sink.written c.run_command.new.out) c.run_command.new.objects failed.2 c.loop-command.invariant.less (sink.faults c.args.out.now) (sink.faults c.loop-command.out)
           (sink.faults c.run_command.new.out) (store.faults c.args.store.now) (store.faults c.run_command.new.store) failed.0 c.loop-command.invariant.same (failed.1 ∙ c.loop-command.invariant.still);
       unasked = λ none.
           let sofar = c.loop-command.invariant.unasked none in
@@ -195,6 +200,7 @@ loop-command-preserved g c =
           (so_far_after images commands (sink.written c.args.out.now) (sink.written c.loop-command.out) c.loop-command.objects i first c.loop-command.log
           c.loop-command.invariant.so_far c.loop-command-test.true c.command-item.is c.run_command.new.objects c.run_command.new.log (sink.written c.run_command.new.out) c.in-Ok-None.field-0 did c.in-Ok-None.field-0-is)
           handed.handed);
+      less = handed.less;
       runnable = (runnable_first first more (drop i commands) is c.loop-command.invariant.runnable).1;
       same = handed.same ∙ told.1 ∙ c.loop-command.invariant.same;
       images = c.run_command.ensures.kept ∙ c.loop-command.invariant.images;

@@ -1,5 +1,6 @@
 use Rattle.std.proofs.Common.{◌≡◌, drop}
 use Rattle.script_lang.specs.Runnable.{AreRunnable}
+use Rattle.link_commands.specs.Logs.{KeepsLess}
 use Rattle.command_run.specs.Runs.{AsksNone, new_run, run_from}
 use Rattle.script_run.proofs.SoFar.{SoFar}
 use Rattle.script_run.proofs.runs.tell_commands.Given as goal
@@ -12,6 +13,7 @@ invariant-loop-command g l =
     record {
       so_far : SoFar (store.images l.fn.store) l.fn.commands (drop l.command-index l.fn.commands) (sink.written l.fn.out) (sink.written l.out) l.log.lines
           (λ later rest. run_from later (record { objects = l.objects; steps = l.log.steps }) rest);
+      less : KeepsLess l.log;
       runnable : AreRunnable (drop l.command-index l.fn.commands);
       same : sink.faults l.out ≡ sink.faults l.fn.out;
       images : store.images l.store ≡ store.images l.fn.store;

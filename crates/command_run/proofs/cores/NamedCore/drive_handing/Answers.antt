@@ -47,7 +47,8 @@ returns-clause-less g c less =
     ap (λ (s : NamedCoreState). is_up s.core.life.state) (sym c.self.view_is) ∙ ap (λ (l : CoreLife). is_up l.state) (sym c.life.ensures) ∙ sym c.if-not-is_up.ensures in
     let did = subst (λ (n : List ℕ). HasCoreEffect (drive_steps c.in_ok-left.left n is_quiet c.drive_pieces.new.self.core c.drive_pieces.new.log.steps) c.drive_running.new.self.core c.drive_pieces.new.log c.drive_running.new.log c.in_ok-drive_running.field-0)
     c.in_ok-left.ensures.name c.in_ok-drive_running.ensures.effect in
-    keeps_same _ _ c.args.count c.drive_running.new.log.lines (λ done. ap (λ (e : CoreEffect). e.events) (drive_up name is_quiet first before.steps done up))
+    let same = λ (done : ℕ). ap (λ (e : CoreEffect). e.events) (drive_up name is_quiet first before.steps done up) in
+    keeps_same _ _ c.args.count _ _ c.drive_running.new.log.lines same (same c.args.count)
     (handing_keeps name is_quiet c.args.count first before (g.K.Sink.written c.args.out.now) c.in_ok-left.left c.drive_pieces.new.self.core c.drive_pieces.new.log (g.K.Sink.written c.drive_pieces.new.out) c.in_ok-left.ensures.on
     c.drive_running.new.self.core c.drive_running.new.log c.in_ok-drive_running.field-0 did (c.in_ok-left.ensures.less less) c.in_ok-left.ensures.near)
 

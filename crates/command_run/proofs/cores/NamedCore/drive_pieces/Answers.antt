@@ -46,11 +46,9 @@ returns-in_err-hand_on-clause-paused g c =
     let before = c.args.log.now in
     let found = err_from_is_err_and c.from_residual-in_err-hand_on.result c.from_residual-in_err-hand_on.ensures.1 in
     let on = subst (λ (n : List ℕ). DrivesOn n c.args.is_quiet c.loop-left.left c.loop-left.self.core c.loop-left.log c.in_ok-left.left c.advance.new.self.core c.advance.new.log) c.loop-left.invariant.name c.in_ok-left.ensures.on in
-    let told = handing_on name c.args.is_quiet c.args.count first before (sink.written c.args.out.now) c.loop-left.left c.loop-left.self.core c.loop-left.log (sink.written c.loop-left.out) c.loop-left.invariant.on
-    c.in_ok-left.left c.advance.new.self.core c.advance.new.log on in
     on_write ℕ _ c.from_residual-in_err-hand_on.result (found.1 ∙ ap (λ (why : CommandFault). Err why) found.2)
-    (handing_paused name c.args.is_quiet c.args.count first before (sink.written c.args.out.now) c.in_ok-left.left c.advance.new.self.core c.advance.new.log (sink.written c.loop-left.out) told
-    (sink.written c.hand_on.new.out) c.in_err-hand_on.ensures.front)
+    (handing_paused name c.args.is_quiet c.args.count first before (sink.written c.args.out.now) c.loop-left.left c.loop-left.self.core c.loop-left.log (sink.written c.loop-left.out) c.loop-left.invariant.on
+    c.in_ok-left.left c.advance.new.self.core c.advance.new.log on (sink.written c.hand_on.new.out) c.in_err-hand_on.ensures.front c.in_ok-left.ensures.most c.loop-left.invariant.less)
 
 pub returns-in_err-hand_on-clause-cut : goal.returns-in_err-hand_on-clause-cut
 returns-in_err-hand_on-clause-cut g c =

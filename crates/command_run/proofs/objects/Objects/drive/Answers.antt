@@ -13,7 +13,7 @@ use Rattle.command_run.specs.declared.fetches.CommandFault.TheVariants as comman
 use Rattle.command_run.specs.CoreDrives.{drive_effect}
 use Rattle.command_run.specs.Fetches.{EndsCut, IfWrite, KeepsDriven}
 use Rattle.link_commands.specs.Logs.{KeepsLess}
-use Rattle.command_run.specs.Outcomes.{CutsCore, CutsRun, HandsCoreEffect, HandsRunEffect, KeepsLast}
+use Rattle.command_run.specs.Outcomes.{CutsCore, CutsRun, HandsCoreEffect, HandsRunEffect, KeepsWhole}
 use Rattle.command_run.specs.NamedCores.{NamedCoreState}
 use Rattle.command_run.specs.Runs.{ObjectsState, RunEffect, RunState, core_named, core_place, effect_of, name_effect, place_of}
 use Rattle.command_run.proofs.Handed.{front_of_none, no_write}
@@ -75,7 +75,7 @@ returns-in-Some g c =
           c.drive_handing.ensures.paused);
       less =
           subst (λ (objects : ObjectsState). IfOk c.drive_handing.result (λ _. KeepsDriven (record { objects = objects; steps = log.steps }) c.args.name c.args.count log c.drive_handing.new.log.lines)) c.self.view_is
-          (IfOk-weaker c.drive_handing.result (λ _. KeepsLess log → KeepsLast (λ done. (drive_effect named.name is_quiet named.core log.steps done).events) c.args.count c.drive_handing.new.log.lines)
+          (IfOk-weaker c.drive_handing.result (λ _. KeepsLess log → KeepsWhole (λ done. (drive_effect named.name is_quiet named.core log.steps done).events) c.args.count c.drive_handing.new.log.lines)
           (λ _. KeepsDriven run c.args.name c.args.count log c.drive_handing.new.log.lines)
           (λ ending keeps. drive_keeps run c.args.name c.args.count place named log c.drive_handing.new.log.lines bare placed found keeps)
           c.drive_handing.ensures.less);
@@ -104,4 +104,4 @@ pub returns-in_ok-run_on_name-in-None-clause-less : goal.returns-in_ok-run_on_na
 returns-in_ok-run_on_name-in-None-clause-less g c =
     let none : core_named c.args.self.now c.args.name ≡ None = ap (core_named c.args.self.now) (sym c.bytes.ensures.bytes) ∙ c.in-None.ensures.none in
     let events : ℕ → List Event = λ done. (effect_of (Err fetch_fault.Missing) (record { objects = c.args.self.now; steps = c.args.log.now.steps }) (command.Drive c.args.name done)).events in
-    subst (λ (found : Option NamedCoreState). IfSome found (λ _. KeepsLess c.args.log.now → KeepsLast events c.args.count c.run_on_name.new.log.lines)) (sym none) tt
+    subst (λ (found : Option NamedCoreState). IfSome found (λ _. KeepsLess c.args.log.now → KeepsWhole events c.args.count c.run_on_name.new.log.lines)) (sym none) tt
