@@ -17,15 +17,14 @@ use Rattle.lane_model.specs.declared.calls.LinkConfig.{LinkConfig}
 use Rattle.link_bench.specs.Benches.{BenchState, new_bench_of}
 use Rattle.link_commands.specs.Logs.{KeepsLess, LogState, HasEffect}
 use Rattle.command_run.specs.Outcomes.{CutsCore, CutsRun, HandsCoreEffect, HandsRunEffect, HasCoreEffect, HasRunEffect, KeepsWhole}
-use Rattle.command_run.specs.Fetches.{KeepsDriven}
+use Rattle.command_run.specs.Fetches.{KeepsDriven, drive_line}
 use Rattle.rp_io.specs.declared.faults.FetchFault.TheVariants as fetch_fault
-use Rattle.script_lang.specs.declared.commands.Command.TheVariants as command
 use Rattle.link_commands.specs.declared.acts.CoreAct.TheVariants as core
 use Rattle.link_commands.specs.declared.acts.NamedAct.{NamedAct}
 use Rattle.link_commands.specs.declared.acts.NamedAct.TheVariants as under
 use Rattle.command_run.proofs.Driving.{keeps_same}
 use Rattle.command_run.proofs.Handed.{hands_kept}
-use Rattle.command_run.specs.Runs.{ObjectsState, RunState, RunEffect, core_located_effect, core_named, core_place, effect_of, found_core_effect, found_effect, is_full, located_effect, made_effect, name_effect, new_end, place_of, placed_core_effect, placed_effect, run_tells, unnamed_effect, with_links, without_link_effect}
+use Rattle.command_run.specs.Runs.{ObjectsState, RunState, RunEffect, core_located_effect, core_named, core_place, found_core_effect, found_effect, is_full, line_effect, located_effect, made_effect, name_effect, new_end, place_of, placed_core_effect, placed_effect, run_tells, unnamed_effect, with_links, without_link_effect}
 
 -- a link of the same name with another bench
 with_bench : (now named : NamedLink) (bench : BenchState) → now.name ≡ named.name → now.bench ≡ bench → record named { bench = bench } ≡ now
@@ -185,11 +184,6 @@ drive_cut fetched run called count place named now lines written new bare placed
       few = λ less. keeps_same _ _ cut.done cut.told cut.told cut.kept (λ n. ap (λ (e : RunEffect). e.events) (same n)) refl (cut.few less);
     }
 
--- a drive as a command
-drive_line : (fetched : Answer) (run : RunState) (called : List ℕ) (count : ℕ) → effect_of fetched run (command.Drive called count) ≡ name_effect fetched run called (under.Core (core.Drive count))
-unfolding effect_of
-drive_line fetched run called count = refl
-
 if_driven : (found : Option NamedCoreState) (Keeps : Type 0) → Keeps → IfSome found (λ _. Keeps)
 if_driven None Keeps keeps = tt
 if_driven (Some named) Keeps keeps = keeps
@@ -199,9 +193,8 @@ pub drive_keeps : (run : RunState) (called : List ℕ) (count place : ℕ) (name
     → Some place ≡ core_place run.objects.cores called → slice_get run.objects.cores place ≡ Some named
     → (KeepsLess before → KeepsWhole (λ done. (drive_effect named.name run.objects.is_quiet named.core run.steps done).events) count lines) → KeepsDriven run called count before lines
 drive_keeps run called count place named before lines bare placed found keeps =
-    let same = λ (n : ℕ). ap (λ (e : RunEffect). e.events)
-    (drive_line (Err fetch_fault.Missing) run called n ∙ drive_placed (Err fetch_fault.Missing) run called n place named bare placed found) in
-    if_driven (core_named run.objects called) (KeepsLess before → KeepsWhole (λ done. (effect_of (Err fetch_fault.Missing) run (command.Drive called done)).events) count lines)
+    let same = λ (n : ℕ). ap (λ (e : RunEffect). e.events) (drive_placed (Err fetch_fault.Missing) run called n place named bare placed found) in
+    if_driven (core_named run.objects called) (KeepsLess before → KeepsWhole (λ done. (line_effect (Err fetch_fault.Missing) run (drive_line called done)).events) count lines)
     (λ less. keeps_same _ _ count _ _ lines same (same count) (keeps less))
 
 -- what a command did that handed on nothing

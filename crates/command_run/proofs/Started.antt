@@ -2,7 +2,7 @@
 use Rattle.std.proofs.Common.{◌≡◌, ℕ, zero, suc, Bool, true, false, cond, List, [], ◌∷◌, Option, Some, None, is_some, option_and_then, slice_get, slice_set, Result, Ok, Err, refl, sym, ap, subst, ◌∙◌}
 use Rattle.std.specs.Prelude.{IsTrue}
 use Rattle.std.proofs.lemmas.Bool.{true≢false}
-use Rattle.std.proofs.lemmas.Option.{same_Some}
+use Rattle.std.proofs.lemmas.Option.{none-some, same_Some}
 use Rattle.rp_base.specs.declared.kinds.LifeState.{LifeState}
 use Rattle.rp_base.specs.declared.kinds.LifeState.TheVariants.{Offline, Running, Crashed, Attached, Detached}
 use Rattle.rp_io.specs.declared.faults.FetchFault.TheVariants as fetch_fault
@@ -26,10 +26,15 @@ use Rattle.link_commands.specs.Logs.{LogState}
 use Rattle.command_run.specs.Outcomes.{HandsRunEffect, HasCoreEffect, HasRunEffect}
 use Rattle.command_run.specs.NamedCores.{NamedCoreState}
 use Rattle.command_run.specs.NamedImages.{ImageState}
-use Rattle.command_run.specs.Runs.{ObjectsState, RunEffect, RunState, asked_name, core_named, core_place, effect_of, name_effect, outside_image, place_of, placed_core_effect, takes_over}
-use Rattle.command_run.specs.Starts.{DidStart, StartsOver, start_command, start_image}
+use Rattle.command_run.specs.Runs.{ObjectsState, RunEffect, RunState, asked_name, core_named, core_place, act_asks, core_act, effect_of, line_effect, name_effect, outside_image, place_of, placed_core_effect, start_image, takes_over}
+use Rattle.command_run.specs.Starts.{DidStart, StartsOver}
 use Rattle.command_run.specs.Stores.{Answer}
+use Rattle.link_commands.specs.Acts.{line_of as line_of_command}
+use Rattle.link_commands.specs.declared.acts.CoreAct.{CoreAct}
 use Rattle.link_commands.specs.declared.acts.CoreAct.TheVariants as core
+use Rattle.link_commands.specs.declared.acts.Line.{Line}
+use Rattle.script_lang.specs.declared.recipes.RecipeLine.{RecipeLine}
+use Rattle.link_commands.specs.declared.acts.Line.TheVariants as line
 use Rattle.link_commands.specs.declared.acts.NamedAct.TheVariants as under
 use Rattle.command_run.proofs.AskedNames.{core_at_place}
 use Rattle.command_run.proofs.Handed.{front_of_none}
@@ -135,17 +140,22 @@ recovers_loaded life may = crashed_at life.state life may
 
 -- ---- a start of the core of a name is what the run does
 
--- the command of a start
-start_line : (answer : Answer) (run : RunState) (called : List ℕ) (start : StartAct) → effect_of answer run (start_command called start) ≡ name_effect answer run called (under.Core (core.Start start))
-unfolding effect_of
-start_line answer run called (starts.Boot image) = refl
-start_line answer run called (starts.Handover image) = refl
-start_line answer run called starts.Recover = refl
+-- what is about an act on a core
+pub on_core : (about : Line (List RecipeLine) (List ℕ)) (called : List ℕ) (act : CoreAct) → core_act about ≡ Some (called, act) → about ≡ line.On called (under.Core act)
+on_core (line.Image name lines) called act is = absurd (none-some (called, act) is)
+on_core (line.Quiet set) called act is = absurd (none-some (called, act) is)
+on_core (line.Dump name image) called act is = absurd (none-some (called, act) is)
+on_core (line.On name (under.Make made)) called act is = absurd (none-some (called, act) is)
+on_core (line.On name (under.Link asked)) called act is = absurd (none-some (called, act) is)
+on_core (line.On name (under.Manage managed)) called act is = absurd (none-some (called, act) is)
+on_core (line.On name (under.Show shown)) called act is = absurd (none-some (called, act) is)
+on_core (line.On name (under.Core asked)) called act is = ap (λ (p : List ℕ × CoreAct). line.On p.0 (under.Core p.1)) (same_Some (name, asked) (called, act) is)
 
-start_asked : (objects : ObjectsState) (called : List ℕ) (start : StartAct) → asked_name objects (start_command called start) ≡ start_image start objects.images (core_named objects called)
-start_asked objects called (starts.Boot image) = refl
-start_asked objects called (starts.Handover image) = refl
-start_asked objects called starts.Recover = refl
+-- a command that is an act on a core
+pub core_line : (answer : Answer) (run : RunState) (asking : Command) (called : List ℕ) (act : CoreAct) → core_act (line_of_command asking) ≡ Some (called, act)
+    → effect_of answer run asking ≡ name_effect answer run called (under.Core act)
+unfolding effect_of
+core_line answer run asking called act is = ap (line_effect answer run) (on_core (line_of_command asking) called act is)
 
 nobody_asks : (start : StartAct) (made : List ImageState) → start_image start made None ≡ None
 nobody_asks (starts.Boot image) made = refl
@@ -175,23 +185,24 @@ set_same [] place x is = refl
 set_same (y ∷ ys) zero x is = ap (λ h. h ∷ ys) (same_Some x y (sym is))
 set_same (y ∷ ys) (suc place) x is = ap (λ more. y ∷ more) (set_same ys place x is)
 
-module _ (images : Option (List (List ℕ × List ℕ))) (run : RunState) (called : List ℕ) (start : StartAct) (before after : LogState) (written : Option (List ℕ)) (faults was then : ℕ) where
+module _ (images : Option (List (List ℕ × List ℕ))) (run : RunState) (asking : Command) (called : List ℕ) (start : StartAct) (asks : core_act (line_of_command asking) ≡ Some (called, core.Start start))
+    (before after : LogState) (written : Option (List ℕ)) (faults was then : ℕ) where
   -- on the core at a place
   module _ (place : ℕ) (named now : NamedCoreState) (none : None ≡ place_of run.objects.links called) (placed : Some place ≡ core_place run.objects.cores called)
       (there : slice_get run.objects.cores place ≡ Some named) (name : now.name ≡ named.name) (steps : before.steps ≡ run.steps) where
-    asked_is : asked_name run.objects (start_command called start) ≡ start_image start run.objects.images (Some named)
-    asked_is = start_asked run.objects called start ∙ ap (start_image start run.objects.images) (core_at_place run.objects called place named none placed there)
+    asked_is : asked_name run.objects asking ≡ start_image start run.objects.images (Some named)
+    asked_is = ap (act_asks run.objects) asks ∙ ap (start_image start run.objects.images) (core_at_place run.objects called place named none placed there)
 
     abbrev left_so : ObjectsState
     left_so = record run.objects { cores = slice_set run.objects.cores place now }
 
-    placed_so : (answer : Answer) → effect_of answer run (start_command called start) ≡ placed_core_effect run place named (started_effect start run.objects.images answer named run.steps)
+    placed_so : (answer : Answer) → effect_of answer run asking ≡ placed_core_effect run place named (started_effect start run.objects.images answer named run.steps)
     placed_so answer =
-        start_line answer run called start ∙ effect_on_bare_core answer run called (under.Core (core.Start start)) place named none placed there
+        core_line answer run asking called (core.Start start) asks ∙ effect_on_bare_core answer run called (under.Core (core.Start start)) place named none placed there
         ∙ ap (placed_core_effect run place named) (start_on_core run.objects.images answer run.objects.is_quiet named run.steps start)
 
     did_so : (answer : Answer) (ending : Option Stop) → HasCoreEffect (started_effect start run.objects.images answer named before.steps) now.core before after ending
-        → HasRunEffect (effect_of answer run (start_command called start)) left_so before after ending
+        → HasRunEffect (effect_of answer run asking) left_so before after ending
     did_so answer ending did =
         let effect = started_effect start run.objects.images answer named run.steps in
         let has : HasCoreEffect effect now.core before after ending =
@@ -209,9 +220,9 @@ module _ (images : Option (List (List ℕ × List ℕ))) (run : RunState) (calle
         ∙ ap (λ (cores : List NamedCoreState). record run.objects { cores = cores }) (set_same run.objects.cores place named there)
 
     pub start_told : (result : Result (Option Stop) CommandFault) → StartsOver result images start run.objects.images named now.core before after was then
-        → RunsTold result images run (start_command called start) left_so before after written written faults faults was then
+        → RunsTold result images run asking left_so before after written written faults faults was then
     start_told (Ok ending) did = (
-      told_run images run (start_command called start) left_so before after written ending did.0.answer
+      told_run images run asking left_so before after written ending did.0.answer
           (subst (λ (asked : Option (List ℕ)). IsToldFor images asked did.0.answer) (sym asked_is) did.0.is) (did_so did.0.answer ending did.0.did),
       refl,
       did.1,
@@ -221,23 +232,20 @@ module _ (images : Option (List (List ℕ × List ℕ))) (run : RunState) (calle
     start_told (Err command_fault.Write) did = absurd did
     start_told (Err command_fault.NoMemory) did = ((λ shelf. (front_of_none written _, refl)), did)
 
-    pub start_unasked : asked_name run.objects (start_command called start) ≡ None → start_image start run.objects.images (Some named) ≡ None
-    start_unasked unasked = sym asked_is ∙ unasked
-
   -- on no core
   pub nobody_told : (left : ObjectsState) (ending : Option Stop) → core_named run.objects called ≡ None → then ≡ was
       → HasRunEffect (name_effect (Err fetch_fault.Missing) run called (under.Core (core.Start start))) left before after ending
-      → RunsTold (Ok ending) images run (start_command called start) left before after written written faults faults was then
+      → RunsTold (Ok ending) images run asking left before after written written faults faults was then
   nobody_told left ending nobody same did =
-      let none : asked_name run.objects (start_command called start) ≡ None =
-      start_asked run.objects called start ∙ ap (start_image start run.objects.images) nobody ∙ nobody_asks start run.objects.images in (
-        told_run images run (start_command called start) left before after written ending (Err fetch_fault.Missing)
+      let none : asked_name run.objects asking ≡ None =
+      ap (act_asks run.objects) asks ∙ ap (start_image start run.objects.images) nobody ∙ nobody_asks start run.objects.images in (
+        told_run images run asking left before after written ending (Err fetch_fault.Missing)
             (subst (λ (asked : Option (List ℕ)). IsToldFor images asked (Err fetch_fault.Missing)) (sym none) refl)
-            (subst (λ (e : RunEffect). HasRunEffect e left before after ending) (sym (start_line (Err fetch_fault.Missing) run called start)) did),
+            (subst (λ (e : RunEffect). HasRunEffect e left before after ending) (sym (core_line (Err fetch_fault.Missing) run asking called (core.Start start) asks)) did),
         refl,
         same,
       )
 
   -- memory ran out
-  pub cut_told : (left : ObjectsState) → then ≡ was → RunsTold (Err command_fault.NoMemory) images run (start_command called start) left before after written written faults faults was then
+  pub cut_told : (left : ObjectsState) → then ≡ was → RunsTold (Err command_fault.NoMemory) images run asking left before after written written faults faults was then
   cut_told left same = ((λ shelf. (front_of_none written _, refl)), same)

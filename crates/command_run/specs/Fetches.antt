@@ -5,15 +5,20 @@ use Rattle.rp_io.specs.Causes.{Rose}
 use Rattle.rp_io.specs.Contents.{AppendsFront}
 use Rattle.rp_io.specs.Images.{fetch_answer}
 use Rattle.script_lang.specs.declared.commands.Command.{Command}
-use Rattle.script_lang.specs.declared.commands.Command.TheVariants as command
+use Rattle.script_lang.specs.declared.recipes.RecipeLine.{RecipeLine}
 use Rattle.journal.specs.Lines.{transcript}
 use Rattle.command_run.specs.declared.fetches.CommandFault.{CommandFault}
 use Rattle.command_run.specs.declared.fetches.CommandFault.TheVariants as command_fault
 use Rattle.command_run.specs.declared.fetches.Fetched.{Fetched}
 use Rattle.command_run.specs.declared.fetches.Fetched.TheVariants as fetched
+use Rattle.link_commands.specs.declared.acts.CoreAct.TheVariants as core
+use Rattle.link_commands.specs.declared.acts.Line.{Line}
+use Rattle.link_commands.specs.declared.acts.Line.TheVariants as line
+use Rattle.link_commands.specs.declared.acts.NamedAct.TheVariants as under
 use Rattle.link_commands.specs.declared.stops.Stop.{Stop}
+use Rattle.link_commands.specs.Acts.{line_of}
 use Rattle.command_run.specs.Stores.{Answer, IsAnswer, IsShelf, Shelf, answer_for}
-use Rattle.command_run.specs.Runs.{ObjectsState, RunState, asked_name, core_named, effect_of}
+use Rattle.command_run.specs.Runs.{ObjectsState, RunState, asked_name, core_named, effect_of, line_effect}
 use Rattle.link_commands.specs.Logs.{KeepsLess, LogState}
 use Rattle.command_run.specs.Outcomes.{CutsRun, HandsRunEffect, KeepsWhole}
 
@@ -62,21 +67,25 @@ abbrev pub IsToldCut : CommandFault → RunState → Command → LogState → Op
 IsToldCut why run command before old new faults now =
     (shelf : Shelf) → EndsCut why (before.lines ++ transcript (effect_of (answer_for shelf (asked_name run.objects command)) run command).events) old new faults now
 
+-- a drive of so many steps of the core of a name
+abbrev pub drive_line : List ℕ → ℕ → Line (List RecipeLine) (List ℕ)
+drive_line name count = line.On name (under.Core (core.Drive count))
+
 -- the command is a drive, and was cut off where the sink failed
 pub record IsCutCommand (run : RunState) (asked : Command) (left : ObjectsState) (before : LogState) (written now : Option (List ℕ)) : Type 0 where
   pub name : List ℕ
   pub count : ℕ
-  pub is : asked ≡ command.Drive name count
-  pub cut : CutsRun (λ done. effect_of (Err fetch_fault.Missing) run (command.Drive name done)) count left before.lines written now
+  pub is : line_of asked ≡ drive_line name count
+  pub cut : CutsRun (λ done. line_effect (Err fetch_fault.Missing) run (drive_line name done)) count left before.lines written now
 
 -- the lines that are kept behind a drive of a core: with less than a piece kept before it, they are few, however long it was
 abbrev pub KeepsDriven : RunState → List ℕ → ℕ → LogState → List ℕ → Type 0
 KeepsDriven run name count before lines =
-    IfSome (core_named run.objects name) (λ _. KeepsLess before → KeepsWhole (λ done. (effect_of (Err fetch_fault.Missing) run (command.Drive name done)).events) count lines)
+    IfSome (core_named run.objects name) (λ _. KeepsLess before → KeepsWhole (λ done. (line_effect (Err fetch_fault.Missing) run (drive_line name done)).events) count lines)
 
 -- the same of a command, if it is a drive
 abbrev pub KeepsDrive : RunState → Command → LogState → List ℕ → Type 0
-KeepsDrive run asked before lines = (name : List ℕ) (count : ℕ) → asked ≡ command.Drive name count → KeepsDriven run name count before lines
+KeepsDrive run asked before lines = (name : List ℕ) (count : ℕ) → line_of asked ≡ drive_line name count → KeepsDriven run name count before lines
 
 -- a command was run, or it asked a store that failed, told nothing and left all as it was, or what it tells was cut off
 abbrev pub RunsTold : Result (Option Stop) CommandFault → Option (List (List ℕ × List ℕ)) → RunState → Command → ObjectsState → LogState → LogState → Option (List ℕ) → Option (List ℕ) → ℕ → ℕ → ℕ → ℕ → Type 0

@@ -6,7 +6,6 @@ use Rattle.rp_base.specs.declared.limits.TheConstants.{OBJECTS_MOST}
 use Rattle.rp_base.specs.declared.kinds.Switch.{Switch}
 use Rattle.lane_model.specs.declared.calls.LinkConfig.{LinkConfig}
 use Rattle.script_lang.specs.declared.commands.Command.{Command}
-use Rattle.script_lang.specs.declared.commands.Command.TheVariants as command
 use Rattle.script_lang.specs.declared.recipes.RecipeLine.{RecipeLine}
 use Rattle.image_maker.specs.Images.{image_of}
 use Rattle.journal.specs.declared.events.Event.{Event}
@@ -31,6 +30,10 @@ use Rattle.crash_recover.specs.CoreRecoveries.{recovery_fault}
 use Rattle.endpoint_map.specs.Bindings.{no_bindings}
 use Rattle.channel_bus.specs.Sides.{EndState}
 use Rattle.link_bench.specs.Benches.{new_bench_of}
+use Rattle.link_commands.specs.declared.acts.CoreAct.{CoreAct}
+use Rattle.link_commands.specs.declared.acts.CoreAct.TheVariants as core
+use Rattle.link_commands.specs.declared.acts.StartAct.{StartAct}
+use Rattle.link_commands.specs.declared.acts.StartAct.TheVariants as starts
 use Rattle.link_commands.specs.declared.acts.Line.{Line}
 use Rattle.link_commands.specs.declared.acts.Line.TheVariants as line
 use Rattle.link_commands.specs.declared.acts.Making.{Making}
@@ -238,12 +241,25 @@ recovery_asks images None = None
 recovery_asks images (Some named) =
     if is_some (recovery_fault named.core.life) then None else option_and_then (outside_image images) named.core.image
 
+-- the image for which a start asks the store, over those that the script made
+abbrev pub start_image : StartAct → List ImageState → Option NamedCoreState → Option (List ℕ)
+start_image (starts.Boot image) images named = start_asks needs_image images image named
+start_image (starts.Handover image) images named = start_asks takes_over images image named
+start_image starts.Recover images named = recovery_asks images named
+
+-- the act on a core that a command is about, with the core's name
+abbrev pub core_act : Line (List RecipeLine) (List ℕ) → Option (List ℕ × CoreAct)
+core_act (line.On name (under.Core act)) = Some (name, act)
+core_act other = None
+
+-- the image for which the store is asked by an act on a core: by a start alone
+abbrev pub act_asks : ObjectsState → Option (List ℕ × CoreAct) → Option (List ℕ)
+act_asks objects (Some (name, core.Start start)) = start_image start objects.images (core_named objects name)
+act_asks objects other = None
+
 -- the image for which a command asks the store
 abbrev pub asked_name : ObjectsState → Command → Option (List ℕ)
-asked_name objects (command.Boot name image) = start_asks needs_image objects.images image (core_named objects name)
-asked_name objects (command.Handover name image) = start_asks takes_over objects.images image (core_named objects name)
-asked_name objects (command.Recover name) = recovery_asks objects.images (core_named objects name)
-asked_name objects other = None
+asked_name objects command = act_asks objects (core_act (line_of command))
 
 -- a run: what it tells, the state in which it ends, why it stopped in its midst, if it did, and whether the store failed and so ended it
 pub record Run : Type 0 where

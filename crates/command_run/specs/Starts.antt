@@ -1,12 +1,8 @@
 -- The starts of a core that may need an image, over what a store tells of it (own).
 use Rattle.std.specs.Prelude.{◌≡◌, ℕ, List, Option, Some, is_some, IsTrue, Result, Ok, Err}
 use Rattle.rp_io.specs.Causes.{Rose}
-use Rattle.script_lang.specs.declared.commands.Command.{Command}
-use Rattle.script_lang.specs.declared.commands.Command.TheVariants as command
 use Rattle.crash_recover.specs.Cores.{CoreState}
-use Rattle.crash_recover.specs.CoreBoots.{needs_image}
 use Rattle.link_commands.specs.declared.acts.StartAct.{StartAct}
-use Rattle.link_commands.specs.declared.acts.StartAct.TheVariants as starts
 use Rattle.command_run.specs.declared.fetches.CommandFault.{CommandFault}
 use Rattle.command_run.specs.declared.fetches.CommandFault.TheVariants as command_fault
 use Rattle.command_run.specs.declared.fetches.FoundImage.{FoundImage}
@@ -18,20 +14,8 @@ use Rattle.link_commands.specs.Logs.{LogState}
 use Rattle.command_run.specs.Outcomes.{HasCoreEffect}
 use Rattle.command_run.specs.NamedCores.{NamedCoreState}
 use Rattle.command_run.specs.NamedImages.{ImageState}
-use Rattle.command_run.specs.Runs.{outside_image, recovery_asks, start_asks, takes_over}
+use Rattle.command_run.specs.Runs.{outside_image, start_image}
 use Rattle.command_run.specs.Stores.{Answer}
-
--- the command that a start is under a name
-abbrev pub start_command : List ℕ → StartAct → Command
-start_command name (starts.Boot image) = command.Boot name image
-start_command name (starts.Handover image) = command.Handover name image
-start_command name starts.Recover = command.Recover name
-
--- the image for which it asks the store, over those that the script made
-abbrev pub start_image : StartAct → List ImageState → Option NamedCoreState → Option (List ℕ)
-start_image (starts.Boot image) images named = start_asks needs_image images image named
-start_image (starts.Handover image) images named = start_asks takes_over images image named
-start_image starts.Recover images named = recovery_asks images named
 
 -- what is known of an image that was looked for
 abbrev pub image_answer : FoundImage → Answer

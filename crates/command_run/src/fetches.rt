@@ -4,12 +4,13 @@ ghost use Rattle.std.specs.Result.{result_map_both};
 ghost use Rattle.script_lang.specs.Runnable.{IsRunnable};
 ghost use Rattle.command_run.specs.declared.fetches.CommandFault.TheVariants as command_fault;
 ghost use Rattle.command_run.specs.CoreLives.{image_bytes};
-ghost use Rattle.command_run.specs.Runs.{ObjectsState, asked_name, outside_image};
+ghost use Rattle.command_run.specs.Runs.{asked_name, core_act, outside_image};
 ghost use Rattle.command_run.specs.Fetches.{IsFetchFault, IsToldUnder, KeepsDrive, RunsTold, answer_of};
-ghost use Rattle.command_run.specs.Starts.{IsImageOf, image_answer, start_command};
+ghost use Rattle.command_run.specs.Starts.{IsImageOf, image_answer};
+ghost use Rattle.link_commands.specs.Acts.{line_of};
 
 use crate::{Objects, ScriptImage};
-use link_commands::{RunLog, StartAct, Stop};
+use link_commands::{CoreAct, Line, NamedAct, RunLog, Stop, line_of};
 use rp_base::{IMAGE_MOST, Name, NoMemory};
 use rp_io::{Failed, FetchFault, FirmwareStore, Sink};
 use script_lang::Command;
@@ -96,24 +97,26 @@ pub fn run_command<F: FirmwareStore, K: Sink>(
     ensures kept { F.images store.new ≡ F.images store.old }
     ensures unasked { asked_name objects.old command.now ≡ None → store.new ≡ store.old }
 {
-    if let Command::Drive { name, count } = command {
-        return objects.drive(*name, *count, log, out);
-    }
-    match start_of(command) {
-        Some((name, start)) => objects.start(name, start, store, log),
+    match core_act(command) {
+        Some((name, act)) => match act {
+            CoreAct::Drive { count } => objects.drive(name, count, log, out),
+            CoreAct::Start(start) => objects.start(name, start, store, log),
+            _ => Ok(objects.run(command, log)?),
+        },
         None => Ok(objects.run(command, log)?),
     }
 }
 
-/// The start of a core that a command is, with the core's name. No other command asks the store.
-fn start_of(command: &Command) -> Option<(Name, StartAct)>
-    ensures start { IfSome result (λ found. start_command found.0 found.1 ≡ command.now) }
-    ensures none { IfNone result ((objects : ObjectsState) → asked_name objects command.now ≡ None) }
+/// The act on a core that a command is about, with the core's name.
+fn core_act(command: &Command) -> Option<(Name, CoreAct)>
+    requires { IsRunnable command.now }
+    ensures { result ≡ core_act (line_of command.now) }
 {
-    match command {
-        Command::Boot { name, image } => Some((*name, StartAct::Boot { image: *image })),
-        Command::Handover { name, image } => Some((*name, StartAct::Handover { image: *image })),
-        Command::Recover { name } => Some((*name, StartAct::Recover)),
+    match line_of(command) {
+        Line::On { name, act } => match act {
+            NamedAct::Core(act) => Some((name, act)),
+            _ => None,
+        },
         _ => None,
     }
 }

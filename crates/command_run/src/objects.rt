@@ -2,16 +2,16 @@ ghost use Rattle.std.specs.Prelude.{◌≡◌, ◌<◌, ◌++◌, ℕ, List, Opt
 ghost use Rattle.std.specs.Option.{option_copied};
 ghost use Rattle.lane_model.specs.Conditions.{IsConfig};
 ghost use Rattle.script_lang.specs.Runnable.{IsBook, IsRunnable};
-ghost use Rattle.link_commands.specs.Acts.{IsFitNamed, bare_named_act};
+ghost use Rattle.link_commands.specs.Acts.{IsFitNamed, bare_named_act, line_of};
 ghost use Rattle.rp_io.specs.declared.faults.FetchFault.TheVariants as fetch_fault;
 ghost use Rattle.journal.specs.Lines.{transcript};
+ghost use Rattle.script_lang.specs.declared.commands.Command.{Command};
 ghost use Rattle.link_commands.specs.declared.acts.CoreAct.TheVariants as core;
 ghost use Rattle.link_commands.specs.declared.acts.NamedAct.TheVariants as under;
 ghost use Rattle.command_run.specs.Outcomes.{CutsRun, HandsRunEffect, HasRunEffect};
-ghost use Rattle.command_run.specs.Runs.{core_made_effect, core_place, is_full, regions_of, asked_name, core_named, find_core, effect_of, has_image, image_effect, image_place, made_effect, name_effect, new_run, place_of, quiet_effect, unnamed_effect};
+ghost use Rattle.command_run.specs.Runs.{core_made_effect, core_place, is_full, regions_of, core_named, find_core, act_asks, core_act, effect_of, has_image, image_effect, image_place, made_effect, name_effect, new_run, place_of, quiet_effect, unnamed_effect};
 ghost use Rattle.command_run.specs.Lookups.{bench_named, core_taken, find_link, is_bare, link_taken, without_core, without_link};
 ghost use Rattle.command_run.specs.Fetches.{EndsCut, IfWrite, KeepsDriven, RunsTold};
-ghost use Rattle.command_run.specs.Starts.{start_command};
 
 use crate::cores::{NamedCore, is_on};
 use crate::fetches::CommandFault;
@@ -213,10 +213,10 @@ impl Objects {
         store: &mut F,
         log: &mut RunLog,
     ) -> Result<Option<Stop>, CommandFault>
-        ensures told { (written : Option (List ℕ)) (faults : ℕ) → RunsTold result (F.images store.old) (record { objects = self.old; steps = log.old.steps }) (start_command name start) self.new log.old log.new
-            written written faults faults (F.faults store.old) (F.faults store.new) }
+        ensures told { (command : Command) (written : Option (List ℕ)) (faults : ℕ) → core_act (line_of command) ≡ Some (name, core.Start start)
+            → RunsTold result (F.images store.old) (record { objects = self.old; steps = log.old.steps }) command self.new log.old log.new written written faults faults (F.faults store.old) (F.faults store.new) }
         ensures kept { F.images store.new ≡ F.images store.old }
-        ensures unasked { asked_name self.old (start_command name start) ≡ None → store.new ≡ store.old }
+        ensures unasked { act_asks self.old (Some (name, core.Start start)) ≡ None → store.new ≡ store.old }
     {
         match self.place_without_link(name.bytes()) {
             Some(place) => {

@@ -3,7 +3,8 @@ ghost use Rattle.rp_io.specs.declared.faults.FetchFault.TheVariants as fetch_fau
 ghost use Rattle.link_commands.specs.declared.acts.StartAct.TheVariants as starts;
 ghost use Rattle.command_run.specs.CoreLives.{started_effect};
 ghost use Rattle.command_run.specs.Outcomes.{HasCoreEffect};
-ghost use Rattle.command_run.specs.Starts.{StartsOver, start_image};
+ghost use Rattle.command_run.specs.Runs.{start_image};
+ghost use Rattle.command_run.specs.Starts.{StartsOver};
 
 use crate::fetches::{CommandFault, find_image};
 use crate::{NamedCore, ScriptImage};

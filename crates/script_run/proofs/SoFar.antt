@@ -15,12 +15,12 @@ use Rattle.command_run.specs.declared.fetches.CommandFault.{CommandFault}
 use Rattle.command_run.specs.declared.fetches.CommandFault.TheVariants as command_fault
 use Rattle.rp_io.specs.declared.faults.FetchFault.TheVariants as fetch_fault
 use Rattle.command_run.specs.Stores.{IsHeld, IsShelf, Shelf, Told, answer_for}
-use Rattle.command_run.specs.Runs.{ObjectsState, RunEffect, RunState, Run, asked_name, effect_of, run_from, run_of, new_run}
+use Rattle.command_run.specs.Runs.{ObjectsState, RunEffect, RunState, Run, asked_name, effect_of, line_effect, run_from, run_of, new_run}
 use Rattle.script_run.specs.Outputs.{Output, end_output, stop_output, store_fault_output, transcript_output}
 use Rattle.script_run.specs.Endings.{IsFailedRun, IsWellRun}
 use Rattle.link_commands.specs.Logs.{Hands, KeepsLess, LogState}
 use Rattle.command_run.specs.Outcomes.{HandsRunEffect, KeepsLast}
-use Rattle.command_run.specs.Fetches.{DidTold, IsCutCommand, IsToldCut}
+use Rattle.command_run.specs.Fetches.{DidTold, IsCutCommand, IsToldCut, drive_line}
 use Rattle.script_run.specs.Told.{AnswersStatus, EndsRun, IsResultCourse, RunWrites, StandsFor, Tells}
 use Rattle.script_run.specs.Yards.{StandsInDrive, run_to_drive}
 use Rattle.command_run.proofs.Handed.{appends_more, appends_same, hands_nothing, hands_kept, hands_more, hands_front, hands_front_kept, front_of_all}
@@ -364,6 +364,13 @@ module _ (images : Option (List (List ℕ × List ℕ))) (commands : List Comman
     abbrev drive_here : ℕ → RunEffect
     drive_here steps = effect_of (Err fetch_fault.Missing) state_at (command.Drive cut.name steps)
 
+    abbrev driven_here : ℕ → RunEffect
+    driven_here steps = line_effect (Err fetch_fault.Missing) state_at (drive_line cut.name steps)
+
+    drive_is : (steps : ℕ) → drive_here steps ≡ driven_here steps
+    unfolding effect_of
+    drive_is steps = refl
+
     run_here : (steps : ℕ) → run_to_drive told_here so_far.done cut.name steps
         ≡ behind so_far.events (behind (effect_over any_shelf.0 state_at (command.Drive cut.name steps)).events
         (run_rest (effect_over any_shelf.0 state_at (command.Drive cut.name steps)) (effect_over any_shelf.0 state_at (command.Drive cut.name steps)).ending
@@ -373,12 +380,12 @@ module _ (images : Option (List (List ℕ × List ℕ))) (commands : List Comman
         so_far.run later_here (driving ∷ []) ∙ ap (behind so_far.events) (run_behind any_shelf.0 (any_told images) state_at driving [])
 
     -- what it tells
-    events_here : (steps : ℕ) → (run_to_drive told_here so_far.done cut.name steps).events ≡ so_far.events ++ (drive_here steps).events
+    events_here : (steps : ℕ) → (run_to_drive told_here so_far.done cut.name steps).events ≡ so_far.events ++ (driven_here steps).events
     events_here steps =
         let effect = drive_here steps in
         ap (λ (run : Run). run.events) (run_here steps)
         ∙ ap (λ (events : List Event). so_far.events ++ (effect.events ++ events)) (rest_last effect effect.ending (any_told images)).1
-        ∙ ap (λ (events : List Event). so_far.events ++ events) (append-nil effect.events)
+        ∙ ap (λ (events : List Event). so_far.events ++ events) (append-nil effect.events ∙ ap (λ (e : RunEffect). e.events) (drive_is steps))
 
     -- what is left is what the drive left behind its steps so far
     stands_cut : KeepsLess before → StandsInDrive told_here commands yard from new
@@ -389,14 +396,16 @@ module _ (images : Option (List (List ℕ × List ℕ))) (commands : List Comman
         let ran = run_here drove.done in
         record {
           done = so_far.done;
+          next = first;
           name = cut.name;
           count = cut.count;
+          drives = cut.is;
           more = more_at;
-          are = so_far.all ∙ ap (λ (c : List Command). so_far.done ++ c) (left_at commands i first inside is) ∙ ap (λ (c : Command). so_far.done ++ c ∷ more_at) cut.is;
+          are = so_far.all ∙ ap (λ (c : List Command). so_far.done ++ c) (left_at commands i first inside is);
           cut = record {
             done = drove.done;
             within = drove.within;
-            is = drove.is ∙ sym (ap (λ (run : Run). run.last.objects) ran ∙ ap (λ (run : RunState). run.objects) last.0);
+            is = drove.is ∙ sym (ap (λ (e : RunEffect). e.run.objects) (drive_is drove.done)) ∙ sym (ap (λ (run : Run). run.last.objects) ran ∙ ap (λ (run : RunState). run.objects) last.0);
             told = so_far.events ++ drove.told;
             last = drove.last;
             tells = events_here drove.done ∙ ap (λ (events : List Event). so_far.events ++ events) drove.tells ∙ sym (append_assoc so_far.events drove.told (drove.last ∷ []));
@@ -405,7 +414,7 @@ module _ (images : Option (List (List ℕ × List ℕ))) (commands : List Comman
             hands = subst (λ (bytes : List ℕ). Hands from [] drove.handed drove.kept bytes) (sym (transcript-append so_far.events drove.told))
                 (hands_more from now drove.handed [] before.lines drove.kept (transcript so_far.events) (transcript drove.told) so_far.hands drove.hands);
             front = drove.front;
-            few = λ _. keeps_behind so_far.events _ (λ (steps : ℕ). (drive_here steps).events) drove.done drove.told drove.kept events_here (drove.few less);
+            few = λ _. keeps_behind so_far.events _ (λ (steps : ℕ). (driven_here steps).events) drove.done drove.told drove.kept events_here (drove.few less);
           };
         }
 

@@ -5,7 +5,9 @@ use Rattle.rp_io.specs.Contents.{AppendsFront}
 use Rattle.script_lang.specs.declared.commands.Command.{Command}
 use Rattle.script_lang.specs.declared.commands.Command.TheVariants as command
 use Rattle.script_lang.specs.Grammar.{Refusal, script_of}
+use Rattle.link_commands.specs.Acts.{line_of}
 use Rattle.command_run.specs.Stores.{Told}
+use Rattle.command_run.specs.Fetches.{drive_line}
 use Rattle.command_run.specs.Outcomes.{IsCutDrive}
 use Rattle.command_run.specs.Runs.{ObjectsState, Run, run_of}
 use Rattle.script_run.specs.declared.statuses.Status.{Status}
@@ -28,10 +30,12 @@ run_to_drive told done name steps = run_of told (done ++ command.Drive name step
 -- the yard stands for the state behind the first of the commands and some steps of the drive that is next, and nothing is written of what is told later; where the sink failed, less than a piece was kept beside what the last 1,024 of these steps told
 pub record StandsInDrive (told : Told) (commands : List Command) (yard : ObjectsState) (old new : Option (List ℕ)) : Type 0 where
   pub done : List Command
+  pub next : Command
   pub name : List ℕ
   pub count : ℕ
+  pub drives : line_of next ≡ drive_line name count
   pub more : List Command
-  pub are : commands ≡ done ++ command.Drive name count ∷ more
+  pub are : commands ≡ done ++ next ∷ more
   pub cut : IsCutDrive ObjectsState (λ steps. (run_to_drive told done name steps).last.objects) (λ steps. (run_to_drive told done name steps).events) count yard [] old new
 
 -- the yard of a run by the status with which it ends: it stands for the state in which the run ends, so for that before the command for which the store failed; where the sink failed, for one that the run had, of which no later event is written; where memory ran out nothing is said of it

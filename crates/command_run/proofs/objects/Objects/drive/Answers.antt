@@ -4,18 +4,17 @@ use Rattle.std.proofs.lemmas.Result.{IfOk-weaker, err_from_is_err_and}
 use Rattle.rp_io.specs.declared.faults.FetchFault.TheVariants as fetch_fault
 use Rattle.journal.specs.declared.events.Event.{Event}
 use Rattle.journal.specs.Lines.{transcript}
-use Rattle.script_lang.specs.declared.commands.Command.TheVariants as command
 use Rattle.link_commands.specs.declared.acts.CoreAct.TheVariants as core
 use Rattle.link_commands.specs.declared.acts.NamedAct.TheVariants as under
 use Rattle.link_commands.specs.declared.stops.Stop.{Stop}
 use Rattle.command_run.specs.declared.fetches.CommandFault.{CommandFault}
 use Rattle.command_run.specs.declared.fetches.CommandFault.TheVariants as command_fault
 use Rattle.command_run.specs.CoreDrives.{drive_effect}
-use Rattle.command_run.specs.Fetches.{EndsCut, IfWrite, KeepsDriven}
+use Rattle.command_run.specs.Fetches.{EndsCut, IfWrite, KeepsDriven, drive_line}
 use Rattle.link_commands.specs.Logs.{KeepsLess}
 use Rattle.command_run.specs.Outcomes.{CutsCore, CutsRun, HandsCoreEffect, HandsRunEffect, KeepsWhole}
 use Rattle.command_run.specs.NamedCores.{NamedCoreState}
-use Rattle.command_run.specs.Runs.{ObjectsState, RunEffect, RunState, core_named, core_place, effect_of, name_effect, place_of}
+use Rattle.command_run.specs.Runs.{ObjectsState, RunEffect, RunState, core_named, core_place, line_effect, name_effect, place_of}
 use Rattle.command_run.proofs.Handed.{front_of_none, no_write}
 use Rattle.command_run.proofs.Placing.{drive_cut, drive_keeps, drive_placed, drive_run, kept_run}
 use Rattle.command_run.proofs.objects.Objects.drive.Goals as goal
@@ -103,5 +102,5 @@ returns-in_err-run_on_name-in-None-clause-paused g c =
 pub returns-in_ok-run_on_name-in-None-clause-less : goal.returns-in_ok-run_on_name-in-None-clause-less
 returns-in_ok-run_on_name-in-None-clause-less g c =
     let none : core_named c.args.self.now c.args.name ≡ None = ap (core_named c.args.self.now) (sym c.bytes.ensures.bytes) ∙ c.in-None.ensures.none in
-    let events : ℕ → List Event = λ done. (effect_of (Err fetch_fault.Missing) (record { objects = c.args.self.now; steps = c.args.log.now.steps }) (command.Drive c.args.name done)).events in
+    let events : ℕ → List Event = λ done. (line_effect (Err fetch_fault.Missing) (record { objects = c.args.self.now; steps = c.args.log.now.steps }) (drive_line c.args.name done)).events in
     subst (λ (found : Option NamedCoreState). IfSome found (λ _. KeepsLess c.args.log.now → KeepsWhole events c.args.count c.run_on_name.new.log.lines)) (sym none) tt

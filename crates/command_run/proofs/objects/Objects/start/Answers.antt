@@ -2,13 +2,15 @@ use Rattle.std.proofs.Common.{◌≡◌, ◌<◌, List, Some, None, length, slic
 use Rattle.std.proofs.lemmas.Option.{slice_get_read}
 use Rattle.command_run.specs.Fetches.{RunsTold}
 use Rattle.command_run.specs.NamedImages.{ImageState}
-use Rattle.command_run.specs.Runs.{ObjectsState, RunState, asked_name, core_named, core_place, place_of}
-use Rattle.command_run.specs.Starts.{StartsOver, start_command, start_image}
-use Rattle.command_run.proofs.Started.{nobody_told, start_told, start_unasked}
+use Rattle.command_run.specs.Runs.{ObjectsState, RunState, core_named, act_asks, core_place, place_of, start_image}
+use Rattle.command_run.specs.Starts.{StartsOver}
+use Rattle.link_commands.specs.declared.acts.CoreAct.TheVariants as core
+use Rattle.command_run.proofs.AskedNames.{core_at_place}
+use Rattle.command_run.proofs.Started.{nobody_told, start_told}
 use Rattle.command_run.proofs.objects.Objects.start.Goals as goal
 
 pub returns-in-Some-clause-told : goal.returns-in-Some-clause-told
-returns-in-Some-clause-told g c = λ written faults.
+returns-in-Some-clause-told g c = λ asking written faults asks.
     let store = g.F.FirmwareStore in
     let items = c.self.inside.cores.items in
     let links = c.self.inside.links.items in
@@ -29,9 +31,9 @@ returns-in-Some-clause-told g c = λ written faults.
     let found : slice_get items place ≡ Some named =
     slice_get_read items (length items) place named refl (subst (λ (o : ObjectsState). place < length o.cores) (sym c.self.view_is) c.in-Some.ensures.within) c.index_mut.ensures.value in
     let left : ObjectsState = record { links = links; cores = slice_set items place now; images = images; is_quiet = is_quiet } in
-    subst (λ (objects : ObjectsState). RunsTold c.start.result held (record { objects = objects; steps = log.steps }) (start_command c.args.name c.args.start) left log c.start.new.log
+    subst (λ (objects : ObjectsState). RunsTold c.start.result held (record { objects = objects; steps = log.steps }) asking left log c.start.new.log
     written written faults faults was then) c.self.view_is
-    (start_told held run c.args.name c.args.start log c.start.new.log written faults was then place named now bare placed found c.start.ensures.name refl c.start.result
+    (start_told held run asking c.args.name c.args.start asks log c.start.new.log written faults was then place named now bare placed found c.start.ensures.name refl c.start.result
     (subst (λ (made : List ImageState). StartsOver c.start.result held c.args.start made named now.core log c.start.new.log was then) c.as_slice-images.ensures.value c.start.ensures.started))
 
 pub returns-in-Some-clause-unasked : goal.returns-in-Some-clause-unasked
@@ -52,11 +54,11 @@ returns-in-Some-clause-unasked g c = λ unasked.
     let found : slice_get items place ≡ Some named =
     slice_get_read items (length items) place named refl (subst (λ (o : ObjectsState). place < length o.cores) (sym c.self.view_is) c.in-Some.ensures.within) c.index_mut.ensures.value in
     c.start.ensures.unasked (subst (λ (made : List ImageState). start_image c.args.start made (Some named) ≡ None) (sym c.as_slice-images.ensures.value)
-    (start_unasked (store.images c.args.store.now) run c.args.name c.args.start log c.start.new.log None 0 0 0 place named c.start.new.self bare placed found c.start.ensures.name refl
-    (subst (λ (objects : ObjectsState). asked_name objects (start_command c.args.name c.args.start) ≡ None) (sym c.self.view_is) unasked)))
+    (sym (ap (start_image c.args.start images) (core_at_place run.objects c.args.name place named bare placed found))
+    ∙ subst (λ (objects : ObjectsState). act_asks objects (Some (c.args.name, core.Start c.args.start)) ≡ None) (sym c.self.view_is) unasked))
 
 pub returns-in_ok-run_on_name-in-None-clause-told : goal.returns-in_ok-run_on_name-in-None-clause-told
-returns-in_ok-run_on_name-in-None-clause-told g c = λ written faults.
+returns-in_ok-run_on_name-in-None-clause-told g c = λ asking written faults asks.
     let store = g.F.FirmwareStore in
     let log = c.args.log.now in
     let objects = c.args.self.now in
@@ -64,6 +66,6 @@ returns-in_ok-run_on_name-in-None-clause-told g c = λ written faults.
     let was = store.faults c.args.store.now in
     let told = c.in_ok-run_on_name-in-None in
     let after = c.run_on_name.new in
-    nobody_told (store.images c.args.store.now) run c.args.name c.args.start log after.log written faults was was after.self told.field-0
+    nobody_told (store.images c.args.store.now) run asking c.args.name c.args.start asks log after.log written faults was was after.self told.field-0
     (sym (ap (core_named objects) c.bytes.ensures.bytes) ∙ c.in-None.ensures.none) refl
     told.ensures
