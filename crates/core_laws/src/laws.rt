@@ -1,6 +1,7 @@
 //! Laws of the links of benches and of cores. Each is the contract of an empty function, and speaks of definitions alone.
 
 ghost use Rattle.std.specs.Prelude.{◌≡◌, ◌≢◌, ◌↔◌, ◌<◌, ℕ, Bool, false, true, List, None, Some, IfSome, Ok};
+ghost use Rattle.rp_base.specs.declared.limits.TheConstants.{CALLERS_MOST};
 ghost use Rattle.rp_base.specs.declared.kinds.End.{End};
 ghost use Rattle.lane_model.specs.declared.calls.LinkConfig.{LinkConfig};
 ghost use Rattle.lane_model.specs.declared.calls.Wish.{Wish};
@@ -196,8 +197,8 @@ pub fn crash_reclaims()
         → (end_of (link_in (after_close bench)).callers caller ≡ Some side.Remote) × (link_reclaim_refusal (link_in (after_close bench)) caller ≡ None) }
     ensures others { (bench : BenchState) (caller : ℕ) → IsReached (link_in bench) → IsUnmanaged (link_in bench)
         → end_of (link_in (crash_reaches bench caller)).callers caller ≡ Some side.Remote → link_reclaim_refusal (link_in (crash_reaches bench caller)) caller ≡ None }
-    ensures all { (bench : BenchState) → crashed_bench bench ≡ crash_reaches bench 64 }
-    ensures callers { (bench : BenchState) (caller : ℕ) → AreOwnUsed (link_in bench).callers → caller < 64
+    ensures all { (bench : BenchState) → crashed_bench bench ≡ crash_reaches bench CALLERS_MOST }
+    ensures callers { (bench : BenchState) (caller : ℕ) → AreOwnUsed (link_in bench).callers → caller < CALLERS_MOST
         → end_of (link_in (crashed_bench bench)).callers caller ≡ end_after_crash caller (end_of (link_in bench).callers caller) }
 {}
 

@@ -6,7 +6,7 @@ use Rattle.rp_base.specs.declared.kinds.BoundEndpoint.{BoundEndpoint}
 use Rattle.rp_base.specs.declared.kinds.Endpoint.{Endpoint}
 use Rattle.rp_base.specs.declared.kinds.Verdict.{Verdict}
 use Rattle.rp_base.specs.declared.kinds.Verdict.TheVariants as verdict
-use Rattle.rp_base.specs.declared.limits.TheConstants.{ENDPOINTS_MOST}
+use Rattle.rp_base.specs.declared.limits.TheConstants.{CALLERS_MOST, ENDPOINTS_MOST}
 use Rattle.lane_model.specs.declared.calls.CallEnd.{CallEnd}
 use Rattle.lane_model.specs.declared.calls.CallEnd.TheVariants as end
 use Rattle.lane_model.specs.declared.calls.Outcome.{Outcome}
@@ -118,4 +118,4 @@ pub record IsFieldLink (link : LinkState EndState) : Type 0 where
   pub inc : link.era.inc < 2 ^ 32
   pub to_host : IsFieldLane link.to_host
   pub to_remote : IsFieldLane link.to_remote
-  pub callers : length link.callers ≡ 64
+  pub callers : length link.callers ≡ CALLERS_MOST
