@@ -1,6 +1,7 @@
 -- What C is told of the header of a message and of messages of the name service, and what it has written (own).
 use Rattle.std.specs.Prelude.{ℕ, ◌+◌, ◌==◌, nat_lt, not, Bool, List, ◌++◌, take, drop, Option, Some, None, if◌then◌else◌}
 use Rattle.rp_base.specs.Texts.{padded_name, text_before_zero}
+use Rattle.rp_base.specs.declared.limits.TheConstants.{NAME_MOST, PAYLOAD_MOST}
 use Rattle.rpmsg_header.specs.Headers.{destination_of, head_bytes, payload_length, source_of}
 use Rattle.rpmsg_header.specs.Services.{service_bytes}
 use Rattle.rpmsg_header.specs.declared.services.NsMessage.{NsMessage}
@@ -17,9 +18,9 @@ abbrev pub told_head : Bool → List ℕ → CHeader → CHeader
 told_head whole message was =
     if whole then (record { src = source_of message; dst = destination_of message; len = payload_length message }) else was
 
--- the status of a header for a payload of so many bytes in a buffer of so many: a payload has at most 496 (virtio_rpmsg_bus.c, RPMSG_BUF_SIZE 512)
+-- the status of a header for a payload of so many bytes in a buffer of so many: a payload has at most PAYLOAD_MOST (virtio_rpmsg_bus.c, RPMSG_BUF_SIZE without the header)
 abbrev pub head_status : ℕ → ℕ → ℕ
-head_status len room = if nat_lt 496 len then 60 else if nat_lt room (16 + len) then WRONG_LENGTH else DONE
+head_status len room = if nat_lt PAYLOAD_MOST len then 60 else if nat_lt room (16 + len) then WRONG_LENGTH else DONE
 
 -- a buffer with a header at its front where the status is good, and as it was otherwise (own)
 abbrev pub with_head : ℕ → ℕ → ℕ → ℕ → List ℕ → List ℕ
@@ -39,7 +40,7 @@ service_told (Some service) was =
 -- the message that was given (own)
 abbrev pub service_given : CService → NsMessage
 service_given given =
-    record { name = text_before_zero (take 31 given.name); address = given.address; destroy = not (given.destroy == 0) }
+    record { name = text_before_zero (take NAME_MOST given.name); address = given.address; destroy = not (given.destroy == 0) }
 
 -- the status of a message of the name service in a buffer of so many bytes (own)
 abbrev pub service_room : ℕ → ℕ

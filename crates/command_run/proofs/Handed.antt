@@ -4,8 +4,8 @@ use Rattle.std.proofs.Math.Seq.{take-append-add}
 use Rattle.std.proofs.lemmas.List.{take_min, take-append-le}
 use Rattle.std.specs.Io.KnownBytes.{Appends}
 use Rattle.rp_io.specs.Contents.{AppendsFront}
-use Rattle.command_run.specs.declared.fetches.CommandFault.{CommandFault}
-use Rattle.command_run.specs.declared.fetches.CommandFault.TheVariants as command_fault
+use Rattle.command_run.specs.declared.faults.OutputFault.{OutputFault}
+use Rattle.command_run.specs.declared.faults.OutputFault.TheVariants as output_fault
 use Rattle.command_run.specs.Fetches.{IfWrite}
 use Rattle.link_commands.specs.Logs.{Hands}
 
@@ -82,11 +82,11 @@ front_after a b c x y whole front = record {
   appended = appends_same a c (x ++ take front.count y) (take (length x + front.count) (x ++ y)) (sym (take-append-add x y front.count)) (appends_more a b c x (take front.count y) whole front.appended);
 }
 
-module _ (T holds : Type 0) (result : Result T CommandFault) where
+module _ (T holds : Type 0) (result : Result T OutputFault) where
   -- the sink failed
-  pub on_write : result ≡ Err command_fault.Write → holds → IfErr result (λ why. IfWrite why holds)
-  on_write is found = subst (λ (r : Result T CommandFault). IfErr r (λ why. IfWrite why holds)) (sym is) found
+  pub on_write : result ≡ Err output_fault.Failed → holds → IfErr result (λ why. IfWrite why holds)
+  on_write is found = subst (λ (r : Result T OutputFault). IfErr r (λ why. IfWrite why holds)) (sym is) found
 
   -- memory ran out
-  pub no_write : result ≡ Err command_fault.NoMemory → IfErr result (λ why. IfWrite why holds)
-  no_write is = subst (λ (r : Result T CommandFault). IfErr r (λ why. IfWrite why holds)) (sym is) tt
+  pub no_write : result ≡ Err output_fault.NoMemory → IfErr result (λ why. IfWrite why holds)
+  no_write is = subst (λ (r : Result T OutputFault). IfErr r (λ why. IfWrite why holds)) (sym is) tt

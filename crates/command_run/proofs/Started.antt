@@ -1,6 +1,7 @@
 -- A start of a core over what a store tells of its image.
 use Rattle.std.proofs.Common.{◌≡◌, ℕ, zero, suc, Bool, true, false, cond, List, [], ◌∷◌, Option, Some, None, is_some, option_and_then, slice_get, slice_set, Result, Ok, Err, refl, sym, ap, subst, ◌∙◌}
 use Rattle.std.specs.Prelude.{IsTrue}
+use Rattle.std.specs.Result.{result_map_both}
 use Rattle.std.proofs.lemmas.Bool.{true≢false}
 use Rattle.std.proofs.lemmas.Option.{none-some, same_Some}
 use Rattle.rp_base.specs.declared.kinds.LifeState.{LifeState}
@@ -13,14 +14,15 @@ use Rattle.crash_recover.specs.declared.core_faults.CoreFault.{CoreFault}
 use Rattle.crash_recover.specs.Cores.{CoreOutcome, CoreState}
 use Rattle.crash_recover.specs.CoreBoots.{needs_image}
 use Rattle.crash_recover.specs.CoreRecoveries.{recovery_fault, recovery_fault_to}
-use Rattle.command_run.specs.declared.fetches.CommandFault.{CommandFault}
-use Rattle.command_run.specs.declared.fetches.CommandFault.TheVariants as command_fault
+use Rattle.command_run.specs.declared.faults.StoreFault.{StoreFault}
+use Rattle.command_run.specs.declared.faults.StoreFault.TheVariants as store_fault
 use Rattle.link_commands.specs.declared.acts.StartAct.{StartAct}
 use Rattle.link_commands.specs.declared.acts.StartAct.TheVariants as starts
 use Rattle.link_commands.specs.declared.stops.Stop.{Stop}
 use Rattle.command_run.specs.CoreCommands.{core_act_effect, core_effect}
 use Rattle.command_run.specs.CoreEffects.{CoreEffect, core_tells_all}
 use Rattle.command_run.specs.CoreLives.{found_image, start_effect, start_events, start_name, start_with, started_effect}
+use Rattle.command_run.specs.Faults.{store_command_fault}
 use Rattle.command_run.specs.Fetches.{DidTold, IsFetchFault, IsToldFor, RunsTold}
 use Rattle.link_commands.specs.Logs.{LogState}
 use Rattle.command_run.specs.Outcomes.{HandsRunEffect, HasCoreEffect, HasRunEffect}
@@ -78,12 +80,11 @@ module _ (images : Option (List (List ℕ × List ℕ))) (start : StartAct) (mad
   untold none = subst (λ (asked : Option (List ℕ)). IsToldFor images asked (Err fetch_fault.Missing)) (sym none) refl
 
   -- the store failed, or memory ran out
-  pub unfound_start : (why : CommandFault) (left : CoreState) (before after : LogState) (was then : ℕ) → IsFetchFault why was then
-      → (why ≡ command_fault.Store → IsTrue (is_some (start_image start made (Some named)))) → left ≡ named.core → after ≡ before
+  pub unfound_start : (why : StoreFault) (left : CoreState) (before after : LogState) (was then : ℕ) → IsFetchFault why was then
+      → (why ≡ store_fault.Failed → IsTrue (is_some (start_image start made (Some named)))) → left ≡ named.core → after ≡ before
       → StartsOver (Err why) images start made named left before after was then
-  unfound_start command_fault.Store left before after was then rose asked same kept = (asked refl, same, kept, rose)
-  unfound_start command_fault.Write left before after was then rose asked same kept = absurd rose
-  unfound_start command_fault.NoMemory left before after was then rose asked same kept = rose
+  unfound_start store_fault.Failed left before after was then rose asked same kept = (asked refl, same, kept, rose)
+  unfound_start store_fault.NoMemory left before after was then rose asked same kept = rose
 
 module _ (made : List ImageState) (named : NamedCoreState) where
   -- whether a boot asks the store
@@ -140,7 +141,7 @@ recovers_loaded life may = crashed_at life.state life may
 
 -- ---- a start of the core of a name is what the run does
 
--- what is about an act on a core
+-- a line whose act is one on a core is about that act and no more
 pub on_core : (about : Line (List RecipeLine) (List ℕ)) (called : List ℕ) (act : CoreAct) → core_act about ≡ Some (called, act) → about ≡ line.On called (under.Core act)
 on_core (line.Image name lines) called act is = absurd (none-some (called, act) is)
 on_core (line.Quiet set) called act is = absurd (none-some (called, act) is)
@@ -219,18 +220,17 @@ module _ (images : Option (List (List ℕ × List ℕ))) (run : RunState) (askin
         ap (λ (n : NamedCoreState). record run.objects { cores = slice_set run.objects.cores place n }) (sym (with_core now named named.core name same))
         ∙ ap (λ (cores : List NamedCoreState). record run.objects { cores = cores }) (set_same run.objects.cores place named there)
 
-    pub start_told : (result : Result (Option Stop) CommandFault) → StartsOver result images start run.objects.images named now.core before after was then
-        → RunsTold result images run asking left_so before after written written faults faults was then
+    pub start_told : (result : Result (Option Stop) StoreFault) → StartsOver result images start run.objects.images named now.core before after was then
+        → RunsTold (result_map_both (λ ending. ending) store_command_fault result) images run asking left_so before after written written faults faults was then
     start_told (Ok ending) did = (
       told_run images run asking left_so before after written ending did.0.answer
           (subst (λ (asked : Option (List ℕ)). IsToldFor images asked did.0.answer) (sym asked_is) did.0.is) (did_so did.0.answer ending did.0.did),
       refl,
       did.1,
     )
-    start_told (Err command_fault.Store) did =
+    start_told (Err store_fault.Failed) did =
         (subst (λ (asked : Option (List ℕ)). IsTrue (is_some asked)) (sym asked_is) did.0, did.2, refl, refl, did.3, same_so did.1)
-    start_told (Err command_fault.Write) did = absurd did
-    start_told (Err command_fault.NoMemory) did = ((λ shelf. (front_of_none written _, refl)), did)
+    start_told (Err store_fault.NoMemory) did = ((λ shelf. (front_of_none written _, refl)), did)
 
   -- on no core
   pub nobody_told : (left : ObjectsState) (ending : Option Stop) → core_named run.objects called ≡ None → then ≡ was
@@ -245,7 +245,3 @@ module _ (images : Option (List (List ℕ × List ℕ))) (run : RunState) (askin
         refl,
         same,
       )
-
-  -- memory ran out
-  pub cut_told : (left : ObjectsState) → then ≡ was → RunsTold (Err command_fault.NoMemory) images run asking left before after written written faults faults was then
-  cut_told left same = ((λ shelf. (front_of_none written _, refl)), same)

@@ -7,8 +7,12 @@ use Rattle.rp_io.specs.Images.{fetch_answer}
 use Rattle.script_lang.specs.declared.commands.Command.{Command}
 use Rattle.script_lang.specs.declared.recipes.RecipeLine.{RecipeLine}
 use Rattle.journal.specs.Lines.{transcript}
-use Rattle.command_run.specs.declared.fetches.CommandFault.{CommandFault}
-use Rattle.command_run.specs.declared.fetches.CommandFault.TheVariants as command_fault
+use Rattle.command_run.specs.declared.faults.CommandFault.{CommandFault}
+use Rattle.command_run.specs.declared.faults.CommandFault.TheVariants as command_fault
+use Rattle.command_run.specs.declared.faults.OutputFault.{OutputFault}
+use Rattle.command_run.specs.declared.faults.OutputFault.TheVariants as output_fault
+use Rattle.command_run.specs.declared.faults.StoreFault.{StoreFault}
+use Rattle.command_run.specs.declared.faults.StoreFault.TheVariants as store_fault
 use Rattle.command_run.specs.declared.fetches.Fetched.{Fetched}
 use Rattle.command_run.specs.declared.fetches.Fetched.TheVariants as fetched
 use Rattle.link_commands.specs.declared.acts.CoreAct.TheVariants as core
@@ -39,10 +43,9 @@ IsToldFor images None answer = answer ≡ Err fetch_fault.Missing
 IsToldFor images (Some name) answer = IsToldUnder images name answer
 
 -- why nothing was told, by the count of the store's faults
-abbrev pub IsFetchFault : CommandFault → ℕ → ℕ → Type 0
-IsFetchFault command_fault.Store before now = Rose before now
-IsFetchFault command_fault.Write before now = ⊥
-IsFetchFault command_fault.NoMemory before now = now ≡ before
+abbrev pub IsFetchFault : StoreFault → ℕ → ℕ → Type 0
+IsFetchFault store_fault.Failed before now = Rose before now
+IsFetchFault store_fault.NoMemory before now = now ≡ before
 
 -- a command did what it does over what the store has, and some lines were handed on meanwhile
 pub record DidTold (images : Option (List (List ℕ × List ℕ))) (run : RunState) (command : Command) (left : ObjectsState) (before after : LogState) (written now : Option (List ℕ)) (answer : Option Stop) : Type 0 where
@@ -51,19 +54,17 @@ pub record DidTold (images : Option (List (List ℕ × List ℕ))) (run : RunSta
   pub did : HandsRunEffect (effect_of (answer_for shelf (asked_name run.objects command)) run command) left before after written now answer
 
 -- a text was cut off where the sink failed or memory ran out: a front of it is written
-abbrev pub EndsCut : CommandFault → List ℕ → Option (List ℕ) → Option (List ℕ) → ℕ → ℕ → Type 0
-EndsCut command_fault.Store text old new before now = ⊥
-EndsCut command_fault.Write text old new before now = AppendsFront old new text × Rose before now
-EndsCut command_fault.NoMemory text old new before now = AppendsFront old new text × (now ≡ before)
+abbrev pub EndsCut : OutputFault → List ℕ → Option (List ℕ) → Option (List ℕ) → ℕ → ℕ → Type 0
+EndsCut output_fault.Failed text old new before now = AppendsFront old new text × Rose before now
+EndsCut output_fault.NoMemory text old new before now = AppendsFront old new text × (now ≡ before)
 
 -- this holds where the sink failed
-abbrev pub IfWrite : CommandFault → Type 0 → Type 0
-IfWrite command_fault.Store holds = Unit {0}
-IfWrite command_fault.Write holds = holds
-IfWrite command_fault.NoMemory holds = Unit {0}
+abbrev pub IfWrite : OutputFault → Type 0 → Type 0
+IfWrite output_fault.Failed holds = holds
+IfWrite output_fault.NoMemory holds = Unit {0}
 
 -- what a command tells was cut off, whatever the store has
-abbrev pub IsToldCut : CommandFault → RunState → Command → LogState → Option (List ℕ) → Option (List ℕ) → ℕ → ℕ → Type 0
+abbrev pub IsToldCut : OutputFault → RunState → Command → LogState → Option (List ℕ) → Option (List ℕ) → ℕ → ℕ → Type 0
 IsToldCut why run command before old new faults now =
     (shelf : Shelf) → EndsCut why (before.lines ++ transcript (effect_of (answer_for shelf (asked_name run.objects command)) run command).events) old new faults now
 
@@ -94,6 +95,6 @@ RunsTold (Ok answer) images run command left before after old new faults now was
 RunsTold (Err command_fault.Store) images run command left before after old new faults now was then =
     IsTrue (is_some (asked_name run.objects command)) × (after ≡ before) × (new ≡ old) × (now ≡ faults) × Rose was then × (left ≡ run.objects)
 RunsTold (Err command_fault.Write) images run command left before after old new faults now was then =
-    IsToldCut command_fault.Write run command before old new faults now × (then ≡ was) × IsCutCommand run command left before old new
+    IsToldCut output_fault.Failed run command before old new faults now × (then ≡ was) × IsCutCommand run command left before old new
 RunsTold (Err command_fault.NoMemory) images run command left before after old new faults now was then =
-    IsToldCut command_fault.NoMemory run command before old new faults now × (then ≡ was)
+    IsToldCut output_fault.NoMemory run command before old new faults now × (then ≡ was)

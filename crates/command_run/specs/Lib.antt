@@ -11,5 +11,6 @@ pub mod Dumps
 pub mod Runs
 pub mod Lookups
 pub mod Outcomes
+pub mod Faults
 pub mod Fetches
 pub mod Starts

@@ -3,8 +3,8 @@ use Rattle.std.specs.Prelude.{◌≡◌, ℕ, List, Option, Some, is_some, IsTru
 use Rattle.rp_io.specs.Causes.{Rose}
 use Rattle.crash_recover.specs.Cores.{CoreState}
 use Rattle.link_commands.specs.declared.acts.StartAct.{StartAct}
-use Rattle.command_run.specs.declared.fetches.CommandFault.{CommandFault}
-use Rattle.command_run.specs.declared.fetches.CommandFault.TheVariants as command_fault
+use Rattle.command_run.specs.declared.faults.StoreFault.{StoreFault}
+use Rattle.command_run.specs.declared.faults.StoreFault.TheVariants as store_fault
 use Rattle.command_run.specs.declared.fetches.FoundImage.{FoundImage}
 use Rattle.command_run.specs.declared.fetches.FoundImage.TheVariants as found_image
 use Rattle.link_commands.specs.declared.stops.Stop.{Stop}
@@ -35,9 +35,8 @@ pub record DidStart (images : Option (List (List ℕ × List ℕ))) (start : Sta
   pub did : HasCoreEffect (started_effect start made answer named before.steps) left before after ending
 
 -- a start was made, or it asked a store that failed, told nothing and left all as it was, or memory ran out; with the store's faults before and then
-abbrev pub StartsOver : Result (Option Stop) CommandFault → Option (List (List ℕ × List ℕ)) → StartAct → List ImageState → NamedCoreState → CoreState → LogState → LogState → ℕ → ℕ → Type 0
+abbrev pub StartsOver : Result (Option Stop) StoreFault → Option (List (List ℕ × List ℕ)) → StartAct → List ImageState → NamedCoreState → CoreState → LogState → LogState → ℕ → ℕ → Type 0
 StartsOver (Ok ending) images start made named left before after was then = DidStart images start made named left before after ending × (then ≡ was)
-StartsOver (Err command_fault.Store) images start made named left before after was then =
+StartsOver (Err store_fault.Failed) images start made named left before after was then =
     IsTrue (is_some (start_image start made (Some named))) × (left ≡ named.core) × (after ≡ before) × Rose was then
-StartsOver (Err command_fault.Write) images start made named left before after was then = ⊥
-StartsOver (Err command_fault.NoMemory) images start made named left before after was then = then ≡ was
+StartsOver (Err store_fault.NoMemory) images start made named left before after was then = then ≡ was

@@ -14,7 +14,7 @@ ghost use Rattle.rp_base.specs.declared.kinds.CrashKind.TheVariants as kind;
 ghost use Rattle.command_run.specs.CoreLives.{crash_events};
 ghost use Rattle.command_run.specs.CoreDrives.{actor_end_events, drive_effect, drive_end, drive_steps, driven_events, is_crashed, is_over, rest_event, step_events};
 
-use crate::{CommandFault, NamedCore};
+use crate::{NamedCore, OutputFault};
 use crash_recover::{Driven, Reach};
 use journal::Event;
 use lane_model::CallEnd;
@@ -66,7 +66,7 @@ impl NamedCore {
         is_quiet: bool,
         log: &mut RunLog,
         out: &mut K,
-    ) -> Result<Option<Stop>, CommandFault>
+    ) -> Result<Option<Stop>, OutputFault>
         ensures name { self.new.name ≡ self.old.name }
         ensures effect { IfOk result (λ ending. HandsCoreEffect (drive_effect self.old.name is_quiet self.old.core log.old.steps count) self.new.core log.old log.new (K.written out.old) (K.written out.new) ending) }
         ensures same { OnOk result (K.faults out.new ≡ K.faults out.old) }
@@ -91,7 +91,7 @@ impl NamedCore {
         is_quiet: bool,
         log: &mut RunLog,
         out: &mut K,
-    ) -> Result<u64, CommandFault>
+    ) -> Result<u64, OutputFault>
         ensures name { self.new.name ≡ self.old.name }
         ensures on { IfOk result (λ left. DrivesHanding self.old.name is_quiet count self.old.core log.old (K.written out.old) left self.new.core log.new (K.written out.new)) }
         ensures same { OnOk result (K.faults out.new ≡ K.faults out.old) }

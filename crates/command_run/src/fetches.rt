@@ -2,17 +2,18 @@ ghost use Rattle.std.specs.Prelude.{◌≡◌, None, Some, IsTrue, is_some, IfNo
 ghost use Rattle.std.specs.Option.{option_copied};
 ghost use Rattle.std.specs.Result.{result_map_both};
 ghost use Rattle.script_lang.specs.Runnable.{IsRunnable};
-ghost use Rattle.command_run.specs.declared.fetches.CommandFault.TheVariants as command_fault;
+ghost use Rattle.command_run.specs.declared.faults.StoreFault.TheVariants as store_fault;
 ghost use Rattle.command_run.specs.CoreLives.{image_bytes};
 ghost use Rattle.command_run.specs.Runs.{asked_name, core_act, outside_image};
 ghost use Rattle.command_run.specs.Fetches.{IsFetchFault, IsToldUnder, KeepsDrive, RunsTold, answer_of};
 ghost use Rattle.command_run.specs.Starts.{IsImageOf, image_answer};
 ghost use Rattle.link_commands.specs.Acts.{line_of};
 
+use crate::faults::{CommandFault, StoreFault};
 use crate::{Objects, ScriptImage};
 use link_commands::{CoreAct, Line, NamedAct, RunLog, Stop, line_of};
-use rp_base::{IMAGE_MOST, Name, NoMemory};
-use rp_io::{Failed, FetchFault, FirmwareStore, Sink};
+use rp_base::{IMAGE_MOST, Name};
+use rp_io::{FetchFault, FirmwareStore, Sink};
 use script_lang::Command;
 use std::alloc::Global;
 
@@ -53,36 +54,10 @@ impl FoundImage<'_> {
     }
 }
 
-/// Why a command was not run to its end, or something else was not read or written.
-#[derive(Clone, Copy)]
-pub enum CommandFault {
-    /// The store of images failed. Its count of faults rose.
-    Store,
-    /// The sink failed. Its count of faults rose.
-    Write,
-    /// Memory ran out.
-    NoMemory,
-}
-
-impl From<NoMemory> for CommandFault {
-    ghost from_gives = { λ _ e. e ≡ command_fault.NoMemory };
-
-    fn from(_error: NoMemory) -> CommandFault {
-        CommandFault::NoMemory
-    }
-}
-
-impl From<Failed> for CommandFault {
-    ghost from_gives = { λ _ e. e ≡ command_fault.Write };
-
-    fn from(_failed: Failed) -> CommandFault {
-        CommandFault::Write
-    }
-}
-
 /// Runs one command over what the store has, tells its events, and answers why the run stops in its
 /// midst, if it does. A drive hands on what it tells as it goes: with less than a piece kept before it,
-/// less than a piece is kept beside what its last 1,024 steps told, behind it and wherever the sink fails.
+/// less than a piece is kept beside what its last 1,024 steps, or one event, told, behind it and wherever
+/// the sink fails.
 pub fn run_command<F: FirmwareStore, K: Sink>(
     objects: &mut Objects,
     command: &Command,
@@ -99,8 +74,8 @@ pub fn run_command<F: FirmwareStore, K: Sink>(
 {
     match core_act(command) {
         Some((name, act)) => match act {
-            CoreAct::Drive { count } => objects.drive(name, count, log, out),
-            CoreAct::Start(start) => objects.start(name, start, store, log),
+            CoreAct::Drive { count } => Ok(objects.drive(name, count, log, out)?),
+            CoreAct::Start(start) => Ok(objects.start(name, start, store, log)?),
             _ => Ok(objects.run(command, log)?),
         },
         None => Ok(objects.run(command, log)?),
@@ -128,11 +103,11 @@ pub(crate) fn find_image<'a, F: FirmwareStore>(
     images: &'a [ScriptImage],
     name: &[u8],
     store: &mut F,
-) -> Result<FoundImage<'a>, CommandFault>
+) -> Result<FoundImage<'a>, StoreFault>
     ensures told { IfOk result (IsImageOf (F.images store.old) images.now name.now) }
     ensures same { OnOk result (F.faults store.new ≡ F.faults store.old) }
     ensures fault { IfErr result (λ why. IsFetchFault why (F.faults store.old) (F.faults store.new)) }
-    ensures asked { IsErrOf result command_fault.Store → IsTrue (is_some (outside_image images.now name.now)) }
+    ensures asked { IsErrOf result store_fault.Failed → IsTrue (is_some (outside_image images.now name.now)) }
     ensures kept { F.images store.new ≡ F.images store.old }
     ensures unasked { outside_image images.now name.now ≡ None → store.new ≡ store.old }
 {
@@ -154,11 +129,7 @@ fn image_bytes<'a>(images: &'a [ScriptImage], name: &[u8]) -> Option<&'a [u8]>
 }
 
 /// Fetches the image of a name.
-fn fetch<F: FirmwareStore>(
-    alloc: Global,
-    name: &str,
-    store: &mut F,
-) -> Result<Fetched, CommandFault>
+fn fetch<F: FirmwareStore>(alloc: Global, name: &str, store: &mut F) -> Result<Fetched, StoreFault>
     ensures told { IfOk result (λ fetched. IsToldUnder (F.images store.old) name.now (answer_of fetched)) }
     ensures same { OnOk result (F.faults store.new ≡ F.faults store.old) }
     ensures fault { IfErr result (λ why. IsFetchFault why (F.faults store.old) (F.faults store.new)) }
@@ -168,7 +139,7 @@ fn fetch<F: FirmwareStore>(
         Ok(image) => Ok(Fetched::Found(image)),
         Err(FetchFault::Missing) => Ok(Fetched::Missing),
         Err(FetchFault::TooLarge(bytes)) => Ok(Fetched::TooLarge(bytes)),
-        Err(FetchFault::Failed) => Err(CommandFault::Store),
-        Err(FetchFault::NoMemory) => Err(CommandFault::NoMemory),
+        Err(FetchFault::Failed) => Err(StoreFault::Failed),
+        Err(FetchFault::NoMemory) => Err(StoreFault::NoMemory),
     }
 }

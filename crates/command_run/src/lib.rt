@@ -7,10 +7,12 @@ mod core_lives;
 mod core_views;
 mod cores;
 mod dumps;
+mod faults;
 mod fetches;
 mod objects;
 mod starts;
 
 pub use cores::NamedCore;
-pub use fetches::{CommandFault, run_command};
+pub use faults::{CommandFault, OutputFault, StoreFault};
+pub use fetches::run_command;
 pub use objects::{Objects, ScriptImage};

@@ -1,5 +1,6 @@
 ghost use Rattle.std.specs.Prelude.{◌≡◌, ◌<◌, ◌++◌, ℕ, List, Option, Some, None, Err, [], IfOk, IfErr, IfNone, OnOk, IfSome, false, true, length};
 ghost use Rattle.std.specs.Option.{option_copied};
+ghost use Rattle.std.specs.Result.{result_map_both};
 ghost use Rattle.lane_model.specs.Conditions.{IsConfig};
 ghost use Rattle.script_lang.specs.Runnable.{IsBook, IsRunnable};
 ghost use Rattle.link_commands.specs.Acts.{IsFitNamed, bare_named_act, line_of};
@@ -11,10 +12,11 @@ ghost use Rattle.link_commands.specs.declared.acts.NamedAct.TheVariants as under
 ghost use Rattle.command_run.specs.Outcomes.{CutsRun, HandsRunEffect, HasRunEffect};
 ghost use Rattle.command_run.specs.Runs.{core_made_effect, core_place, is_full, regions_of, core_named, find_core, act_asks, core_act, effect_of, has_image, image_effect, image_place, made_effect, name_effect, new_run, place_of, quiet_effect, unnamed_effect};
 ghost use Rattle.command_run.specs.Lookups.{bench_named, core_taken, find_link, is_bare, link_taken, without_core, without_link};
+ghost use Rattle.command_run.specs.Faults.{store_command_fault};
 ghost use Rattle.command_run.specs.Fetches.{EndsCut, IfWrite, KeepsDriven, RunsTold};
 
 use crate::cores::{NamedCore, is_on};
-use crate::fetches::CommandFault;
+use crate::faults::{OutputFault, StoreFault};
 use channel_bus::Side;
 use crash_recover::{Bench, Core};
 use journal::Event;
@@ -182,7 +184,7 @@ impl Objects {
         count: u64,
         log: &mut RunLog,
         out: &mut K,
-    ) -> Result<Option<Stop>, CommandFault>
+    ) -> Result<Option<Stop>, OutputFault>
         ensures effect { IfOk result (λ ending. HandsRunEffect (name_effect (Err fetch_fault.Missing) (record { objects = self.old; steps = log.old.steps }) name (under.Core (core.Drive count)))
             self.new log.old log.new (K.written out.old) (K.written out.new) ending) }
         ensures same { OnOk result (K.faults out.new ≡ K.faults out.old) }
@@ -212,9 +214,9 @@ impl Objects {
         start: StartAct,
         store: &mut F,
         log: &mut RunLog,
-    ) -> Result<Option<Stop>, CommandFault>
+    ) -> Result<Option<Stop>, StoreFault>
         ensures told { (command : Command) (written : Option (List ℕ)) (faults : ℕ) → core_act (line_of command) ≡ Some (name, core.Start start)
-            → RunsTold result (F.images store.old) (record { objects = self.old; steps = log.old.steps }) command self.new log.old log.new written written faults faults (F.faults store.old) (F.faults store.new) }
+            → RunsTold (result_map_both (λ ending. ending) store_command_fault result) (F.images store.old) (record { objects = self.old; steps = log.old.steps }) command self.new log.old log.new written written faults faults (F.faults store.old) (F.faults store.new) }
         ensures kept { F.images store.new ≡ F.images store.old }
         ensures unasked { act_asks self.old (Some (name, core.Start start)) ≡ None → store.new ≡ store.old }
     {

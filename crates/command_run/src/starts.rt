@@ -6,8 +6,8 @@ ghost use Rattle.command_run.specs.Outcomes.{HasCoreEffect};
 ghost use Rattle.command_run.specs.Runs.{start_image};
 ghost use Rattle.command_run.specs.Starts.{StartsOver};
 
-use crate::fetches::{CommandFault, find_image};
-use crate::{NamedCore, ScriptImage};
+use crate::fetches::find_image;
+use crate::{NamedCore, ScriptImage, StoreFault};
 use crash_recover::{Boot, CoreFault};
 use link_commands::{RunLog, StartAct, Stop};
 use rp_base::{Name, NoMemory};
@@ -40,7 +40,7 @@ impl NamedCore {
         images: &[ScriptImage],
         store: &mut F,
         log: &mut RunLog,
-    ) -> Result<Option<Stop>, CommandFault>
+    ) -> Result<Option<Stop>, StoreFault>
         ensures name { self.new.name ≡ self.old.name }
         ensures started { StartsOver result (F.images store.old) start images.now self.old self.new.core log.old log.new (F.faults store.old) (F.faults store.new) }
         ensures kept { F.images store.new ≡ F.images store.old }
@@ -60,7 +60,7 @@ impl NamedCore {
         images: &[ScriptImage],
         store: &mut F,
         log: &mut RunLog,
-    ) -> Result<Option<Stop>, CommandFault>
+    ) -> Result<Option<Stop>, StoreFault>
         ensures name { self.new.name ≡ self.old.name }
         ensures started { StartsOver result (F.images store.old) (starts.Boot image) images.now self.old self.new.core log.old log.new (F.faults store.old) (F.faults store.new) }
         ensures kept { F.images store.new ≡ F.images store.old }
@@ -86,7 +86,7 @@ impl NamedCore {
         images: &[ScriptImage],
         store: &mut F,
         log: &mut RunLog,
-    ) -> Result<Option<Stop>, CommandFault>
+    ) -> Result<Option<Stop>, StoreFault>
         ensures name { self.new.name ≡ self.old.name }
         ensures started { StartsOver result (F.images store.old) (starts.Handover image) images.now self.old self.new.core log.old log.new (F.faults store.old) (F.faults store.new) }
         ensures kept { F.images store.new ≡ F.images store.old }
@@ -110,7 +110,7 @@ impl NamedCore {
         images: &[ScriptImage],
         store: &mut F,
         log: &mut RunLog,
-    ) -> Result<Option<Stop>, CommandFault>
+    ) -> Result<Option<Stop>, StoreFault>
         ensures name { self.new.name ≡ self.old.name }
         ensures started { StartsOver result (F.images store.old) starts.Recover images.now self.old self.new.core log.old log.new (F.faults store.old) (F.faults store.new) }
         ensures kept { F.images store.new ≡ F.images store.old }

@@ -3,6 +3,7 @@ use Rattle.std.specs.Prelude.{ℕ, ◌+◌, ◌*◌, ◌^◌, ◌≤◌, IfSome,
 use Rattle.std.specs.Int.RustNames.{bit_and}
 use Rattle.std.specs.List.{filter_map}
 use Rattle.rp_base.specs.Limits.{ring_capacity}
+use Rattle.rp_base.specs.declared.limits.TheConstants.{MESSAGE_MOST}
 use Rattle.resource_table.specs.declared.entries.Entry.{Entry}
 use Rattle.resource_table.specs.declared.entries.Entry.TheVariants as entry
 use Rattle.resource_table.specs.declared.entries.Vdev.{Vdev}
@@ -36,9 +37,9 @@ pair_of placed index device = record {
 abbrev pub IsSoundPair : RingPair → Type 0
 IsSoundPair rings = IsSoundRing rings.to_host × IsSoundRing rings.to_remote
 
--- the buffers of both lanes, 512 bytes each, end within the addresses of 32 bits (own)
+-- the buffers of both lanes, of the bytes of the longest message each, end within the addresses of 32 bits (own)
 abbrev pub HasBuffers : RingPair → Type 0
-HasBuffers rings = rings.base + 512 * (ring_capacity rings.to_host.num + ring_capacity rings.to_remote.num) ≤ 2 ^ 32
+HasBuffers rings = rings.base + MESSAGE_MOST * (ring_capacity rings.to_host.num + ring_capacity rings.to_remote.num) ≤ 2 ^ 32
 
 -- the rings of the first device for RPMsg, VIRTIO_ID_RPMSG 7, among entries of a patched table of which the first has a number (own)
 abbrev pub pair_from : List Block → ℕ → List Entry → Option RingPair

@@ -1,6 +1,7 @@
 -- Which callers of a bench hold buffers, and which host callers keep a core from being shut down (own).
-use Rattle.std.specs.Prelude.{ℕ, Bool, true, false, not, ◌&&◌, ◌||◌, Option, Some, None, is_some, find}
+use Rattle.std.specs.Prelude.{ℕ, ◌-◌, Bool, true, false, not, ◌&&◌, ◌||◌, Option, Some, None, is_some, find}
 use Rattle.std.specs.List.{range_with_len}
+use Rattle.rp_base.specs.declared.limits.TheConstants.{CALLERS_MOST}
 use Rattle.rp_base.specs.declared.kinds.End.{End}
 use Rattle.rp_base.specs.declared.kinds.End.TheVariants as side
 use Rattle.lane_model.specs.Crashes.{has_held}
@@ -25,4 +26,4 @@ is_out bench caller = is_host (end_of (link_in bench).callers caller) && (is_in_
 
 -- the least such caller other than 0
 unfoldable pub caller_out : BenchState → Option ℕ
-caller_out bench = find (λ caller. is_out bench caller) (range_with_len 1 63)
+caller_out bench = find (λ caller. is_out bench caller) (range_with_len 1 (CALLERS_MOST - 1))

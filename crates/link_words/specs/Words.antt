@@ -2,6 +2,7 @@
 -- virtqueue, VIRTIO 1.2 sections 2.7.6 and 2.7.8).
 use Rattle.std.specs.Prelude.{ℕ, zero, suc, ◌+◌, ◌*◌, ◌%◌, ◌≤◌, if◌then◌else◌, List, [], ◌∷◌, ◌++◌, map, length}
 use mathlib.Core.Option.{Option, some, none}
+use Rattle.rp_base.specs.declared.limits.TheConstants.{RING_MOST}
 use Rattle.rp_base.specs.declared.kinds.Era.{Era}
 use Rattle.rp_base.specs.declared.kinds.End.{End}
 use Rattle.rp_base.specs.declared.kinds.End.TheVariants as side
@@ -217,7 +218,7 @@ with_turn s t = record s { lane = record s.lane { sender = t } }
 abbrev pub words_in : LinkSizes → ℕ
 words_in z = 160 + 16 * (z.to_host.entries + z.to_remote.entries)
 
--- the rings have entries, at most 32,768
+-- the rings have entries, at most as many as a ring may have
 pub record IsSized (z : LinkSizes) : Type 0 where
-  pub to_host : (1 ≤ z.to_host.entries) × (z.to_host.entries ≤ 32768)
-  pub to_remote : (1 ≤ z.to_remote.entries) × (z.to_remote.entries ≤ 32768)
+  pub to_host : (1 ≤ z.to_host.entries) × (z.to_host.entries ≤ RING_MOST)
+  pub to_remote : (1 ≤ z.to_remote.entries) × (z.to_remote.entries ≤ RING_MOST)

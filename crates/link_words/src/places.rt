@@ -1,6 +1,7 @@
 //! Where the words of a link stand in its table: the idle word, the era, the four turns and the four indexes 16 words apart, and
 //! the entries behind them 8 words apart, so that words which different ends write are on cache lines of their own.
-ghost use Rattle.std.specs.Prelude.{◌≡◌, ◌≤◌, ◌+◌};
+ghost use Rattle.std.specs.Prelude.{◌≡◌, ◌≤◌, ◌+◌, ◌*◌};
+ghost use Rattle.rp_base.specs.declared.limits.TheConstants.{RING_MOST};
 ghost use Rattle.link_words.specs.Words.{other, sizes_at, entries_before, ring_before, entry_number, IsSized, sender_word, receiver_word, forward_word, return_word};
 ghost use Rattle.link_words.specs.Layouts.{place_in};
 
@@ -70,7 +71,7 @@ pub fn return_place(lane: End) -> usize
 fn entries_in(sizes: &LinkSizes, lane: End) -> u64
     requires { IsSized sizes.now }
     ensures entries { result ≡ (sizes_at sizes.now lane).entries }
-    ensures some { (1 ≤ result) × (result ≤ 32768) }
+    ensures some { (1 ≤ result) × (result ≤ RING_MOST) }
 {
     match lane {
         End::Host => u64::from(sizes.to_host.entries),
@@ -83,7 +84,7 @@ fn entries_in(sizes: &LinkSizes, lane: End) -> u64
 fn entries_before(sizes: &LinkSizes, lane: End, ring: Ring) -> u64
     requires { IsSized sizes.now }
     ensures before { result ≡ entries_before sizes.now lane + ring_before (sizes_at sizes.now lane) ring }
-    ensures most { result ≤ 131072 }
+    ensures most { result ≤ 4 * RING_MOST }
 {
     let to_host = u64::from(sizes.to_host.entries);
     let to_remote = u64::from(sizes.to_remote.entries);

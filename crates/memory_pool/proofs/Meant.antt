@@ -9,6 +9,7 @@ use Rattle.resource_table.specs.declared.entries.Entry.TheVariants as entry
 use Rattle.resource_table.specs.declared.entries.Ring.{Ring}
 use Rattle.resource_table.specs.declared.entries.Vdev.{Vdev}
 use Rattle.rp_base.specs.Limits.{ring_capacity}
+use Rattle.rp_base.specs.declared.limits.TheConstants.{MESSAGE_MOST}
 use Rattle.vring_layout.specs.Sizes.{ring_size}
 use Rattle.memory_pool.specs.Places.{any_at, block_in, entry_of, given_in, least_free, memory_of, next_block, place_in, pool_of, window_at, windows_of}
 use Rattle.memory_pool.specs.Placements.{placed_from, placement, then_ok}
@@ -23,9 +24,9 @@ use Rattle.memory_pool.specs.declared.wanted.Wanted.{Wanted}
 use Rattle.memory_pool.specs.declared.wanted.Wanted.TheVariants as wanted
 use Rattle.memory_pool.proofs.Sound.{option_cases}
 
--- the bytes of the buffers of a device, 512 for each that its two lanes have
+-- the bytes of the buffers of a device
 abbrev pub buffers_len : Vdev → ℕ
-buffers_len device = 512 * (ring_capacity device.first.num + ring_capacity device.second.num)
+buffers_len device = MESSAGE_MOST * (ring_capacity device.first.num + ring_capacity device.second.num)
 
 -- what holds of each use that an entry asks for, with the bytes that it asks for
 abbrev pub OfUses : (Use → ℕ → Type 0) → ℕ → Entry → Type 0

@@ -5,7 +5,7 @@ use Rattle.std.specs.List.{All, filter}
 use Rattle.std.specs.Int.{is_power_of_two}
 use Rattle.std.specs.Int.RustNames.{count_ones}
 use Rattle.std.proofs.lemmas.Nat.{ones_le_self}
-use Rattle.rp_base.specs.declared.limits.TheConstants.{RING_MOST}
+use Rattle.rp_base.specs.declared.limits.TheConstants.{MESSAGE_MOST, RING_MOST}
 use Rattle.std.proofs.lemmas.Bool.{cond_both, eqb-true, eqb-false, ltb-true, leb-true, and_parts}
 use Rattle.std.proofs.lemmas.List.Elements.{All-nil, All-cons, All-head, All-tail, All-append, All-filter}
 use Rattle.rp_base.specs.Limits.{is_ring_size, ring_capacity}
@@ -59,7 +59,7 @@ rings_sound index device sound =
 
 buffers_sound : (index : ℕ) (device : Vdev) → IsSoundDevice device → All IsSoundWanted (buffers_wanted index device)
 buffers_sound index device sound =
-    let len = 512 * (ring_capacity device.first.num + ring_capacity device.second.num) in
+    let len = MESSAGE_MOST * (ring_capacity device.first.num + ring_capacity device.second.num) in
     cond_both (eqb device.id 7) (wanted.Any (usage.Buffers index) len 4096 ∷ []) [] (All IsSoundWanted)
     (λ e.
     let two = sound.rpmsg (eqb-true device.id 7 e) in

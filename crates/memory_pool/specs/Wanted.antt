@@ -1,6 +1,7 @@
 -- What the entries of a resource table ask to be placed, in the order of the table (fields of Linux include/linux/remoteproc.h).
 use Rattle.std.specs.Prelude.{ℕ, ◌+◌, ◌*◌, ◌==◌, nat_lt, Bool, true, false, not, List, [], ◌∷◌, ◌++◌, filter, if◌then◌else◌}
 use Rattle.rp_base.specs.Limits.{ring_capacity}
+use Rattle.rp_base.specs.declared.limits.TheConstants.{MESSAGE_MOST}
 use Rattle.vring_layout.specs.Sizes.{ring_size}
 use Rattle.resource_table.specs.declared.entries.Ring.{Ring}
 use Rattle.resource_table.specs.declared.entries.Vdev.{Vdev}
@@ -27,11 +28,11 @@ rings_wanted index device =
     (if nat_lt 0 device.count then ring_wanted index 0 device.first ∷ [] else [])
     ++ (if nat_lt 1 device.count then ring_wanted index 1 device.second ∷ [] else [])
 
--- the buffers of a device for RPMsg, VIRTIO_ID_RPMSG 7: 512 bytes for each that its two lanes have, anywhere (own)
+-- the buffers of a device for RPMsg, VIRTIO_ID_RPMSG 7: the bytes of the longest message for each that its two lanes have, anywhere (own)
 abbrev pub buffers_wanted : ℕ → Vdev → List Wanted
 buffers_wanted index device =
     if device.id == 7
-    then wanted.Any (usage.Buffers index) (512 * (ring_capacity device.first.num + ring_capacity device.second.num)) 4096 ∷ []
+    then wanted.Any (usage.Buffers index) (MESSAGE_MOST * (ring_capacity device.first.num + ring_capacity device.second.num)) 4096 ∷ []
     else []
 
 -- what the entry of a number asks for: nothing where it has length 0 (own)

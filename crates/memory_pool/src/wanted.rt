@@ -6,7 +6,7 @@ ghost use Rattle.resource_table.specs.Tables.{IsSoundEntry, IsSoundRing, IsSound
 
 use crate::blocks::Use;
 use resource_table::{Entry, Ring, Table, Vdev};
-use rp_base::{Da, NoMemory, Pa, ring_capacity};
+use rp_base::{Da, MESSAGE_MOST, NoMemory, Pa, ring_capacity};
 use std::alloc::Global;
 use vring_layout::vring_size;
 
@@ -17,7 +17,7 @@ const ANY: Da = 0xffff_ffff;
 const PAGE: u32 = 4096;
 
 /// The bytes of a buffer.
-const BUFFER_SIZE: u32 = 512;
+const BUFFER_SIZE: u32 = MESSAGE_MOST as u32;
 
 /// The kind of a device for RPMsg (`VIRTIO_ID_RPMSG`).
 const RPMSG: u32 = 7;

@@ -1,5 +1,5 @@
 -- What a word of each kind says is within that kind's range.
-use Rattle.std.proofs.Common.{◌≡◌, ℕ, ◌≤◌, ◌+◌, ◌*◌, ◌%◌, ◌==◌, ◌&&◌, ◌||◌, Bool, true, false, cond, List, [], ◌∷◌, length, drop, Option, Some, None, refl, sym, ◌∙◌, ap, arith, inl, inr, bytes_eq, codes}
+use Rattle.std.proofs.Common.{◌≡◌, ℕ, ◌≤◌, ◌+◌, ◌-◌, ◌*◌, ◌%◌, ◌==◌, ◌&&◌, ◌||◌, Bool, true, false, cond, List, [], ◌∷◌, length, drop, Option, Some, None, refl, sym, ◌∙◌, ap, arith, inl, inr, bytes_eq, codes}
 use lib.Dec.{leb}
 use Rattle.std.specs.Prelude.{unwrap_or}
 use Rattle.std.specs.Int.{is_power_of_two}
@@ -9,7 +9,7 @@ use Rattle.std.proofs.lemmas.List.{drop_more, drop_all, length-replicate}
 use Rattle.std.proofs.lemmas.Option.{same_Some}
 use Rattle.std.proofs.lemmas.Slice.Eq.{bytes_eq-Decides}
 use Rattle.rp_base.specs.Limits.{is_ring_size, IsRingSize}
-use Rattle.rp_base.specs.declared.limits.TheConstants.{RING_MOST, BOOK_MOST, STEPS_MOST}
+use Rattle.rp_base.specs.declared.limits.TheConstants.{RING_MOST, BOOK_MOST, CALLERS_MOST, MESSAGE_MOST, STEPS_MOST}
 use Rattle.word_kinds.specs.declared.kinds.Kind.{Kind}
 use Rattle.word_kinds.specs.declared.kinds.Kind.TheVariants as kind
 use Rattle.word_kinds.specs.Kinds.{is_of, are_of}
@@ -91,13 +91,13 @@ number_test test (Some n) e = e
 within : (least most n : ℕ) → (leb least n && leb n most) ≡ true → (least ≤ n) × (n ≤ most)
 within least most n e = let b = both (leb least n) (leb n most) e in (leb-true least n b.0, leb-true n most b.1)
 
-repeated_small : (word : List ℕ) → is_repeated word ≡ true → length (repeated_bytes word) ≤ 512
+repeated_small : (word : List ℕ) → is_repeated word ≡ true → length (repeated_bytes word) ≤ MESSAGE_MOST
 repeated_small [] e = absurd (cc)
 repeated_small (high ∷ []) e = absurd (cc)
 repeated_small (high ∷ low ∷ []) e = absurd (cc)
 repeated_small (high ∷ low ∷ star ∷ count) e =
     let counted = (both (is_hex_digit high && is_hex_digit low && (star == 42)) (is_count count) e).1 in
-    let most = (within 1 512 (unwrap_or (decimal_of count) 0) (number_test (λ number. leb 1 number && leb number 512) (decimal_of count) counted)).1 in
+    let most = (within 1 MESSAGE_MOST (unwrap_or (decimal_of count) 0) (number_test (λ number. leb 1 number && leb number MESSAGE_MOST) (decimal_of count) counted)).1 in
     let len = length-replicate (unwrap_or (decimal_of count) 0) (byte_of high low) in omega arith
 
 pairs_half : (word : List ℕ) → 2 * length (bytes_of_pairs word) ≤ length word
@@ -117,7 +117,7 @@ pairs_length : (word : List ℕ) → is_pairs word ≡ true → length word ≤ 
 pairs_length word e =
     leb-true (length word) 1024 (both ((length word % 2 == 0) && leb 2 (length word)) (leb (length word) 1024) (both ((length word % 2 == 0) && leb 2 (length word) && leb (length word) 1024) (list_all is_hex_digit word) e).0).1
 
-bytes_small : (word : List ℕ) (repeated : Bool) → is_repeated word ≡ repeated → is_payload word ≡ true → length (cond repeated (repeated_bytes word) (bytes_of_pairs word)) ≤ 512
+bytes_small : (word : List ℕ) (repeated : Bool) → is_repeated word ≡ repeated → is_payload word ≡ true → length (cond repeated (repeated_bytes word) (bytes_of_pairs word)) ≤ MESSAGE_MOST
 bytes_small word true e h = repeated_small word e
 bytes_small word false e h =
     let most = payload_length (bytes_eq word (codes "-")) (is_pairs word) (is_repeated word) (length word) (dash_length word) (pairs_length word) h e in
@@ -145,7 +145,8 @@ in_range kind.Number word e = number_small word
 in_range kind.Address word e = address_small (bytes_eq word (codes "any")) (number_in word) (number_small word)
 in_range kind.Vendor word e = number_small word
 in_range kind.Payload word e = bytes_small word (is_repeated word) refl e
-in_range kind.Caller word e = (within 0 63 (number_in word) (number_test (λ number. leb 0 number && leb number 63) (number_of word) e)).1
+in_range kind.Caller word e =
+    let most = (within 0 (CALLERS_MOST - 1) (number_in word) (number_test (λ number. leb 0 number && leb number (CALLERS_MOST - 1)) (number_of word) e)).1 in omega arith
 in_range kind.Count word e = within 1 STEPS_MOST (number_in word) (number_test (λ number. leb 1 number && leb number STEPS_MOST) (number_of word) e)
 in_range kind.Ring word e =
     let b = both (is_power_of_two (number_in word)) (leb (number_in word) RING_MOST) (number_test is_ring_size (number_of word) e) in (b.0, leb-true (number_in word) RING_MOST b.1)

@@ -1,7 +1,7 @@
 -- The ranges of the numbers of commands (own).
-use Rattle.std.specs.Prelude.{ℕ, ◌≤◌, List, [], ◌∷◌, length}
+use Rattle.std.specs.Prelude.{ℕ, ◌<◌, ◌≤◌, List, [], ◌∷◌, length}
 use Rattle.rp_base.specs.Limits.{IsRingSize}
-use Rattle.rp_base.specs.declared.limits.TheConstants.{BOOK_MOST, STEPS_MOST}
+use Rattle.rp_base.specs.declared.limits.TheConstants.{BOOK_MOST, CALLERS_MOST, MESSAGE_MOST, NAME_MOST, STEPS_MOST}
 use Rattle.script_lang.specs.declared.commands.Command.{Command}
 use Rattle.script_lang.specs.declared.commands.Command.TheVariants as command
 use Rattle.script_lang.specs.declared.recipes.RecipeLine.{RecipeLine}
@@ -13,7 +13,7 @@ IsLane number = number ≤ 1
 
 -- the number of a caller
 abbrev pub IsCaller : ℕ → Type 0
-IsCaller number = number ≤ 63
+IsCaller number = number < CALLERS_MOST
 
 -- a number of 32 bits
 abbrev pub IsNumber : ℕ → Type 0
@@ -21,7 +21,7 @@ IsNumber number = number ≤ 4294967295
 
 -- the payload of a script, which may be longer than one that fits a buffer
 abbrev pub IsPayload : List ℕ → Type 0
-IsPayload payload = length payload ≤ 512
+IsPayload payload = length payload ≤ MESSAGE_MOST
 
 -- a count of steps or turns
 abbrev pub IsCount : ℕ → Type 0
@@ -41,7 +41,7 @@ IsBook book = (1 ≤ book) × (book ≤ BOOK_MOST)
 
 -- the bytes of a name
 abbrev pub IsShort : List ℕ → Type 0
-IsShort name = length name ≤ 31
+IsShort name = length name ≤ NAME_MOST
 
 -- a recipe line whose numbers are of 32 bits
 abbrev pub IsLine : RecipeLine → Type 0

@@ -17,7 +17,7 @@ pub enum RegionSet {
 
 /// A command of a script. Its first field is the name of the link or the core that it works on, but
 /// for [`Quiet`](Command::Quiet).
-/// Numbers are at most 2^32 - 1, and those of callers at most 63.
+/// Numbers are at most 2^32 - 1, and those of callers less than [`CALLERS_MOST`](rp_base::CALLERS_MOST).
 #[derive(Drop)]
 pub enum Command {
     /// Makes a link: the entries of the ring to the host and of the ring to the remote, and how many

@@ -26,7 +26,7 @@ use Rattle.script_run.specs.declared.statuses.Status.TheVariants as status
 use Rattle.script_run.specs.Statuses.{status_number, status_of}
 use Rattle.link_commands.specs.declared.stops.Stop.{Stop}
 use Rattle.link_commands.specs.declared.stops.Stop.TheVariants as stop
-use Rattle.command_run.specs.declared.fetches.CommandFault.TheVariants as command_fault
+use Rattle.command_run.specs.declared.faults.OutputFault.TheVariants as output_fault
 use Rattle.command_run.specs.Stores.{IsHeld, IsTold, Told, store_of}
 use Rattle.command_run.specs.Runs.{ObjectsState, new_run, run_of}
 use Rattle.script_run.specs.Outputs.{Form, other, run, check, demo, storm, audit, Output, audit_output, storm_output, fails_in, too_long_output, usage_output, run_output, script_output, stop_output, transcript_output, report_output, store_fault_output}
@@ -343,10 +343,10 @@ module _ (images : Option (List (List ℕ × List ℕ))) (commands : List Comman
       }
 
   -- or in part
-  pub run_in_part : RunWrites images commands yard (Err command_fault.Write) old new before now was then → RunLeaves status.WriteFault images commands yard old new before now was then
+  pub run_in_part : RunWrites images commands yard (Err output_fault.Failed) old new before now was then → RunLeaves status.WriteFault images commands yard old new before now was then
   run_in_part writes = record { ends = record { told = writes.told; course = writes.course; written = writes.text }; stands = writes.stands }
 
-  pub run_no_memory : RunWrites images commands yard (Err command_fault.NoMemory) old new before now was then → RunLeaves status.NoMemory images commands yard old new before now was then
+  pub run_no_memory : RunWrites images commands yard (Err output_fault.NoMemory) old new before now was then → RunLeaves status.NoMemory images commands yard old new before now was then
   run_no_memory writes = record { ends = record { told = writes.told; course = writes.course; written = writes.text }; stands = tt }
 
 module _ (images : Option (List (List ℕ × List ℕ))) (said : Result (List Command) Refusal) (old : Option (List ℕ)) (before was : ℕ) where

@@ -5,8 +5,8 @@ use Rattle.rp_io.specs.Causes.{Rose}
 use Rattle.rp_io.specs.Contents.{AppendsFront}
 use Rattle.word_kinds.specs.Lines.{line_of}
 use Rattle.journal.specs.Notices.{notice_line}
-use Rattle.command_run.specs.declared.fetches.CommandFault.{CommandFault}
-use Rattle.command_run.specs.declared.fetches.CommandFault.TheVariants as command_fault
+use Rattle.command_run.specs.declared.faults.OutputFault.{OutputFault}
+use Rattle.command_run.specs.declared.faults.OutputFault.TheVariants as output_fault
 use Rattle.script_run.specs.declared.statuses.Status.{Status}
 use Rattle.script_run.specs.declared.statuses.Status.TheVariants as status
 use Rattle.script_run.specs.Outputs.{Output, read_fault_output, store_fault_output}
@@ -23,8 +23,8 @@ unfolding notice_line line_of
 read_fault_line = refl
 
 -- a sink that failed
-pub sink_failed : (result : Result Status CommandFault) (last : Output) (lines : List ℕ) (old new : Option (List ℕ)) (before now : ℕ) → IsErrAnd result (λ fault. fault ≡ command_fault.Write)
+pub sink_failed : (result : Result Status OutputFault) (last : Output) (lines : List ℕ) (old new : Option (List ℕ)) (before now : ℕ) → IsErrAnd result (λ fault. fault ≡ output_fault.Failed)
     → AppendsFront old new (lines ++ last.text) → Rose before now → EndsRun result last lines old new before now
 sink_failed result last lines old new before now is front rose =
     let found = err_from_is_err_and result is in
-    subst (λ (r : Result Status CommandFault). EndsRun r last lines old new before now) (sym (found.1 ∙ ap (λ (fault : CommandFault). Err fault) found.2)) (tt, (front, rose))
+    subst (λ (r : Result Status OutputFault). EndsRun r last lines old new before now) (sym (found.1 ∙ ap (λ (fault : OutputFault). Err fault) found.2)) (tt, (front, rose))

@@ -11,8 +11,8 @@ use Rattle.journal.specs.declared.events.Event.{Event}
 use Rattle.journal.specs.Lines.{transcript}
 use Rattle.script_run.specs.declared.statuses.Status.{Status}
 use Rattle.link_commands.specs.declared.stops.Stop.{Stop}
-use Rattle.command_run.specs.declared.fetches.CommandFault.{CommandFault}
-use Rattle.command_run.specs.declared.fetches.CommandFault.TheVariants as command_fault
+use Rattle.command_run.specs.declared.faults.OutputFault.{OutputFault}
+use Rattle.command_run.specs.declared.faults.OutputFault.TheVariants as output_fault
 use Rattle.rp_io.specs.declared.faults.FetchFault.TheVariants as fetch_fault
 use Rattle.command_run.specs.Stores.{IsHeld, IsShelf, Shelf, Told, answer_for}
 use Rattle.command_run.specs.Runs.{ObjectsState, RunEffect, RunState, Run, asked_name, effect_of, line_effect, run_from, run_of, new_run}
@@ -144,23 +144,21 @@ module _ (images : Option (List (List ℕ × List ℕ))) (commands left : List C
       (appends_more from now new hands.handed (lines ++ text) hands.appended whole)
 
   -- and so the whole of it is told
-  tells_whole : (result : Result Status CommandFault) (new : Option (List ℕ)) (bytes text all : List ℕ) (faults before after : ℕ) → Hands from [] now lines bytes
+  tells_whole : (result : Result Status OutputFault) (new : Option (List ℕ)) (bytes text all : List ℕ) (faults before after : ℕ) → Hands from [] now lines bytes
       → bytes ++ text ≡ all → before ≡ faults → Tells result (lines ++ text) now new before after → Tells result all from new faults after
   tells_whole (Ok ended) new bytes text all faults before after hands whole same tells =
       (subst (λ b. Appends from new b) whole (handed_whole new bytes text hands tells.0), tells.1 ∙ same)
-  tells_whole (Err command_fault.Store) new bytes text all faults before after hands whole same tells = absurd tells
-  tells_whole (Err command_fault.Write) new bytes text all faults before after hands whole same tells =
+  tells_whole (Err output_fault.Failed) new bytes text all faults before after hands whole same tells =
       (subst (λ b. AppendsFront from new b) whole (hands_front from now new [] lines bytes text hands tells.0), subst (λ (n : ℕ). Rose n after) same tells.1)
-  tells_whole (Err command_fault.NoMemory) new bytes text all faults before after hands whole same tells =
+  tells_whole (Err output_fault.NoMemory) new bytes text all faults before after hands whole same tells =
       (subst (λ b. AppendsFront from new b) whole (hands_front from now new [] lines bytes text hands tells.0), tells.1 ∙ same)
 
   -- what is left where the run has ended, or where its last lines were cut off
-  stands_end : (result : Result Status CommandFault) (told : Told) (yard : ObjectsState) (new : Option (List ℕ)) (before after : ℕ) → yard ≡ (run_of told commands).last.objects
+  stands_end : (result : Result Status OutputFault) (told : Told) (yard : ObjectsState) (new : Option (List ℕ)) (before after : ℕ) → yard ≡ (run_of told commands).last.objects
       → Tells result (transcript_output (run_of told commands)).text from new before after → StandsFor result told commands yard from new
   stands_end (Ok ended) told yard new before after is tells = is
-  stands_end (Err command_fault.Store) told yard new before after is tells = tt
-  stands_end (Err command_fault.Write) told yard new before after is tells = inl (record { done = commands; more = []; are = sym (append-nil commands); is = is; front = tells.0 })
-  stands_end (Err command_fault.NoMemory) told yard new before after is tells = tt
+  stands_end (Err output_fault.Failed) told yard new before after is tells = inl (record { done = commands; more = []; are = sym (append-nil commands); is = is; front = tells.0 })
+  stands_end (Err output_fault.NoMemory) told yard new before after is tells = tt
 
   module _ (rest : Told → List Command → Run) (so_far : SoFar images commands left from now lines rest) (later : Told) where
     -- the run of the whole, by the events so far
@@ -176,7 +174,7 @@ module _ (images : Option (List (List ℕ × List ℕ))) (commands left : List C
     run_done = ap (run_of (told_then so_far.shelves later)) (sym (append-nil so_far.done)) ∙ so_far.run later []
 
     -- the run has ended, and what is kept is handed on with its last line
-    ends_by : (result : Result Status CommandFault) (yard : ObjectsState) (new : Option (List ℕ)) (faults before after was then : ℕ) → (rest later left).events ≡ [] → yard ≡ (rest later left).last.objects → before ≡ faults
+    ends_by : (result : Result Status OutputFault) (yard : ObjectsState) (new : Option (List ℕ)) (faults before after was then : ℕ) → (rest later left).events ≡ [] → yard ≡ (rest later left).last.objects → before ≡ faults
         → EndsRun result (end_output (rest later left)) lines now new before after → IsResultCourse result images (told_then so_far.shelves later) commands was then
         → RunWrites images commands yard result from new faults after was then
     ends_by result yard new faults before after was then none is same ends course =
@@ -192,26 +190,24 @@ module _ (images : Option (List (List ℕ × List ℕ))) (commands left : List C
         }
 
   -- a store that didn't fail
-  well : (result : Result Status CommandFault) (told : Told) (was then : ℕ) → IsWellRun images told was then → IsResultCourse result images told commands was then
+  well : (result : Result Status OutputFault) (told : Told) (was then : ℕ) → IsWellRun images told was then → IsResultCourse result images told commands was then
   well (Ok ended) told was then is = inl is
-  well (Err command_fault.Store) told was then is = tt
-  well (Err command_fault.Write) told was then is = inl is
-  well (Err command_fault.NoMemory) told was then is = is
+  well (Err output_fault.Failed) told was then is = inl is
+  well (Err output_fault.NoMemory) told was then is = is
 
   -- a store that failed
-  cut : (result : Result Status CommandFault) (told : Told) (was then : ℕ) → result ≢ Err command_fault.NoMemory → IsFailedRun images told (run_of told commands).failed was then
+  cut : (result : Result Status OutputFault) (told : Told) (was then : ℕ) → result ≢ Err output_fault.NoMemory → IsFailedRun images told (run_of told commands).failed was then
       → IsResultCourse result images told commands was then
   cut (Ok ended) told was then found is = inr is
-  cut (Err command_fault.Store) told was then found is = tt
-  cut (Err command_fault.Write) told was then found is = inr is
-  cut (Err command_fault.NoMemory) told was then found is = absurd (found refl)
+  cut (Err output_fault.Failed) told was then found is = inr is
+  cut (Err output_fault.NoMemory) told was then found is = absurd (found refl)
 
   -- a store that didn't fail so far, and of which nothing more is asked
   pub so_far_held : (rest : Told → List Command → Run) (so_far : SoFar images commands left from now lines rest) → IsHeld images (told_then so_far.shelves (any_told images))
   so_far_held rest so_far = then_held images (any_told images) so_far.shelves so_far.are (any_held images)
 
   -- the run has ended without a fault of the store
-  pub so_far_ends : (rest : Told → List Command → Run) (result : Result Status CommandFault) (stop : Option Stop) (yard : ObjectsState) (new : Option (List ℕ)) (faults before after was then : ℕ)
+  pub so_far_ends : (rest : Told → List Command → Run) (result : Result Status OutputFault) (stop : Option Stop) (yard : ObjectsState) (new : Option (List ℕ)) (faults before after was then : ℕ)
       → SoFar images commands left from now lines rest → ((later : Told) → (rest later left).events ≡ []) → ((later : Told) → end_output (rest later left) ≡ stop_output stop)
       → ((later : Told) → yard ≡ (rest later left).last.objects) → before ≡ faults → then ≡ was
       → EndsRun result (stop_output stop) lines now new before after → RunWrites images commands yard result from new faults after was then
@@ -221,9 +217,9 @@ module _ (images : Option (List (List ℕ × List ℕ))) (commands left : List C
       (well result (told_then so_far.shelves (any_told images)) was then (so_far_held rest so_far, still))
 
   -- the store failed at the command that is next
-  pub so_far_fails : (state : RunState) (first : Command) (more : List Command) (name : List ℕ) (result : Result Status CommandFault) (yard : ObjectsState) (new : Option (List ℕ)) (faults before after was then : ℕ)
+  pub so_far_fails : (state : RunState) (first : Command) (more : List Command) (name : List ℕ) (result : Result Status OutputFault) (yard : ObjectsState) (new : Option (List ℕ)) (faults before after was then : ℕ)
       → SoFar images commands left from now lines (λ later rest. run_from later state rest) → left ≡ first ∷ more → asked_name state.objects first ≡ Some name → yard ≡ state.objects
-      → before ≡ faults → result ≢ Err command_fault.NoMemory → Rose was then
+      → before ≡ faults → result ≢ Err output_fault.NoMemory → Rose was then
       → EndsRun result store_fault_output lines now new before after → RunWrites images commands yard result from new faults after was then
   so_far_fails state first more name result yard new faults before after was then so_far is asks stays same found rose ends =
       let rest : Told → List Command → Run = λ later commands. run_from later state commands in
@@ -240,7 +236,7 @@ module _ (images : Option (List (List ℕ × List ℕ))) (commands left : List C
 
   -- memory ran out, and no device failed
   pub so_far_no_memory : (rest : Told → List Command → Run) (yard : ObjectsState) (new : Option (List ℕ)) (before after was then : ℕ) → SoFar images commands left from now lines rest → AppendsFront now new lines
-      → after ≡ before → then ≡ was → RunWrites images commands yard (Err command_fault.NoMemory) from new before after was then
+      → after ≡ before → then ≡ was → RunWrites images commands yard (Err output_fault.NoMemory) from new before after was then
   so_far_no_memory rest yard new before after was then so_far front same still = record {
     told = told_then so_far.shelves (any_told images);
     course = (so_far_held rest so_far, still);
@@ -256,7 +252,7 @@ module _ (images : Option (List (List ℕ × List ℕ))) (commands left : List C
 
   -- the sink failed behind a command
   pub so_far_write_fault : (state : RunState) (new : Option (List ℕ)) (before after was then : ℕ) → SoFar images commands left from now lines (λ later rest. run_from later state rest)
-      → AppendsFront now new lines → Rose before after → then ≡ was → RunWrites images commands state.objects (Err command_fault.Write) from new before after was then
+      → AppendsFront now new lines → Rose before after → then ≡ was → RunWrites images commands state.objects (Err output_fault.Failed) from new before after was then
   so_far_write_fault state new before after was then so_far front rose still =
       let rest : Told → List Command → Run = λ later commands. run_from later state commands in
       let later = any_told images in
@@ -364,10 +360,11 @@ module _ (images : Option (List (List ℕ × List ℕ))) (commands : List Comman
     abbrev drive_here : ℕ → RunEffect
     drive_here steps = effect_of (Err fetch_fault.Missing) state_at (command.Drive cut.name steps)
 
-    abbrev driven_here : ℕ → RunEffect
-    driven_here steps = line_effect (Err fetch_fault.Missing) state_at (drive_line cut.name steps)
+    -- the same of its line
+    abbrev line_here : ℕ → RunEffect
+    line_here steps = line_effect (Err fetch_fault.Missing) state_at (drive_line cut.name steps)
 
-    drive_is : (steps : ℕ) → drive_here steps ≡ driven_here steps
+    drive_is : (steps : ℕ) → drive_here steps ≡ line_here steps
     unfolding effect_of
     drive_is steps = refl
 
@@ -380,7 +377,7 @@ module _ (images : Option (List (List ℕ × List ℕ))) (commands : List Comman
         so_far.run later_here (driving ∷ []) ∙ ap (behind so_far.events) (run_behind any_shelf.0 (any_told images) state_at driving [])
 
     -- what it tells
-    events_here : (steps : ℕ) → (run_to_drive told_here so_far.done cut.name steps).events ≡ so_far.events ++ (driven_here steps).events
+    events_here : (steps : ℕ) → (run_to_drive told_here so_far.done cut.name steps).events ≡ so_far.events ++ (line_here steps).events
     events_here steps =
         let effect = drive_here steps in
         ap (λ (run : Run). run.events) (run_here steps)
@@ -414,13 +411,13 @@ module _ (images : Option (List (List ℕ × List ℕ))) (commands : List Comman
             hands = subst (λ (bytes : List ℕ). Hands from [] drove.handed drove.kept bytes) (sym (transcript-append so_far.events drove.told))
                 (hands_more from now drove.handed [] before.lines drove.kept (transcript so_far.events) (transcript drove.told) so_far.hands drove.hands);
             front = drove.front;
-            few = λ _. keeps_behind so_far.events _ (λ (steps : ℕ). (driven_here steps).events) drove.done drove.told drove.kept events_here (drove.few less);
+            few = λ _. keeps_behind so_far.events _ (λ (steps : ℕ). (line_here steps).events) drove.done drove.told drove.kept events_here (drove.few less);
           };
         }
 
     -- the command at a place was cut off by the sink
-    pub so_far_write_cut : KeepsLess before → (start faults after was then : ℕ) → IsToldCut command_fault.Write state_at first before now new faults after
-        → faults ≡ start → then ≡ was → RunWrites images commands yard (Err command_fault.Write) from new start after was then
+    pub so_far_write_cut : KeepsLess before → (start faults after was then : ℕ) → IsToldCut output_fault.Failed state_at first before now new faults after
+        → faults ≡ start → then ≡ was → RunWrites images commands yard (Err output_fault.Failed) from new start after was then
     so_far_write_cut less start faults after was then told same still = record {
       told = told_here;
       course = inl (then_held images later_here so_far.shelves so_far.are held_here, still);
@@ -430,7 +427,7 @@ module _ (images : Option (List (List ℕ × List ℕ))) (commands : List Comman
     }
 
   -- or for want of memory
-  pub so_far_memory_cut : (yard : ObjectsState) (new : Option (List ℕ)) (start faults after was then : ℕ) → IsToldCut command_fault.NoMemory state_at first before now new faults after
-      → faults ≡ start → then ≡ was → RunWrites images commands yard (Err command_fault.NoMemory) from new start after was then
+  pub so_far_memory_cut : (yard : ObjectsState) (new : Option (List ℕ)) (start faults after was then : ℕ) → IsToldCut output_fault.NoMemory state_at first before now new faults after
+      → faults ≡ start → then ≡ was → RunWrites images commands yard (Err output_fault.NoMemory) from new start after was then
   so_far_memory_cut yard new start faults after was then cut same still =
       so_far_no_memory images commands more_at from now lines_at rest_at yard new start after was then so_far_kept (cut any_shelf.0).0 ((cut any_shelf.0).1 ∙ same) still

@@ -27,7 +27,7 @@ pub record StandsBehind (told : Told) (commands : List Command) (yard : ObjectsS
 abbrev pub run_to_drive : Told → List Command → List ℕ → ℕ → Run
 run_to_drive told done name steps = run_of told (done ++ command.Drive name steps ∷ [])
 
--- the yard stands for the state behind the first of the commands and some steps of the drive that is next, and nothing is written of what is told later; where the sink failed, less than a piece was kept beside what the last 1,024 of these steps told
+-- the yard stands for the state behind the first of the commands and some steps of the drive that is next, and nothing is written of what is told later; where the sink failed, less than a piece was kept beside what the last 1,024 of these steps, or one event, told
 pub record StandsInDrive (told : Told) (commands : List Command) (yard : ObjectsState) (old new : Option (List ℕ)) : Type 0 where
   pub done : List Command
   pub next : Command

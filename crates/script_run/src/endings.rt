@@ -5,7 +5,7 @@ ghost use Rattle.script_run.specs.Endings.{IsFinal, Writes};
 ghost use Rattle.script_run.specs.Told.{Tells};
 
 use crate::statuses::Status;
-use command_run::CommandFault;
+use command_run::OutputFault;
 use journal::Notice;
 use link_commands::RunLog;
 use rp_io::{Sink, write_whole};
@@ -23,9 +23,8 @@ pub(crate) fn end_with<K: Sink>(
 {
     match write_notices(alloc, notices, out) {
         Ok(()) => status,
-        Err(CommandFault::Write) => Status::WriteFault,
-        Err(CommandFault::NoMemory) => Status::NoMemory,
-        Err(CommandFault::Store) => unreachable!(),
+        Err(OutputFault::Failed) => Status::WriteFault,
+        Err(OutputFault::NoMemory) => Status::NoMemory,
     }
 }
 
@@ -42,11 +41,7 @@ pub(crate) fn end_with_text<K: Sink>(text: &[u8], status: Status, out: &mut K) -
 }
 
 /// Writes these lines.
-fn write_notices<K: Sink>(
-    alloc: Global,
-    notices: &[Notice],
-    out: &mut K,
-) -> Result<(), CommandFault>
+fn write_notices<K: Sink>(alloc: Global, notices: &[Notice], out: &mut K) -> Result<(), OutputFault>
     ensures { Tells result (report_text notices.now) (K.written out.old) (K.written out.new) (K.faults out.old) (K.faults out.new) }
 {
     let mut log = RunLog::new(alloc);

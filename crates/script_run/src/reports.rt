@@ -5,7 +5,7 @@ ghost use Rattle.script_run.specs.ImageReports.{IsChecked, made_output};
 
 use crate::endings::{end_with, end_with_text};
 use crate::statuses::Status;
-use command_run::CommandFault;
+use command_run::StoreFault;
 use image_report::{ImageReport, refuse, report_image};
 use journal::Notice;
 use rp_base::{Name, NoMemory};
@@ -29,9 +29,8 @@ pub(crate) fn check<F: FirmwareStore, K: Sink>(
             let status = report_status(&report);
             end_with(alloc, report.notices.as_slice(), status, out)
         }
-        Err(CommandFault::Store) => end_with_text(b"* store fault\n", Status::StoreFault, out),
-        Err(CommandFault::NoMemory) => Status::NoMemory,
-        Err(CommandFault::Write) => unreachable!(),
+        Err(StoreFault::Failed) => end_with_text(b"* store fault\n", Status::StoreFault, out),
+        Err(StoreFault::NoMemory) => Status::NoMemory,
     }
 }
 
@@ -41,7 +40,7 @@ fn fetch_report<F: FirmwareStore>(
     word: &str,
     name: Name,
     store: &mut F,
-) -> Result<ImageReport, CommandFault>
+) -> Result<ImageReport, StoreFault>
     requires { name ≡ word.now }
     ensures report { IfOk result (λ report. IsReportOutput (F.images store.old) name (made_output report)) }
     ensures same { IfOk result (λ _. F.faults store.new ≡ F.faults store.old) }
@@ -51,8 +50,8 @@ fn fetch_report<F: FirmwareStore>(
         Ok(image) => Ok(report_image(alloc, &image)?),
         Err(FetchFault::Missing) => Ok(refuse(alloc, Notice::Missing(name))?),
         Err(FetchFault::TooLarge(_)) => Ok(refuse(alloc, Notice::TooLarge(name))?),
-        Err(FetchFault::Failed) => Err(CommandFault::Store),
-        Err(FetchFault::NoMemory) => Err(CommandFault::NoMemory),
+        Err(FetchFault::Failed) => Err(StoreFault::Failed),
+        Err(FetchFault::NoMemory) => Err(StoreFault::NoMemory),
     }
 }
 

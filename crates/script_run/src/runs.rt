@@ -1,13 +1,13 @@
 ghost use Rattle.std.specs.Prelude.{◌≡◌, ◌≢◌, Err};
 ghost use Rattle.script_lang.specs.Runnable.{AreRunnable};
 ghost use Rattle.command_run.specs.Runs.{AsksNone, new_run};
-ghost use Rattle.command_run.specs.declared.fetches.CommandFault.TheVariants as fault;
+ghost use Rattle.command_run.specs.declared.faults.OutputFault.TheVariants as fault;
 ghost use Rattle.script_run.specs.Outputs.{stop_output, store_fault_output};
 ghost use Rattle.script_run.specs.Yards.{RunLeaves};
 ghost use Rattle.script_run.specs.Told.{EndsRun, RunWrites};
 
 use crate::statuses::Status;
-use command_run::{CommandFault, Objects, run_command};
+use command_run::{CommandFault, Objects, OutputFault, run_command};
 use journal::Notice;
 use link_commands::{RunLog, Stop};
 use rp_io::{FirmwareStore, Sink, write_whole};
@@ -30,9 +30,8 @@ pub(crate) fn run_commands<F: FirmwareStore, K: Sink>(
 {
     match tell_commands(alloc, objects, commands, store, out) {
         Ok(status) => status,
-        Err(CommandFault::Write) => Status::WriteFault,
-        Err(CommandFault::NoMemory) => Status::NoMemory,
-        Err(CommandFault::Store) => unreachable!(),
+        Err(OutputFault::Failed) => Status::WriteFault,
+        Err(OutputFault::NoMemory) => Status::NoMemory,
     }
 }
 
@@ -43,7 +42,7 @@ fn tell_commands<F: FirmwareStore, K: Sink>(
     commands: &[Command],
     store: &mut F,
     out: &mut K,
-) -> Result<Status, CommandFault>
+) -> Result<Status, OutputFault>
     requires runnable { AreRunnable commands.now }
     requires new { objects.old ≡ new_run.objects }
     ensures written { RunWrites (F.images store.old) commands.now objects.new result (K.written out.old) (K.written out.new) (K.faults out.old) (K.faults out.new) (F.faults store.old) (F.faults store.new) }
@@ -55,8 +54,8 @@ fn tell_commands<F: FirmwareStore, K: Sink>(
             Ok(None) => log.hand_on(out)?,
             Ok(Some(stop)) => return end_run(Some(stop), &mut log, out),
             Err(CommandFault::Store) => return end_failed(&mut log, out),
-            Err(CommandFault::Write) => return Err(CommandFault::Write),
-            Err(CommandFault::NoMemory) => return Err(CommandFault::NoMemory),
+            Err(CommandFault::Write) => return Err(OutputFault::Failed),
+            Err(CommandFault::NoMemory) => return Err(OutputFault::NoMemory),
         }
     }
     end_run(None, &mut log, out)
@@ -67,7 +66,7 @@ fn end_run<K: Sink>(
     stop: Option<Stop>,
     log: &mut RunLog,
     out: &mut K,
-) -> Result<Status, CommandFault>
+) -> Result<Status, OutputFault>
     ensures { EndsRun result (stop_output stop) log.old.lines (K.written out.old) (K.written out.new) (K.faults out.old) (K.faults out.new) }
 {
     let status = match stop {
@@ -82,7 +81,7 @@ fn end_run<K: Sink>(
 }
 
 /// Hands on what a run told whose store failed, with the line that says so. That needs no memory.
-fn end_failed<K: Sink>(log: &mut RunLog, out: &mut K) -> Result<Status, CommandFault>
+fn end_failed<K: Sink>(log: &mut RunLog, out: &mut K) -> Result<Status, OutputFault>
     ensures written { EndsRun result store_fault_output log.old.lines (K.written out.old) (K.written out.new) (K.faults out.old) (K.faults out.new) }
     ensures found { result ≢ Err fault.NoMemory }
 {

@@ -1,6 +1,7 @@
 -- The words of a new link, one after the other (own; the rings are those of a new split virtqueue, VIRTIO 1.2 section 2.7).
 use Rattle.std.specs.Prelude.{ℕ, ◌+◌, ◌-◌, ◌*◌, ◌≤◌, List, ◌∷◌, [], ◌++◌, replicate}
 use Rattle.std.specs.List.{range_with_len}
+use Rattle.rp_base.specs.declared.limits.TheConstants.{CAPACITY_MOST}
 use Rattle.ring_core.specs.declared.states.RingSizes.{RingSizes}
 use Rattle.link_words.specs.declared.rule.LinkSizes.{LinkSizes}
 
@@ -18,5 +19,5 @@ opened_words z = first_words z ++ (opened_entries z.to_host ++ opened_entries z.
 
 -- each lane has an entry for each buffer, and the sender's own list has no more than there are
 pub record IsOpenable (z : LinkSizes) : Type 0 where
-  pub to_host : (z.to_host.own ≤ z.to_host.capacity) × (z.to_host.capacity ≤ z.to_host.entries) × (z.to_host.capacity ≤ 256)
-  pub to_remote : (z.to_remote.own ≤ z.to_remote.capacity) × (z.to_remote.capacity ≤ z.to_remote.entries) × (z.to_remote.capacity ≤ 256)
+  pub to_host : (z.to_host.own ≤ z.to_host.capacity) × (z.to_host.capacity ≤ z.to_host.entries) × (z.to_host.capacity ≤ CAPACITY_MOST)
+  pub to_remote : (z.to_remote.own ≤ z.to_remote.capacity) × (z.to_remote.capacity ≤ z.to_remote.entries) × (z.to_remote.capacity ≤ CAPACITY_MOST)

@@ -4,6 +4,7 @@ use mathlib.Core.Option.{some}
 use lib.ListN.{get_elem?}
 use Rattle.channel_bus.specs.declared.sides.Side.{Side}
 use Rattle.lane_model.specs.Links.{end_of}
+use Rattle.rp_base.specs.declared.limits.TheConstants.{CALLERS_MOST}
 use Rattle.rp_base.specs.declared.kinds.End.{End}
 use Rattle.rp_base.specs.declared.kinds.End.TheVariants as side
 use Rattle.link_words.specs.declared.rule.Event.{Event}
@@ -65,7 +66,7 @@ pub record AreDoneCallers (link : SharedLink Side) (plan : Plan) (callers : List
 -- the manager of a storm has made so many callers, and has reclaimed none
 pub record HasMade (plan : Plan) (made : ℕ) (manager : Manager) : Type 0 where
   pub inc : manager.seat.me.0.inc ≡ FIRST
-  pub many : length manager.users ≡ 64
+  pub many : length manager.users ≡ CALLERS_MOST
   pub used : (number : ℕ) → number < made → end_of manager.users number ≡ Some (end_at plan number)
   pub unused : (number : ℕ) → made ≤ number → end_of manager.users number ≡ None
   pub none_freed : manager.seat.me.0.reclaims ≡ []
@@ -87,7 +88,7 @@ pub record HasPassOf (caller : Caller) (passes : List Pass) : Type 0 where
 pub record HasReclaimed (callers : List Caller) (reclaimed : ℕ) (manager : Manager) : Type 0 where
   pub inc : manager.seat.me.0.inc ≡ FIRST
   pub closed : manager.seat.me.0.is_closed ≡ true
-  pub many : length manager.users ≡ 64
+  pub many : length manager.users ≡ CALLERS_MOST
   pub unused : (number : ℕ) → (reclaimed ≤ number → number < length callers → ⊥) → end_of manager.users number ≡ None
   pub freed : (number : ℕ) → HasNumber manager.seat.me.0.reclaims number → number < length callers
   pub kept : (number : ℕ) (d : Caller) → number < reclaimed → HasPassOf (slice_index_or callers number d) manager.seat.me.0.ended_passes

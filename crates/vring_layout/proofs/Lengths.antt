@@ -4,6 +4,7 @@ use Rattle.std.specs.List.{flat_map, range_with_len}
 use Rattle.std.proofs.lemmas.List.{length-replicate}
 use Rattle.std.proofs.lemmas.List.FromFn.{length-range_with_len}
 use Rattle.byteorder.specs.Endian.{little_bytes}
+use Rattle.rp_base.specs.declared.limits.TheConstants.{MESSAGE_MOST}
 use Rattle.vring_layout.specs.Sizes.{available_end, ring_size, used_start}
 use Rattle.vring_layout.specs.Rings.{available_ring, descriptor_bytes, descriptor_table, ring_layout, used_entry_bytes, used_ring}
 use Rattle.vring_layout.specs.declared.words.RingWords.{RingWords}
@@ -11,7 +12,7 @@ use Rattle.vring_layout.proofs.Pieces.{length-pieces}
 
 length-descriptor_table : (words : RingWords) → words.capacity ≤ words.num → length (descriptor_table words) ≡ 16 * words.num
 length-descriptor_table words within =
-    let describe : ℕ → List ℕ = λ i. descriptor_bytes (words.base + 512 * i) words.device_writes in
+    let describe : ℕ → List ℕ = λ i. descriptor_bytes (words.base + MESSAGE_MOST * i) words.device_writes in
     let used = length-pieces describe 16 (λ i. refl) (range_with_len 0 words.capacity) in
     let count = length-range_with_len 0 words.capacity in
     let zeros = length-replicate {A = ℕ} (16 * (words.num - words.capacity)) 0 in

@@ -2,17 +2,18 @@ ghost use Rattle.std.specs.Prelude.{◌≡◌, ℕ, ◌+◌, ◌*◌, ◌-◌, �
 ghost use Rattle.std.specs.List.{flat_map};
 ghost use Rattle.byteorder.specs.Endian.{little_bytes};
 ghost use Rattle.rp_base.specs.Limits.{IsRingSize, ring_capacity};
+ghost use Rattle.rp_base.specs.declared.limits.TheConstants.{RING_MOST};
 ghost use Rattle.vring_layout.specs.Sizes.{IsRingAlign, ring_size};
 ghost use Rattle.vring_layout.specs.Rings.{available_ring, descriptor_bytes, descriptor_table, ring_layout, used_entry_bytes, used_ring};
 
 use crate::sizes::{available_ring_end, used_ring_at, vring_size};
 use crate::words::{RingWords, UsedWord};
 use byteorder::{ByteOrder, LittleEndian};
-use rp_base::{NoMemory, put_u16, put_u32};
+use rp_base::{MESSAGE_MOST, NoMemory, put_u16, put_u32};
 use std::alloc::Global;
 
 /// The bytes of a buffer.
-const BUFFER_SIZE: u32 = 512;
+const BUFFER_SIZE: u32 = MESSAGE_MOST as u32;
 
 /// The flag of a descriptor whose buffer the device writes (`VIRTQ_DESC_F_WRITE`).
 const DEVICE_WRITES: u16 = 2;
@@ -40,7 +41,7 @@ pub fn ring_bytes(alloc: Global, align: u32, words: &RingWords) -> Result<Vec<u8
 // Appends the descriptors of the buffers, and zeros for the other descriptors.
 #[tactic(auto, using(crate::proofs::Pieces::pieces_more))]
 fn push_descriptors(bytes: &mut Vec<u8>, words: &RingWords) -> Result<(), NoMemory>
-    requires num { words.now.num ≤ 32768 }
+    requires num { words.now.num ≤ RING_MOST }
     requires capacity { words.now.capacity ≤ words.now.num }
     ensures { OnOk result (bytes.new.items ≡ bytes.old.items ++ descriptor_table words.now) }
 {

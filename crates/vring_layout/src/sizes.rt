@@ -1,4 +1,5 @@
 ghost use Rattle.std.specs.Prelude.{◌≡◌, ℕ, ◌+◌, ◌≤◌, ◌<◌};
+ghost use Rattle.rp_base.specs.declared.limits.TheConstants.{RING_MOST};
 ghost use Rattle.rp_base.specs.Limits.{IsRingSize};
 ghost use Rattle.vring_layout.specs.Sizes.{IsRingAlign, available_end, ring_size, used_start};
 
@@ -15,7 +16,7 @@ pub fn vring_size(num: u32, align: u32) -> u32
 
 /// Where the available ring ends, which stands right behind the descriptors.
 pub(crate) fn available_ring_end(num: u32) -> u32
-    requires { num ≤ 32768 }
+    requires { num ≤ RING_MOST }
     ensures { result ≡ available_end num }
 {
     16 * num + 2 * (3 + num)

@@ -1,7 +1,7 @@
 -- The kinds of words of a script, and the word of each that is read (own).
-use Rattle.std.specs.Prelude.{ℕ, Bool, true, false, ◌&&◌, ◌||◌, List, [], ◌∷◌, is_some, bytes_eq, codes}
+use Rattle.std.specs.Prelude.{ℕ, ◌-◌, Bool, true, false, ◌&&◌, ◌||◌, List, [], ◌∷◌, is_some, bytes_eq, codes}
 use Rattle.rp_base.specs.Limits.{is_ring_size}
-use Rattle.rp_base.specs.declared.limits.TheConstants.{BOOK_MOST, STEPS_MOST}
+use Rattle.rp_base.specs.declared.limits.TheConstants.{BOOK_MOST, CALLERS_MOST, STEPS_MOST}
 use Rattle.word_kinds.specs.declared.kinds.Kind.{Kind}
 use Rattle.word_kinds.specs.declared.kinds.Kind.TheVariants as kind
 use Rattle.word_kinds.specs.Spellings.{is_name, number_of, is_number_with, is_number_within}
@@ -19,7 +19,7 @@ is_of kind.Number word = is_some (number_of word)
 is_of kind.Address word = bytes_eq word (codes "any") || is_some (number_of word)
 is_of kind.Vendor word = is_number_within 4 4294967295 word
 is_of kind.Payload word = is_payload word
-is_of kind.Caller word = is_number_within 0 63 word
+is_of kind.Caller word = is_number_within 0 (CALLERS_MOST - 1) word
 is_of kind.Count word = is_number_within 1 STEPS_MOST word
 is_of kind.Ring word = is_number_with is_ring_size (number_of word)
 is_of kind.Book word = is_number_within 1 BOOK_MOST word

@@ -1,6 +1,7 @@
 -- How the bytes of a payload are spelled in a script (own).
 use Rattle.std.specs.Prelude.{ℕ, ◌+◌, ◌*◌, ◌%◌, Bool, false, ◌==◌, ◌&&◌, ◌||◌, nat_le, if◌then◌else◌, List, [], ◌∷◌, length, replicate, unwrap_or, bytes_eq, codes}
 use Rattle.std.specs.List.{list_all}
+use Rattle.rp_base.specs.declared.limits.TheConstants.{MESSAGE_MOST}
 use Rattle.word_kinds.specs.Spellings.{is_hex_digit, hex_value, decimal_of, is_number_with}
 
 -- the byte of two digits
@@ -9,7 +10,7 @@ byte_of high low = 16 * hex_value high + hex_value low
 
 -- 1 to 512 bytes as pairs of hexadecimal digits
 abbrev pub is_pairs : List ℕ → Bool
-is_pairs word = (length word % 2 == 0) && nat_le 2 (length word) && nat_le (length word) 1024 && list_all is_hex_digit word
+is_pairs word = (length word % 2 == 0) && nat_le 2 (length word) && nat_le (length word) (2 * MESSAGE_MOST) && list_all is_hex_digit word
 
 -- the bytes that pairs of digits spell
 abbrev pub bytes_of_pairs : List ℕ → List ℕ
@@ -19,7 +20,7 @@ bytes_of_pairs (high ∷ low ∷ more) = byte_of high low ∷ bytes_of_pairs mor
 
 -- a count of bytes: decimal, from 1 to 512
 abbrev pub is_count : List ℕ → Bool
-is_count word = is_number_with (λ number. nat_le 1 number && nat_le number 512) (decimal_of word)
+is_count word = is_number_with (λ number. nat_le 1 number && nat_le number MESSAGE_MOST) (decimal_of word)
 
 -- a byte as two digits, `*`, and how many times it stands there
 abbrev pub is_repeated : List ℕ → Bool

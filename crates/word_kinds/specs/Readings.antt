@@ -12,6 +12,7 @@ use Rattle.rp_base.specs.declared.kinds.DriverKind.{DriverKind}
 use Rattle.rp_base.specs.declared.kinds.DriverKind.TheVariants as driver
 use Rattle.rp_base.specs.declared.kinds.Switch.{Switch}
 use Rattle.rp_base.specs.declared.kinds.Switch.TheVariants as switch
+use Rattle.rp_base.specs.declared.limits.TheConstants.{MESSAGE_MOST, NAME_MOST}
 use Rattle.word_kinds.specs.Spellings.{is_name, hex_value}
 use Rattle.word_kinds.specs.Payloads.{byte_of, bytes_of_pairs, bytes_in}
 use Rattle.word_kinds.specs.Texts.{Word, Fixed, Name, Number, Digits, Offset, Bytes, Row, Escaped, Trace, Lane, Bound, Dotted, Side, Open, Service, State, Driver, OnOff}
@@ -70,9 +71,9 @@ IsGood (Name name) = is_name name ≡ true
 IsGood (Number number) = number < 2 ^ 64
 IsGood (Digits number) = number < 2 ^ 32
 IsGood (Offset number) = number < 2 ^ 64
-IsGood (Bytes bytes) = (length bytes ≤ 512) × All (λ byte. byte < 256) bytes
+IsGood (Bytes bytes) = (length bytes ≤ MESSAGE_MOST) × All (λ byte. byte < 256) bytes
 IsGood (Row most bytes) = (1 ≤ length bytes) × (length bytes ≤ most) × All (λ byte. byte < 256) bytes
-IsGood (Escaped text) = (length text ≤ 31) × All (λ byte. (0 < byte) × (byte < 256)) text
+IsGood (Escaped text) = (length text ≤ NAME_MOST) × All (λ byte. (0 < byte) × (byte < 256)) text
 IsGood (Trace text) = All (λ byte. (0 < byte) × (byte < 256)) text
 IsGood (Lane lane) = lane < 2
 IsGood (Bound endpoint) = (endpoint.address < 2 ^ 32) × (endpoint.generation < 2 ^ 64)
@@ -161,7 +162,7 @@ is_zeroless text = list_all (λ byte. not (byte == 0)) text
 
 -- the name of a channel: at most 31 bytes without a zero
 abbrev pub is_channel : List ℕ → Bool
-is_channel text = nat_le (length text) 31 && is_zeroless text
+is_channel text = nat_le (length text) NAME_MOST && is_zeroless text
 
 abbrev pub channel_read : List ℕ → List ℕ
 channel_read word = if is_channel (without_escapes word) then without_escapes word else []

@@ -4,7 +4,7 @@ ghost use Rattle.word_kinds.specs.Spellings.{is_number_within};
 
 use crate::digits::{NUMBER_MOST, is_name, number};
 use crate::payloads::is_payload;
-use rp_base::{BOOK_MOST, RING_MOST, STEPS_MOST};
+use rp_base::{BOOK_MOST, CALLERS_MOST, RING_MOST, STEPS_MOST};
 
 /// A kind of word of a script.
 #[derive(Clone, Copy, Drop)]
@@ -22,7 +22,7 @@ pub enum Kind {
     /// A payload: `-` for none, 1 to 512 bytes as pairs of hexadecimal digits, or one byte and how
     /// many times it stands there, as `00*512`.
     Payload,
-    /// The number of a caller, up to 63.
+    /// The number of a caller, less than [`CALLERS_MOST`].
     Caller,
     /// A count of steps or turns, from 1 to 4,000,000.
     Count,
@@ -87,7 +87,7 @@ pub fn is_of(kind: Kind, word: &[u8]) -> bool
         Kind::Address => word == b"any".as_slice() || number(word).is_some(),
         Kind::Vendor => is_number_within(4, NUMBER_MOST, word),
         Kind::Payload => is_payload(word),
-        Kind::Caller => is_number_within(0, 63, word),
+        Kind::Caller => is_number_within(0, CALLERS_MOST as u64 - 1, word),
         Kind::Count => is_number_within(1, STEPS_MOST, word),
         Kind::Ring => is_ring(word),
         Kind::Book => is_number_within(1, u64::from(BOOK_MOST), word),

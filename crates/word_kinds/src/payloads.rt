@@ -4,6 +4,7 @@ ghost use Rattle.std.specs.List.{list_all};
 ghost use Rattle.word_kinds.specs.Spellings.{is_hex_digit};
 
 use crate::digits::{decimal, hex_value, is_hex_digit};
+use rp_base::MESSAGE_MOST;
 use std::alloc::{AllocError, Global};
 
 /// The byte of two hexadecimal digits.
@@ -17,7 +18,7 @@ pub(crate) fn byte_of(high: u8, low: u8) -> u8
 fn is_pairs(word: &[u8]) -> bool
     ensures { result ≡ is_pairs word.now }
 {
-    word.len() % 2 == 0 && 2 <= word.len() && word.len() <= 1024 && are_hex_digits(word)
+    word.len() % 2 == 0 && 2 <= word.len() && word.len() <= 2 * MESSAGE_MOST && are_hex_digits(word)
 }
 
 fn are_hex_digits(word: &[u8]) -> bool
@@ -31,7 +32,7 @@ fn is_count(word: &[u8]) -> bool
     ensures { result ≡ is_count word.now }
 {
     match decimal(word) {
-        Some(count) => 1 <= count && count <= 512,
+        Some(count) => 1 <= count && count as usize <= MESSAGE_MOST,
         None => false,
     }
 }

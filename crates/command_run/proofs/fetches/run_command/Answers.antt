@@ -1,7 +1,8 @@
 use Rattle.std.proofs.Common.{◌≡◌, ◌≢◌, Bool, true, false, true≢false, ◌++◌, ℕ, List, Option, None, Some, IfOk, IfErr, Result, Ok, Err, refl, sym, ap, subst, ◌∙◌}
 use Rattle.std.specs.Prelude.{OnOk}
+use Rattle.std.specs.Result.{result_map_both}
 use Rattle.std.proofs.lemmas.Option.{none-some, same_Some}
-use Rattle.std.proofs.lemmas.Result.{IfOk-weaker}
+use Rattle.std.proofs.lemmas.Result.{err_from_is_err_and}
 use Rattle.journal.specs.Lines.{transcript}
 use Rattle.rp_io.specs.declared.faults.FetchFault.TheVariants as fetch_fault
 use Rattle.script_lang.specs.declared.commands.Command.{Command}
@@ -13,11 +14,13 @@ use Rattle.link_commands.specs.declared.acts.StartAct.{StartAct}
 use Rattle.link_commands.specs.declared.acts.Line.{Line}
 use Rattle.link_commands.specs.declared.acts.Line.TheVariants as line
 use Rattle.link_commands.specs.declared.acts.NamedAct.TheVariants as under
-use Rattle.command_run.specs.declared.fetches.CommandFault.{CommandFault}
-use Rattle.command_run.specs.declared.fetches.CommandFault.TheVariants as command_fault
+use Rattle.command_run.specs.declared.faults.CommandFault.{CommandFault}
+use Rattle.command_run.specs.declared.faults.OutputFault.{OutputFault}
+use Rattle.command_run.specs.declared.faults.OutputFault.TheVariants as output_fault
 use Rattle.link_commands.specs.declared.stops.Stop.{Stop}
 use Rattle.link_commands.specs.Logs.{LogState}
 use Rattle.command_run.specs.Outcomes.{CutsRun, HandsRunEffect}
+use Rattle.command_run.specs.Faults.{output_command_fault}
 use Rattle.command_run.specs.Fetches.{EndsCut, IfWrite, IsToldFor, KeepsDrive, KeepsDriven, RunsTold, drive_line}
 use Rattle.command_run.specs.Runs.{ObjectsState, RunEffect, RunState, act_asks, asked_name, core_act, effect_of, name_effect}
 use Rattle.command_run.specs.Stores.{Shelf, answer_for}
@@ -35,23 +38,22 @@ module _ (run : RunState) (asking : Command) (name : List ℕ) (count : ℕ) (dr
       ap (λ (asked : Option (List ℕ)). effect_of (answer_for shelf asked) run asking) asks_nothing ∙ core_line (Err fetch_fault.Missing) run asking name (core.Drive count) drives
 
   -- so it does the same whatever the store has
-  drive_told : (images : Option (List (List ℕ × List ℕ))) (left : ObjectsState) (before after : LogState) (old new : Option (List ℕ)) (faults now was : ℕ) (result : Result (Option Stop) CommandFault)
+  drive_told : (images : Option (List (List ℕ × List ℕ))) (left : ObjectsState) (before after : LogState) (old new : Option (List ℕ)) (faults now was : ℕ) (result : Result (Option Stop) OutputFault)
       → IfOk result (λ ending. HandsRunEffect (name_effect (Err fetch_fault.Missing) run name (under.Core (core.Drive count))) left before after old new ending) → OnOk result (now ≡ faults)
       → IfErr result (λ why. EndsCut why (before.lines ++ transcript (name_effect (Err fetch_fault.Missing) run name (under.Core (core.Drive count))).events) old new faults now)
       → IfErr result (λ why. IfWrite why (CutsRun (λ done. name_effect (Err fetch_fault.Missing) run name (under.Core (core.Drive done))) count left before.lines old new))
-      → RunsTold result images run asking left before after old new faults now was was
+      → RunsTold (result_map_both (λ ending. ending) output_command_fault result) images run asking left before after old new faults now was was
   drive_told images left before after old new faults now was (Ok answer) did same cut paused =
       let shelf = shelf_of images (asked_name run.objects asking) (Err fetch_fault.Missing)
       (subst (λ (asked : Option (List ℕ)). IsToldFor images asked (Err fetch_fault.Missing)) (sym asks_nothing) refl) in
       (record { shelf = shelf.0; is = shelf.1; did = subst (λ (e : RunEffect). HandsRunEffect e left before after old new answer) (sym (drive_whole shelf.0)) did }, same, refl)
-  drive_told images left before after old new faults now was (Err command_fault.Store) did same cut paused = absurd cut
-  drive_told images left before after old new faults now was (Err command_fault.Write) did same cut paused = (
-    (λ shelf. subst (λ (e : RunEffect). EndsCut command_fault.Write (before.lines ++ transcript e.events) old new faults now) (sym (drive_whole shelf)) cut),
+  drive_told images left before after old new faults now was (Err output_fault.Failed) did same cut paused = (
+    (λ shelf. subst (λ (e : RunEffect). EndsCut output_fault.Failed (before.lines ++ transcript e.events) old new faults now) (sym (drive_whole shelf)) cut),
     refl,
     record { name = name; count = count; is = on_core (line_of asking) name (core.Drive count) drives; cut = paused },
   )
-  drive_told images left before after old new faults now was (Err command_fault.NoMemory) did same cut paused =
-      ((λ shelf. subst (λ (e : RunEffect). EndsCut command_fault.NoMemory (before.lines ++ transcript e.events) old new faults now) (sym (drive_whole shelf)) cut), refl)
+  drive_told images left before after old new faults now was (Err output_fault.NoMemory) did same cut paused =
+      ((λ shelf. subst (λ (e : RunEffect). EndsCut output_fault.NoMemory (before.lines ++ transcript e.events) old new faults now) (sym (drive_whole shelf)) cut), refl)
 
 -- a drive is told from the other acts on a core
 abbrev is_drive : CoreAct → Bool
@@ -70,10 +72,6 @@ no_start objects name (core.Crash kind) other = refl
 no_start objects name (core.Recovery set) other = refl
 no_start objects name (core.Drive count) other = refl
 
-kept_anyway : (result : Result (Option Stop) CommandFault) (Keeps : Type 0) → Keeps → IfOk result (λ _. Keeps)
-kept_anyway (Ok answer) Keeps keeps = keeps
-kept_anyway (Err why) Keeps keeps = tt
-
 -- a command that is about this act on a core, and a drive
 same_act : (asked : Command) (found : List ℕ × CoreAct) (name : List ℕ) (count : ℕ) → Some found ≡ core_act (line_of asked) → line_of asked ≡ drive_line name count → found ≡ (name, core.Drive count)
 same_act asked found name count is drives = same_Some found (name, core.Drive count) (is ∙ ap core_act drives)
@@ -86,43 +84,76 @@ Keeping run before lines other = Unit {0}
 drive_kept : (run : RunState) (before : LogState) (lines : List ℕ) (asked : Command) (name : List ℕ) (count : ℕ) → line_of asked ≡ drive_line name count → KeepsDriven run name count before lines → KeepsDrive run asked before lines
 drive_kept run before lines asked name count is keeps other more same = subst (Keeping run before lines) (sym is ∙ same) keeps
 
-pub returns-in-Drive-clause-less : goal.returns-in-Drive-clause-less
-returns-in-Drive-clause-less g c =
+pub returns-in_ok-drive-in-Drive-clause-less : goal.returns-in_ok-drive-in-Drive-clause-less
+returns-in_ok-drive-in-Drive-clause-less g c =
     let run : RunState = record { objects = c.args.objects.now; steps = c.args.log.now.steps } in
     let asked = c.args.command.now in
     let found : List ℕ × CoreAct = c.in-Some.name-1-given.0.0 in
     let count = c.in-Drive.count in
     let drives : core_act (line_of asked) ≡ Some (found.0, core.Drive count) = sym c.in-Some.ensures ∙ ap (λ (act : CoreAct). Some (found.0, act)) c.in-Drive.is in
-    IfOk-weaker c.drive.result (λ _. KeepsDriven run found.0 count c.args.log.now c.drive.new.log.lines) (λ _. KeepsDrive run asked c.args.log.now c.drive.new.log.lines)
-    (λ ending keeps. drive_kept run c.args.log.now c.drive.new.log.lines asked found.0 count (on_core (line_of asked) found.0 (core.Drive count) drives) keeps) c.drive.ensures.less
+    drive_kept run c.args.log.now c.drive.new.log.lines asked found.0 count (on_core (line_of asked) found.0 (core.Drive count) drives) c.in_ok-drive-in-Drive.ensures.less
 
-pub returns-in-Drive-clause-effect : goal.returns-in-Drive-clause-effect
-returns-in-Drive-clause-effect g c =
+pub returns-in_ok-drive-in-Drive-clause-effect : goal.returns-in_ok-drive-in-Drive-clause-effect
+returns-in_ok-drive-in-Drive-clause-effect g c =
     let store = g.F.FirmwareStore in
     let sink = g.K.Sink in
     let run : RunState = record { objects = c.args.objects.now; steps = c.args.log.now.steps } in
     let found : List ℕ × CoreAct = c.in-Some.name-1-given.0.0 in
+    let told = c.in_ok-drive-in-Drive in
     drive_told run c.args.command.now found.0 c.in-Drive.count (sym c.in-Some.ensures ∙ ap (λ (act : CoreAct). Some (found.0, act)) c.in-Drive.is)
     (store.images c.args.store.now) c.drive.new.self c.args.log.now c.drive.new.log (sink.written c.args.out.now) (sink.written c.drive.new.out)
-    (sink.faults c.args.out.now) (sink.faults c.drive.new.out) (store.faults c.args.store.now) c.drive.result c.drive.ensures.effect c.drive.ensures.same c.drive.ensures.cut c.drive.ensures.paused
+    (sink.faults c.args.out.now) (sink.faults c.drive.new.out) (store.faults c.args.store.now) (Ok told.field-0) told.ensures.effect told.ensures.same tt tt
 
-pub returns-in-Start-clause-effect : goal.returns-in-Start-clause-effect
-returns-in-Start-clause-effect g c =
+pub returns-in_err-drive-in-Drive-clause-effect : goal.returns-in_err-drive-in-Drive-clause-effect
+returns-in_err-drive-in-Drive-clause-effect g c =
+    let store = g.F.FirmwareStore in
+    let sink = g.K.Sink in
+    let run : RunState = record { objects = c.args.objects.now; steps = c.args.log.now.steps } in
+    let held = store.images c.args.store.now in
+    let asked = c.args.command.now in
+    let found : List ℕ × CoreAct = c.in-Some.name-1-given.0.0 in
+    let cut = c.in_err-drive-in-Drive in
+    let answer = err_from_is_err_and c.from_residual.result c.from_residual.ensures.1 in
+    subst (λ (r : Result (Option Stop) CommandFault). RunsTold r held run asked c.drive.new.self c.args.log.now c.drive.new.log (sink.written c.args.out.now) (sink.written c.drive.new.out)
+    (sink.faults c.args.out.now) (sink.faults c.drive.new.out) (store.faults c.args.store.now) (store.faults c.args.store.now))
+    (sym (answer.1 ∙ ap (λ (why : CommandFault). Err why) answer.2))
+    (drive_told run asked found.0 c.in-Drive.count (sym c.in-Some.ensures ∙ ap (λ (act : CoreAct). Some (found.0, act)) c.in-Drive.is)
+    held c.drive.new.self c.args.log.now c.drive.new.log (sink.written c.args.out.now) (sink.written c.drive.new.out)
+    (sink.faults c.args.out.now) (sink.faults c.drive.new.out) (store.faults c.args.store.now) (Err cut.field-0.0) tt tt cut.ensures.cut cut.ensures.paused)
+
+pub returns-in_ok-start-in-Start-clause-effect : goal.returns-in_ok-start-in-Start-clause-effect
+returns-in_ok-start-in-Start-clause-effect g c =
     let sink = g.K.Sink in
     let found : List ℕ × CoreAct = c.in-Some.name-1-given.0.0 in
-    c.start.ensures.told c.args.command.now (sink.written c.args.out.now) (sink.faults c.args.out.now) (sym c.in-Some.ensures ∙ ap (λ (act : CoreAct). Some (found.0, act)) c.in-Start.is)
+    c.in_ok-start-in-Start.ensures.told c.args.command.now (sink.written c.args.out.now) (sink.faults c.args.out.now) (sym c.in-Some.ensures ∙ ap (λ (act : CoreAct). Some (found.0, act)) c.in-Start.is)
 
-pub returns-in-Start-clause-less : goal.returns-in-Start-clause-less
-returns-in-Start-clause-less g c =
-    let asked = c.args.command.now in
+pub returns-in_err-start-in-Start-clause-effect : goal.returns-in_err-start-in-Start-clause-effect
+returns-in_err-start-in-Start-clause-effect g c =
+    let store = g.F.FirmwareStore in
+    let sink = g.K.Sink in
     let run : RunState = record { objects = c.args.objects.now; steps = c.args.log.now.steps } in
+    let written = sink.written c.args.out.now in
+    let faults = sink.faults c.args.out.now in
     let found : List ℕ × CoreAct = c.in-Some.name-1-given.0.0 in
-    let none : KeepsDrive run asked c.args.log.now c.start.new.log.lines = λ name count drives.
-    absurd (true≢false (sym (ap (λ (p : List ℕ × CoreAct). is_drive p.1) (same_act asked found name count c.in-Some.ensures drives)) ∙ ap is_drive c.in-Start.is)) in
-    kept_anyway c.start.result (KeepsDrive run asked c.args.log.now c.start.new.log.lines) none
+    let answer = err_from_is_err_and c.from_residual-in_err-start-in-Start.result c.from_residual-in_err-start-in-Start.ensures.1 in
+    subst (λ (r : Result (Option Stop) CommandFault). RunsTold r (store.images c.args.store.now) run c.args.command.now c.start.new.self c.args.log.now c.start.new.log written written
+    faults faults (store.faults c.args.store.now) (store.faults c.start.new.store))
+    (sym (answer.1 ∙ ap (λ (why : CommandFault). Err why) answer.2))
+    (c.in_err-start-in-Start.ensures.told c.args.command.now written faults (sym c.in-Some.ensures ∙ ap (λ (act : CoreAct). Some (found.0, act)) c.in-Start.is))
 
-pub returns-in-Start-clause-unasked : goal.returns-in-Start-clause-unasked
-returns-in-Start-clause-unasked g c none =
+pub returns-in_ok-start-in-Start-clause-less : goal.returns-in_ok-start-in-Start-clause-less
+returns-in_ok-start-in-Start-clause-less g c name count drives =
+    let asked = c.args.command.now in
+    let found : List ℕ × CoreAct = c.in-Some.name-1-given.0.0 in
+    absurd (true≢false (sym (ap (λ (p : List ℕ × CoreAct). is_drive p.1) (same_act asked found name count c.in-Some.ensures drives)) ∙ ap is_drive c.in-Start.is))
+
+pub returns-in_ok-start-in-Start-clause-unasked : goal.returns-in_ok-start-in-Start-clause-unasked
+returns-in_ok-start-in-Start-clause-unasked g c none =
+    let found : List ℕ × CoreAct = c.in-Some.name-1-given.0.0 in
+    c.start.ensures.unasked (sym (ap (act_asks c.args.objects.now) (sym c.in-Some.ensures ∙ ap (λ (act : CoreAct). Some (found.0, act)) c.in-Start.is)) ∙ none)
+
+pub returns-in_err-start-in-Start-clause-unasked : goal.returns-in_err-start-in-Start-clause-unasked
+returns-in_err-start-in-Start-clause-unasked g c none =
     let found : List ℕ × CoreAct = c.in-Some.name-1-given.0.0 in
     c.start.ensures.unasked (sym (ap (act_asks c.args.objects.now) (sym c.in-Some.ensures ∙ ap (λ (act : CoreAct). Some (found.0, act)) c.in-Start.is)) ∙ none)
 

@@ -2,7 +2,8 @@ use Rattle.std.proofs.Common.{◌≡◌, ◌+◌, arith, ℕ, [], List, Option, 
 use Rattle.std.proofs.Math.ListN.{drop_of_length-le}
 use Rattle.std.proofs.lemmas.Result.{err_from_is_err_and}
 use Rattle.rp_io.specs.Causes.{Rose}
-use Rattle.command_run.specs.declared.fetches.CommandFault.{CommandFault}
+use Rattle.command_run.specs.declared.faults.CommandFault.{CommandFault}
+use Rattle.command_run.specs.declared.faults.OutputFault.{OutputFault}
 use Rattle.script_run.specs.declared.statuses.Status.{Status}
 use Rattle.command_run.specs.Stores.{Told}
 use Rattle.link_commands.specs.Logs.{KeepsLess, LogState}
@@ -62,9 +63,9 @@ returns-in_err-hand_on-in-Ok-None g c =
     let did = subst (λ (held : Option (List (List ℕ × List ℕ))). DidTold held state first c.run_command.new.objects c.loop-command.log c.run_command.new.log
     (sink.written c.loop-command.out) (sink.written c.run_command.new.out) c.in-Ok-None.field-0) c.loop-command.invariant.images told.0 in
     record {
-      written = subst (λ (result : Result Status CommandFault). RunWrites images commands c.run_command.new.objects result (sink.written c.args.out.now) (sink.written c.hand_on.new.out)
+      written = subst (λ (result : Result Status OutputFault). RunWrites images commands c.run_command.new.objects result (sink.written c.args.out.now) (sink.written c.hand_on.new.out)
           (sink.faults c.args.out.now) (sink.faults c.hand_on.new.out) (store.faults c.args.store.now) (store.faults c.run_command.new.store))
-          (sym (found.1 ∙ ap (λ (fault : CommandFault). Err fault) found.2))
+          (sym (found.1 ∙ ap (λ (fault : OutputFault). Err fault) found.2))
           (so_far_write_fault images commands (drop (i + 1) commands) (sink.written c.args.out.now) (sink.written c.run_command.new.out) c.run_command.new.log.lines
           next (sink.written c.hand_on.new.out) (sink.faults c.args.out.now) (sink.faults c.hand_on.new.out)
           (store.faults c.args.store.now) (store.faults c.run_command.new.store)

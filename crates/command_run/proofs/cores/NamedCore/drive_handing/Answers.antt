@@ -4,7 +4,7 @@ use Rattle.journal.specs.Lines.{transcript}
 use Rattle.proc_state.specs.Lives.{CoreLife, is_up}
 use Rattle.command_run.specs.NamedCores.{NamedCoreState}
 use Rattle.link_commands.specs.declared.stops.Stop.{Stop}
-use Rattle.command_run.specs.declared.fetches.CommandFault.{CommandFault}
+use Rattle.command_run.specs.declared.faults.OutputFault.{OutputFault}
 use Rattle.command_run.specs.CoreEffects.{CoreEffect}
 use Rattle.command_run.specs.Fetches.{EndsCut}
 use Rattle.command_run.specs.Outcomes.{HasCoreEffect}
@@ -23,10 +23,10 @@ returns-in_err-drive_running-clause-cut g c =
     let found = err_from_is_err_and c.from_residual-in_err-drive_running.result c.from_residual-in_err-drive_running.ensures.1 in
     let up : is_up first.life.state ≡ true =
     ap (λ (s : NamedCoreState). is_up s.core.life.state) (sym c.self.view_is) ∙ ap (λ (l : CoreLife). is_up l.state) (sym c.life.ensures) ∙ sym c.if-not-is_up.ensures in
-    let cut : CoreEffect → Result (Option Stop) CommandFault → Type 0 =
+    let cut : CoreEffect → Result (Option Stop) OutputFault → Type 0 =
     λ e r. IfErr r (λ why. EndsCut why (before.lines ++ transcript e.events) (sink.written c.args.out.now) now (sink.faults c.args.out.now) (sink.faults c.drive_pieces.new.out)) in
     subst (λ (e : CoreEffect). cut e c.from_residual-in_err-drive_running.result) (sym (drive_up name c.args.is_quiet first before.steps c.args.count up))
-    (subst (cut (drive_steps c.args.count name c.args.is_quiet first before.steps)) (sym (found.1 ∙ ap (λ (why : CommandFault). Err why) found.2)) (
+    (subst (cut (drive_steps c.args.count name c.args.is_quiet first before.steps)) (sym (found.1 ∙ ap (λ (why : OutputFault). Err why) found.2)) (
       handing_cut name c.args.is_quiet c.args.count first before (sink.written c.args.out.now) c.in_ok-left.left c.drive_pieces.new.self.core c.drive_pieces.new.log now c.in_ok-left.ensures.on now
           (front_of_none now c.drive_pieces.new.log.lines),
       c.in_ok-left.ensures.same,
@@ -35,7 +35,7 @@ returns-in_err-drive_running-clause-cut g c =
 pub returns-in_err-drive_running-clause-paused : goal.returns-in_err-drive_running-clause-paused
 returns-in_err-drive_running-clause-paused g c =
     let found = err_from_is_err_and c.from_residual-in_err-drive_running.result c.from_residual-in_err-drive_running.ensures.1 in
-    no_write (Option Stop) _ c.from_residual-in_err-drive_running.result (found.1 ∙ ap (λ (why : CommandFault). Err why) found.2)
+    no_write (Option Stop) _ c.from_residual-in_err-drive_running.result (found.1 ∙ ap (λ (why : OutputFault). Err why) found.2)
 
 pub returns-clause-less : goal.returns-clause-less
 returns-clause-less g c less =

@@ -2,7 +2,7 @@ use Rattle.std.proofs.Common.{◌++◌, ℕ, List, IfErr, Result, Err, refl, sym
 use Rattle.std.proofs.lemmas.Result.{err_from_is_err_and}
 use Rattle.rp_io.specs.Causes.{Rose}
 use Rattle.journal.specs.Lines.{transcript}
-use Rattle.command_run.specs.declared.fetches.CommandFault.{CommandFault}
+use Rattle.command_run.specs.declared.faults.OutputFault.{OutputFault}
 use Rattle.command_run.specs.Fetches.{EndsCut}
 use Rattle.command_run.specs.Outcomes.{DrivesOn}
 use Rattle.command_run.specs.CoreDrives.{drive_steps}
@@ -26,8 +26,8 @@ returns-in_err-left-clause-cut g c =
     let before = c.args.log.now in
     let found = err_from_is_err_and c.from_residual.result c.from_residual.ensures.1 in
     let text = before.lines ++ transcript (drive_steps c.args.count name c.args.is_quiet first before.steps).events in
-    subst (λ (r : Result ℕ CommandFault). IfErr r (λ why. EndsCut why text (sink.written c.args.out.now) (sink.written c.loop-left.out) (sink.faults c.args.out.now) (sink.faults c.loop-left.out)))
-    (sym (found.1 ∙ ap (λ (why : CommandFault). Err why) found.2)) (
+    subst (λ (r : Result ℕ OutputFault). IfErr r (λ why. EndsCut why text (sink.written c.args.out.now) (sink.written c.loop-left.out) (sink.faults c.args.out.now) (sink.faults c.loop-left.out)))
+    (sym (found.1 ∙ ap (λ (why : OutputFault). Err why) found.2)) (
       handing_cut name c.args.is_quiet c.args.count first before (sink.written c.args.out.now) c.loop-left.left c.loop-left.self.core c.loop-left.log (sink.written c.loop-left.out) c.loop-left.invariant.on
           (sink.written c.loop-left.out) (front_of_none (sink.written c.loop-left.out) c.loop-left.log.lines),
       c.loop-left.invariant.same,
@@ -36,7 +36,7 @@ returns-in_err-left-clause-cut g c =
 pub returns-in_err-left-clause-paused : goal.returns-in_err-left-clause-paused
 returns-in_err-left-clause-paused g c =
     let found = err_from_is_err_and c.from_residual.result c.from_residual.ensures.1 in
-    no_write ℕ _ c.from_residual.result (found.1 ∙ ap (λ (why : CommandFault). Err why) found.2)
+    no_write ℕ _ c.from_residual.result (found.1 ∙ ap (λ (why : OutputFault). Err why) found.2)
 
 pub returns-in_err-hand_on-clause-paused : goal.returns-in_err-hand_on-clause-paused
 returns-in_err-hand_on-clause-paused g c =
@@ -46,7 +46,7 @@ returns-in_err-hand_on-clause-paused g c =
     let before = c.args.log.now in
     let found = err_from_is_err_and c.from_residual-in_err-hand_on.result c.from_residual-in_err-hand_on.ensures.1 in
     let on = subst (λ (n : List ℕ). DrivesOn n c.args.is_quiet c.loop-left.left c.loop-left.self.core c.loop-left.log c.in_ok-left.left c.advance.new.self.core c.advance.new.log) c.loop-left.invariant.name c.in_ok-left.ensures.on in
-    on_write ℕ _ c.from_residual-in_err-hand_on.result (found.1 ∙ ap (λ (why : CommandFault). Err why) found.2)
+    on_write ℕ _ c.from_residual-in_err-hand_on.result (found.1 ∙ ap (λ (why : OutputFault). Err why) found.2)
     (handing_paused name c.args.is_quiet c.args.count first before (sink.written c.args.out.now) c.loop-left.left c.loop-left.self.core c.loop-left.log (sink.written c.loop-left.out) c.loop-left.invariant.on
     c.in_ok-left.left c.advance.new.self.core c.advance.new.log on (sink.written c.hand_on.new.out) c.in_err-hand_on.ensures.front c.in_ok-left.ensures.most c.loop-left.invariant.less)
 
@@ -61,8 +61,8 @@ returns-in_err-hand_on-clause-cut g c =
     let on = subst (λ (n : List ℕ). DrivesOn n c.args.is_quiet c.loop-left.left c.loop-left.self.core c.loop-left.log c.in_ok-left.left c.advance.new.self.core c.advance.new.log) c.loop-left.invariant.name c.in_ok-left.ensures.on in
     let told = handing_on name c.args.is_quiet c.args.count first before (sink.written c.args.out.now) c.loop-left.left c.loop-left.self.core c.loop-left.log (sink.written c.loop-left.out) c.loop-left.invariant.on
     c.in_ok-left.left c.advance.new.self.core c.advance.new.log on in
-    subst (λ (r : Result ℕ CommandFault). IfErr r (λ why. EndsCut why text (sink.written c.args.out.now) (sink.written c.hand_on.new.out) (sink.faults c.args.out.now) (sink.faults c.hand_on.new.out)))
-    (sym (found.1 ∙ ap (λ (why : CommandFault). Err why) found.2)) (
+    subst (λ (r : Result ℕ OutputFault). IfErr r (λ why. EndsCut why text (sink.written c.args.out.now) (sink.written c.hand_on.new.out) (sink.faults c.args.out.now) (sink.faults c.hand_on.new.out)))
+    (sym (found.1 ∙ ap (λ (why : OutputFault). Err why) found.2)) (
       handing_cut name c.args.is_quiet c.args.count first before (sink.written c.args.out.now) c.in_ok-left.left c.advance.new.self.core c.advance.new.log (sink.written c.loop-left.out) told
           (sink.written c.hand_on.new.out) c.in_err-hand_on.ensures.front,
       subst (λ (n : ℕ). Rose n (sink.faults c.hand_on.new.out)) c.loop-left.invariant.same c.in_err-hand_on.ensures.failed,

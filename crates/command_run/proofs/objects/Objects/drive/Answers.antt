@@ -7,8 +7,8 @@ use Rattle.journal.specs.Lines.{transcript}
 use Rattle.link_commands.specs.declared.acts.CoreAct.TheVariants as core
 use Rattle.link_commands.specs.declared.acts.NamedAct.TheVariants as under
 use Rattle.link_commands.specs.declared.stops.Stop.{Stop}
-use Rattle.command_run.specs.declared.fetches.CommandFault.{CommandFault}
-use Rattle.command_run.specs.declared.fetches.CommandFault.TheVariants as command_fault
+use Rattle.command_run.specs.declared.faults.OutputFault.{OutputFault}
+use Rattle.command_run.specs.declared.faults.OutputFault.TheVariants as output_fault
 use Rattle.command_run.specs.CoreDrives.{drive_effect}
 use Rattle.command_run.specs.Fetches.{EndsCut, IfWrite, KeepsDriven, drive_line}
 use Rattle.link_commands.specs.Logs.{KeepsLess}
@@ -20,11 +20,10 @@ use Rattle.command_run.proofs.Placing.{drive_cut, drive_keeps, drive_placed, dri
 use Rattle.command_run.proofs.objects.Objects.drive.Goals as goal
 
 -- where a drive of a core was cut off, so is what holds of it
-cut_so : (result : Result (Option Stop) CommandFault) (First Second : Type 0) → (First → Second) → IfErr result (λ why. IfWrite why First) → IfErr result (λ why. IfWrite why Second)
+cut_so : (result : Result (Option Stop) OutputFault) (First Second : Type 0) → (First → Second) → IfErr result (λ why. IfWrite why First) → IfErr result (λ why. IfWrite why Second)
 cut_so (Ok answer) First Second so cut = cut
-cut_so (Err command_fault.Store) First Second so cut = cut
-cut_so (Err command_fault.Write) First Second so cut = so cut
-cut_so (Err command_fault.NoMemory) First Second so cut = cut
+cut_so (Err output_fault.Failed) First Second so cut = so cut
+cut_so (Err output_fault.NoMemory) First Second so cut = cut
 
 pub returns-in-Some : goal.returns-in-Some
 returns-in-Some g c =
@@ -86,8 +85,8 @@ returns-in_err-run_on_name-in-None-clause-cut g c =
     let now = sink.written c.args.out.now in
     let found = err_from_is_err_and c.from_residual.result c.from_residual.ensures.1 in
     let text = c.args.log.now.lines ++ transcript (name_effect (Err fetch_fault.Missing) (record { objects = c.args.self.now; steps = c.args.log.now.steps }) c.args.name (under.Core (core.Drive c.args.count))).events in
-    subst (λ (r : Result (Option Stop) CommandFault). IfErr r (λ why. EndsCut why text now now (sink.faults c.args.out.now) (sink.faults c.args.out.now)))
-    (sym (found.1 ∙ ap (λ (why : CommandFault). Err why) found.2)) (front_of_none now text, refl)
+    subst (λ (r : Result (Option Stop) OutputFault). IfErr r (λ why. EndsCut why text now now (sink.faults c.args.out.now) (sink.faults c.args.out.now)))
+    (sym (found.1 ∙ ap (λ (why : OutputFault). Err why) found.2)) (front_of_none now text, refl)
 
 pub returns-in_ok-run_on_name-in-None-clause-effect : goal.returns-in_ok-run_on_name-in-None-clause-effect
 returns-in_ok-run_on_name-in-None-clause-effect g c =
@@ -97,7 +96,7 @@ returns-in_ok-run_on_name-in-None-clause-effect g c =
 pub returns-in_err-run_on_name-in-None-clause-paused : goal.returns-in_err-run_on_name-in-None-clause-paused
 returns-in_err-run_on_name-in-None-clause-paused g c =
     let found = err_from_is_err_and c.from_residual.result c.from_residual.ensures.1 in
-    no_write (Option Stop) _ c.from_residual.result (found.1 ∙ ap (λ (why : CommandFault). Err why) found.2)
+    no_write (Option Stop) _ c.from_residual.result (found.1 ∙ ap (λ (why : OutputFault). Err why) found.2)
 
 pub returns-in_ok-run_on_name-in-None-clause-less : goal.returns-in_ok-run_on_name-in-None-clause-less
 returns-in_ok-run_on_name-in-None-clause-less g c =

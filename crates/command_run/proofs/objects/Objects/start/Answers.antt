@@ -1,5 +1,7 @@
 use Rattle.std.proofs.Common.{◌≡◌, ◌<◌, List, Some, None, length, slice_get, slice_set, refl, sym, ap, subst, ◌∙◌}
+use Rattle.std.specs.Result.{result_map_both}
 use Rattle.std.proofs.lemmas.Option.{slice_get_read}
+use Rattle.command_run.specs.Faults.{store_command_fault}
 use Rattle.command_run.specs.Fetches.{RunsTold}
 use Rattle.command_run.specs.NamedImages.{ImageState}
 use Rattle.command_run.specs.Runs.{ObjectsState, RunState, core_named, act_asks, core_place, place_of, start_image}
@@ -31,7 +33,7 @@ returns-in-Some-clause-told g c = λ asking written faults asks.
     let found : slice_get items place ≡ Some named =
     slice_get_read items (length items) place named refl (subst (λ (o : ObjectsState). place < length o.cores) (sym c.self.view_is) c.in-Some.ensures.within) c.index_mut.ensures.value in
     let left : ObjectsState = record { links = links; cores = slice_set items place now; images = images; is_quiet = is_quiet } in
-    subst (λ (objects : ObjectsState). RunsTold c.start.result held (record { objects = objects; steps = log.steps }) asking left log c.start.new.log
+    subst (λ (objects : ObjectsState). RunsTold (result_map_both (λ ending. ending) store_command_fault c.start.result) held (record { objects = objects; steps = log.steps }) asking left log c.start.new.log
     written written faults faults was then) c.self.view_is
     (start_told held run asking c.args.name c.args.start asks log c.start.new.log written faults was then place named now bare placed found c.start.ensures.name refl c.start.result
     (subst (λ (made : List ImageState). StartsOver c.start.result held c.args.start made named now.core log c.start.new.log was then) c.as_slice-images.ensures.value c.start.ensures.started))
